@@ -5,10 +5,12 @@ mod kinds;
 mod names;
 mod rules;
 mod shortage;
+#[cfg(test)]
+mod tests;
 mod texts;
 
 pub use kinds::{ItemId, LevelKind, LinkKind, SessionNo};
-pub use names::{BundleKey, Name, NameFault, is_name};
+pub use names::{BundleKey, Name, NameFault, is_name, keys_in_order};
 pub use rules::{Broken, Fault, What};
 pub use shortage::Memory;
 pub use texts::Text;

@@ -7,6 +7,8 @@ ghost use Rattle.std.specs.Ordering.{nat_cmp};
 ghost use Rattle.std.specs.declared.option.Option.TheVariants.{Some};
 ghost use Rattle.std.specs.Cmp.Lexicographic.{texts_po, texts_ties, nat_list_cmp_total, nat_list_eq_equiv};
 ghost use Rattle.emu_names.specs.Name.{is_clean, is_name};
+ghost use Rattle.emu_names.specs.Order.{key_cmp};
+ghost use Rattle.std.specs.declared.cmp.Ordering.TheVariants.{Equal};
 
 use crate::shortage::Memory;
 use std::alloc::{AllocError, AllocFailed, Global};
@@ -193,3 +195,10 @@ impl BundleKey {
         Ok(BundleKey { session, bundle })
     }
 }
+
+/// A law with nothing to run: keys are compared by session and then by bundle, and keys that
+/// compare alike are the same key.
+pub fn keys_in_order()
+    ensures order { (a b : BundleKey) → ⟦<BundleKey as Ord>⟧.cmp a b ≡ key_cmp a b }
+    ensures exact { (a b : BundleKey) → key_cmp a b ≡ Equal → a ≡ b }
+{}
