@@ -1,0 +1,45 @@
+//! A value that has several owners and is never changed, which contracts see as the value itself.
+ghost use Rattle.std.specs.Prelude.{◌≡◌, IfOk};
+
+use crate::plain::PlainData;
+use emu_names::Memory;
+use std::alloc::Global;
+use std::marker::Model;
+use std::rc::Rc;
+
+/// A value that is kept as long as it has an owner. A copy is one owner more, and takes the same
+/// time however large the value is.
+#[derive(Drop)]
+pub struct Shared<T> {
+    inside: Rc<T>,
+}
+
+impl<T> Model for Shared<T> {
+    ghost Value = { T };
+
+    ghost view = { λ s. s.inside.value };
+}
+
+impl<T: Drop> Shared<T> {
+    /// `value`, with one owner. The only refusal is want of memory.
+    pub fn new(alloc: Global, value: T) -> Result<Shared<T>, Memory>
+        ensures { IfOk result (λ made. made ≡ value) }
+    {
+        let inside = Rc::new(alloc, value)?;
+        Ok(Shared { inside })
+    }
+
+    /// The value.
+    pub fn as_ref(&self) -> &T
+        ensures { result.now ≡ self.now }
+    {
+        self.inside.as_ref()
+    }
+}
+
+impl<T: Drop> PlainData for Shared<T> {
+    fn copy(&self, _alloc: Global) -> Result<Shared<T>, Memory> {
+        let inside = self.inside.clone()?;
+        Ok(Shared { inside })
+    }
+}

@@ -1,0 +1,12 @@
+pub mod Gives
+pub mod Times
+pub mod Configs
+pub mod Build
+pub mod Valid
+pub mod Effects
+pub mod Queries
+pub mod Answers
+pub mod Sizes
+pub mod Steps
+pub mod Worlds
+pub mod Legal

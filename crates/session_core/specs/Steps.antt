@@ -1,0 +1,177 @@
+-- The steps of the core: what an event makes of a state, and the reply that it may give.
+use Rattle.std.specs.Prelude.{◌≡◌, ℕ, zero, suc, ◌+◌, Bool, true, false, List, [], ◌∷◌, ◌++◌, length, replicate, Option, Some, None, Result, Ok, Err, nat_le, if◌then◌else◌}
+use Rattle.emu_names.specs.declared.kinds.SessionNo.{SessionNo}
+use Rattle.emu_names.specs.declared.rules.Broken.{Broken}
+use Rattle.session_core.specs.declared.config.Config.{Config}
+use Rattle.session_core.specs.declared.bundle.BundleParts.{BundleParts}
+use Rattle.session_core.specs.declared.edit.Edit.{Edit}
+use Rattle.session_core.specs.declared.edit.Entry.{Entry}
+use Rattle.session_core.specs.declared.event.Event.{Event}
+use Rattle.session_core.specs.declared.event.Event.TheVariants as events
+use Rattle.session_core.specs.declared.line.Command.{Command}
+use Rattle.session_core.specs.declared.line.Command.TheVariants as commands
+use Rattle.session_core.specs.declared.line.Ask.{Ask}
+use Rattle.session_core.specs.declared.line.Answer.{Answer}
+use Rattle.session_core.specs.declared.line.Answer.TheVariants.{Done, Segments, Refused}
+use Rattle.session_core.specs.declared.line.Refusal.TheVariants as refusals
+use Rattle.session_core.specs.declared.line.Request.{Request}
+use Rattle.session_core.specs.declared.line.Request.TheVariants as requests
+use Rattle.session_core.specs.declared.line.Line.{Line}
+use Rattle.session_core.specs.declared.line.Reply.{Reply}
+use Rattle.session_core.specs.Effects.{edited}
+use Rattle.session_core.specs.Answers.{answer_at, memory, reply_to, entry_of}
+
+-- a query that holds the state after the first n entries, and the line that it came from
+pub record Opened : Type 0 where
+  pub line : ℕ
+  pub n : ℕ
+  pub ask : Ask
+
+-- the configuration, the history, and for each session its open look and its query under way
+pub record State : Type 0 where
+  pub config : Config
+  pub entries : List Entry
+  pub looks : List (Option Opened)
+  pub queries : List (Option Opened)
+
+-- sessions are 1 to 16; 0 is the program itself
+abbrev pub session_places : ℕ
+session_places = 17
+
+-- the state of a configuration and a history, with no look open
+abbrev pub start : Config → List Entry → State
+start c history = record {
+  config = c;
+  entries = history;
+  looks = replicate session_places None;
+  queries = replicate session_places None;
+}
+
+-- what stands at a session's place
+abbrev pub slot : {A : Type 0} → List (Option A) → ℕ → Option A
+slot [] s = None
+slot (x ∷ xs) zero = x
+slot (x ∷ xs) (suc s) = slot xs s
+
+-- with this at a session's place
+abbrev pub put_slot : {A : Type 0} → List (Option A) → ℕ → Option A → List (Option A)
+put_slot [] s v = []
+put_slot (x ∷ xs) zero v = v ∷ xs
+put_slot (x ∷ xs) (suc s) v = x ∷ put_slot xs s v
+
+abbrev pub with_look : State → ℕ → Option Opened → State
+with_look st s v = record { config = st.config; entries = st.entries; looks = put_slot st.looks s v; queries = st.queries }
+
+abbrev pub with_query : State → ℕ → Option Opened → State
+with_query st s v = record { config = st.config; entries = st.entries; looks = st.looks; queries = put_slot st.queries s v }
+
+abbrev pub with_entry : State → Entry → State
+with_entry st e = record { config = st.config; entries = st.entries ++ e ∷ []; looks = st.looks; queries = st.queries }
+
+-- the number of edits that the present state is after
+abbrev pub present : State → ℕ
+present st = length st.entries
+
+-- An edit.
+
+-- the most entries of a history
+abbrev pub is_full : List Entry → Bool
+is_full history = nat_le 100000 (length history)
+
+abbrev pub edit_made : State → Line → Edit → Result (List BundleParts) Broken → Option Reply × State
+edit_made st l edit (Ok bundles) = (Some (reply_to l (Some (present st + 1)) (Done l.command)), with_entry st (entry_of l edit))
+edit_made st l edit (Err rule) = (Some (reply_to l (Some (present st)) (Refused (refusals.Rule rule))), st)
+
+abbrev pub edit_step : State → Line → Edit → Bool → Result (List BundleParts) Broken → Option Reply × State
+edit_step st l edit true made = (Some (reply_to l (Some (present st)) (Refused refusals.HistoryFull)), st)
+edit_step st l edit false made = edit_made st l edit made
+
+-- A look.
+
+abbrev pub opened_at : State → Line → Ask → Opened
+opened_at st l ask = record { line = l.line; n = present st; ask = ask }
+
+abbrev pub look_step : State → Line → Ask → Option Opened → Option Reply × State
+look_step st l ask None = (Some (reply_to l (Some (present st)) (Done l.command)), with_look st l.session.0 (Some (opened_at st l ask)))
+look_step st l ask (Some held) = (Some (reply_to l None (Refused refusals.LookOpen)), st)
+
+abbrev pub look_event : State → Line → Request → Option Reply × State
+look_event st l (requests.Look ask) = look_step st l ask (slot st.looks l.session.0)
+look_event st l (requests.Query ask) = (None, with_query st l.session.0 (Some (opened_at st l ask)))
+look_event st l (requests.After earlier) = (Some (reply_to l (Some (present st)) (Done l.command)), st)
+look_event st l (requests.Edit edit) = (None, st)
+look_event st l requests.Finish = (None, st)
+
+abbrev pub edit_event : State → Line → Request → Option Reply × State
+edit_event st l (requests.Edit edit) = edit_step st l edit (is_full st.entries) (edited st.config st.entries edit)
+edit_event st l (requests.Query ask) = (None, st)
+edit_event st l (requests.Look ask) = (None, st)
+edit_event st l requests.Finish = (None, st)
+edit_event st l (requests.After earlier) = (None, st)
+
+-- The answer of an open look or of a query under way.
+
+abbrev pub reply_of : ℕ → SessionNo → Option ℕ → Answer → Reply
+reply_of line session n answer = record { line = line; session = session; n = n; answer = answer }
+
+abbrev pub finish_step : State → ℕ → SessionNo → Option Opened → Option Reply × State
+finish_step st line s None = (Some (reply_of line s None (Refused refusals.NoLook)), st)
+finish_step st line s (Some held) = (Some (reply_of line s (Some held.n) (answer_at st.config st.entries held.n held.ask)), with_look st s.0 None)
+
+abbrev pub query_step : State → ℕ → SessionNo → Option Opened → Option Reply × State
+query_step st line s None = (None, st)
+query_step st line s (Some held) = (Some (reply_of line s (Some held.n) (answer_at st.config st.entries held.n held.ask)), with_query st s.0 None)
+
+abbrev pub finish_event : State → ℕ → SessionNo → Command → Option Reply × State
+finish_event st line s commands.Finish = finish_step st line s (slot st.looks s.0)
+finish_event st line s commands.Query = query_step st line s (slot st.queries s.0)
+finish_event st line s commands.Config = (None, st)
+finish_event st line s commands.AddBundle = (None, st)
+finish_event st line s commands.Look = (None, st)
+finish_event st line s commands.After = (None, st)
+
+-- one step: the reply that it may give, and the next state
+abbrev pub core_step : State → Event → Option Reply × State
+core_step st (events.Edit l) = edit_event st l l.request
+core_step st (events.Look l) = look_event st l l.request
+core_step st (events.Piece s) = (None, st)
+core_step st (events.Finish line s command) = finish_event st line s command
+
+-- Where memory runs out at an event its line is answered so, and nothing changes, but that a query
+-- under way is closed.
+
+abbrev pub query_fails : State → ℕ → SessionNo → Option Opened → Option Reply × State
+query_fails st line s None = (None, st)
+query_fails st line s (Some held) = (Some (reply_of line s None memory), with_query st s.0 None)
+
+abbrev pub finish_fails : State → ℕ → SessionNo → Command → Option Reply × State
+finish_fails st line s commands.Finish = (Some (reply_of line s None memory), st)
+finish_fails st line s commands.Query = query_fails st line s (slot st.queries s.0)
+finish_fails st line s commands.Config = (None, st)
+finish_fails st line s commands.AddBundle = (None, st)
+finish_fails st line s commands.Look = (None, st)
+finish_fails st line s commands.After = (None, st)
+
+abbrev pub core_fails : State → Event → Option Reply × State
+core_fails st (events.Edit l) = (Some (reply_to l None memory), st)
+core_fails st (events.Look l) = (Some (reply_to l None memory), st)
+core_fails st (events.Piece s) = (None, st)
+core_fails st (events.Finish line s command) = finish_fails st line s command
+
+-- Runs.
+
+abbrev pub option_list : Option Reply → List Reply
+option_list None = []
+option_list (Some reply) = reply ∷ []
+
+-- the replies to a list of events, and the state that it leaves
+abbrev pub steps : State → List Event → List Reply × State
+steps st [] = ([], st)
+steps st (e ∷ es) = (option_list (core_step st e).0 ++ (steps (core_step st e).1 es).0, (steps (core_step st e).1 es).1)
+
+-- the sessions that have a place
+abbrev pub place_of : Event → ℕ
+place_of (events.Edit l) = l.session.0
+place_of (events.Look l) = l.session.0
+place_of (events.Piece s) = s.0
+place_of (events.Finish line s command) = s.0

@@ -1,0 +1,128 @@
+//! The lines of a script as the core takes them, and the replies that it gives.
+ghost use Rattle.std.specs.Prelude.{◌≡◌, IfOk};
+
+use crate::edit::Edit;
+use crate::row::SegmentList;
+use emu_lists::{PlainData, Series};
+use emu_names::{Broken, Memory, SessionNo, Text};
+use std::alloc::Global;
+
+/// The commands of a script.
+#[derive(Clone, Copy, Debug, PartialEq, Eq)]
+pub enum Command {
+    /// `config`: gives the configuration.
+    Config,
+    /// `add_bundle`: adds a bundle with an annotation.
+    AddBundle,
+    /// `query`: asks for a segment list.
+    Query,
+    /// `look`: keeps the present state for a query.
+    Look,
+    /// `finish`: answers the query of the open look.
+    Finish,
+    /// `after`: goes on from all that a line's session had seen.
+    After,
+}
+
+/// A query: the items of a level whose label is the wanted one.
+#[derive(Drop)]
+pub struct Ask {
+    /// The name of an attribute, or of a level, which stands for its first attribute.
+    pub name: Text,
+    /// The wanted label.
+    pub label: Text,
+}
+
+/// Why a query has no meaning under a configuration.
+#[derive(Drop)]
+pub enum AskFault {
+    /// No level and no attribute has this name.
+    UnknownName(Text),
+}
+
+/// What a line asks for.
+#[derive(Drop)]
+pub enum Request {
+    /// A change.
+    Edit(Edit),
+    /// The answer to a query over the present state.
+    Query(Ask),
+    /// To keep the present state for this query.
+    Look(Ask),
+    /// The answer to the query of the open look, over the state that it kept.
+    Finish,
+    /// To go on from all that the session of this earlier line had seen then.
+    After(u32),
+}
+
+/// A line of a script that is a request.
+#[derive(Drop)]
+pub struct Line {
+    /// Its number, counted from 1.
+    pub line: u32,
+    /// Its session, 1 to 16.
+    pub session: SessionNo,
+    /// Its command.
+    pub command: Command,
+    /// What it asks for.
+    pub request: Request,
+}
+
+/// The requests of a script, in order.
+pub type Lines = Series<Line>;
+
+/// Why a request was refused.
+#[derive(Drop)]
+pub enum Refusal {
+    /// The edit breaks this rule.
+    Rule(Broken),
+    /// The query has no meaning.
+    Resolve(AskFault),
+    /// The session has no open look.
+    NoLook,
+    /// The session has an open look already.
+    LookOpen,
+    /// The history has 100,000 entries.
+    HistoryFull,
+    /// The store would pass its limit.
+    StoreFull,
+    /// The disk failed.
+    Disk,
+    /// Memory ran out.
+    Memory,
+}
+
+/// What a request is answered.
+#[derive(Drop)]
+pub enum Answer {
+    /// It was done.
+    Done(Command),
+    /// The segment list of a query.
+    Segments(SegmentList),
+    /// It was refused.
+    Refused(Refusal),
+}
+
+/// The reply to a line.
+#[derive(Drop)]
+pub struct Reply {
+    /// The line's number.
+    pub line: u32,
+    /// The line's session.
+    pub session: SessionNo,
+    /// The number of edits of the state that the answer is over; an accepted edit counts itself.
+    pub n: Option<u64>,
+    /// The answer.
+    pub answer: Answer,
+}
+
+/// Replies, in order.
+pub type Replies = Series<Reply>;
+
+impl PlainData for Ask {
+    fn copy(&self, alloc: Global) -> Result<Ask, Memory> {
+        let name = self.name.copy(alloc)?;
+        let label = self.label.copy(alloc)?;
+        Ok(Ask { name, label })
+    }
+}
