@@ -1,1 +1,4 @@
 pub mod Replay
+pub mod Turns
+pub mod Places
+pub mod Seats
