@@ -2,3 +2,4 @@ pub mod Replay
 pub mod Turns
 pub mod Places
 pub mod Seats
+pub mod Events

@@ -144,7 +144,7 @@ pub record Seat (c : Config) (m : ℕ) (H : List Entry) (s : ℕ) (ts : List Tur
   pub look_in : IsIn m H look
   pub waits : IsWaiting (low_of m ts) H ts query
 
-in_more : (m : ℕ) (H new : List Entry) (look : Option Opened) → IsIn m H look → IsIn m (H ++ new) look
+pub in_more : (m : ℕ) (H new : List Entry) (look : Option Opened) → IsIn m H look → IsIn m (H ++ new) look
 in_more m H new None is = tt
 in_more m H new (Some held) is = (is.0, omega (arith, is.1, length-append H new))
 

@@ -44,6 +44,14 @@ each_passing P test (x ∷ xs) each =
     let parts : (test x ≡ true → P x) × Each P (filter test xs) = cond_each P (test x) x (filter test xs) each in
     (parts.0, each_passing P test xs parts.1)
 
+kept_cond : {A : Type 0} (P : A → Type 0) (b : Bool) (x : A) (rest : List A) → (b ≡ true → P x) → Each P rest → Each P (cond b (x ∷ rest) rest)
+kept_cond P true x rest here each = (here refl, each)
+kept_cond P false x rest here each = each
+
+pub each_kept : {A : Type 0} (P : A → Type 0) (test : A → Bool) (xs : List A) → Each (λ x. test x ≡ true → P x) xs → Each P (filter test xs)
+each_kept P test [] each = tt
+each_kept P test (x ∷ xs) each = kept_cond P (test x) x (filter test xs) each.0 (each_kept P test xs each.1)
+
 pub each_of_map : {A B : Type 0} (P : B → Type 0) (f : A → B) (xs : List A) → Each P (map f xs) → Each (λ x. P (f x)) xs
 each_of_map P f [] each = tt
 each_of_map P f (x ∷ xs) each = (each.0, each_of_map P f xs each.1)
