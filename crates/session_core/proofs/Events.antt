@@ -125,7 +125,7 @@ module _ (opening : List Entry) (w : World) (g : Good opening w) where
     other_queries = λ s ne. refl;
     other_lines = λ s ne. filter_same (is_line_of s) w.lines l (ne_eqb l.session.0 s ne);
     own = subst (λ (q : Option Opened). Seat w.state.config (length opening) H l.session.0 (of_session l.session.0 w.turns ++ turn_of l n answer ∷ []) (lines_of_session l.session.0 (w.lines ++ l ∷ [])) (slot looks l.session.0) q)
-      (sym next.idle) (once_seat l H looks n answer new next o);
+        (sym next.idle) (once_seat l H looks n answer new next o);
   })
 
   -- a reply that leaves the state as it was
@@ -237,15 +237,19 @@ module _ (opening : List Entry) (w : World) (g : Good opening w) where
           most = omega arith;
           legal = (bundles, after_push w.state.config w.state.entries (entry_of edit_line edit) ∙ made);
           mark = refl;
-          right = (omega arith, omega arith, record {
-            own = refl;
-            before = length w.state.entries;
-            number = refl;
-            room = below;
-            bundles = bundles;
-            right = ap (λ (xs : List Entry). edited w.state.config xs edit) (take-append_seam w.state.entries (entry_of edit_line edit ∷ [])) ∙ made;
-            entry = slice_get_last w.state.entries (entry_of edit_line edit);
-          });
+          right = (
+            omega arith,
+            omega arith,
+            record {
+              own = refl;
+              before = length w.state.entries;
+              number = refl;
+              room = below;
+              bundles = bundles;
+              right = ap (λ (xs : List Entry). edited w.state.config xs edit) (take-append_seam w.state.entries (entry_of edit_line edit ∷ [])) ∙ made;
+              entry = slice_get_last w.state.entries (entry_of edit_line edit);
+            },
+          );
           still = tt;
           no_disk = refl;
           looks_count = g.looks_count;
@@ -309,7 +313,7 @@ module _ (opening : List Entry) (w : World) (g : Good opening w) where
   -- a query is put under way
   query_good : (line : ℕ) (s : SessionNo) (command : Command) (ask : Ask) → command ≡ commands.Query → IsNext w line s.0
       → Good opening (world_of w.state.config w.state.entries w.state.looks (put_slot w.state.queries s.0 (Some (opened_at w.state (line_of line s command (requests.Query ask)) ask)))
-        (w.lines ++ line_of line s command (requests.Query ask) ∷ []) (w.turns ++ []))
+      (w.lines ++ line_of line s command (requests.Query ask) ∷ []) (w.turns ++ []))
   query_good line s command ask is next =
       subst (λ (ts : List Turn). Good opening (world_of w.state.config w.state.entries w.state.looks (put_slot w.state.queries s.0 new) (w.lines ++ l ∷ []) ts)) (sym (append-nil w.turns)) (record {
         more = g.more;
@@ -326,37 +330,43 @@ module _ (opening : List Entry) (w : World) (g : Good opening w) where
         seats = λ k. ⊎_elim (λ e. subst There e own) (λ ne. other k ne) (cases_eq s.0 k);
       })
     where
-    l : Line
-    l = line_of line s command (requests.Query ask)
-    held : Opened
-    held = opened_at w.state l ask
-    new : Option Opened
-    new = Some held
-    There : ℕ → Type 0
-    There k = Seat w.state.config (length opening) w.state.entries k (of_session k w.turns) (lines_of_session k (w.lines ++ l ∷ [])) (slot w.state.looks k) (slot (put_slot w.state.queries s.0 new) k)
-    there : slot (put_slot w.state.queries s.0 new) s.0 ≡ new
-    there =
-        let count : length w.state.queries ≡ 17 = g.queries_count in
-        let place : s.0 < 17 = next.place in
-        slot_put w.state.queries s.0 new (omega arith)
-    own : There s.0
-    own = subst (λ (q : Option Opened). Seat w.state.config (length opening) w.state.entries s.0 (of_session s.0 w.turns) (lines_of_session s.0 (w.lines ++ l ∷ [])) (slot w.state.looks s.0) q) (sym there) (record {
-      lines =
-          filter_more (is_line_of s.0) w.lines l (eq-eqb s.0 s.0 refl)
-          ∙ ap (λ (ls : List Line). ls ++ l ∷ []) (next_lines s.0 next.idle)
-          ∙ ap (λ (k : Command). lines_in (of_session s.0 w.turns) ++ line_of line s k (requests.Query ask) ∷ []) is;
-      falls = (g.seats s.0).falls;
-      from = (g.seats s.0).from;
-      low = (g.seats s.0).low;
-      looks = (g.seats s.0).looks;
-      held = (g.seats s.0).held;
-      look_in = (g.seats s.0).look_in;
-      waits = ((g.seats s.0).low, omega arith, next_below line s.0 next);
-    })
-    other : (k : ℕ) → s.0 ≢ k → There k
-    other k ne =
-        subst (λ (ls : List Line). Seat w.state.config (length opening) w.state.entries k (of_session k w.turns) ls (slot w.state.looks k) (slot (put_slot w.state.queries s.0 new) k)) (sym (filter_same (is_line_of k) w.lines l (ne_eqb s.0 k ne)))
-        (subst (λ (q : Option Opened). Seat w.state.config (length opening) w.state.entries k (of_session k w.turns) (lines_of_session k w.lines) (slot w.state.looks k) q) (sym (slot_other w.state.queries s.0 k new ne)) (g.seats k))
+      l : Line
+      l = line_of line s command (requests.Query ask)
+
+      held : Opened
+      held = opened_at w.state l ask
+
+      new : Option Opened
+      new = Some held
+
+      There : ℕ → Type 0
+      There k = Seat w.state.config (length opening) w.state.entries k (of_session k w.turns) (lines_of_session k (w.lines ++ l ∷ [])) (slot w.state.looks k) (slot (put_slot w.state.queries s.0 new) k)
+
+      there : slot (put_slot w.state.queries s.0 new) s.0 ≡ new
+      there =
+          let count : length w.state.queries ≡ 17 = g.queries_count in
+          let place : s.0 < 17 = next.place in
+          slot_put w.state.queries s.0 new (omega arith)
+
+      own : There s.0
+      own = subst (λ (q : Option Opened). Seat w.state.config (length opening) w.state.entries s.0 (of_session s.0 w.turns) (lines_of_session s.0 (w.lines ++ l ∷ [])) (slot w.state.looks s.0) q) (sym there) (record {
+        lines =
+            filter_more (is_line_of s.0) w.lines l (eq-eqb s.0 s.0 refl)
+            ∙ ap (λ (ls : List Line). ls ++ l ∷ []) (next_lines s.0 next.idle)
+            ∙ ap (λ (k : Command). lines_in (of_session s.0 w.turns) ++ line_of line s k (requests.Query ask) ∷ []) is;
+        falls = (g.seats s.0).falls;
+        from = (g.seats s.0).from;
+        low = (g.seats s.0).low;
+        looks = (g.seats s.0).looks;
+        held = (g.seats s.0).held;
+        look_in = (g.seats s.0).look_in;
+        waits = ((g.seats s.0).low, omega arith, next_below line s.0 next);
+      })
+
+      other : (k : ℕ) → s.0 ≢ k → There k
+      other k ne =
+          subst (λ (ls : List Line). Seat w.state.config (length opening) w.state.entries k (of_session k w.turns) ls (slot w.state.looks k) (slot (put_slot w.state.queries s.0 new) k)) (sym (filter_same (is_line_of k) w.lines l (ne_eqb s.0 k ne)))
+          (subst (λ (q : Option Opened). Seat w.state.config (length opening) w.state.entries k (of_session k w.turns) (lines_of_session k w.lines) (slot w.state.looks k) q) (sym (slot_other w.state.queries s.0 k new ne)) (g.seats k))
 
   -- nothing happens
   piece_good : Good opening (world_of w.state.config w.state.entries w.state.looks w.state.queries (w.lines ++ []) (w.turns ++ []))
@@ -434,7 +444,7 @@ module _ (opening : List Entry) (w : World) (g : Good opening w) where
           other_queries = λ k ne. slot_other w.state.queries s.0 k None ne;
           other_lines = λ k ne. ap (λ (ls : List Line). lines_of_session k ls) (append-nil w.lines);
           own = subst (λ (q : Option Opened). Seat w.state.config (length opening) w.state.entries s.0 (of_session s.0 w.turns ++ query_turn n answer ∷ []) (lines_of_session s.0 (w.lines ++ [])) (slot w.state.looks s.0) q) (sym there)
-            (seat_told w.state.config (length opening) w.state.entries s.0 (of_session s.0 w.turns) (lines_of_session s.0 w.lines) (slot w.state.looks s.0) (slot w.state.queries s.0) (g.seats s.0)
+              (seat_told w.state.config (length opening) w.state.entries s.0 (of_session s.0 w.turns) (lines_of_session s.0 w.lines) (slot w.state.looks s.0) (slot w.state.queries s.0) (g.seats s.0)
               (query_turn n answer) (lines_of_session s.0 (w.lines ++ [])) (slot w.state.looks s.0) keeps from to tt refl (g.seats s.0).look_in
               (ap (λ (ls : List Line). lines_of_session s.0 ls) (append-nil w.lines) ∙ (g.seats s.0).lines ∙ ap (λ (q : Option Opened). lines_in (of_session s.0 w.turns) ++ query_answered s q) is));
         })

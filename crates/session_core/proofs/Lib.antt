@@ -3,3 +3,4 @@ pub mod Turns
 pub mod Places
 pub mod Seats
 pub mod Events
+pub mod Runs

@@ -48,8 +48,8 @@ module _ (c : Config) (m : ℕ) (H new : List Entry) where
   refusal_more l edit n refusals.HistoryFull high right = right
   refusal_more l edit n refusals.StoreFull high right = absurd (stored right.stored)
     where
-    stored : false ≡ true → ⊥
-    stored e = cc
+      stored : false ≡ true → ⊥
+      stored e = cc
   refusal_more l edit n (refusals.Resolve fault) high right = right
   refusal_more l edit n refusals.NoLook high right = right
   refusal_more l edit n refusals.LookOpen high right = right
@@ -227,7 +227,7 @@ pub record Adds (opening : List Entry) (w : World) (H : List Entry) (looks queri
   pub other_queries : (s : ℕ) → t.line.session.0 ≢ s → slot queries s ≡ slot w.state.queries s
   pub other_lines : (s : ℕ) → t.line.session.0 ≢ s → lines_of_session s (w.lines ++ come) ≡ lines_of_session s w.lines
   pub own : Seat w.state.config (length opening) H t.line.session.0 (of_session t.line.session.0 w.turns ++ t ∷ [])
-    (lines_of_session t.line.session.0 (w.lines ++ come)) (slot looks t.line.session.0) (slot queries t.line.session.0)
+      (lines_of_session t.line.session.0 (w.lines ++ come)) (slot looks t.line.session.0) (slot queries t.line.session.0)
 
 module _ (opening : List Entry) (w : World) (H : List Entry) (looks queries : List (Option Opened)) (come : List Line) (t : Turn) (new : List Entry) where
   abbrev SeatThere : ℕ → Type 0
@@ -239,13 +239,13 @@ module _ (opening : List Entry) (w : World) (H : List Entry) (looks queries : Li
   old_seat g grown s =
       subst (λ (xs : List Entry). Seat w.state.config (length opening) xs s (of_session s w.turns) (lines_of_session s w.lines) (slot w.state.looks s) (slot w.state.queries s)) (sym grown)
       (seat_more w.state.config (length opening) w.state.entries new s (of_session s w.turns) (lines_of_session s w.lines) (slot w.state.looks s) (slot w.state.queries s)
-        (each_filter (λ u. IsTo (length w.state.entries) u.reply.n) (is_of s) w.turns (rights_to w.state.config (length opening) w.state.entries new w.turns g.right))
-        (g.seats s))
+      (each_filter (λ u. IsTo (length w.state.entries) u.reply.n) (is_of s) w.turns (rights_to w.state.config (length opening) w.state.entries new w.turns g.right))
+      (g.seats s))
 
   own_seat : Adds opening w H looks queries come t new → (s : ℕ) → t.line.session.0 ≡ s → SeatThere s
   own_seat a s e = subst SeatThere e
       (subst (λ (ts : List Turn). Seat w.state.config (length opening) H t.line.session.0 ts (lines_of_session t.line.session.0 (w.lines ++ come)) (slot looks t.line.session.0) (slot queries t.line.session.0))
-        (sym (turns_own t.line.session.0 w.turns t refl)) a.own)
+      (sym (turns_own t.line.session.0 w.turns t refl)) a.own)
 
   other_seat : Good opening w → Adds opening w H looks queries come t new → (s : ℕ) → t.line.session.0 ≢ s → SeatThere s
   other_seat g a s ne =

@@ -139,9 +139,9 @@ any_more : {A : Type 0} (test : A → Bool) (xs : List A) (x : A) → list_any t
 any_more test [] x known = absurd (false≢true known)
 any_more test (y ∷ xs) x known = any_step (test y) (list_any test xs) (list_any test (xs ++ x ∷ [])) known (any_more test xs x)
   where
-  any_step : (b r r' : Bool) → (b || r) ≡ true → (r ≡ true → r' ≡ true) → (b || r') ≡ true
-  any_step true r r' known more = refl
-  any_step false r r' known more = more known
+    any_step : (b r r' : Bool) → (b || r) ≡ true → (r ≡ true → r' ≡ true) → (b || r') ≡ true
+    any_step true r r' known more = refl
+    any_step false r r' known more = more known
 
 session_step : (b r : Bool) (x y z : Option ℕ) → (b || r) ≡ true → (r ≡ true → y ≡ z) → cond b x y ≡ cond b x z
 session_step true r x y z known more = refl
@@ -167,12 +167,12 @@ line_step true a s line k u rest is found here there =
     let line_is : u ≡ line = eqb-true u line is in
     omega arith
   where
-  some_inside : {x y : ℕ} → Some x ≡ Some y → x ≡ y
-  some_inside {x = x} {y = y} e = ap (λ (o : Option ℕ). unwrapped o x) e
-    where
-    unwrapped : Option ℕ → ℕ → ℕ
-    unwrapped None d = d
-    unwrapped (Some v) d = v
+    some_inside : {x y : ℕ} → Some x ≡ Some y → x ≡ y
+    some_inside {x = x} {y = y} e = ap (λ (o : Option ℕ). unwrapped o x) e
+      where
+        unwrapped : Option ℕ → ℕ → ℕ
+        unwrapped None d = d
+        unwrapped (Some v) d = v
 line_step false a s line k u rest is found here there = there found
 
 none_is_none : (s : ℕ) → None ≡ Some s → ⊥
@@ -187,7 +187,7 @@ seen_in_push : (m line : ℕ) (o : Option ℕ) (ts : List Turn) (t : Turn) → s
 seen_in_push m line None ts t is past = refl
 seen_in_push m line (Some s) ts t is past =
     seen_by_push m s line ts t (λ own. line_past line s t.line.line ts is
-      (each_map (λ u. u.line.session.0 ≡ t.line.session.0 → u.line.line < t.line.line) (λ u. u.line.session.0 ≡ s → u.line.line < t.line.line) (λ u below same. below (same ∙ sym own)) ts past))
+    (each_map (λ u. u.line.session.0 ≡ t.line.session.0 → u.line.line < t.line.line) (λ u. u.line.session.0 ≡ s → u.line.line < t.line.line) (λ u below same. below (same ∙ sym own)) ts past))
 
 pub seen_push : (m line : ℕ) (ts : List Turn) (t : Turn) → is_answered line ts ≡ true → IsPast t ts → seen m (ts ++ t ∷ []) line ≡ seen m ts line
 seen_push m line ts t known past =

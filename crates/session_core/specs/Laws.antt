@@ -1,9 +1,34 @@
 -- Laws over the definitions: what histories and runs have in common.
-use Rattle.std.specs.Prelude.{◌≡◌, ℕ, List, [], ◌∷◌, ◌++◌}
+use Rattle.std.specs.Prelude.{◌≡◌, ℕ, ◌≤◌, Bool, true, false, List, [], ◌∷◌, ◌++◌, length, map}
 use Rattle.session_core.specs.declared.config.Config.{Config}
 use Rattle.session_core.specs.declared.edit.Entry.{Entry}
-use Rattle.session_core.specs.Effects.{after, edited}
+use Rattle.session_core.specs.declared.event.Event.{Event}
+use Rattle.session_core.specs.Effects.{after, edited, IsLegal}
+use Rattle.session_core.specs.Steps.{start, steps}
+use Rattle.session_core.specs.Worlds.{Moment, World, run, opening_world, AllFit, script_of}
+use Rattle.session_core.specs.Legal.{Legal, replies_in, history_limit}
 
 -- one more entry changes the state as its edit does
 abbrev pub ReplayGoesOn : Type 0
 ReplayGoesOn = (c : Config) (history : List Entry) (entry : Entry) → after c (history ++ entry ∷ []) ≡ edited c history entry.edit
+
+-- the replies of a run are legal beside the history that it leaves, with no store and no disk
+abbrev pub IsLegalRun : Config → List Entry → World → Type 0
+IsLegalRun c opening w = Legal c opening (script_of w) (replies_in w.turns) w.state.entries false 0
+
+-- whatever events fit, and whenever memory runs out
+abbrev pub EveryRunIsLegal : Type 0
+EveryRunIsLegal = (c : Config) (opening : List Entry) (moments : List Moment)
+    → IsLegal c opening → length opening ≤ history_limit → AllFit (opening_world c opening) moments
+    → IsLegalRun c opening (run (opening_world c opening) moments)
+
+-- an event at which memory does not run out
+abbrev pub with_memory : Event → Moment
+with_memory e = record { event = e; fails = false }
+
+-- the replies and the history of the core's steps, where memory does not run out
+abbrev pub EveryCoreRunIsLegal : Type 0
+EveryCoreRunIsLegal = (c : Config) (opening : List Entry) (events : List Event)
+    → IsLegal c opening → length opening ≤ history_limit → AllFit (opening_world c opening) (map with_memory events)
+    → Legal c opening (script_of (run (opening_world c opening) (map with_memory events)))
+    (steps (start c opening) events).0 (steps (start c opening) events).1.entries false 0
