@@ -4,3 +4,4 @@ pub mod Places
 pub mod Seats
 pub mod Events
 pub mod Runs
+pub mod Worked

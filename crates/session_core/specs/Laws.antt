@@ -7,6 +7,7 @@ use Rattle.session_core.specs.Effects.{after, edited, IsLegal}
 use Rattle.session_core.specs.Steps.{start, steps}
 use Rattle.session_core.specs.Worlds.{Moment, World, run, opening_world, AllFit, script_of}
 use Rattle.session_core.specs.Legal.{Legal, replies_in, history_limit}
+use Rattle.session_core.specs.Example.{example_config, example_events, example_lines, example_history, example_replies}
 
 -- one more entry changes the state as its edit does
 abbrev pub ReplayGoesOn : Type 0
@@ -32,3 +33,16 @@ EveryCoreRunIsLegal = (c : Config) (opening : List Entry) (events : List Event)
     → IsLegal c opening → length opening ≤ history_limit → AllFit (opening_world c opening) (map with_memory events)
     → Legal c opening (script_of (run (opening_world c opening) (map with_memory events)))
     (steps (start c opening) events).0 (steps (start c opening) events).1.entries false 0
+
+-- The example's events fit, its replies and its history are these, and they make a legal run.
+abbrev pub ExampleFits : Type 0
+ExampleFits = AllFit (opening_world example_config []) (map with_memory example_events)
+
+abbrev pub ExampleReplies : Type 0
+ExampleReplies = (steps (start example_config []) example_events).0 ≡ example_replies
+
+abbrev pub ExampleHistory : Type 0
+ExampleHistory = (steps (start example_config []) example_events).1.entries ≡ example_history
+
+abbrev pub ExampleIsLegal : Type 0
+ExampleIsLegal = Legal example_config [] example_lines example_replies example_history false 0

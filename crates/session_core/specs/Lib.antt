@@ -10,4 +10,5 @@ pub mod Sizes
 pub mod Steps
 pub mod Worlds
 pub mod Legal
+pub mod Example
 pub mod Laws

@@ -1,5 +1,5 @@
 //! Laws of the definitions, with nothing to run: what every history and every run of the core keeps.
-ghost use Rattle.session_core.specs.Laws.{EveryCoreRunIsLegal, EveryRunIsLegal, ReplayGoesOn};
+ghost use Rattle.session_core.specs.Laws.{EveryCoreRunIsLegal, EveryRunIsLegal, ExampleFits, ExampleHistory, ExampleIsLegal, ExampleReplies, ReplayGoesOn};
 
 /// One more entry changes the state after a history as its edit does.
 pub fn replay_goes_on()
@@ -17,4 +17,14 @@ pub fn every_run_is_legal()
 /// history make a legal run.
 pub fn every_core_run_is_legal()
     ensures legal { EveryCoreRunIsLegal }
+{}
+
+/// Legal runs say something: a bundle with the segments V (3749, 1389) and m (5139, 1664) is added
+/// at 20,000 Hz and accepted as entry 1, and `Phonetic == m` is answered after it by the one
+/// segment m from 256,925 to 340,175 microseconds.
+pub fn an_example_is_legal()
+    ensures fits { ExampleFits }
+    ensures replies { ExampleReplies }
+    ensures history { ExampleHistory }
+    ensures legal { ExampleIsLegal }
 {}

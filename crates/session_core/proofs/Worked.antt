@@ -1,0 +1,23 @@
+-- The example's run, worked out.
+use Rattle.std.proofs.Common.{◌≡◌, ℕ, List, [], ◌∷◌, map, refl, arith}
+use Rattle.session_core.specs.Steps.{start, steps}
+use Rattle.session_core.specs.Worlds.{World, happens, opening_world, Each, IsBehind}
+use Rattle.session_core.specs.Example.{example_config, example_events, add_line, query_line_3}
+use Rattle.session_core.specs.Laws.{with_memory, ExampleFits, ExampleReplies, ExampleHistory, ExampleIsLegal}
+use Rattle.session_core.proofs.Runs.{core_run_legal}
+
+pub example_replies_are : ExampleReplies
+example_replies_are = refl
+
+pub example_history_is : ExampleHistory
+example_history_is = refl
+
+pub example_fits : ExampleFits
+example_fits = (
+  record { next = record { place = omega arith; idle = refl; behind = tt }; kind = refl; command = refl },
+  (record { next = record { place = omega arith; idle = refl; behind = (record { own = λ same. omega arith; others = λ ne same. ne refl }, tt) }; kind = refl; command = refl; answered = tt },
+  (omega arith,
+  (record { place = omega arith; held = refl }, tt))))
+
+pub example_legal : ExampleIsLegal
+example_legal = core_run_legal example_config [] example_events ([], refl) (omega arith) example_fits

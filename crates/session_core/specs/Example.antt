@@ -1,0 +1,105 @@
+-- A small run, worked out: one bundle with two segments is added, and one of them is asked for
+-- (EMU-SDMS Manual, "The EMU Query Language": `Phonetic == m`).
+use Rattle.std.specs.Prelude.{◌≡◌, ℕ, List, [], ◌∷◌, Option, Some, None, codes}
+use Rattle.emu_names.specs.declared.kinds.LevelKind.TheVariants as kinds
+use Rattle.emu_names.specs.declared.kinds.ItemId.{ItemId}
+use Rattle.emu_names.specs.declared.kinds.SessionNo.{SessionNo}
+use Rattle.emu_names.specs.declared.names.BundleKey.{BundleKey}
+use Rattle.session_core.specs.declared.annot.Time.TheVariants.{Span}
+use Rattle.session_core.specs.declared.annot.AnnotLabel.{AnnotLabel}
+use Rattle.session_core.specs.declared.annot.AnnotItem.{AnnotItem}
+use Rattle.session_core.specs.declared.annot.AnnotLevel.{AnnotLevel}
+use Rattle.session_core.specs.declared.annot.Annot.{Annot}
+use Rattle.session_core.specs.declared.config.AttributeDef.{AttributeDef}
+use Rattle.session_core.specs.declared.config.LevelDef.{LevelDef}
+use Rattle.session_core.specs.declared.config.Config.{Config}
+use Rattle.session_core.specs.declared.edit.Edit.{Edit}
+use Rattle.session_core.specs.declared.edit.Edit.TheVariants as edits
+use Rattle.session_core.specs.declared.edit.Entry.{Entry}
+use Rattle.session_core.specs.declared.event.Event.{Event}
+use Rattle.session_core.specs.declared.event.Event.TheVariants as events
+use Rattle.session_core.specs.declared.row.Row.{Row}
+use Rattle.session_core.specs.declared.line.Ask.{Ask}
+use Rattle.session_core.specs.declared.line.Answer.TheVariants.{Done, Segments}
+use Rattle.session_core.specs.declared.line.Command.TheVariants as commands
+use Rattle.session_core.specs.declared.line.Request.TheVariants as requests
+use Rattle.session_core.specs.declared.line.Line.{Line}
+use Rattle.session_core.specs.declared.line.Reply.{Reply}
+
+-- one SEGMENT level, Phonetic, with one attribute of its name
+abbrev pub phonetic_level : LevelDef
+phonetic_level = record {
+  name = codes "Phonetic";
+  kind = kinds.Segment;
+  attributes = (record { name = codes "Phonetic" }) ∷ [];
+}
+
+abbrev pub example_config : Config
+example_config = record { name = codes "t"; uuid = []; extension = []; levels = phonetic_level ∷ [] }
+
+abbrev pub segment : ℕ → ℕ → ℕ → List ℕ → AnnotItem
+segment id start dur label = record {
+  id = record { 0 = id };
+  time = Span start dur;
+  labels = (record { name = codes "Phonetic"; value = label }) ∷ [];
+}
+
+-- V from sample 3749 to 5138, and m from sample 5139 to 6803, at 20,000 Hz
+abbrev pub example_annot : Annot
+example_annot = record {
+  annotates = codes "b1.wav";
+  rate = 20000;
+  levels = (record { name = codes "Phonetic"; kind = kinds.Segment; items = segment 1 3749 1389 (codes "V") ∷ segment 2 5139 1664 (codes "m") ∷ [] }) ∷ [];
+}
+
+abbrev pub example_edit : Edit
+example_edit = edits.AddBundle (record { session = codes "s1"; bundle = codes "b1" }) example_annot
+
+abbrev pub first_session : SessionNo
+first_session = record { 0 = 1 }
+
+-- line 2 of a script, whose line 1 gives the configuration
+abbrev pub add_line : Line
+add_line = record { line = 2; session = first_session; command = commands.AddBundle; request = requests.Edit example_edit }
+
+abbrev pub query_line_3 : Line
+query_line_3 = record {
+  line = 3;
+  session = first_session;
+  command = commands.Query;
+  request = requests.Query (record { name = codes "Phonetic"; label = codes "m" });
+}
+
+abbrev pub example_lines : List Line
+example_lines = add_line ∷ query_line_3 ∷ []
+
+abbrev pub example_events : List Event
+example_events = events.Edit add_line ∷ events.Look query_line_3 ∷ events.Piece first_session ∷ events.Finish 3 first_session commands.Query ∷ []
+
+abbrev pub example_history : List Entry
+example_history = (record { session = first_session; line = 2; edit = example_edit }) ∷ []
+
+-- m, from 256925 to 340175 microseconds
+abbrev pub example_row : Row
+example_row = record {
+  session = codes "s1";
+  bundle = codes "b1";
+  level = codes "Phonetic";
+  attribute = codes "Phonetic";
+  labels = codes "m";
+  start = Some 256925;
+  end = Some 340175;
+  sample_start = Some 5139;
+  sample_end = Some 6803;
+  rate = 20000;
+  start_item = record { 0 = 2 };
+  end_item = record { 0 = 2 };
+  start_pos = 1;
+  end_pos = 1;
+}
+
+-- the edit is accepted as entry 1, and the answer is the segment m after it
+abbrev pub example_replies : List Reply
+example_replies =
+    (record { line = 2; session = first_session; n = Some 1; answer = Done commands.AddBundle })
+    ∷ (record { line = 3; session = first_session; n = Some 1; answer = Segments (example_row ∷ []) }) ∷ []
