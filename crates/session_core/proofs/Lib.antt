@@ -5,3 +5,5 @@ pub mod Seats
 pub mod Events
 pub mod Runs
 pub mod Worked
+pub mod Builds
+pub mod Kept
