@@ -2,7 +2,8 @@
 use Rattle.std.proofs.Common.{◌≡◌, ◌≢◌, ℕ, ◌+◌, ◌<◌, ◌≤◌, Bool, true, false, cond, not, ◌&&◌, ◌||◌, List, [], ◌∷◌, ◌++◌, length, take, drop, sum_by, Option, Some, None, Result, Ok, Err, nat_lt, nat_le, refl, sym, ◌∙◌, ap, subst, arith, is_lt, Ordering}
 use Rattle.std.specs.declared.cmp.Ordering.TheVariants.{Less, Equal, Greater}
 use Rattle.std.specs.List.{list_any, list_all}
-use Rattle.std.specs.Cmp.{IsTotalOrder, ordering_reverse}
+use Rattle.std.specs.Cmp.{IsTotalOrder}
+use Rattle.std.specs.Ordering.{ordering_reverse}
 use Rattle.std.proofs.lemmas.Bool.{false≢true, true≢false, not-true, and_parts, and_from, or_parts, ltb-false, leb-true, leb-false, le-leb}
 use Rattle.std.proofs.lemmas.List.{take-append-drop}
 use Rattle.std.proofs.lemmas.List.Sums.{sum_by-cons}
@@ -140,14 +141,18 @@ of_kept c bundles kept =
 
 -- One edit.
 
+-- a result that is one
+abbrev ok_of : {A : Type 0} → A → Result A Broken
+ok_of x = Ok x
+
 err_ok : {A : Type 0} (r : Broken) (x : A) → Err r ≡ Ok x → ⊥
-err_ok r x e = true≢false (sym (ap is_err e))
+err_ok r x e = true≢false (ap is_err e)
   where
   is_err : {A : Type 0} → Result A Broken → Bool
   is_err (Ok x) = false
   is_err (Err r) = true
 
-ok_same : {A : Type 0} (x y : A) → Ok {E = Broken} x ≡ Ok y → x ≡ y
+ok_same : {A : Type 0} (x y : A) → ok_of x ≡ ok_of y → x ≡ y
 ok_same {A = A} x y e = ap (λ (r : Result A Broken). inside r x) e
   where
   inside : {B : Type 0} → Result B Broken → B → B
@@ -196,15 +201,15 @@ replay_valid c valid (Ok bundles) [] new kept goes = kept new goes
 replay_valid c valid (Ok bundles) (entry ∷ entries) new kept goes =
     replay_valid c valid (effect c bundles entry.edit) entries new (λ next made. effect_valid c valid bundles next entry.edit (kept bundles refl) made) goes
 
-nothing_kept : (c : Config) (bundles : List BundleParts) → Ok {E = Broken} [] ≡ Ok bundles → is_valid_state c bundles ≡ true
+nothing_kept : (c : Config) (bundles : List BundleParts) → ok_of [] ≡ ok_of bundles → is_valid_state c bundles ≡ true
 nothing_kept c bundles e = subst (λ (bs : List BundleParts). is_valid_state c bs ≡ true) (ok_same [] bundles e) refl
 
 bind_legal : (made : Result (List BundleParts) Broken) (f : List BundleParts → Result (List BundleParts) Broken) (new : List BundleParts) → (made >>= f) ≡ Ok new → (bundles : List BundleParts) × (made ≡ Ok bundles)
 bind_legal (Ok bundles) f new e = (bundles, refl)
 bind_legal (Err r) f new e = absurd (err_ok r new e)
 
-pub prefix_legal : (c : Config) (history : List Entry) (n : ℕ) → IsLegal c history → IsLegal c (take n history)
-prefix_legal c history n legal =
+pub prefix_legal : (c : Config) (history : List Entry) → IsLegal c history → (n : ℕ) → IsLegal c (take n history)
+prefix_legal c history legal n =
     bind_legal (after c (take n history)) (λ bundles. replayed c bundles (drop n history)) legal.0
     (sym (after_more c (take n history) (drop n history)) ∙ ap (after c) (take-append-drop n history) ∙ legal.1)
 
@@ -212,3 +217,6 @@ pub legal_valid : (c : Config) → is_valid_config c ≡ true → (history : Lis
 legal_valid c valid history legal =
     subst (λ (r : Result (List BundleParts) Broken). is_valid_state c (found_bundles r) ≡ true) (sym legal.1)
     (replay_valid c valid (Ok []) history legal.0 (nothing_kept c) legal.1)
+
+pub prefixes_valid : (c : Config) (history : List Entry) → is_valid_config c ≡ true → IsLegal c history → (n : ℕ) → is_valid_state c (bundles_after c (take n history)) ≡ true
+prefixes_valid c history valid legal n = legal_valid c valid (take n history) (prefix_legal c history legal n)

@@ -1,9 +1,11 @@
 -- Laws over the definitions: what histories and runs have in common.
-use Rattle.std.specs.Prelude.{◌≡◌, ℕ, ◌≤◌, Bool, true, false, List, [], ◌∷◌, ◌++◌, length, map}
+use Rattle.std.specs.Prelude.{◌≡◌, ℕ, ◌≤◌, Bool, true, false, List, [], ◌∷◌, ◌++◌, length, map, take}
 use Rattle.session_core.specs.declared.config.Config.{Config}
 use Rattle.session_core.specs.declared.edit.Entry.{Entry}
 use Rattle.session_core.specs.declared.event.Event.{Event}
-use Rattle.session_core.specs.Effects.{after, edited, IsLegal}
+use Rattle.session_core.specs.Configs.{is_valid_config}
+use Rattle.session_core.specs.Effects.{after, edited, IsLegal, bundles_after}
+use Rattle.session_core.specs.Valid.{is_valid_state}
 use Rattle.session_core.specs.Steps.{start, steps}
 use Rattle.session_core.specs.Worlds.{Moment, World, run, opening_world, AllFit, script_of}
 use Rattle.session_core.specs.Legal.{Legal, replies_in, history_limit}
@@ -12,6 +14,15 @@ use Rattle.session_core.specs.Example.{example_config, example_events, example_l
 -- one more entry changes the state as its edit does
 abbrev pub ReplayGoesOn : Type 0
 ReplayGoesOn = (c : Config) (history : List Entry) (entry : Entry) → after c (history ++ entry ∷ []) ≡ edited c history entry.edit
+
+-- each beginning of a legal history is legal
+abbrev pub PrefixesAreLegal : Type 0
+PrefixesAreLegal = (c : Config) (history : List Entry) → IsLegal c history → (n : ℕ) → IsLegal c (take n history)
+
+-- under a valid configuration the state after each beginning of a legal history keeps the rules
+abbrev pub StatesKeepRules : Type 0
+StatesKeepRules = (c : Config) (history : List Entry)
+    → is_valid_config c ≡ true → IsLegal c history → (n : ℕ) → is_valid_state c (bundles_after c (take n history)) ≡ true
 
 -- the replies of a run are legal beside the history that it leaves, with no store and no disk
 abbrev pub IsLegalRun : Config → List Entry → World → Type 0

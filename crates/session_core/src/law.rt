@@ -1,9 +1,18 @@
 //! Laws of the definitions, with nothing to run: what every history and every run of the core keeps.
-ghost use Rattle.session_core.specs.Laws.{EveryCoreRunIsLegal, EveryRunIsLegal, ExampleFits, ExampleHistory, ExampleIsLegal, ExampleReplies, ReplayGoesOn};
+ghost use Rattle.session_core.specs.Laws.{EveryCoreRunIsLegal, EveryRunIsLegal, ExampleFits, ExampleHistory, ExampleIsLegal, ExampleReplies, PrefixesAreLegal, ReplayGoesOn, StatesKeepRules};
 
 /// One more entry changes the state after a history as its edit does.
 pub fn replay_goes_on()
     ensures goes_on { ReplayGoesOn }
+{}
+
+/// Each beginning of a legal history is legal, and under a valid configuration each of its states
+/// keeps the rules: at most 10,000 bundles in order of their keys and 2,000,000 items in all, each
+/// bundle with a rate of 1 to 1,000,000 Hz, at most 65,536 items, ids that differ, and levels that
+/// keep the level rule (EMU-SDMS Manual, "The emuDB format").
+pub fn states_keep_rules()
+    ensures prefixes { PrefixesAreLegal }
+    ensures valid { StatesKeepRules }
 {}
 
 /// Every run is legal: from a legal history of at most 100,000 entries, whatever events fit one
