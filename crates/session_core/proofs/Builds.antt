@@ -1,10 +1,9 @@
 -- The bundle that an annotation makes keeps the configuration's rules where none is broken.
-use Rattle.std.proofs.Common.{◌≡◌, ◌≢◌, ℕ, zero, suc, ◌+◌, ◌<◌, ◌≤◌, Bool, true, false, cond, not, ◌&&◌, ◌||◌, List, [], ◌∷◌, ◌++◌, length, map, sum_by, Option, Some, None, nat_eq, nat_lt, nat_le, ◌==◌, refl, sym, ◌∙◌, ap, subst, arith, eq-eqb, eqb-true}
+use Rattle.std.proofs.Common.{◌≡◌, ℕ, ◌+◌, ◌≤◌, Bool, true, false, cond, not, ◌&&◌, List, [], ◌∷◌, ◌++◌, length, map, sum_by, Option, Some, None, nat_eq, nat_lt, nat_le, ◌==◌, refl, sym, ◌∙◌, ap, subst, arith, eq-eqb, eqb-true}
 use Rattle.std.specs.List.{list_any, list_all}
-use Rattle.std.proofs.lemmas.Bool.{false≢true, true≢false, not-true, not-false, not_from_false, and_parts, and_from, or_parts, or_from, ltb-false, le-leb, ltb-true, ne_eqb, eqb-false, false_from_ne_true}
+use Rattle.std.proofs.lemmas.Bool.{false≢true, true≢false, not-true, not-false, not_from_false, and_parts, and_from, or_parts, or_from, ltb-false, le-leb, ne_eqb, eqb-false}
 use Rattle.std.proofs.lemmas.List.{length-map}
 use Rattle.std.proofs.lemmas.List.Sums.{sum_by-cons}
-use Rattle.emu_names.specs.declared.kinds.LevelKind.{LevelKind}
 use Rattle.emu_names.specs.declared.kinds.ItemId.{ItemId}
 use Rattle.emu_names.specs.declared.names.BundleKey.{BundleKey}
 use Rattle.emu_names.specs.declared.rules.Broken.{Broken}
@@ -104,9 +103,10 @@ Misses xs ys = Each (λ k. list_any (nat_eq k) xs ≡ false) ys
 
 misses_flip : (xs ys : List ℕ) → Misses xs ys → Misses ys xs
 misses_flip [] ys misses = tt
-misses_flip (x ∷ xs) ys misses =
-    (any_none (nat_eq x) ys (each_map (λ k. list_any (nat_eq k) (x ∷ xs) ≡ false) (λ k. nat_eq x k ≡ false) (λ k e. eqb_flip k x (or_parts (nat_eq k x) (list_any (nat_eq k) xs) e).0) ys misses),
-    misses_flip xs ys (each_map (λ k. list_any (nat_eq k) (x ∷ xs) ≡ false) (λ k. list_any (nat_eq k) xs ≡ false) (λ k e. (or_parts (nat_eq k x) (list_any (nat_eq k) xs) e).1) ys misses))
+misses_flip (x ∷ xs) ys misses = (
+  any_none (nat_eq x) ys (each_map (λ k. list_any (nat_eq k) (x ∷ xs) ≡ false) (λ k. nat_eq x k ≡ false) (λ k e. eqb_flip k x (or_parts (nat_eq k x) (list_any (nat_eq k) xs) e).0) ys misses),
+  misses_flip xs ys (each_map (λ k. list_any (nat_eq k) (x ∷ xs) ≡ false) (λ k. list_any (nat_eq k) xs ≡ false) (λ k e. (or_parts (nat_eq k x) (list_any (nat_eq k) xs) e).1) ys misses),
+)
 
 misses_left : (xs zs ys : List ℕ) → Misses (xs ++ zs) ys → Misses xs ys
 misses_left xs zs ys misses = each_map (λ k. list_any (nat_eq k) (xs ++ zs) ≡ false) (λ k. list_any (nat_eq k) xs ≡ false) (λ k e. (any_append (nat_eq k) xs zs e).0) ys misses
@@ -145,11 +145,11 @@ label_short : (defs : List AttributeDef) (named : List (List ℕ)) (labels : Lis
 label_short defs named [] name fine = refl
 label_short defs named (l ∷ ls) name fine =
     let first : (not (has_attribute defs l.name) ≡ false) × (cond (list_any (same_text l.name) named) (Some (rules.TwoLabels l.name)) (cond (nat_lt 4096 (length l.value)) (Some rules.LabelTooLong) (labels_fault defs (named ++ l.name ∷ []) ls)) ≡ None)
-      = cond_none (not (has_attribute defs l.name)) (rules.NoAttribute l.name) (cond (list_any (same_text l.name) named) (Some (rules.TwoLabels l.name)) (cond (nat_lt 4096 (length l.value)) (Some rules.LabelTooLong) (labels_fault defs (named ++ l.name ∷ []) ls))) fine in
+    = cond_none (not (has_attribute defs l.name)) (rules.NoAttribute l.name) (cond (list_any (same_text l.name) named) (Some (rules.TwoLabels l.name)) (cond (nat_lt 4096 (length l.value)) (Some rules.LabelTooLong) (labels_fault defs (named ++ l.name ∷ []) ls))) fine in
     let second : (list_any (same_text l.name) named ≡ false) × (cond (nat_lt 4096 (length l.value)) (Some rules.LabelTooLong) (labels_fault defs (named ++ l.name ∷ []) ls) ≡ None)
-      = cond_none (list_any (same_text l.name) named) (rules.TwoLabels l.name) (cond (nat_lt 4096 (length l.value)) (Some rules.LabelTooLong) (labels_fault defs (named ++ l.name ∷ []) ls)) first.1 in
+    = cond_none (list_any (same_text l.name) named) (rules.TwoLabels l.name) (cond (nat_lt 4096 (length l.value)) (Some rules.LabelTooLong) (labels_fault defs (named ++ l.name ∷ []) ls)) first.1 in
     let third : (nat_lt 4096 (length l.value) ≡ false) × (labels_fault defs (named ++ l.name ∷ []) ls ≡ None)
-      = cond_none (nat_lt 4096 (length l.value)) rules.LabelTooLong (labels_fault defs (named ++ l.name ∷ []) ls) second.1 in
+    = cond_none (nat_lt 4096 (length l.value)) rules.LabelTooLong (labels_fault defs (named ++ l.name ∷ []) ls) second.1 in
     short_cond (same_text l.name name) l.value (label_named name ls) (le-leb (length l.value) 4096 (ltb-false 4096 (length l.value) third.0)) (label_short defs (named ++ l.name ∷ []) ls name third.1)
 
 labels_short : (all : List AttributeDef) (labels : List AnnotLabel) (defs : List AttributeDef) → labels_fault all [] labels ≡ None → list_all is_short (map (λ (def : AttributeDef). label_named def.name labels) defs) ≡ true
@@ -171,9 +171,9 @@ fine_item : (def : LevelDef) (taken : List ℕ) (before : Option AnnotItem) (ite
 fine_item def taken before item fine =
     let last : Option Broken = or_else (labels_fault def.attributes [] item.labels) (neighbour_fault before item) in
     let first : (list_any (nat_eq item.id.0) taken ≡ false) × (cond (not (fits_kind def.kind item.time)) (Some rules.TimeKind) (cond (not (is_in_time item.time)) (Some rules.TimeOut) last) ≡ None)
-      = cond_none (list_any (nat_eq item.id.0) taken) (rules.IdTaken item.id) (cond (not (fits_kind def.kind item.time)) (Some rules.TimeKind) (cond (not (is_in_time item.time)) (Some rules.TimeOut) last)) fine in
+    = cond_none (list_any (nat_eq item.id.0) taken) (rules.IdTaken item.id) (cond (not (fits_kind def.kind item.time)) (Some rules.TimeKind) (cond (not (is_in_time item.time)) (Some rules.TimeOut) last)) fine in
     let second : (not (fits_kind def.kind item.time) ≡ false) × (cond (not (is_in_time item.time)) (Some rules.TimeOut) last ≡ None)
-      = cond_none (not (fits_kind def.kind item.time)) rules.TimeKind (cond (not (is_in_time item.time)) (Some rules.TimeOut) last) first.1 in
+    = cond_none (not (fits_kind def.kind item.time)) rules.TimeKind (cond (not (is_in_time item.time)) (Some rules.TimeOut) last) first.1 in
     let third : (not (is_in_time item.time) ≡ false) × (last ≡ None) = cond_none (not (is_in_time item.time)) rules.TimeOut last second.1 in
     let fourth : (labels_fault def.attributes [] item.labels ≡ None) × (neighbour_fault before item ≡ None) = or_none (labels_fault def.attributes [] item.labels) (neighbour_fault before item) third.1 in
     record {
@@ -188,7 +188,7 @@ items_parts : (def : LevelDef) (taken : List ℕ) (before : Option AnnotItem) (i
     → IsFineItem def taken before item × (items_fault def (taken ++ item.id.0 ∷ []) (Some item) items ≡ None)
 items_parts def taken before item items fine =
     let parts : (item_fault def taken before item ≡ None) × (items_fault def (taken ++ item.id.0 ∷ []) (Some item) items ≡ None)
-      = or_none (item_fault def taken before item) (items_fault def (taken ++ item.id.0 ∷ []) (Some item) items) fine in
+    = or_none (item_fault def taken before item) (items_fault def (taken ++ item.id.0 ∷ []) (Some item) items) fine in
     (fine_item def taken before item parts.0, parts.1)
 
 item_valid : (def : LevelDef) (taken : List ℕ) (before : Option AnnotItem) (item : AnnotItem) → IsFineItem def taken before item → is_valid_item def (made_item def.attributes item) ≡ true
@@ -196,8 +196,8 @@ item_valid def taken before item fine =
     let labels : List (List ℕ) = map (λ (d : AttributeDef). label_named d.name item.labels) def.attributes in
     and_from (fits_kind def.kind item.time && is_in_time item.time && (length labels == length def.attributes)) (list_all is_short labels)
     (and_from (fits_kind def.kind item.time && is_in_time item.time) (length labels == length def.attributes)
-      (and_from (fits_kind def.kind item.time) (is_in_time item.time) fine.fits fine.in_time)
-      (eq-eqb (length labels) (length def.attributes) (length-map def.attributes (λ (d : AttributeDef). label_named d.name item.labels))))
+    (and_from (fits_kind def.kind item.time) (is_in_time item.time) fine.fits fine.in_time)
+    (eq-eqb (length labels) (length def.attributes) (length-map def.attributes (λ (d : AttributeDef). label_named d.name item.labels))))
     (labels_short def.attributes item.labels def.attributes fine.labels)
 
 all_valid : (def : LevelDef) (taken : List ℕ) (before : Option AnnotItem) (items : List AnnotItem) → items_fault def taken before items ≡ None → list_all (is_valid_item def) (map (made_item def.attributes) items) ≡ true
@@ -245,7 +245,7 @@ items_different def taken before [] fine = refl
 items_different def taken before (item ∷ items) fine =
     let parts : IsFineItem def taken before item × (items_fault def (taken ++ item.id.0 ∷ []) (Some item) items ≡ None) = items_parts def taken before item items fine in
     let flipped : Misses (ids_of items) (item.id.0 ∷ []) = misses_flip (item.id.0 ∷ []) (ids_of items)
-      (misses_right taken (item.id.0 ∷ []) (ids_of items) (items_fresh def (taken ++ item.id.0 ∷ []) (Some item) items parts.1)) in
+    (misses_right taken (item.id.0 ∷ []) (ids_of items) (items_fresh def (taken ++ item.id.0 ∷ []) (Some item) items parts.1)) in
     different_cons item.id.0 (ids_of items) flipped.0 (items_different def (taken ++ item.id.0 ∷ []) (Some item) items parts.1)
 
 -- Levels.
@@ -258,7 +258,7 @@ record IsFineLevel (defs : List LevelDef) (taken : List ℕ) (level : AnnotLevel
 known_fine : (def : LevelDef) (named : List (List ℕ)) (taken : List ℕ) (level : AnnotLevel) → known_level_fault def named taken level ≡ None → items_fault def taken None level.items ≡ None
 known_fine def named taken level fine =
     let first : (list_any (same_text level.name) named ≡ false) × (cond (not (same_kind def.kind level.kind)) (Some (rules.LevelKind level.name)) (items_fault def taken None level.items) ≡ None)
-      = cond_none (list_any (same_text level.name) named) (rules.TwoLevels level.name) (cond (not (same_kind def.kind level.kind)) (Some (rules.LevelKind level.name)) (items_fault def taken None level.items)) fine in
+    = cond_none (list_any (same_text level.name) named) (rules.TwoLevels level.name) (cond (not (same_kind def.kind level.kind)) (Some (rules.LevelKind level.name)) (items_fault def taken None level.items)) fine in
     (cond_none (not (same_kind def.kind level.kind)) (rules.LevelKind level.name) (items_fault def taken None level.items) first.1).1
 
 found_fine : (defs : List LevelDef) (o : Option LevelDef) (named : List (List ℕ)) (taken : List ℕ) (level : AnnotLevel) → level_named level.name defs ≡ o → found_level_fault o named taken level ≡ None → IsFineLevel defs taken level
@@ -269,7 +269,7 @@ levels_parts : (defs : List LevelDef) (named : List (List ℕ)) (taken : List �
     → IsFineLevel defs taken level × (levels_fault defs (named ++ level.name ∷ []) (taken ++ ids_of level.items) levels ≡ None)
 levels_parts defs named taken level levels fine =
     let parts : (level_fault defs named taken level ≡ None) × (levels_fault defs (named ++ level.name ∷ []) (taken ++ ids_of level.items) levels ≡ None)
-      = or_none (level_fault defs named taken level) (levels_fault defs (named ++ level.name ∷ []) (taken ++ ids_of level.items) levels) fine in
+    = or_none (level_fault defs named taken level) (levels_fault defs (named ++ level.name ∷ []) (taken ++ ids_of level.items) levels) fine in
     (found_fine defs (level_named level.name defs) named taken level refl parts.0, parts.1)
 
 -- a level of the configuration finds itself by its name
@@ -279,9 +279,9 @@ Finds all def = level_named def.name all ≡ Some def
 some_same : {A : Type 0} (x y : A) → Some x ≡ Some y → x ≡ y
 some_same {A = A} x y e = ap (λ (o : Option A). inside o x) e
   where
-  inside : {B : Type 0} → Option B → B → B
-  inside None d = d
-  inside (Some v) d = v
+    inside : {B : Type 0} → Option B → B → B
+    inside None d = d
+    inside (Some v) d = v
 
 module _ (all : List LevelDef) where
   list_step : (def : LevelDef) → Finds all def → (taken : List ℕ) (level : AnnotLevel) (rest : List AnnotItem) → IsFineLevel all taken level
@@ -355,17 +355,18 @@ Apart (def ∷ defs) = Each (λ (other : LevelDef). same_text def.name other.nam
 shares_none : (def other : LevelDef) → share_no_name (names_of def) (names_of other) ≡ true → same_text def.name other.name ≡ false
 shares_none def other none =
     let first : (not (list_any (same_text def.name) (names_of other)) ≡ true) × (list_all (λ name. not (list_any (same_text name) (names_of other))) (attribute_names def) ≡ true)
-      = and_parts (not (list_any (same_text def.name) (names_of other))) (list_all (λ name. not (list_any (same_text name) (names_of other))) (attribute_names def)) none in
+    = and_parts (not (list_any (same_text def.name) (names_of other))) (list_all (λ name. not (list_any (same_text name) (names_of other))) (attribute_names def)) none in
     (or_parts (same_text def.name other.name) (list_any (same_text def.name) (attribute_names other)) (not-true (list_any (same_text def.name) (names_of other)) first.0)).0
 
 differ_apart : (defs : List LevelDef) → levels_differ defs ≡ true → Apart defs
 differ_apart [] differ = tt
 differ_apart (def ∷ defs) differ =
     let parts : (list_all (λ other. share_no_name (names_of def) (names_of other)) defs ≡ true) × (levels_differ defs ≡ true)
-      = and_parts (list_all (λ other. share_no_name (names_of def) (names_of other)) defs) (levels_differ defs) differ in
-    (each_map (λ (other : LevelDef). share_no_name (names_of def) (names_of other) ≡ true) (λ (other : LevelDef). same_text def.name other.name ≡ false) (λ other none. shares_none def other none) defs
-      (all_each (λ (other : LevelDef). share_no_name (names_of def) (names_of other)) defs parts.0),
-    differ_apart defs parts.1)
+    = and_parts (list_all (λ other. share_no_name (names_of def) (names_of other)) defs) (levels_differ defs) differ in (
+      each_map (λ (other : LevelDef). share_no_name (names_of def) (names_of other) ≡ true) (λ (other : LevelDef). same_text def.name other.name ≡ false) (λ other none. shares_none def other none) defs
+          (all_each (λ (other : LevelDef). share_no_name (names_of def) (names_of other)) defs parts.0),
+      differ_apart defs parts.1,
+    )
 
 find_other : (def other : LevelDef) (defs : List LevelDef) (b : Bool) → b ≡ false → level_named other.name defs ≡ Some other → cond b (Some def) (level_named other.name defs) ≡ Some other
 find_other def other defs true is finds = absurd (true≢false is)
@@ -373,10 +374,11 @@ find_other def other defs false is finds = finds
 
 finds_all : (defs : List LevelDef) → Apart defs → Each (Finds defs) defs
 finds_all [] apart = tt
-finds_all (def ∷ defs) apart =
-    (ap (λ b. cond b (Some def) (level_named def.name defs)) (text_same def.name),
-    each_two (λ (other : LevelDef). same_text def.name other.name ≡ false) (Finds defs) (Finds (def ∷ defs))
-      (λ other away finds. find_other def other defs (same_text def.name other.name) away finds) defs apart.0 (finds_all defs apart.1))
+finds_all (def ∷ defs) apart = (
+  ap (λ b. cond b (Some def) (level_named def.name defs)) (text_same def.name),
+  each_two (λ (other : LevelDef). same_text def.name other.name ≡ false) (Finds defs) (Finds (def ∷ defs))
+      (λ other away finds. find_other def other defs (same_text def.name other.name) away finds) defs apart.0 (finds_all defs apart.1),
+)
 
 -- All ids of the bundle.
 
@@ -438,8 +440,8 @@ count_step : (def : LevelDef) (defs : List LevelDef) (level : AnnotLevel) (level
     → length (cond b level.items (items_named def.name levels)) + count_for defs (level ∷ levels) ≤ length level.items + (length (items_named def.name levels) + count_for defs levels)
 count_step def defs level levels apart rest true is =
     let absent : count_for defs (level ∷ levels) ≡ count_for defs levels = count_absent defs level levels
-      (each_map (λ (other : LevelDef). same_text def.name other.name ≡ false) (λ (other : LevelDef). same_text level.name other.name ≡ false)
-        (λ other away. text_apart level.name def.name other.name (text_true level.name def.name is) away) defs apart.0) in
+    (each_map (λ (other : LevelDef). same_text def.name other.name ≡ false) (λ (other : LevelDef). same_text level.name other.name ≡ false)
+    (λ other away. text_apart level.name def.name other.name (text_true level.name def.name is) away) defs apart.0) in
     omega arith
 count_step def defs level levels apart rest false is = omega arith
 
@@ -471,9 +473,9 @@ record IsFineAnnot (c : Config) (annot : Annot) : Type 0 where
 fine_annot : (c : Config) (annot : Annot) → build_fault c annot ≡ None → IsFineAnnot c annot
 fine_annot c annot fine =
     let first : (not (is_rate annot.rate) ≡ false) × (cond (nat_lt 65536 (annot_items annot.levels)) (Some (rules.TooMany counted.BundleItems)) (levels_fault c.levels [] [] annot.levels) ≡ None)
-      = cond_none (not (is_rate annot.rate)) rules.RateOut (cond (nat_lt 65536 (annot_items annot.levels)) (Some (rules.TooMany counted.BundleItems)) (levels_fault c.levels [] [] annot.levels)) fine in
+    = cond_none (not (is_rate annot.rate)) rules.RateOut (cond (nat_lt 65536 (annot_items annot.levels)) (Some (rules.TooMany counted.BundleItems)) (levels_fault c.levels [] [] annot.levels)) fine in
     let second : (nat_lt 65536 (annot_items annot.levels) ≡ false) × (levels_fault c.levels [] [] annot.levels ≡ None)
-      = cond_none (nat_lt 65536 (annot_items annot.levels)) (rules.TooMany counted.BundleItems) (levels_fault c.levels [] [] annot.levels) first.1 in
+    = cond_none (nat_lt 65536 (annot_items annot.levels)) (rules.TooMany counted.BundleItems) (levels_fault c.levels [] [] annot.levels) first.1 in
     record {
       rate = not-false (is_rate annot.rate) first.0;
       count = ltb-false 65536 (annot_items annot.levels) second.0;
@@ -496,6 +498,6 @@ made_valid c key annot valid fine =
     let few : item_count b ≤ 65536 = omega (arith, count, within, most) in
     and_from (is_rate b.rate && nat_le (item_count b) 65536 && are_different (ids_in b.levels)) (are_valid_lists c.levels b.levels)
     (and_from (is_rate b.rate && nat_le (item_count b) 65536) (are_different (ids_in b.levels))
-      (and_from (is_rate b.rate) (nat_le (item_count b) 65536) parts.rate (le-leb (item_count b) 65536 few))
-      (ap are_different (all_ids c.levels annot.levels) ∙ different_for c.levels c.levels annot.levels parts.levels apart))
+    (and_from (is_rate b.rate) (nat_le (item_count b) 65536) parts.rate (le-leb (item_count b) 65536 few))
+    (ap are_different (all_ids c.levels annot.levels) ∙ different_for c.levels c.levels annot.levels parts.levels apart))
     (lists_valid c.levels c.levels (finds_all c.levels apart) annot.levels parts.levels)

@@ -1,11 +1,10 @@
 -- Each event that fits keeps what a run of the core keeps true.
-use Rattle.std.proofs.Common.{◌≡◌, ◌≢◌, ◌⊎◌, inl, inr, ⊎_elim, ℕ, zero, suc, ◌+◌, ◌<◌, ◌≤◌, Bool, true, false, List, [], ◌∷◌, ◌++◌, length, filter, Option, Some, None, Result, Ok, Err, nat_eq, nat_le, slice_get, take, option_map, refl, sym, ◌∙◌, ap, subst, arith, length-append, eq-eqb, eqb-true}
+use Rattle.std.proofs.Common.{◌≡◌, ◌≢◌, inl, inr, ⊎_elim, ℕ, ◌+◌, ◌<◌, ◌≤◌, Bool, true, false, List, [], ◌∷◌, ◌++◌, length, Option, Some, None, Result, Ok, Err, nat_le, option_map, refl, sym, ◌∙◌, ap, subst, arith, length-append, eq-eqb, eqb-true}
 use Rattle.std.proofs.lemmas.Bool.{cases_eq, ne_eqb, false≢true, leb-true, leb-false}
 use Rattle.std.proofs.lemmas.List.{append-nil, length_push}
 use Rattle.std.proofs.Math.Seq.{take-length, take-append_seam}
 use Rattle.emu_names.specs.declared.kinds.SessionNo.{SessionNo}
 use Rattle.emu_names.specs.declared.rules.Broken.{Broken}
-use Rattle.session_core.specs.declared.config.Config.{Config}
 use Rattle.session_core.specs.declared.bundle.BundleParts.{BundleParts}
 use Rattle.session_core.specs.declared.edit.Edit.{Edit}
 use Rattle.session_core.specs.declared.edit.Entry.{Entry}
@@ -17,7 +16,7 @@ use Rattle.session_core.specs.declared.line.AskFault.{AskFault}
 use Rattle.session_core.specs.declared.line.Command.{Command}
 use Rattle.session_core.specs.declared.line.Command.TheVariants as commands
 use Rattle.session_core.specs.declared.line.Answer.{Answer}
-use Rattle.session_core.specs.declared.line.Answer.TheVariants.{Done, Segments, Refused}
+use Rattle.session_core.specs.declared.line.Answer.TheVariants.{Done, Refused}
 use Rattle.session_core.specs.declared.line.Refusal.TheVariants as refusals
 use Rattle.session_core.specs.declared.line.Request.{Request}
 use Rattle.session_core.specs.declared.line.Request.TheVariants as requests
@@ -27,12 +26,12 @@ use Rattle.session_core.specs.Effects.{IsLegal, edited}
 use Rattle.session_core.specs.Queries.{asked}
 use Rattle.session_core.specs.Answers.{query_answer, answer_at, memory, reply_to, entry_of}
 use Rattle.session_core.specs.Steps.{Opened, State, slot, put_slot, session_places, is_full, opened_at, edit_step, look_step, finish_step, query_step, query_fails}
-use Rattle.session_core.specs.Worlds.{Turn, Moment, World, outcome_of, same_command, query_line, finish_line, brought, query_answered, answered, turns_of, happens, Each, IsBehind, IsNext, is_answered, RequestFits, EditFits, LookFits, IsUnderWay, QueryFits, Fits}
-use Rattle.session_core.specs.Legal.{IsNamed, of_session, lines_of_session, is_of, is_line_of, lines_in, Mark, accepting, accepted, numbered, history_limit, IsRightTurn, IsRight, low_after, KeepsUp, Look, open_after, look_after, finish_after, LookReplyFits, FinishReplyFits, ReplyFits, session_of, is_disk}
+use Rattle.session_core.specs.Worlds.{Turn, Moment, World, outcome_of, same_command, query_line, finish_line, brought, query_answered, answered, turns_of, happens, Each, IsBehind, IsNext, is_answered, RequestFits, EditFits, LookFits, IsUnderWay, Fits}
+use Rattle.session_core.specs.Legal.{of_session, lines_of_session, is_of, is_line_of, lines_in, accepting, numbered, history_limit, IsRight, low_after, KeepsUp, Look, open_after, look_after, finish_after, LookReplyFits, FinishReplyFits, ReplyFits, session_of, is_disk}
 use Rattle.session_core.proofs.Replay.{after_push}
-use Rattle.session_core.proofs.Turns.{each_push, each_map, each_filter, each_passing, each_kept, each_of_map, filter_more, filter_same, low_of, IsPast, IsTo, HasSeenStill, seen_in_to}
+use Rattle.session_core.proofs.Turns.{each_map, each_passing, each_kept, each_of_map, filter_more, filter_same, low_of, IsPast, HasSeenStill, seen_in_to}
 use Rattle.session_core.proofs.Places.{slot_put, slot_other, put_length}
-use Rattle.session_core.proofs.Seats.{slice_get_last, rights_to, no, look_of, IsIn, in_more, IsWaiting, Seat, seat_told, Good, world_of, Adds, old_seat, added}
+use Rattle.session_core.proofs.Seats.{slice_get_last, rights_to, session_no, look_of, IsIn, in_more, IsWaiting, Seat, seat_told, Good, world_of, old_seat, added}
 
 abbrev line_of : ℕ → SessionNo → Command → Request → Line
 line_of line s command r = record { line = line; session = s; command = command; request = r }
@@ -74,7 +73,7 @@ module _ (opening : List Entry) (w : World) (g : Good opening w) where
   next_lines : (s : ℕ) → slot w.state.queries s ≡ None → lines_of_session s w.lines ≡ lines_in (of_session s w.turns)
   next_lines s idle =
       (g.seats s).lines
-      ∙ ap (λ (q : Option Opened). lines_in (of_session s w.turns) ++ query_answered (no s) q) idle
+      ∙ ap (λ (q : Option Opened). lines_in (of_session s w.turns) ++ query_answered (session_no s) q) idle
       ∙ append-nil (lines_in (of_session s w.turns))
 
   -- the answered lines of the session are before a line that comes next

@@ -1,10 +1,9 @@
 -- Every state of a legal history keeps the configuration's rules.
-use Rattle.std.proofs.Common.{◌≡◌, ◌≢◌, ℕ, ◌+◌, ◌<◌, ◌≤◌, Bool, true, false, cond, not, ◌&&◌, ◌||◌, List, [], ◌∷◌, ◌++◌, length, take, drop, sum_by, Option, Some, None, Result, Ok, Err, nat_lt, nat_le, refl, sym, ◌∙◌, ap, subst, arith, is_lt, Ordering}
+use Rattle.std.proofs.Common.{◌≡◌, ℕ, ◌+◌, ◌<◌, ◌≤◌, Bool, true, false, cond, ◌&&◌, List, [], ◌∷◌, length, take, drop, Option, Some, None, Result, Ok, Err, nat_lt, nat_le, refl, sym, ◌∙◌, ap, subst, arith, is_lt, Ordering}
 use Rattle.std.specs.declared.cmp.Ordering.TheVariants.{Less, Equal, Greater}
-use Rattle.std.specs.List.{list_any, list_all}
-use Rattle.std.specs.Cmp.{IsTotalOrder}
+use Rattle.std.specs.List.{list_all}
 use Rattle.std.specs.Ordering.{ordering_reverse}
-use Rattle.std.proofs.lemmas.Bool.{false≢true, true≢false, not-true, and_parts, and_from, or_parts, ltb-false, leb-true, leb-false, le-leb}
+use Rattle.std.proofs.lemmas.Bool.{true≢false, and_parts, and_from, or_parts, ltb-false, leb-true, leb-false, le-leb}
 use Rattle.std.proofs.lemmas.List.{take-append-drop}
 use Rattle.std.proofs.lemmas.List.Sums.{sum_by-cons}
 use Rattle.emu_names.specs.declared.names.BundleKey.{BundleKey}
@@ -13,13 +12,12 @@ use Rattle.emu_names.specs.declared.rules.Broken.TheVariants as rules
 use Rattle.emu_names.specs.declared.rules.What.TheVariants as counted
 use Rattle.emu_names.specs.Order.{key_cmp}
 use Rattle.emu_names.proofs.KeyOrder.{exact_keys, keys_total}
-use Rattle.session_core.specs.declared.annot.Annot.{Annot}
 use Rattle.session_core.specs.declared.config.Config.{Config}
 use Rattle.session_core.specs.declared.bundle.BundleParts.{BundleParts}
 use Rattle.session_core.specs.declared.edit.Edit.{Edit}
 use Rattle.session_core.specs.declared.edit.Edit.TheVariants as edits
 use Rattle.session_core.specs.declared.edit.Entry.{Entry}
-use Rattle.session_core.specs.Build.{build_fault, made_bundle, unless_broken, built}
+use Rattle.session_core.specs.Build.{build_fault, made_bundle, unless_broken}
 use Rattle.session_core.specs.Configs.{same_text, is_valid_config}
 use Rattle.session_core.specs.Effects.{◌>>=◌, same_key, has_key, is_before, put_in_order, item_count, all_items, bundle_added, effect, replayed, after, IsLegal, found_bundles, bundles_after}
 use Rattle.session_core.specs.Valid.{is_valid_bundle, are_keys_rising, is_valid_state}
@@ -120,9 +118,9 @@ record IsKept (c : Config) (bundles : List BundleParts) : Type 0 where
 kept_of : (c : Config) (bundles : List BundleParts) → is_valid_state c bundles ≡ true → IsKept c bundles
 kept_of c bundles valid =
     let last : (nat_le (length bundles) 10000 && are_keys_rising bundles && list_all (is_valid_bundle c) bundles ≡ true) × (nat_le (all_items bundles) 2000000 ≡ true)
-      = and_parts (nat_le (length bundles) 10000 && are_keys_rising bundles && list_all (is_valid_bundle c) bundles) (nat_le (all_items bundles) 2000000) valid in
+    = and_parts (nat_le (length bundles) 10000 && are_keys_rising bundles && list_all (is_valid_bundle c) bundles) (nat_le (all_items bundles) 2000000) valid in
     let middle : (nat_le (length bundles) 10000 && are_keys_rising bundles ≡ true) × (list_all (is_valid_bundle c) bundles ≡ true)
-      = and_parts (nat_le (length bundles) 10000 && are_keys_rising bundles) (list_all (is_valid_bundle c) bundles) last.0 in
+    = and_parts (nat_le (length bundles) 10000 && are_keys_rising bundles) (list_all (is_valid_bundle c) bundles) last.0 in
     let first : (nat_le (length bundles) 10000 ≡ true) × (are_keys_rising bundles ≡ true) = and_parts (nat_le (length bundles) 10000) (are_keys_rising bundles) middle.0 in
     record {
       few = leb-true (length bundles) 10000 first.0;
@@ -135,8 +133,8 @@ of_kept : (c : Config) (bundles : List BundleParts) → IsKept c bundles → is_
 of_kept c bundles kept =
     and_from (nat_le (length bundles) 10000 && are_keys_rising bundles && list_all (is_valid_bundle c) bundles) (nat_le (all_items bundles) 2000000)
     (and_from (nat_le (length bundles) 10000 && are_keys_rising bundles) (list_all (is_valid_bundle c) bundles)
-      (and_from (nat_le (length bundles) 10000) (are_keys_rising bundles) (le-leb (length bundles) 10000 kept.few) kept.rising)
-      kept.valid)
+    (and_from (nat_le (length bundles) 10000) (are_keys_rising bundles) (le-leb (length bundles) 10000 kept.few) kept.rising)
+    kept.valid)
     (le-leb (all_items bundles) 2000000 kept.items)
 
 -- One edit.
@@ -148,16 +146,16 @@ ok_of x = Ok x
 err_ok : {A : Type 0} (r : Broken) (x : A) → Err r ≡ Ok x → ⊥
 err_ok r x e = true≢false (ap is_err e)
   where
-  is_err : {A : Type 0} → Result A Broken → Bool
-  is_err (Ok x) = false
-  is_err (Err r) = true
+    is_err : {A : Type 0} → Result A Broken → Bool
+    is_err (Ok x) = false
+    is_err (Err r) = true
 
 ok_same : {A : Type 0} (x y : A) → ok_of x ≡ ok_of y → x ≡ y
 ok_same {A = A} x y e = ap (λ (r : Result A Broken). inside r x) e
   where
-  inside : {B : Type 0} → Result B Broken → B → B
-  inside (Ok v) d = v
-  inside (Err r) d = d
+    inside : {B : Type 0} → Result B Broken → B → B
+    inside (Ok v) d = v
+    inside (Err r) d = d
 
 added_parts : (b1 b2 : Bool) (r1 r2 : Broken) (fault : Option Broken) (parts : BundleParts) (f : BundleParts → Result (List BundleParts) Broken) (new : List BundleParts)
     → cond b1 (Err r1) (cond b2 (Err r2) (unless_broken fault parts >>= f)) ≡ Ok new → (b1 ≡ false) × (b2 ≡ false) × (fault ≡ None) × (f parts ≡ Ok new)
@@ -175,9 +173,9 @@ pub effect_valid : (c : Config) → is_valid_config c ≡ true → (bundles new 
 effect_valid c valid bundles new (edits.AddBundle key annot) kept made =
     let parts : BundleParts = made_bundle c key annot in
     let first : (has_key key bundles ≡ false) × (nat_le 10000 (length bundles) ≡ false) × (build_fault c annot ≡ None) × (bundle_added bundles (made_bundle c key annot) ≡ Ok new)
-      = added_parts (has_key key bundles) (nat_le 10000 (length bundles)) rules.BundleTaken (rules.TooMany counted.Bundles) (build_fault c annot) (made_bundle c key annot) (bundle_added bundles) new made in
+    = added_parts (has_key key bundles) (nat_le 10000 (length bundles)) rules.BundleTaken (rules.TooMany counted.Bundles) (build_fault c annot) (made_bundle c key annot) (bundle_added bundles) new made in
     let second : (nat_lt 2000000 (all_items bundles + item_count (made_bundle c key annot)) ≡ false) × (put_in_order (made_bundle c key annot) bundles ≡ new)
-      = put_parts (nat_lt 2000000 (all_items bundles + item_count (made_bundle c key annot))) (rules.TooMany counted.AllItems) (put_in_order (made_bundle c key annot) bundles) new first.3 in
+    = put_parts (nat_lt 2000000 (all_items bundles + item_count (made_bundle c key annot))) (rules.TooMany counted.AllItems) (put_in_order (made_bundle c key annot) bundles) new first.3 in
     let was : IsKept c bundles = kept_of c bundles kept in
     let below : length bundles < 10000 = leb-false 10000 (length bundles) first.1 in
     let count : length (put_in_order (made_bundle c key annot) bundles) ≡ length bundles + 1 = put_length (made_bundle c key annot) bundles in

@@ -1,5 +1,5 @@
 -- What stands at a session's place after another thing was put there.
-use Rattle.std.proofs.Common.{◌≡◌, ◌≢◌, ℕ, zero, suc, ◌<◌, List, [], ◌∷◌, length, replicate, Option, Some, None, refl, ap, arith}
+use Rattle.std.proofs.Common.{◌≡◌, ◌≢◌, ℕ, zero, suc, ◌<◌, List, [], ◌∷◌, length, replicate, Option, None, refl, ap, arith}
 use Rattle.session_core.specs.Steps.{slot, put_slot}
 
 pub slot_put : {A : Type 0} (xs : List (Option A)) (s : ℕ) (v : Option A) → s < length xs → slot (put_slot xs s v) s ≡ v

@@ -1,5 +1,5 @@
 -- How the state after a history follows from that after its beginning.
-use Rattle.std.proofs.Common.{◌≡◌, ℕ, List, [], ◌∷◌, ◌++◌, Result, Ok, Err, refl, ◌∙◌}
+use Rattle.std.proofs.Common.{◌≡◌, List, [], ◌∷◌, ◌++◌, Result, Ok, Err, refl, ◌∙◌}
 use Rattle.emu_names.specs.declared.rules.Broken.{Broken}
 use Rattle.session_core.specs.declared.config.Config.{Config}
 use Rattle.session_core.specs.declared.bundle.BundleParts.{BundleParts}

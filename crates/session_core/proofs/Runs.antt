@@ -1,5 +1,5 @@
 -- Every run of events that fit is a legal run.
-use Rattle.std.proofs.Common.{◌≡◌, ◌≢◌, ℕ, ◌+◌, ◌<◌, ◌≤◌, Bool, true, false, cond, not, List, [], ◌∷◌, ◌++◌, length, map, filter, replicate, Option, Some, None, Result, Ok, Err, nat_eq, option_map, refl, sym, ◌∙◌, ap, subst, arith, append_assoc, eqb-true, eq-eqb}
+use Rattle.std.proofs.Common.{◌≡◌, ◌≢◌, ℕ, ◌<◌, ◌≤◌, Bool, true, false, cond, not, List, [], ◌∷◌, ◌++◌, length, map, filter, replicate, Option, Some, None, Result, Ok, Err, option_map, refl, sym, ◌∙◌, ap, subst, arith, append_assoc, eqb-true, eq-eqb}
 use Rattle.std.proofs.lemmas.Bool.{ne_eqb}
 use Rattle.std.proofs.lemmas.List.{append-nil}
 use Rattle.std.proofs.lemmas.List.Elements.{filter-append}
@@ -23,9 +23,9 @@ use Rattle.session_core.specs.Steps.{Opened, State, start, slot, session_places,
 use Rattle.session_core.specs.Worlds.{Turn, Moment, World, outcome, query_line, finish_line, query_answered, answered, turns_of, happens, run, opening_world, Each, AllFit, is_waiting, is_done, script_of}
 use Rattle.session_core.specs.Legal.{of_session, lines_of_session, is_of, is_line_of, lines_in, replies_in, with_number, history_limit, HasSeenTurn, Legal}
 use Rattle.session_core.specs.Laws.{IsLegalRun, with_memory}
-use Rattle.session_core.proofs.Turns.{each_map, each_kept, each_filter, each_to_map, replies_more, low_of, HasSeenStill, still_seen, no_disks}
+use Rattle.session_core.proofs.Turns.{each_map, each_kept, each_to_map, replies_more, low_of, HasSeenStill, still_seen, no_disks}
 use Rattle.session_core.proofs.Places.{slot_none}
-use Rattle.session_core.proofs.Seats.{no, look_of, IsIn, IsWaiting, Seat, Good}
+use Rattle.session_core.proofs.Seats.{session_no, look_of, IsIn, IsWaiting, Seat, Good}
 use Rattle.session_core.proofs.Events.{moment_good}
 
 -- The beginning, and each run.
@@ -34,7 +34,7 @@ start_seat : (c : Config) (opening : List Entry) (s : ℕ) → Seat c (length op
 start_seat c opening s =
     let none : slot (replicate {A = Option Opened} session_places None) s ≡ None = slot_none session_places s in
     record {
-      lines = ap (λ (q : Option Opened). query_answered (no s) q) (sym none);
+      lines = ap (λ (q : Option Opened). query_answered (session_no s) q) (sym none);
       falls = tt;
       from = omega arith;
       low = omega arith;
@@ -186,19 +186,19 @@ module _ (opening : List Entry) (w : World) (g : Good opening w) (s : ℕ) where
       (each_map (λ t. (is_of s t ≡ true) × (is_waiting t.line held ≡ false)) (λ t. is_done w.state t.line ≡ true) (λ t both. own_done held is t both.0 both.1) (of_session s w.turns)
       (each_both (λ t. is_of s t ≡ true) (λ t. is_waiting t.line held ≡ false) (of_session s w.turns) is_own waits)))
 
-  pending_undone : (held : Opened) → slot w.state.queries s ≡ Some held → is_done w.state (query_line (no s) held) ≡ false
+  pending_undone : (held : Opened) → slot w.state.queries s ≡ Some held → is_done w.state (query_line (session_no s) held) ≡ false
   pending_undone held is =
-      ap (λ (o : Option Opened). not (is_waiting (query_line (no s) held) o)) is
+      ap (λ (o : Option Opened). not (is_waiting (query_line (session_no s) held) o)) is
       ∙ ap not (eq-eqb held.line held.line refl)
 
   done_lines : (held : Option Opened) → slot w.state.queries s ≡ held → IsWaiting (low_of (length opening) (of_session s w.turns)) w.state.entries (of_session s w.turns) held
-      → filter (is_done w.state) (lines_in (of_session s w.turns) ++ query_answered (no s) held) ≡ lines_in (of_session s w.turns)
+      → filter (is_done w.state) (lines_in (of_session s w.turns) ++ query_answered (session_no s) held) ≡ lines_in (of_session s w.turns)
   done_lines None is waits =
       ap (λ (ls : List Line). filter (is_done w.state) ls) (append-nil (lines_in (of_session s w.turns)))
       ∙ all_done None is (each_any (λ t. is_waiting t.line None ≡ false) (λ t. refl) (of_session s w.turns))
   done_lines (Some held) is waits =
-      filter-append (is_done w.state) (lines_in (of_session s w.turns)) (query_line (no s) held ∷ [])
-      ∙ ap (λ b. filter (is_done w.state) (lines_in (of_session s w.turns)) ++ cond b (query_line (no s) held ∷ []) []) (pending_undone held is)
+      filter-append (is_done w.state) (lines_in (of_session s w.turns)) (query_line (session_no s) held ∷ [])
+      ∙ ap (λ b. filter (is_done w.state) (lines_in (of_session s w.turns)) ++ cond b (query_line (session_no s) held ∷ []) []) (pending_undone held is)
       ∙ append-nil (filter (is_done w.state) (lines_in (of_session s w.turns)))
       ∙ all_done (Some held) is
       (each_map (λ t. t.line.line < held.line) (λ t. is_waiting t.line (Some held) ≡ false)

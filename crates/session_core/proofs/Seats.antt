@@ -1,11 +1,9 @@
 -- What a run of the core keeps true: of the whole, and of each session.
-use Rattle.std.proofs.Common.{◌≡◌, ◌≢◌, ◌⊎◌, inl, inr, ⊎_elim, ℕ, zero, suc, ◌+◌, ◌<◌, ◌≤◌, Bool, true, false, List, [], ◌∷◌, ◌++◌, length, filter, Option, Some, None, Result, Ok, Err, nat_eq, slice_get, take, option_map, refl, sym, ◌∙◌, ap, subst, arith, append_assoc, length-append, eq-eqb, eqb-true}
-use Rattle.std.proofs.lemmas.Bool.{cases_eq, ne_eqb}
+use Rattle.std.proofs.Common.{◌≡◌, ◌≢◌, ⊎_elim, ℕ, zero, suc, ◌+◌, ◌<◌, ◌≤◌, true, false, List, [], ◌∷◌, ◌++◌, length, Option, Some, None, slice_get, take, option_map, refl, sym, ◌∙◌, ap, subst, arith, append_assoc, length-append}
+use Rattle.std.proofs.lemmas.Bool.{cases_eq}
 use Rattle.std.proofs.lemmas.List.{append-nil, take-append-le}
 use Rattle.emu_names.specs.declared.kinds.SessionNo.{SessionNo}
-use Rattle.emu_names.specs.declared.rules.Broken.{Broken}
 use Rattle.session_core.specs.declared.config.Config.{Config}
-use Rattle.session_core.specs.declared.bundle.BundleParts.{BundleParts}
 use Rattle.session_core.specs.declared.edit.Edit.{Edit}
 use Rattle.session_core.specs.declared.edit.Entry.{Entry}
 use Rattle.session_core.specs.declared.line.Ask.{Ask}
@@ -16,14 +14,13 @@ use Rattle.session_core.specs.declared.line.Refusal.TheVariants as refusals
 use Rattle.session_core.specs.declared.line.Request.{Request}
 use Rattle.session_core.specs.declared.line.Request.TheVariants as requests
 use Rattle.session_core.specs.declared.line.Line.{Line}
-use Rattle.session_core.specs.declared.line.Reply.{Reply}
 use Rattle.session_core.specs.Effects.{IsLegal, edited, bundles_after}
 use Rattle.session_core.specs.Queries.{asked}
-use Rattle.session_core.specs.Answers.{query_answer, answer_at, reply_to}
-use Rattle.session_core.specs.Steps.{Opened, State, slot, session_places}
-use Rattle.session_core.specs.Worlds.{Turn, World, Each, query_answered, IsBehind, IsNext}
-use Rattle.session_core.specs.Legal.{IsNamed, of_session, lines_of_session, is_of, is_line_of, lines_in, Mark, accepting, accepted, numbered, history_limit, IsAcceptance, IsStoreFull, IsRightRefusal, IsRightEdit, IsRightAt, IsRight, IsRightTurn, low_after, KeepsUp, NeverFalls, Look, open_after, LookReplyFits, FinishReplyFits, ReplyFits, LooksFit, is_disk}
-use Rattle.session_core.proofs.Turns.{each_push, each_map, each_filter, each_passing, each_of_map, filter_more, filter_same, turns_own, turns_other, lines_push, accepted_push, numbered_more, low_of, falls_push, low_push, held_of, looks_push, held_push, IsPast, IsTo, HasSeenStill, all_still}
+use Rattle.session_core.specs.Answers.{query_answer, answer_at}
+use Rattle.session_core.specs.Steps.{Opened, slot, session_places}
+use Rattle.session_core.specs.Worlds.{Turn, World, Each, query_answered}
+use Rattle.session_core.specs.Legal.{IsNamed, of_session, lines_of_session, is_of, lines_in, Mark, accepting, accepted, numbered, history_limit, IsRightRefusal, IsRightEdit, IsRightAt, IsRight, IsRightTurn, low_after, KeepsUp, NeverFalls, Look, open_after, FinishReplyFits, ReplyFits, LooksFit, is_disk}
+use Rattle.session_core.proofs.Turns.{each_push, each_map, each_filter, turns_own, turns_other, lines_push, accepted_push, numbered_more, low_of, falls_push, low_push, held_of, looks_push, held_push, IsPast, IsTo, HasSeenStill, all_still}
 
 -- A longer history changes nothing of what was said of a shorter one.
 
@@ -117,8 +114,9 @@ module _ (c : Config) (m : ℕ) (H new : List Entry) where
 
 -- One session.
 
-abbrev pub no : ℕ → SessionNo
-no s = record { 0 = s }
+-- the session of a number
+abbrev pub session_no : ℕ → SessionNo
+session_no s = record { 0 = s }
 
 abbrev pub look_of : Opened → Look
 look_of held = record { n = held.n; ask = held.ask }
@@ -135,7 +133,7 @@ IsWaiting low H ts (Some held) = (low ≤ held.n) × (held.n ≤ length H) × Ea
 
 -- the turns and lines of a session, with its open look and its query under way
 pub record Seat (c : Config) (m : ℕ) (H : List Entry) (s : ℕ) (ts : List Turn) (ls : List Line) (look query : Option Opened) : Type 0 where
-  pub lines : ls ≡ lines_in ts ++ query_answered (no s) query
+  pub lines : ls ≡ lines_in ts ++ query_answered (session_no s) query
   pub falls : NeverFalls m ts
   pub from : m ≤ low_of m ts
   pub low : low_of m ts ≤ length H

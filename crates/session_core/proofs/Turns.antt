@@ -1,20 +1,18 @@
 -- Lists of turns: what one more turn changes of all that is said of them.
-use Rattle.std.proofs.Common.{◌≡◌, ◌≢◌, ◌⊎◌, inl, inr, ℕ, zero, suc, ◌+◌, ◌<◌, ◌≤◌, max, Bool, true, false, cond, ◌&&◌, ◌||◌, List, [], ◌∷◌, ◌++◌, length, map, filter, sum_by, Option, Some, None, nat_eq, nat_le, slice_get, take, refl, sym, ◌∙◌, ap, subst, arith, append_assoc, eq-eqb, eqb-true}
-use Rattle.std.specs.List.{list_any, count_by}
-use Rattle.std.proofs.lemmas.Bool.{ne_eqb, lt-leb, and_left, and_right, cases_Bool, eqb-false, false≢true}
+use Rattle.std.proofs.Common.{◌≡◌, ◌≢◌, ℕ, ◌+◌, ◌<◌, ◌≤◌, Bool, true, false, cond, ◌&&◌, ◌||◌, List, [], ◌∷◌, ◌++◌, length, map, filter, Option, Some, None, nat_eq, nat_le, refl, sym, ◌∙◌, ap, subst, arith, append_assoc, eq-eqb, eqb-true}
+use Rattle.std.specs.List.{list_any}
+use Rattle.std.proofs.lemmas.Bool.{ne_eqb, lt-leb, and_left, and_right, false≢true}
 use Rattle.std.proofs.lemmas.List.{append-nil}
 use Rattle.std.proofs.lemmas.List.Elements.{filter-append}
 use Rattle.std.proofs.lemmas.List.Sums.{sum_by-cons}
 use Rattle.std.proofs.Math.Nat.{max-le}
 use Rattle.session_core.specs.declared.config.Config.{Config}
 use Rattle.session_core.specs.declared.edit.Entry.{Entry}
-use Rattle.session_core.specs.declared.line.Answer.{Answer}
 use Rattle.session_core.specs.declared.line.Request.{Request}
 use Rattle.session_core.specs.declared.line.Request.TheVariants as requests
-use Rattle.session_core.specs.declared.line.Line.{Line}
 use Rattle.session_core.specs.declared.line.Reply.{Reply}
 use Rattle.session_core.specs.Worlds.{Turn, Each, is_answered}
-use Rattle.session_core.specs.Legal.{is_of, of_session, lines_in, replies_in, Mark, accepting, accepted, numbered, low_after, KeepsUp, NeverFalls, Look, open_after, ReplyFits, LooksFit, session_of, number_or, seen_by, seen_in, seen, HasSeen, is_disk, disk_replies}
+use Rattle.session_core.specs.Legal.{is_of, of_session, lines_in, replies_in, accepting, accepted, numbered, low_after, KeepsUp, NeverFalls, Look, open_after, ReplyFits, LooksFit, session_of, number_or, seen_by, seen_in, seen, HasSeen, is_disk, disk_replies}
 
 -- What holds of each element.
 

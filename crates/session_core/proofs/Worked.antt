@@ -1,9 +1,7 @@
 -- The example's run, worked out.
-use Rattle.std.proofs.Common.{◌≡◌, ℕ, List, [], ◌∷◌, map, refl, arith}
-use Rattle.session_core.specs.Steps.{start, steps}
-use Rattle.session_core.specs.Worlds.{World, happens, opening_world, Each, IsBehind}
-use Rattle.session_core.specs.Example.{example_config, example_events, add_line, query_line_3}
-use Rattle.session_core.specs.Laws.{with_memory, ExampleFits, ExampleReplies, ExampleHistory, ExampleIsLegal}
+use Rattle.std.proofs.Common.{[], refl, arith}
+use Rattle.session_core.specs.Example.{example_config, example_events}
+use Rattle.session_core.specs.Laws.{ExampleFits, ExampleReplies, ExampleHistory, ExampleIsLegal}
 use Rattle.session_core.proofs.Runs.{core_run_legal}
 
 pub example_replies_are : ExampleReplies
@@ -15,9 +13,14 @@ example_history_is = refl
 pub example_fits : ExampleFits
 example_fits = (
   record { next = record { place = omega arith; idle = refl; behind = tt }; kind = refl; command = refl },
-  (record { next = record { place = omega arith; idle = refl; behind = (record { own = λ same. omega arith; others = λ ne same. ne refl }, tt) }; kind = refl; command = refl; answered = tt },
-  (omega arith,
-  (record { place = omega arith; held = refl }, tt))))
+  (
+    record { next = record { place = omega arith; idle = refl; behind = (record { own = λ same. omega arith; others = λ ne same. ne refl }, tt) }; kind = refl; command = refl; answered = tt },
+    (
+      omega arith,
+      (record { place = omega arith; held = refl }, tt),
+    ),
+  ),
+)
 
 pub example_legal : ExampleIsLegal
 example_legal = core_run_legal example_config [] example_events ([], refl) (omega arith) example_fits

@@ -1,16 +1,11 @@
 -- A small run, worked out: one bundle with two segments is added, and one of them is asked for
 -- (EMU-SDMS Manual, "The EMU Query Language": `Phonetic == m`).
-use Rattle.std.specs.Prelude.{◌≡◌, ℕ, List, [], ◌∷◌, Option, Some, None, codes}
+use Rattle.std.specs.Prelude.{ℕ, List, [], ◌∷◌, Some, codes}
 use Rattle.emu_names.specs.declared.kinds.LevelKind.TheVariants as kinds
-use Rattle.emu_names.specs.declared.kinds.ItemId.{ItemId}
 use Rattle.emu_names.specs.declared.kinds.SessionNo.{SessionNo}
-use Rattle.emu_names.specs.declared.names.BundleKey.{BundleKey}
 use Rattle.session_core.specs.declared.annot.Time.TheVariants.{Span}
-use Rattle.session_core.specs.declared.annot.AnnotLabel.{AnnotLabel}
 use Rattle.session_core.specs.declared.annot.AnnotItem.{AnnotItem}
-use Rattle.session_core.specs.declared.annot.AnnotLevel.{AnnotLevel}
 use Rattle.session_core.specs.declared.annot.Annot.{Annot}
-use Rattle.session_core.specs.declared.config.AttributeDef.{AttributeDef}
 use Rattle.session_core.specs.declared.config.LevelDef.{LevelDef}
 use Rattle.session_core.specs.declared.config.Config.{Config}
 use Rattle.session_core.specs.declared.edit.Edit.{Edit}
@@ -19,7 +14,6 @@ use Rattle.session_core.specs.declared.edit.Entry.{Entry}
 use Rattle.session_core.specs.declared.event.Event.{Event}
 use Rattle.session_core.specs.declared.event.Event.TheVariants as events
 use Rattle.session_core.specs.declared.row.Row.{Row}
-use Rattle.session_core.specs.declared.line.Ask.{Ask}
 use Rattle.session_core.specs.declared.line.Answer.TheVariants.{Done, Segments}
 use Rattle.session_core.specs.declared.line.Command.TheVariants as commands
 use Rattle.session_core.specs.declared.line.Request.TheVariants as requests
@@ -62,8 +56,8 @@ first_session = record { 0 = 1 }
 abbrev pub add_line : Line
 add_line = record { line = 2; session = first_session; command = commands.AddBundle; request = requests.Edit example_edit }
 
-abbrev pub query_line_3 : Line
-query_line_3 = record {
+abbrev pub ask_line : Line
+ask_line = record {
   line = 3;
   session = first_session;
   command = commands.Query;
@@ -71,10 +65,10 @@ query_line_3 = record {
 }
 
 abbrev pub example_lines : List Line
-example_lines = add_line ∷ query_line_3 ∷ []
+example_lines = add_line ∷ ask_line ∷ []
 
 abbrev pub example_events : List Event
-example_events = events.Edit add_line ∷ events.Look query_line_3 ∷ events.Piece first_session ∷ events.Finish 3 first_session commands.Query ∷ []
+example_events = events.Edit add_line ∷ events.Look ask_line ∷ events.Piece first_session ∷ events.Finish 3 first_session commands.Query ∷ []
 
 abbrev pub example_history : List Entry
 example_history = (record { session = first_session; line = 2; edit = example_edit }) ∷ []

@@ -21,7 +21,10 @@ pub use config::{AttributeDef, AttributeDefs, Config, LevelDef, LevelDefs};
 pub use edit::{Edit, Entries, Entry};
 pub use effects::effect;
 pub use event::{Event, Events};
-pub use law::{an_example_is_legal, every_core_run_is_legal, every_run_is_legal, replay_goes_on, states_keep_rules};
+pub use law::{
+    an_example_is_legal, every_core_run_is_legal, every_run_is_legal, replay_goes_on,
+    states_keep_rules,
+};
 pub use line::{Answer, Ask, AskFault, Command, Line, Lines, Refusal, Replies, Reply, Request};
 pub use queries::answer;
 pub use row::{Row, SegmentList};
