@@ -7,3 +7,4 @@ pub mod Runs
 pub mod Worked
 pub mod Builds
 pub mod Kept
+pub mod Alone

@@ -157,7 +157,7 @@ filter_swap p q (x ∷ xs) =
     ∙ ap (λ ys. cond (p x) (cond (q x) (x ∷ ys) ys) ys) (filter_swap p q xs)
     ∙ sym (filter_cond q (p x) x (filter p xs))
 
-filter_all : {A : Type 0} (test : A → Bool) (xs : List A) → Each (λ x. test x ≡ true) xs → filter test xs ≡ xs
+pub filter_all : {A : Type 0} (test : A → Bool) (xs : List A) → Each (λ x. test x ≡ true) xs → filter test xs ≡ xs
 filter_all test [] each = refl
 filter_all test (x ∷ xs) each = ap (λ b. cond b (x ∷ filter test xs) (filter test xs)) each.0 ∙ ap (λ ys. x ∷ ys) (filter_all test xs each.1)
 

@@ -1,6 +1,6 @@
 -- A small run, worked out: one bundle with two segments is added, and one of them is asked for
 -- (EMU-SDMS Manual, "The EMU Query Language": `Phonetic == m`).
-use Rattle.std.specs.Prelude.{ℕ, List, [], ◌∷◌, Some, codes}
+use Rattle.std.specs.Prelude.{ℕ, List, [], ◌∷◌, Some, codes, None}
 use Rattle.emu_names.specs.declared.kinds.LevelKind.TheVariants as kinds
 use Rattle.emu_names.specs.declared.kinds.SessionNo.{SessionNo}
 use Rattle.session_core.specs.declared.annot.Time.TheVariants.{Span}
@@ -19,6 +19,7 @@ use Rattle.session_core.specs.declared.line.Command.TheVariants as commands
 use Rattle.session_core.specs.declared.line.Request.TheVariants as requests
 use Rattle.session_core.specs.declared.line.Line.{Line}
 use Rattle.session_core.specs.declared.line.Reply.{Reply}
+use Rattle.session_core.specs.Answers.{memory}
 
 -- one SEGMENT level, Phonetic, with one attribute of its name
 abbrev pub phonetic_level : LevelDef
@@ -92,8 +93,16 @@ example_row = record {
   end_pos = 1;
 }
 
--- the edit is accepted as entry 1, and the answer is the segment m after it
-abbrev pub example_replies : List Reply
-example_replies =
+-- the edit is accepted as entry 1, and the query is answered over a state by these rows
+abbrev pub replies_with : ℕ → List Row → List Reply
+replies_with n rows =
     (record { line = 2; session = first_session; n = Some 1; answer = Done commands.AddBundle })
-    ∷ (record { line = 3; session = first_session; n = Some 1; answer = Segments (example_row ∷ []) }) ∷ []
+    ∷ (record { line = 3; session = first_session; n = Some n; answer = Segments rows }) ∷ []
+
+-- the right answer is the segment m after entry 1
+abbrev pub example_replies : List Reply
+example_replies = replies_with 1 (example_row ∷ [])
+
+-- the edit is answered want of memory
+abbrev pub no_memory_reply : Reply
+no_memory_reply = record { line = 2; session = first_session; n = None; answer = memory }

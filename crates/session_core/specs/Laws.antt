@@ -1,5 +1,5 @@
 -- Laws over the definitions: what histories and runs have in common.
-use Rattle.std.specs.Prelude.{◌≡◌, ℕ, ◌≤◌, true, false, List, [], ◌∷◌, ◌++◌, length, map, take}
+use Rattle.std.specs.Prelude.{◌≡◌, ℕ, ◌≤◌, true, false, List, [], ◌∷◌, ◌++◌, length, map, take, Bool}
 use Rattle.session_core.specs.declared.config.Config.{Config}
 use Rattle.session_core.specs.declared.edit.Entry.{Entry}
 use Rattle.session_core.specs.declared.event.Event.{Event}
@@ -9,7 +9,8 @@ use Rattle.session_core.specs.Valid.{is_valid_state}
 use Rattle.session_core.specs.Steps.{start, steps}
 use Rattle.session_core.specs.Worlds.{Moment, World, run, opening_world, AllFit, script_of}
 use Rattle.session_core.specs.Legal.{Legal, replies_in, history_limit}
-use Rattle.session_core.specs.Example.{example_config, example_events, example_lines, example_history, example_replies}
+use Rattle.session_core.specs.declared.row.Row.{Row}
+use Rattle.session_core.specs.Example.{add_line, replies_with, no_memory_reply, example_row, example_config, example_events, example_lines, example_history, example_replies}
 
 -- one more entry changes the state as its edit does
 abbrev pub ReplayGoesOn : Type 0
@@ -57,3 +58,22 @@ ExampleHistory = (steps (start example_config []) example_events).1.entries ≡ 
 
 abbrev pub ExampleIsLegal : Type 0
 ExampleIsLegal = Legal example_config [] example_lines example_replies example_history false 0
+
+-- Which replies to the example's lines are no legal run. The query stands behind its session's own
+-- edit, so that it is never answered over the state before it.
+abbrev pub StaleIsNotLegal : Type 0
+StaleIsNotLegal = (history : List Entry) (rows : List Row) (store : Bool) (faults : ℕ)
+    → Legal example_config [] example_lines (replies_with 0 rows) history store faults → ⊥
+
+-- beside the history with the edit there is one right answer
+abbrev pub AnswerIsExact : Type 0
+AnswerIsExact = (rows : List Row) (store : Bool) (faults : ℕ)
+    → Legal example_config [] example_lines (replies_with 1 rows) example_history store faults → rows ≡ example_row ∷ []
+
+-- an edit that was accepted is in the history
+abbrev pub AcceptedIsRecorded : Type 0
+AcceptedIsRecorded = (store : Bool) (faults : ℕ) → Legal example_config [] example_lines example_replies [] store faults → ⊥
+
+-- an edit that is in the history was accepted
+abbrev pub RecordedIsAccepted : Type 0
+RecordedIsAccepted = (store : Bool) (faults : ℕ) → Legal example_config [] (add_line ∷ []) (no_memory_reply ∷ []) example_history store faults → ⊥

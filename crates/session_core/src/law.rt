@@ -1,5 +1,5 @@
 //! Laws of the definitions, with nothing to run: what every history and every run of the core keeps.
-ghost use Rattle.session_core.specs.Laws.{EveryCoreRunIsLegal, EveryRunIsLegal, ExampleFits, ExampleHistory, ExampleIsLegal, ExampleReplies, PrefixesAreLegal, ReplayGoesOn, StatesKeepRules};
+ghost use Rattle.session_core.specs.Laws.{AcceptedIsRecorded, AnswerIsExact, RecordedIsAccepted, StaleIsNotLegal, EveryCoreRunIsLegal, EveryRunIsLegal, ExampleFits, ExampleHistory, ExampleIsLegal, ExampleReplies, PrefixesAreLegal, ReplayGoesOn, StatesKeepRules};
 
 /// One more entry changes the state after a history as its edit does.
 pub fn replay_goes_on()
@@ -36,4 +36,14 @@ pub fn an_example_is_legal()
     ensures replies { ExampleReplies }
     ensures history { ExampleHistory }
     ensures legal { ExampleIsLegal }
+{}
+
+/// Wrong replies are no legal run: of the example, a query that is answered over the state before
+/// its session's own edit, whatever the history; any answer beside the edit but the right one; an
+/// acceptance whose entry is not in the history; an entry that no reply accepts.
+pub fn wrong_replies_are_not_legal()
+    ensures stale { StaleIsNotLegal }
+    ensures exact { AnswerIsExact }
+    ensures recorded { AcceptedIsRecorded }
+    ensures accepted { RecordedIsAccepted }
 {}
