@@ -3,13 +3,13 @@ use Rattle.std.specs.Prelude.{◌≡◌, ℕ, ◌≤◌, true, false, List, [], 
 use Rattle.session_core.specs.declared.config.Config.{Config}
 use Rattle.session_core.specs.declared.edit.Entry.{Entry}
 use Rattle.session_core.specs.declared.event.Event.{Event}
+use Rattle.session_core.specs.declared.row.Row.{Row}
 use Rattle.session_core.specs.Configs.{is_valid_config}
 use Rattle.session_core.specs.Effects.{after, edited, IsLegal, bundles_after}
 use Rattle.session_core.specs.Valid.{is_valid_state}
 use Rattle.session_core.specs.Steps.{start, steps}
 use Rattle.session_core.specs.Worlds.{Moment, World, run, opening_world, AllFit, script_of}
 use Rattle.session_core.specs.Legal.{Legal, replies_in, history_limit}
-use Rattle.session_core.specs.declared.row.Row.{Row}
 use Rattle.session_core.specs.Example.{add_line, replies_with, no_memory_reply, example_row, example_config, example_events, example_lines, example_history, example_replies}
 
 -- one more entry changes the state as its edit does

@@ -1,5 +1,8 @@
 //! Laws of the definitions, with nothing to run: what every history and every run of the core keeps.
-ghost use Rattle.session_core.specs.Laws.{AcceptedIsRecorded, AnswerIsExact, RecordedIsAccepted, StaleIsNotLegal, EveryCoreRunIsLegal, EveryRunIsLegal, ExampleFits, ExampleHistory, ExampleIsLegal, ExampleReplies, PrefixesAreLegal, ReplayGoesOn, StatesKeepRules};
+ghost use Rattle.session_core.specs.Laws.{PrefixesAreLegal, ReplayGoesOn, StatesKeepRules};
+ghost use Rattle.session_core.specs.Laws.{EveryCoreRunIsLegal, EveryRunIsLegal};
+ghost use Rattle.session_core.specs.Laws.{ExampleFits, ExampleHistory, ExampleIsLegal, ExampleReplies};
+ghost use Rattle.session_core.specs.Laws.{AcceptedIsRecorded, AnswerIsExact, RecordedIsAccepted, StaleIsNotLegal};
 
 /// One more entry changes the state after a history as its edit does.
 pub fn replay_goes_on()
