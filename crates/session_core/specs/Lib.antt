@@ -10,5 +10,6 @@ pub mod Sizes
 pub mod Steps
 pub mod Worlds
 pub mod Legal
+pub mod InOrder
 pub mod Example
 pub mod Laws
