@@ -8,3 +8,4 @@ pub mod Worked
 pub mod Builds
 pub mod Kept
 pub mod Alone
+pub mod Ordered

@@ -13,3 +13,4 @@ pub mod Legal
 pub mod InOrder
 pub mod Example
 pub mod Laws
+pub mod OrderLaws

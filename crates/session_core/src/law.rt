@@ -3,6 +3,7 @@ ghost use Rattle.session_core.specs.Laws.{PrefixesAreLegal, ReplayGoesOn, States
 ghost use Rattle.session_core.specs.Laws.{EveryCoreRunIsLegal, EveryRunIsLegal};
 ghost use Rattle.session_core.specs.Laws.{ExampleFits, ExampleHistory, ExampleIsLegal, ExampleReplies};
 ghost use Rattle.session_core.specs.Laws.{AcceptedIsRecorded, AnswerIsExact, RecordedIsAccepted, StaleIsNotLegal};
+ghost use Rattle.session_core.specs.OrderLaws.{InOrderIsLegal};
 
 /// One more entry changes the state after a history as its edit does.
 pub fn replay_goes_on()
@@ -49,4 +50,11 @@ pub fn wrong_replies_are_not_legal()
     ensures exact { AnswerIsExact }
     ensures recorded { AcceptedIsRecorded }
     ensures accepted { RecordedIsAccepted }
+{}
+
+/// A run in order is legal: where each line is answered before the next one is read, the replies are
+/// legal replies to the lines beside the history that they leave, whatever the lines, and wherever
+/// memory runs out.
+pub fn in_order_is_legal()
+    ensures legal { InOrderIsLegal }
 {}
