@@ -51,7 +51,7 @@ text_apart a b c same apart = ap (λ (k : List ℕ). same_text k c) same ∙ apa
 pub some_none : {A : Type 0} (x : A) → Some x ≡ None → ⊥
 some_none x e = cc
 
-or_none : (a b : Option Broken) → or_else a b ≡ None → (a ≡ None) × (b ≡ None)
+pub or_none : (a b : Option Broken) → or_else a b ≡ None → (a ≡ None) × (b ≡ None)
 or_none None b e = (refl, e)
 or_none (Some r) b e = absurd (some_none r e)
 
@@ -63,14 +63,14 @@ cond_some : (b : Bool) (r : Broken) → cond b None (Some r) ≡ None → b ≡ 
 cond_some true r e = refl
 cond_some false r e = absurd (some_none r e)
 
-any_append : {A : Type 0} (test : A → Bool) (xs ys : List A) → list_any test (xs ++ ys) ≡ false → (list_any test xs ≡ false) × (list_any test ys ≡ false)
+pub any_append : {A : Type 0} (test : A → Bool) (xs ys : List A) → list_any test (xs ++ ys) ≡ false → (list_any test xs ≡ false) × (list_any test ys ≡ false)
 any_append test [] ys e = (refl, e)
 any_append test (x ∷ xs) ys e =
     let parts : (test x ≡ false) × (list_any test (xs ++ ys) ≡ false) = or_parts (test x) (list_any test (xs ++ ys)) e in
     let rest : (list_any test xs ≡ false) × (list_any test ys ≡ false) = any_append test xs ys parts.1 in
     (or_from (test x) (list_any test xs) parts.0 rest.0, rest.1)
 
-append_any : {A : Type 0} (test : A → Bool) (xs ys : List A) → list_any test xs ≡ false → list_any test ys ≡ false → list_any test (xs ++ ys) ≡ false
+pub append_any : {A : Type 0} (test : A → Bool) (xs ys : List A) → list_any test xs ≡ false → list_any test ys ≡ false → list_any test (xs ++ ys) ≡ false
 append_any test [] ys left right = right
 append_any test (x ∷ xs) ys left right =
     let parts : (test x ≡ false) × (list_any test xs ≡ false) = or_parts (test x) (list_any test xs) left in
@@ -92,7 +92,7 @@ all_each test (x ∷ xs) e =
     let parts : (test x ≡ true) × (list_all test xs ≡ true) = and_parts (test x) (list_all test xs) e in
     (parts.0, all_each test xs parts.1)
 
-eqb_flip : (a b : ℕ) → nat_eq a b ≡ false → nat_eq b a ≡ false
+pub eqb_flip : (a b : ℕ) → nat_eq a b ≡ false → nat_eq b a ≡ false
 eqb_flip a b apart = ne_eqb b a (λ same. eqb-false a b apart (sym same))
 
 -- Lists of numbers of which none is in the other.
@@ -114,7 +114,7 @@ misses_left xs zs ys misses = each_map (λ k. list_any (nat_eq k) (xs ++ zs) ≡
 misses_right : (xs zs ys : List ℕ) → Misses (xs ++ zs) ys → Misses zs ys
 misses_right xs zs ys misses = each_map (λ k. list_any (nat_eq k) (xs ++ zs) ≡ false) (λ k. list_any (nat_eq k) zs ≡ false) (λ k e. (any_append (nat_eq k) xs zs e).1) ys misses
 
-each_two : {A : Type 0} (P Q R : A → Type 0) → ((x : A) → P x → Q x → R x) → (xs : List A) → Each P xs → Each Q xs → Each R xs
+pub each_two : {A : Type 0} (P Q R : A → Type 0) → ((x : A) → P x → Q x → R x) → (xs : List A) → Each P xs → Each Q xs → Each R xs
 each_two P Q R f [] ps qs = tt
 each_two P Q R f (x ∷ xs) ps qs = (f x ps.0 qs.0, each_two P Q R f xs ps.1 qs.1)
 
@@ -126,10 +126,10 @@ misses_nothing : (ys : List ℕ) → Misses [] ys
 misses_nothing [] = tt
 misses_nothing (y ∷ ys) = (refl, misses_nothing ys)
 
-different_cons : (x : ℕ) (xs : List ℕ) → list_any (nat_eq x) xs ≡ false → are_different xs ≡ true → are_different (x ∷ xs) ≡ true
+pub different_cons : (x : ℕ) (xs : List ℕ) → list_any (nat_eq x) xs ≡ false → are_different xs ≡ true → are_different (x ∷ xs) ≡ true
 different_cons x xs fresh rest = and_from (not (list_any (nat_eq x) xs)) (are_different xs) (not_from_false (list_any (nat_eq x) xs) fresh) rest
 
-different_append : (xs ys : List ℕ) → are_different xs ≡ true → are_different ys ≡ true → Misses ys xs → are_different (xs ++ ys) ≡ true
+pub different_append : (xs ys : List ℕ) → are_different xs ≡ true → are_different ys ≡ true → Misses ys xs → are_different (xs ++ ys) ≡ true
 different_append [] ys left right misses = right
 different_append (x ∷ xs) ys left right misses =
     let parts : (not (list_any (nat_eq x) xs) ≡ true) × (are_different xs ≡ true) = and_parts (not (list_any (nat_eq x) xs)) (are_different xs) left in
@@ -160,12 +160,12 @@ labels_short all labels (def ∷ defs) fine =
 
 -- Items.
 
-record IsFineItem (def : LevelDef) (taken : List ℕ) (before : Option AnnotItem) (item : AnnotItem) : Type 0 where
-  fresh : list_any (nat_eq item.id.0) taken ≡ false
-  fits : fits_kind def.kind item.time ≡ true
-  in_time : is_in_time item.time ≡ true
-  labels : labels_fault def.attributes [] item.labels ≡ None
-  order : neighbour_fault before item ≡ None
+pub record IsFineItem (def : LevelDef) (taken : List ℕ) (before : Option AnnotItem) (item : AnnotItem) : Type 0 where
+  pub fresh : list_any (nat_eq item.id.0) taken ≡ false
+  pub fits : fits_kind def.kind item.time ≡ true
+  pub in_time : is_in_time item.time ≡ true
+  pub labels : labels_fault def.attributes [] item.labels ≡ None
+  pub order : neighbour_fault before item ≡ None
 
 fine_item : (def : LevelDef) (taken : List ℕ) (before : Option AnnotItem) (item : AnnotItem) → item_fault def taken before item ≡ None → IsFineItem def taken before item
 fine_item def taken before item fine =
@@ -184,7 +184,7 @@ fine_item def taken before item fine =
       order = fourth.1;
     }
 
-items_parts : (def : LevelDef) (taken : List ℕ) (before : Option AnnotItem) (item : AnnotItem) (items : List AnnotItem) → items_fault def taken before (item ∷ items) ≡ None
+pub items_parts : (def : LevelDef) (taken : List ℕ) (before : Option AnnotItem) (item : AnnotItem) (items : List AnnotItem) → items_fault def taken before (item ∷ items) ≡ None
     → IsFineItem def taken before item × (items_fault def (taken ++ item.id.0 ∷ []) (Some item) items ≡ None)
 items_parts def taken before item items fine =
     let parts : (item_fault def taken before item ≡ None) × (items_fault def (taken ++ item.id.0 ∷ []) (Some item) items ≡ None)
@@ -207,7 +207,7 @@ all_valid def taken before (item ∷ items) fine =
     and_from (is_valid_item def (made_item def.attributes item)) (list_all (is_valid_item def) (map (made_item def.attributes) items))
     (item_valid def taken before item parts.0) (all_valid def (taken ++ item.id.0 ∷ []) (Some item) items parts.1)
 
-times_in_order : (id : ItemId) (a b : Time) → order_fault id a b ≡ None → are_in_order a b ≡ true
+pub times_in_order : (id : ItemId) (a b : Time) → order_fault id a b ≡ None → are_in_order a b ≡ true
 times_in_order id (Span start dur) (Span start' dur') fine = cond_some (nat_lt (start + dur) start') (rules.Overlap id) fine
 times_in_order id (Point at) (Point at') fine = cond_some (nat_lt at at') (rules.NotRising id) fine
 times_in_order id NoTime b fine = refl
@@ -465,12 +465,12 @@ count_within defs (level ∷ levels) apart =
 
 -- The whole bundle.
 
-record IsFineAnnot (c : Config) (annot : Annot) : Type 0 where
-  rate : is_rate annot.rate ≡ true
-  count : annot_items annot.levels ≤ 65536
-  levels : levels_fault c.levels [] [] annot.levels ≡ None
+pub record IsFineAnnot (c : Config) (annot : Annot) : Type 0 where
+  pub rate : is_rate annot.rate ≡ true
+  pub count : annot_items annot.levels ≤ 65536
+  pub levels : levels_fault c.levels [] [] annot.levels ≡ None
 
-fine_annot : (c : Config) (annot : Annot) → build_fault c annot ≡ None → IsFineAnnot c annot
+pub fine_annot : (c : Config) (annot : Annot) → build_fault c annot ≡ None → IsFineAnnot c annot
 fine_annot c annot fine =
     let first : (not (is_rate annot.rate) ≡ false) × (cond (nat_lt 65536 (annot_items annot.levels)) (Some (rules.TooMany counted.BundleItems)) (levels_fault c.levels [] [] annot.levels) ≡ None)
     = cond_none (not (is_rate annot.rate)) rules.RateOut (cond (nat_lt 65536 (annot_items annot.levels)) (Some (rules.TooMany counted.BundleItems)) (levels_fault c.levels [] [] annot.levels)) fine in

@@ -110,6 +110,7 @@ put_all test new (b ∷ bs) here all =
 -- What a valid state has.
 
 record IsKept (c : Config) (bundles : List BundleParts) : Type 0 where
+  config : is_valid_config c ≡ true
   few : length bundles ≤ 10000
   rising : are_keys_rising bundles ≡ true
   valid : list_all (is_valid_bundle c) bundles ≡ true
@@ -117,13 +118,16 @@ record IsKept (c : Config) (bundles : List BundleParts) : Type 0 where
 
 kept_of : (c : Config) (bundles : List BundleParts) → is_valid_state c bundles ≡ true → IsKept c bundles
 kept_of c bundles valid =
-    let last : (nat_le (length bundles) 10000 && are_keys_rising bundles && list_all (is_valid_bundle c) bundles ≡ true) × (nat_le (all_items bundles) 2000000 ≡ true)
-    = and_parts (nat_le (length bundles) 10000 && are_keys_rising bundles && list_all (is_valid_bundle c) bundles) (nat_le (all_items bundles) 2000000) valid in
-    let middle : (nat_le (length bundles) 10000 && are_keys_rising bundles ≡ true) × (list_all (is_valid_bundle c) bundles ≡ true)
-    = and_parts (nat_le (length bundles) 10000 && are_keys_rising bundles) (list_all (is_valid_bundle c) bundles) last.0 in
-    let first : (nat_le (length bundles) 10000 ≡ true) × (are_keys_rising bundles ≡ true) = and_parts (nat_le (length bundles) 10000) (are_keys_rising bundles) middle.0 in
+    let last : (is_valid_config c && nat_le (length bundles) 10000 && are_keys_rising bundles && list_all (is_valid_bundle c) bundles ≡ true) × (nat_le (all_items bundles) 2000000 ≡ true)
+    = and_parts (is_valid_config c && nat_le (length bundles) 10000 && are_keys_rising bundles && list_all (is_valid_bundle c) bundles) (nat_le (all_items bundles) 2000000) valid in
+    let middle : (is_valid_config c && nat_le (length bundles) 10000 && are_keys_rising bundles ≡ true) × (list_all (is_valid_bundle c) bundles ≡ true)
+    = and_parts (is_valid_config c && nat_le (length bundles) 10000 && are_keys_rising bundles) (list_all (is_valid_bundle c) bundles) last.0 in
+    let first : (is_valid_config c && nat_le (length bundles) 10000 ≡ true) × (are_keys_rising bundles ≡ true)
+    = and_parts (is_valid_config c && nat_le (length bundles) 10000) (are_keys_rising bundles) middle.0 in
+    let whole : (is_valid_config c ≡ true) × (nat_le (length bundles) 10000 ≡ true) = and_parts (is_valid_config c) (nat_le (length bundles) 10000) first.0 in
     record {
-      few = leb-true (length bundles) 10000 first.0;
+      config = whole.0;
+      few = leb-true (length bundles) 10000 whole.1;
       rising = first.1;
       valid = middle.1;
       items = leb-true (all_items bundles) 2000000 last.1;
@@ -131,9 +135,10 @@ kept_of c bundles valid =
 
 of_kept : (c : Config) (bundles : List BundleParts) → IsKept c bundles → is_valid_state c bundles ≡ true
 of_kept c bundles kept =
-    and_from (nat_le (length bundles) 10000 && are_keys_rising bundles && list_all (is_valid_bundle c) bundles) (nat_le (all_items bundles) 2000000)
-    (and_from (nat_le (length bundles) 10000 && are_keys_rising bundles) (list_all (is_valid_bundle c) bundles)
-    (and_from (nat_le (length bundles) 10000) (are_keys_rising bundles) (le-leb (length bundles) 10000 kept.few) kept.rising)
+    and_from (is_valid_config c && nat_le (length bundles) 10000 && are_keys_rising bundles && list_all (is_valid_bundle c) bundles) (nat_le (all_items bundles) 2000000)
+    (and_from (is_valid_config c && nat_le (length bundles) 10000 && are_keys_rising bundles) (list_all (is_valid_bundle c) bundles)
+    (and_from (is_valid_config c && nat_le (length bundles) 10000) (are_keys_rising bundles)
+    (and_from (is_valid_config c) (nat_le (length bundles) 10000) kept.config (le-leb (length bundles) 10000 kept.few)) kept.rising)
     kept.valid)
     (le-leb (all_items bundles) 2000000 kept.items)
 
@@ -183,6 +188,7 @@ effect_valid c valid bundles new (edits.AddBundle key annot) kept made =
     let all : all_items (put_in_order (made_bundle c key annot) bundles) ≡ all_items bundles + item_count (made_bundle c key annot) = put_items (made_bundle c key annot) bundles in
     subst (λ (bs : List BundleParts). is_valid_state c bs ≡ true) second.1
     (of_kept c (put_in_order (made_bundle c key annot) bundles) (record {
+      config = valid;
       few = omega (arith, below, count);
       rising = rising_put (made_bundle c key annot) bundles first.0 was.rising;
       valid = put_all (is_valid_bundle c) (made_bundle c key annot) bundles (made_valid c key annot valid first.2) was.valid;
@@ -199,8 +205,11 @@ replay_valid c valid (Ok bundles) [] new kept goes = kept new goes
 replay_valid c valid (Ok bundles) (entry ∷ entries) new kept goes =
     replay_valid c valid (effect c bundles entry.edit) entries new (λ next made. effect_valid c valid bundles next entry.edit (kept bundles refl) made) goes
 
-nothing_kept : (c : Config) (bundles : List BundleParts) → ok_of [] ≡ ok_of bundles → is_valid_state c bundles ≡ true
-nothing_kept c bundles e = subst (λ (bs : List BundleParts). is_valid_state c bs ≡ true) (ok_same [] bundles e) refl
+nothing_kept : (c : Config) → is_valid_config c ≡ true → (bundles : List BundleParts) → ok_of [] ≡ ok_of bundles → is_valid_state c bundles ≡ true
+nothing_kept c valid bundles e =
+    let items : all_items [] ≡ 0 = refl in
+    subst (λ (bs : List BundleParts). is_valid_state c bs ≡ true) (ok_same [] bundles e)
+    (of_kept c [] (record { config = valid; few = omega arith; rising = refl; valid = refl; items = omega (arith, items) }))
 
 bind_legal : (made : Result (List BundleParts) Broken) (f : List BundleParts → Result (List BundleParts) Broken) (new : List BundleParts) → (made >>= f) ≡ Ok new → (bundles : List BundleParts) × (made ≡ Ok bundles)
 bind_legal (Ok bundles) f new e = (bundles, refl)
@@ -214,7 +223,7 @@ prefix_legal c history legal n =
 pub legal_valid : (c : Config) → is_valid_config c ≡ true → (history : List Entry) → IsLegal c history → is_valid_state c (bundles_after c history) ≡ true
 legal_valid c valid history legal =
     subst (λ (r : Result (List BundleParts) Broken). is_valid_state c (found_bundles r) ≡ true) (sym legal.1)
-    (replay_valid c valid (Ok []) history legal.0 (nothing_kept c) legal.1)
+    (replay_valid c valid (Ok []) history legal.0 (nothing_kept c valid) legal.1)
 
 pub prefixes_valid : (c : Config) (history : List Entry) → is_valid_config c ≡ true → IsLegal c history → (n : ℕ) → is_valid_state c (bundles_after c (take n history)) ≡ true
 prefixes_valid c history valid legal n = legal_valid c valid (take n history) (prefix_legal c history legal n)

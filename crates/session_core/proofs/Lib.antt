@@ -9,3 +9,4 @@ pub mod Builds
 pub mod Kept
 pub mod Alone
 pub mod Ordered
+pub mod Refusals

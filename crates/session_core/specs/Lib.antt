@@ -3,6 +3,7 @@ pub mod Times
 pub mod Configs
 pub mod Build
 pub mod Valid
+pub mod Rules
 pub mod Effects
 pub mod Queries
 pub mod Answers

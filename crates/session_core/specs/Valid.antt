@@ -9,6 +9,7 @@ use Rattle.session_core.specs.declared.config.Config.{Config}
 use Rattle.session_core.specs.declared.bundle.Item.{Item}
 use Rattle.session_core.specs.declared.bundle.BundleParts.{BundleParts}
 use Rattle.session_core.specs.Times.{fits_kind, is_in_time, is_rate}
+use Rattle.session_core.specs.Configs.{is_valid_config}
 use Rattle.session_core.specs.Effects.{is_before, item_count, all_items}
 
 -- The level rule (EMU-SDMS Manual, "The emuDB format"; that gaps are allowed is this project's choice).
@@ -74,9 +75,9 @@ are_keys_rising [] = true
 are_keys_rising (a ∷ []) = true
 are_keys_rising (a ∷ b ∷ bundles) = is_before a.key b.key && are_keys_rising (b ∷ bundles)
 
--- a state keeps the rules: at most 10,000 bundles in order of their keys, each of them valid, and
--- at most 2,000,000 items in all
+-- a state keeps the rules: its configuration is valid, there are at most 10,000 bundles in order of
+-- their keys, each of them valid, and at most 2,000,000 items in all
 abbrev pub is_valid_state : Config → List BundleParts → Bool
 is_valid_state c bundles =
-    nat_le (length bundles) 10000 && are_keys_rising bundles
+    is_valid_config c && nat_le (length bundles) 10000 && are_keys_rising bundles
     && list_all (is_valid_bundle c) bundles && nat_le (all_items bundles) 2000000

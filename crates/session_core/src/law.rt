@@ -4,6 +4,7 @@ ghost use Rattle.session_core.specs.Laws.{EveryCoreRunIsLegal, EveryRunIsLegal};
 ghost use Rattle.session_core.specs.Laws.{ExampleFits, ExampleHistory, ExampleIsLegal, ExampleReplies};
 ghost use Rattle.session_core.specs.Laws.{AcceptedIsRecorded, AnswerIsExact, RecordedIsAccepted, StaleIsNotLegal};
 ghost use Rattle.session_core.specs.OrderLaws.{InOrderIsLegal};
+ghost use Rattle.session_core.specs.Rules.{BuildingRefusesExactly};
 
 /// One more entry changes the state after a history as its edit does.
 pub fn replay_goes_on()
@@ -17,6 +18,15 @@ pub fn replay_goes_on()
 pub fn states_keep_rules()
     ensures prefixes { PrefixesAreLegal }
     ensures valid { StatesKeepRules }
+{}
+
+/// An annotation is refused exactly where it breaks a rule, each said by itself: its rate is 1 to
+/// 1,000,000 Hz; it has at most 65,536 items, whose ids differ over all levels; each level is one of
+/// the configuration's, with its kind, and none is given twice; each item has a time of that kind
+/// that ends below sample 2^40, and labels of at most 4,096 bytes for attributes of the level, no
+/// two for one; segments do not overlap, and points rise (EMU-SDMS Manual, "The emuDB format").
+pub fn building_refuses_exactly()
+    ensures exactly { BuildingRefusesExactly }
 {}
 
 /// Every run is legal: from a legal history of at most 100,000 entries, whatever events fit one
