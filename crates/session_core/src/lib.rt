@@ -3,14 +3,19 @@
 #![tactic(auto)]
 
 mod annot;
+mod build;
 mod bundle;
+mod check;
 mod config;
 mod edit;
 mod effects;
 mod event;
 mod line;
+mod make;
 mod queries;
 mod row;
+mod rows;
+mod taken;
 
 pub use annot::{
     Annot, AnnotItem, AnnotItems, AnnotLabel, AnnotLabels, AnnotLevel, AnnotLevels, Time,

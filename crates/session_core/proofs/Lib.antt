@@ -1,0 +1,4 @@
+pub mod Walks
+pub mod BuildFaults
+pub mod MadeParts
+pub mod RowLists
