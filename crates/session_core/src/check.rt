@@ -29,17 +29,10 @@ const MOST_RATE: u64 = 1_000_000;
 /// The first sample that is too late.
 const END_OF_TIME: u64 = 1 << 40;
 
-/// Whether two texts are the same bytes.
-pub(crate) fn same_text(a: &str, b: &str) -> bool
-    ensures { result ≡ same_text a.now b.now }
-{
-    a == b
-}
-
 fn has_name(def: &AttributeDef, name: &Text) -> bool
     ensures { result ≡ same_text def.now.name name.now }
 {
-    same_text(def.name.as_str(), name.as_str())
+    def.name.as_str() == name.as_str()
 }
 
 fn has_attribute(defs: &AttributeDefs, name: &Text) -> bool
@@ -53,7 +46,7 @@ fn are_labelled(labels: &[AnnotLabel], name: &Text) -> bool
     ensures { result ≡ list_any (same_text name.now) (map (λ (l : AnnotLabel). l.name) labels.now) }
 {
     for label in labels {
-        if same_text(name.as_str(), label.name.as_str()) {
+        if name.as_str() == label.name.as_str() {
             return true;
         }
     }
@@ -193,7 +186,7 @@ fn level_named<'a>(defs: &'a LevelDefs, name: &Text) -> Option<&'a LevelDef>
     ensures { option_copied result ≡ level_named name.now defs.now }
 {
     for def in defs.as_slice() {
-        if same_text(def.name.as_str(), name.as_str()) {
+        if def.name.as_str() == name.as_str() {
             return Some(def);
         }
     }
@@ -205,7 +198,7 @@ fn are_given(levels: &[AnnotLevel], name: &Text) -> bool
     ensures { result ≡ list_any (same_text name.now) (map (λ (l : AnnotLevel). l.name) levels.now) }
 {
     for level in levels {
-        if same_text(name.as_str(), level.name.as_str()) {
+        if name.as_str() == level.name.as_str() {
             return true;
         }
     }

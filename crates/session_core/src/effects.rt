@@ -5,7 +5,7 @@ ghost use Rattle.session_core.specs.Gives.{GivesOrBroken};
 ghost use Rattle.session_core.specs.declared.edit.Edit.TheVariants.{AddBundle};
 
 use crate::annot::Annot;
-use crate::build::build;
+use crate::building::build;
 use crate::bundle::{Bundle, BundleParts, Bundles};
 use crate::config::Config;
 use crate::edit::Edit;

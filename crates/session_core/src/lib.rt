@@ -3,7 +3,7 @@
 #![tactic(auto)]
 
 mod annot;
-mod build;
+mod building;
 mod bundle;
 mod check;
 mod config;
@@ -20,6 +20,7 @@ mod taken;
 pub use annot::{
     Annot, AnnotItem, AnnotItems, AnnotLabel, AnnotLabels, AnnotLevel, AnnotLevels, Time,
 };
+pub use building::build;
 pub use bundle::{Bundle, BundleParts, Bundles, Item, ItemLists, Items, Labels};
 pub use config::{AttributeDef, AttributeDefs, Config, LevelDef, LevelDefs};
 pub use edit::{Edit, Entries, Entry};

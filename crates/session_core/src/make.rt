@@ -5,7 +5,6 @@ ghost use Rattle.session_core.specs.declared.config.AttributeDef.{AttributeDef};
 
 use crate::annot::{Annot, AnnotItem, AnnotLabels, AnnotLevels};
 use crate::bundle::{BundleParts, Item, ItemLists, Items, Labels};
-use crate::check::same_text;
 use crate::config::{AttributeDef, AttributeDefs, Config, LevelDef};
 use emu_lists::Series;
 use emu_names::{BundleKey, Memory, Text};
@@ -16,7 +15,7 @@ fn label_named<'a>(def: &AttributeDef, labels: &'a AnnotLabels) -> &'a str
     ensures { result.now ≡ label_named def.now.name labels.now }
 {
     for label in labels.as_slice() {
-        if same_text(label.name.as_str(), def.name.as_str()) {
+        if label.name.as_str() == def.name.as_str() {
             return label.value.as_str();
         }
     }
@@ -64,7 +63,7 @@ fn made_level(alloc: Global, levels: &AnnotLevels, def: &LevelDef) -> Result<Ite
     ensures { IfOk result (λ made. made ≡ made_level levels.now def.now) }
 {
     for level in levels.as_slice() {
-        if same_text(level.name.as_str(), def.name.as_str()) {
+        if level.name.as_str() == def.name.as_str() {
             return made_items(alloc, &def.attributes, level.items.as_slice());
         }
     }

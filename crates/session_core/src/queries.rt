@@ -4,7 +4,6 @@ ghost use Rattle.session_core.specs.Queries.{asked, attribute_from, attribute_pl
 ghost use Rattle.std.specs.Prelude.{◌≡◌, IfOk, MatchOption};
 
 use crate::bundle::Bundles;
-use crate::check::same_text;
 use crate::config::{AttributeDefs, Config, LevelDefs};
 use crate::line::{Answer, Ask, AskFault, Refusal};
 use crate::rows::{Wanted, segment_list};
@@ -23,7 +22,7 @@ fn attribute_from(defs: &AttributeDefs, name: &Text) -> Option<usize>
 {
     let defs = defs.as_slice();
     for place in 0..defs.len() {
-        if same_text(defs[place].name.as_str(), name.as_str()) {
+        if defs[place].name.as_str() == name.as_str() {
             return Some(place);
         }
     }
@@ -49,7 +48,7 @@ fn level_place(defs: &LevelDefs, name: &Text) -> Option<Place>
 {
     let defs = defs.as_slice();
     for level in 0..defs.len() {
-        if same_text(defs[level].name.as_str(), name.as_str()) {
+        if defs[level].name.as_str() == name.as_str() {
             return Some(Place {
                 level,
                 attribute: 0,

@@ -6,7 +6,6 @@ ghost use Rattle.session_core.specs.Times.{is_in_time, is_rate, is_item_in_time}
 
 use crate::annot::Time;
 use crate::bundle::{Bundle, BundleParts, Bundles, Item};
-use crate::check::same_text;
 use crate::config::Config;
 use crate::row::{Row, SegmentList};
 use emu_lists::Series;
@@ -150,7 +149,7 @@ fn add_rows(
 {
     for position in 0..items.len() {
         let item = &items[position];
-        if same_text(label_at(item, wanted.attribute), wanted.label.as_str()) {
+        if label_at(item, wanted.attribute) == wanted.label.as_str() {
             rows.push(row(alloc, wanted, parts, position as u32, item)?)?;
         }
     }

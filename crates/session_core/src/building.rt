@@ -12,7 +12,7 @@ use std::alloc::Global;
 
 /// The bundle that an annotation makes under a configuration, or the rule that it breaks first, or
 /// want of memory (EMU-SDMS Manual, "The emuDB format": `_annot.json`).
-pub(crate) fn build(
+pub fn build(
     alloc: Global,
     config: &Config,
     key: &BundleKey,
