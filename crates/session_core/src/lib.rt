@@ -15,6 +15,8 @@ mod make;
 mod queries;
 mod row;
 mod rows;
+#[cfg(test)]
+mod state_tests;
 mod taken;
 
 pub use annot::{
