@@ -109,7 +109,7 @@ fn two_segments(alloc: Global) -> Result<Annot, Memory> {
     segments(alloc, vec![in alloc; v, m]?)
 }
 
-/// Words without labels, with the ids from 1 on.
+/// Words without labels, with the ids from 0 on.
 fn words(alloc: Global, count: u32) -> Result<Annot, Memory> {
     let mut items = Vec::new(alloc);
     for place in 0..count {
