@@ -10,3 +10,7 @@ pub mod Kept
 pub mod Alone
 pub mod Ordered
 pub mod Refusals
+pub mod Walks
+pub mod BuildFaults
+pub mod MadeParts
+pub mod RowLists

@@ -3,19 +3,27 @@
 #![tactic(auto)]
 
 mod annot;
+mod building;
 mod bundle;
+mod check;
 mod config;
 mod edit;
 mod effects;
 mod event;
 mod law;
 mod line;
+mod make;
 mod queries;
 mod row;
+mod rows;
+#[cfg(test)]
+mod state_tests;
+mod taken;
 
 pub use annot::{
     Annot, AnnotItem, AnnotItems, AnnotLabel, AnnotLabels, AnnotLevel, AnnotLevels, Time,
 };
+pub use building::build;
 pub use bundle::{Bundle, BundleParts, Bundles, Item, ItemLists, Items, Labels};
 pub use config::{AttributeDef, AttributeDefs, Config, LevelDef, LevelDefs};
 pub use edit::{Edit, Entries, Entry};
