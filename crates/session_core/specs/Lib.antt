@@ -10,3 +10,4 @@ pub mod Sizes
 pub mod Steps
 pub mod Worlds
 pub mod Legal
+pub mod Kept

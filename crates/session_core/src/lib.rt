@@ -9,8 +9,11 @@ mod edit;
 mod effects;
 mod event;
 mod line;
+mod machine;
+mod moves;
 mod queries;
 mod row;
+mod slots;
 
 pub use annot::{
     Annot, AnnotItem, AnnotItems, AnnotLabel, AnnotLabels, AnnotLevel, AnnotLevels, Time,
@@ -21,5 +24,6 @@ pub use edit::{Edit, Entries, Entry};
 pub use effects::effect;
 pub use event::{Event, Events};
 pub use line::{Answer, Ask, AskFault, Command, Line, Lines, Refusal, Replies, Reply, Request};
+pub use machine::Core;
 pub use queries::answer;
 pub use row::{Row, SegmentList};

@@ -1,0 +1,7 @@
+use Rattle.std.proofs.Common.{◌∙◌, ap, sym}
+use Rattle.session_core.specs.Steps.{slot}
+use Rattle.session_core.proofs.Places.{slot_get_or}
+use Rattle.session_core.proofs.slots.Slots.get.Goals as goal
+
+pub returns : goal.returns
+returns c = rw (slot_get_or c.args.self.now c.args.place c.index.result.now c.requires, ← c.self.view_is) c.index.ensures
