@@ -4,8 +4,6 @@ use Rattle.std.specs.Prelude.{◌≡◌, ◌≤◌, ℕ, ◌+◌, Bool, true, fa
 use Rattle.std.specs.Option.{option_map}
 use Rattle.emu_names.specs.declared.kinds.SessionNo.{SessionNo}
 use Rattle.emu_names.specs.declared.rules.Broken.{Broken}
-use Rattle.emu_names.specs.declared.rules.Fault.{Fault}
-use Rattle.emu_names.specs.declared.rules.Fault.TheVariants as faults
 use Rattle.session_core.specs.declared.config.Config.{Config}
 use Rattle.session_core.specs.declared.bundle.BundleParts.{BundleParts}
 use Rattle.session_core.specs.declared.edit.Edit.{Edit}
@@ -105,10 +103,3 @@ query_closed c line s slots (Some held) = (Some (reply_of line s (Some held.n) (
 abbrev pub query_dropped : SessionNo → List (Option Held) → Option Held → List (Option Held)
 query_dropped s slots None = slots
 query_dropped s slots (Some held) = put_slot slots s.0 None
-
--- What the beginning of a core says.
-
--- a history that is refused breaks this rule first; want of memory says nothing
-abbrev pub IsFirstFault : Fault → Result (List BundleParts) Broken → Type 0
-IsFirstFault (faults.Broken rule) there = there ≡ Err rule
-IsFirstFault faults.Memory there = Unit {0}

@@ -11,3 +11,4 @@ pub mod Steps
 pub mod Worlds
 pub mod Legal
 pub mod Kept
+pub mod Stops

@@ -1,15 +1,15 @@
 //! The core: a configuration, a history, and what each session holds, changed by one event at a time.
 ghost use Rattle.emu_names.specs.declared.rules.Fault.{Fault};
 ghost use Rattle.session_core.specs.Effects.{after, IsLegal};
-ghost use Rattle.session_core.specs.Kept.{IsFirstFault};
-ghost use Rattle.session_core.specs.Steps.{core_fails, core_step, edit_event, finish_step, look_event, place_of, query_fails, query_step, session_places, slot, start};
-ghost use Rattle.std.specs.Prelude.{◌≡◌, ◌<◌, ◌≤◌, IfErr, IfOk, OnErr, Some, length};
+ghost use Rattle.session_core.specs.Steps.{core_fails, core_step, edit_event, finish_step, look_event, option_list, place_of, query_fails, query_step, session_places, slot, start, steps};
+ghost use Rattle.session_core.specs.Stops.{IsFirstFault, StopsAt};
+ghost use Rattle.std.specs.Prelude.{◌≡◌, ◌⊎◌, ◌++◌, ◌<◌, ◌≤◌, All, IfErr, IfOk, OnErr, OnOk, Some, length};
 
 use crate::bundle::Bundles;
 use crate::config::Config;
 use crate::edit::Entries;
-use crate::event::Event;
-use crate::line::{Answer, Command, Line, Reply, Request};
+use crate::event::{Event, Events};
+use crate::line::{Answer, Command, Line, Replies, Reply, Request};
 use crate::moves::{Head, close_look, close_query, open_look, replay, try_edit};
 use crate::slots::{Held, Slots};
 use emu_lists::{PlainData, Shared};
@@ -211,5 +211,33 @@ impl Core {
                 Command::After => Ok(None),
             },
         }
+    }
+
+    /// Takes one event, and puts its reply behind the others.
+    fn turn(&mut self, event: Event, replies: &mut Replies) -> Result<(), Memory>
+        requires { place_of event < session_places }
+        ensures state { OnOk result (self.new ≡ (core_step self.old event).1) }
+        ensures replies { OnOk result (replies.new ≡ replies.old ++ option_list (core_step self.old event).0) }
+        ensures err { OnErr result ((self.new ≡ (core_step self.old event).1) ⊎ (self.new ≡ (core_fails self.old event).1)) }
+    {
+        if let Some(reply) = self.step(event)? {
+            replies.push(reply)?;
+        }
+        Ok(())
+    }
+
+    /// Takes events in order: the replies that they give. The only refusal is want of memory, which
+    /// leaves the state after the first of the events, but that a query under way is closed where
+    /// memory ran out at its answer.
+    pub fn run(&mut self, mut events: Events) -> Result<Replies, Memory>
+        requires { All (λ event. place_of event < session_places) events.items }
+        ensures ok { IfOk result (λ replies. (replies, self.new) ≡ steps self.old events.items) }
+        ensures err { OnErr result (StopsAt self.old events.items self.new) }
+    {
+        let mut replies = Replies::new(self.alloc);
+        while let Some(event) = events.pop_front() {
+            self.turn(event, &mut replies)?;
+        }
+        Ok(replies)
     }
 }
