@@ -1,6 +1,6 @@
 -- What the moves of the parts mean for the state that the parts stand for.
-use Rattle.std.proofs.Common.{◌≡◌, ◌≤◌, ◌<◌, ◌+◌, ℕ, zero, suc, Bool, true, false, List, [], ◌∷◌, ◌++◌, length, map, take, replicate, Option, Some, None, Result, Ok, Err, IfOk, OnErr, refl, ap, sym, subst, rules, arith, ◌∙◌}
-use Rattle.std.proofs.lemmas.List.{take-append-le, length-append, length_push, take_all}
+use Rattle.std.proofs.Common.{◌≡◌, ℕ, zero, suc, Bool, true, false, List, [], ◌∷◌, ◌++◌, length, replicate, Option, Some, None, Result, Ok, Err, IfOk, OnErr, refl, ap, sym, subst, arith, ◌∙◌}
+use Rattle.std.proofs.lemmas.List.{take-append-le, length-append, take_all}
 use Rattle.std.specs.Option.{option_map}
 use Rattle.emu_names.specs.declared.kinds.SessionNo.{SessionNo}
 use Rattle.emu_names.specs.declared.rules.Broken.{Broken}
@@ -15,10 +15,9 @@ use Rattle.session_core.specs.declared.line.Reply.{Reply}
 use Rattle.session_core.specs.declared.line.Request.TheVariants as requests
 use Rattle.session_core.specs.declared.slots.Held.{Held}
 use Rattle.session_core.specs.declared.moves.Head.{Head}
-use Rattle.session_core.specs.Effects.{◌>>=◌, after, replayed, effect, edited, bundles_after, found_bundles}
-use Rattle.session_core.specs.Answers.{answer_at, entry_of}
-use Rattle.session_core.specs.Steps.{Opened, State, start, slot, put_slot, is_full, session_places, edit_event, look_event, edit_step, look_step, finish_step, query_step, with_look, with_query, opened_at, query_fails}
-use Rattle.session_core.specs.Kept.{opened_by, opened_in, state_of, IsMoment, IsHeld, AreHeld, IsKept, head_entry, held_at, held_answer, change, change_step, change_made, looked, look_closed, query_closed, query_dropped}
+use Rattle.session_core.specs.Effects.{◌>>=◌, after, replayed, effect, edited}
+use Rattle.session_core.specs.Steps.{State, slot, put_slot, is_full, session_places, edit_event, look_event, edit_step, look_step, finish_step, query_step, with_query, opened_at, query_fails}
+use Rattle.session_core.specs.Kept.{opened_by, opened_in, state_of, IsMoment, IsHeld, AreHeld, IsKept, head_entry, held_at, change, change_step, looked, look_closed, query_closed, query_dropped}
 use Rattle.session_core.proofs.Places.{slot_put, length_put_slot, slot_map, put_slot_map}
 
 -- A history that grows.
@@ -230,15 +229,15 @@ pub answered_err : (c : Config) (line : ℕ) (s : SessionNo) (H : List Entry) (l
 answered_err c line s H ls qs qs2 (Ok r) e = tt
 answered_err c line s H ls qs qs2 (Err m) e = dropped_step c line s H ls qs qs2 e
 
--- The same, where the code has counted the entries and has shared the bundles once more.
+-- The same, where the code has counted the entries.
 
 pub kept_looked_at : (c : Config) (head : Head) (ask : Ask) (H : List Entry) (bs : List BundleParts) (ls ls2 qs : List (Option Held)) (r : Reply) (n : ℕ) → n ≡ length H → (r, ls2) ≡ looked head ask n bs ls (slot ls head.session.0) → IsKept c H bs ls qs → IsKept c H bs ls2 qs
 kept_looked_at c head ask H bs ls ls2 qs r n m e k =
     let P : ℕ → Type 0 = λ x. (r, ls2) ≡ looked head ask x bs ls (slot ls head.session.0) in
     kept_looked c head ask H bs ls ls2 qs r (subst P m e) k
 
-pub kept_begun_at : (c : Config) (head : Head) (ask : Ask) (H : List Entry) (bs bs2 : List BundleParts) (ls qs qs2 : List (Option Held)) (n : ℕ) → n ≡ length H → bs2 ≡ bs → qs2 ≡ put_slot qs head.session.0 (Some (held_at head ask n bs2)) → IsKept c H bs ls qs → IsKept c H bs ls qs2
-kept_begun_at c head ask H bs bs2 ls qs qs2 n m b e k = rw (e, m, b) (kept_begun c head ask H bs ls qs k)
+pub kept_begun_at : (c : Config) (head : Head) (ask : Ask) (H : List Entry) (bs : List BundleParts) (ls qs qs2 : List (Option Held)) (n : ℕ) → n ≡ length H → qs2 ≡ put_slot qs head.session.0 (Some (held_at head ask n bs)) → IsKept c H bs ls qs → IsKept c H bs ls qs2
+kept_begun_at c head ask H bs ls qs qs2 n m e k = rw (e, m) (kept_begun c head ask H bs ls qs k)
 
 -- An event of a kind as the step of its request.
 
@@ -250,7 +249,7 @@ look_told c old l ask H bs ls ls2 qs r n old_is f m e =
     let P : ℕ → Type 0 = λ x. (r, ls2) ≡ looked (head_of l) ask x bs ls (slot ls l.session.0) in
     rw (f, ← old_is) (looked_step c l ask H bs ls ls2 qs r (subst P m e))
 
-pub query_told : (c : Config) (old : State) (l : Line) (ask : Ask) (H : List Entry) (bs bs2 : List BundleParts) (ls qs qs2 : List (Option Held)) (n : ℕ) → state_of c H ls qs ≡ old → l.request ≡ requests.Query ask → n ≡ length H → bs2 ≡ bs → qs2 ≡ put_slot qs l.session.0 (Some (held_at (head_of l) ask n bs2)) → look_event old l l.request ≡ (None, state_of c H ls qs2)
-query_told c old l ask H bs bs2 ls qs qs2 n old_is f m b e =
+pub query_told : (c : Config) (old : State) (l : Line) (ask : Ask) (H : List Entry) (bs : List BundleParts) (ls qs qs2 : List (Option Held)) (n : ℕ) → state_of c H ls qs ≡ old → l.request ≡ requests.Query ask → n ≡ length H → qs2 ≡ put_slot qs l.session.0 (Some (held_at (head_of l) ask n bs)) → look_event old l l.request ≡ (None, state_of c H ls qs2)
+query_told c old l ask H bs ls qs qs2 n old_is f m e =
     let told : State → Option Reply × State = λ st. (None, st) in
-    rw (f, ← old_is, e, m, b) (ap told (begun_step c l ask H bs ls qs))
+    rw (f, ← old_is, e, m) (ap told (begun_step c l ask H bs ls qs))

@@ -1,5 +1,5 @@
 -- The places of the sessions as the elements of a list.
-use Rattle.std.proofs.Common.{◌≡◌, ◌≢◌, ◌<◌, ℕ, zero, suc, List, [], ◌∷◌, length, map, get_or, set, Option, Some, None, refl, ap, sym, rules, arith}
+use Rattle.std.proofs.Common.{◌≡◌, ◌<◌, ℕ, zero, suc, List, [], ◌∷◌, length, map, get_or, set, Option, None, refl, ap, sym, arith}
 use Rattle.std.specs.Option.{option_map}
 use Rattle.session_core.specs.Steps.{slot, put_slot}
 

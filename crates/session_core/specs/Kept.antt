@@ -10,7 +10,7 @@ use Rattle.session_core.specs.declared.edit.Edit.{Edit}
 use Rattle.session_core.specs.declared.edit.Entry.{Entry}
 use Rattle.session_core.specs.declared.line.Ask.{Ask}
 use Rattle.session_core.specs.declared.line.Answer.{Answer}
-use Rattle.session_core.specs.declared.line.Answer.TheVariants.{Done, Segments, Refused}
+use Rattle.session_core.specs.declared.line.Answer.TheVariants.{Done, Refused}
 use Rattle.session_core.specs.declared.line.Refusal.TheVariants as refusals
 use Rattle.session_core.specs.declared.line.Reply.{Reply}
 use Rattle.session_core.specs.declared.slots.Held.{Held}

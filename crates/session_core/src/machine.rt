@@ -10,9 +10,9 @@ use crate::config::Config;
 use crate::edit::Entries;
 use crate::event::{Event, Events};
 use crate::line::{Answer, Command, Line, Replies, Reply, Request};
-use crate::moves::{Head, close_look, close_query, open_look, replay, try_edit};
-use crate::slots::{Held, Slots};
-use emu_lists::{PlainData, Shared};
+use crate::moves::{Head, begin_query, close_look, close_query, open_look, replay, try_edit};
+use crate::slots::Slots;
+use emu_lists::Shared;
 use emu_names::{Fault, Memory, SessionNo};
 use std::alloc::Global;
 use std::marker::Model;
@@ -53,11 +53,7 @@ impl Core {
         ensures legal { IfOk result (λ core. IsLegal config history) }
         ensures broken { IfErr result (λ fault. IsFirstFault fault (after config history)) }
     {
-        let bundles = match replay(alloc, &config, &history) {
-            Ok(bundles) => bundles,
-            Err(fault) => return Err(fault),
-        };
-        let bundles = Shared::new(alloc, bundles)?;
+        let bundles = Shared::new(alloc, replay(alloc, &config, &history)?)?;
         let looks = Slots::new(alloc)?;
         let queries = Slots::new(alloc)?;
         Ok(Core {
@@ -135,25 +131,11 @@ impl Core {
         let n = self.entries.len() as u64;
         match line.request {
             Request::Look(ask) => {
-                let reply = open_look(
-                    self.alloc,
-                    &self.bundles,
-                    n,
-                    &mut self.looks,
-                    head,
-                    ask,
-                )?;
+                let reply = open_look(self.alloc, &self.bundles, n, &mut self.looks, head, ask)?;
                 Ok(Some(reply))
             }
             Request::Query(ask) => {
-                let bundles = self.bundles.copy(self.alloc)?;
-                let held = Held {
-                    line: head.line,
-                    n,
-                    ask,
-                    bundles,
-                };
-                self.queries.put(head.session.0 as usize, Some(held));
+                begin_query(self.alloc, &self.bundles, n, &mut self.queries, head, ask)?;
                 Ok(None)
             }
             Request::After(_) => Ok(Some(head.reply(Some(n), Answer::Done(head.command)))),
@@ -178,13 +160,7 @@ impl Core {
         ensures ok { IfOk result (λ reply. query_step self.old line session (slot self.old.queries session.0) ≡ (reply, self.new)) }
         ensures err { OnErr result (self.new ≡ (query_fails self.old line session (slot self.old.queries session.0)).1) }
     {
-        close_query(
-            self.alloc,
-            &self.config,
-            &mut self.queries,
-            line,
-            session,
-        )
+        close_query(self.alloc, &self.config, &mut self.queries, line, session)
     }
 
     /// Takes one event: the reply that it gives, if it gives one. The only refusal is want of

@@ -1,9 +1,9 @@
 //! What one event does to the parts of the core, each part on its own.
 ghost use Rattle.session_core.specs.Effects.{after};
 ghost use Rattle.session_core.specs.Gives.{GivesOrBroken};
-ghost use Rattle.session_core.specs.Kept.{change, change_made, head_reply, look_closed, looked, query_closed, query_dropped};
-ghost use Rattle.session_core.specs.Steps.{is_full as is_full_list, slot};
-ghost use Rattle.std.specs.Prelude.{◌≡◌, ◌<◌, Ok, IfOk, OnErr, length};
+ghost use Rattle.session_core.specs.Kept.{change, change_made, head_reply, held_answer, held_at, look_closed, looked, query_closed, query_dropped};
+ghost use Rattle.session_core.specs.Steps.{is_full as is_full_list, put_slot, slot};
+ghost use Rattle.std.specs.Prelude.{◌≡◌, ◌<◌, Ok, Some, IfOk, OnErr, OnOk, length};
 
 use crate::bundle::Bundles;
 use crate::config::Config;
@@ -79,11 +79,12 @@ fn accept(
 {
     let n = entries.len() as u64 + 1;
     let next = Shared::new(alloc, next)?;
-    entries.push(Entry {
+    let entry = Entry {
         session: head.session,
         line: head.line,
         edit,
-    })?;
+    };
+    entries.push(entry)?;
     *bundles = next;
     Ok(head.reply(Some(n), Answer::Done(head.command)))
 }
@@ -112,6 +113,25 @@ pub fn try_edit(
     }
 }
 
+/// A query that holds the present state, which it shares.
+fn hold(
+    alloc: Global,
+    bundles: &Shared<Bundles>,
+    n: u64,
+    head: Head,
+    ask: Ask,
+) -> Result<Held, Memory>
+    ensures { IfOk result (λ held. held ≡ held_at head ask n bundles.now) }
+{
+    let bundles = bundles.copy(alloc)?;
+    Ok(Held {
+        line: head.line,
+        n,
+        ask,
+        bundles,
+    })
+}
+
 /// Holds the present state for a look, if the session has none open: the reply to it. Want of
 /// memory changes nothing.
 pub fn open_look(
@@ -130,20 +150,36 @@ pub fn open_look(
     match looks.get(place) {
         Some(_) => Ok(head.reply(None, Answer::Refused(Refusal::LookOpen))),
         None => {
-            let bundles = bundles.copy(alloc)?;
-            let line = head.line;
-            looks.put(
-                place,
-                Some(Held {
-                    line,
-                    n,
-                    ask,
-                    bundles,
-                }),
-            );
+            let held = hold(alloc, bundles, n, head, ask)?;
+            looks.put(place, Some(held));
             Ok(head.reply(Some(n), Answer::Done(head.command)))
         }
     }
+}
+
+/// Puts a query under way, which holds the present state. Want of memory changes nothing.
+pub fn begin_query(
+    alloc: Global,
+    bundles: &Shared<Bundles>,
+    n: u64,
+    queries: &mut Slots,
+    head: Head,
+    ask: Ask,
+) -> Result<(), Memory>
+    requires { head.session.0 < length queries.old }
+    ensures ok { OnOk result (queries.new ≡ put_slot queries.old head.session.0 (Some (held_at head ask n bundles.now))) }
+    ensures err { OnErr result (queries.new ≡ queries.old) }
+{
+    let held = hold(alloc, bundles, n, head, ask)?;
+    queries.put(head.session.0 as usize, Some(held));
+    Ok(())
+}
+
+/// The answer to a query over the state that it holds.
+fn answer_held(alloc: Global, config: &Config, held: &Held) -> Result<Answer, Memory>
+    ensures { IfOk result (λ given. given ≡ held_answer config.now held.now) }
+{
+    answer(alloc, config, held.bundles.as_ref(), &held.ask)
 }
 
 /// Answers the session's open look and closes it: the reply. Want of memory leaves it open.
@@ -167,7 +203,7 @@ pub fn close_look(
             answer: Answer::Refused(Refusal::NoLook),
         }),
         Some(held) => {
-            let answer = answer(alloc, config, held.bundles.as_ref(), &held.ask)?;
+            let answer = answer_held(alloc, config, held)?;
             let n = Some(held.n);
             looks.put(place, None);
             Ok(Reply {
@@ -196,7 +232,7 @@ pub fn close_query(
     match queries.take(session.0 as usize) {
         None => Ok(None),
         Some(held) => {
-            let answer = answer(alloc, config, held.bundles.as_ref(), &held.ask)?;
+            let answer = answer_held(alloc, config, &held)?;
             Ok(Some(Reply {
                 line,
                 session,

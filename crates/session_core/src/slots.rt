@@ -8,7 +8,6 @@ use emu_lists::Shared;
 use emu_names::Memory;
 use std::alloc::Global;
 use std::marker::Model;
-use std::mem;
 
 /// A query that holds a state, and the line that it came from.
 #[derive(Drop)]
@@ -75,6 +74,6 @@ impl Slots {
         ensures taken { result ≡ slot self.old place }
         ensures left { self.new ≡ put_slot self.old place None }
     {
-        mem::replace(&mut self.list[place], None)
+        self.list[place].take()
     }
 }

@@ -8,4 +8,4 @@ pub returns-in-None-clause-ok : goal.returns-in-None-clause-ok
 returns-in-None-clause-ok c =
     let answered : List (Option Held) → Option Reply × List (Option Held) = λ queries. (None, queries) in
     rw (← c.in-None.ensures.taken, c.in-None.ensures.left)
-      (ap answered (put_slot_none c.args.queries.now c.args.session.0 (sym c.in-None.ensures.taken)))
+    (ap answered (put_slot_none c.args.queries.now c.args.session.0 (sym c.in-None.ensures.taken)))

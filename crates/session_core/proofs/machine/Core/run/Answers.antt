@@ -11,5 +11,5 @@ loop-event-preserved c = record {
 pub returns-in_err-turn-clause-err : goal.returns-in_err-turn-clause-err
 returns-in_err-turn-clause-err c =
     on_err c.from_residual.result _
-      (c.loop-event.invariant.stops c.turn.new.self
-        (stops_now c.loop-event.self c.turn.new.self c.in-Some.event c.pop_front.new.self.items c.loop-event.events.items c.in-Some.ensures.items c.in_err-turn.ensures.err))
+    (c.loop-event.invariant.stops c.turn.new.self
+    (stops_now c.loop-event.self c.turn.new.self c.in-Some.event c.pop_front.new.self.items c.loop-event.events.items c.in-Some.ensures.items c.in_err-turn.ensures.err))

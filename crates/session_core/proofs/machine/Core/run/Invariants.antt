@@ -1,4 +1,4 @@
-use Rattle.std.proofs.Common.{◌≡◌, ◌<◌, ℕ, length}
+use Rattle.std.proofs.Common.{◌≡◌, ◌<◌, length}
 use Rattle.std.specs.List.{All}
 use Rattle.session_core.specs.declared.event.Event.{Event}
 use Rattle.session_core.specs.Steps.{State, place_of, session_places, steps}

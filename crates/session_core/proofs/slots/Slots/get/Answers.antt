@@ -1,5 +1,3 @@
-use Rattle.std.proofs.Common.{◌∙◌, ap, sym}
-use Rattle.session_core.specs.Steps.{slot}
 use Rattle.session_core.proofs.Places.{slot_get_or}
 use Rattle.session_core.proofs.slots.Slots.get.Goals as goal
 
