@@ -1,6 +1,7 @@
 pub mod Replay
 pub mod Turns
 pub mod Places
+pub mod SlotPlaces
 pub mod Seats
 pub mod Events
 pub mod Runs
@@ -14,3 +15,5 @@ pub mod Walks
 pub mod BuildFaults
 pub mod MadeParts
 pub mod RowLists
+pub mod Keeping
+pub mod Turning

@@ -1,11 +1,9 @@
 -- Legal runs: which replies to the lines of a script may stand beside a history, whatever ran at once.
-use Rattle.std.specs.Prelude.{◌≡◌, ◌≢◌, ◌⊎◌, ℕ, ◌+◌, ◌<◌, ◌≤◌, max, Bool, true, false, ◌&&◌, not, List, [], ◌∷◌, ◌++◌, length, map, filter, count_by, take, Option, Some, None, Result, Ok, Err, nat_eq, nat_le, ◌==◌, if◌then◌else◌, slice_get, IsTrue}
-use Rattle.emu_names.specs.declared.kinds.SessionNo.{SessionNo}
+use Rattle.std.specs.Prelude.{◌≡◌, ◌⊎◌, ℕ, ◌+◌, ◌<◌, ◌≤◌, max, Bool, true, false, ◌&&◌, List, [], ◌∷◌, ◌++◌, length, map, filter, count_by, take, Option, Some, None, Ok, Err, nat_eq, nat_le, if◌then◌else◌, slice_get}
 use Rattle.session_core.specs.declared.config.Config.{Config}
 use Rattle.session_core.specs.declared.edit.Edit.{Edit}
 use Rattle.session_core.specs.declared.edit.Entry.{Entry}
 use Rattle.session_core.specs.declared.bundle.BundleParts.{BundleParts}
-use Rattle.session_core.specs.declared.row.Row.{Row}
 use Rattle.session_core.specs.declared.line.Command.{Command}
 use Rattle.session_core.specs.declared.line.Ask.{Ask}
 use Rattle.session_core.specs.declared.line.Answer.{Answer}

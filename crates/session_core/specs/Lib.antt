@@ -15,3 +15,5 @@ pub mod InOrder
 pub mod Example
 pub mod Laws
 pub mod OrderLaws
+pub mod Kept
+pub mod Stops

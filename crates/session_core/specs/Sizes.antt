@@ -1,6 +1,6 @@
 -- How many bytes a configuration and an entry take in a store, frames apart. Numbers are big-endian;
 -- a text or a list has four bytes for its length, a sample or a rate eight, a kind one.
-use Rattle.std.specs.Prelude.{◌≡◌, ℕ, ◌+◌, ◌*◌, List, [], ◌∷◌, length, sum_by}
+use Rattle.std.specs.Prelude.{ℕ, ◌+◌, List, length, sum_by}
 use Rattle.session_core.specs.declared.annot.Time.{Time}
 use Rattle.session_core.specs.declared.annot.Time.TheVariants.{NoTime, Span, Point}
 use Rattle.session_core.specs.declared.annot.AnnotLabel.{AnnotLabel}

@@ -1,5 +1,5 @@
 -- The steps of the core: what an event makes of a state, and the reply that it may give.
-use Rattle.std.specs.Prelude.{◌≡◌, ℕ, zero, suc, ◌+◌, Bool, true, false, List, [], ◌∷◌, ◌++◌, length, replicate, Option, Some, None, Result, Ok, Err, nat_le, if◌then◌else◌}
+use Rattle.std.specs.Prelude.{ℕ, zero, suc, ◌+◌, Bool, true, false, List, [], ◌∷◌, ◌++◌, length, replicate, Option, Some, None, Result, Ok, Err, nat_le}
 use Rattle.emu_names.specs.declared.kinds.SessionNo.{SessionNo}
 use Rattle.emu_names.specs.declared.rules.Broken.{Broken}
 use Rattle.session_core.specs.declared.config.Config.{Config}
@@ -12,7 +12,7 @@ use Rattle.session_core.specs.declared.line.Command.{Command}
 use Rattle.session_core.specs.declared.line.Command.TheVariants as commands
 use Rattle.session_core.specs.declared.line.Ask.{Ask}
 use Rattle.session_core.specs.declared.line.Answer.{Answer}
-use Rattle.session_core.specs.declared.line.Answer.TheVariants.{Done, Segments, Refused}
+use Rattle.session_core.specs.declared.line.Answer.TheVariants.{Done, Refused}
 use Rattle.session_core.specs.declared.line.Refusal.TheVariants as refusals
 use Rattle.session_core.specs.declared.line.Request.{Request}
 use Rattle.session_core.specs.declared.line.Request.TheVariants as requests

@@ -1,7 +1,6 @@
 -- Which states keep the configuration's rules.
-use Rattle.std.specs.Prelude.{◌≡◌, ℕ, ◌+◌, Bool, true, false, ◌&&◌, not, List, [], ◌∷◌, ◌++◌, length, map, sum_by, IsTrue, nat_lt, nat_le, nat_eq, ◌==◌, All}
+use Rattle.std.specs.Prelude.{ℕ, ◌+◌, Bool, true, false, ◌&&◌, not, List, [], ◌∷◌, ◌++◌, length, map, nat_lt, nat_le, nat_eq, ◌==◌}
 use Rattle.std.specs.List.{list_all, list_any}
-use Rattle.emu_names.specs.declared.kinds.LevelKind.{LevelKind}
 use Rattle.session_core.specs.declared.annot.Time.{Time}
 use Rattle.session_core.specs.declared.annot.Time.TheVariants.{NoTime, Span, Point}
 use Rattle.session_core.specs.declared.config.LevelDef.{LevelDef}

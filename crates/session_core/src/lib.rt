@@ -19,6 +19,9 @@ mod rows;
 #[cfg(test)]
 mod state_tests;
 mod taken;
+mod machine;
+mod moves;
+mod slots;
 
 pub use annot::{
     Annot, AnnotItem, AnnotItems, AnnotLabel, AnnotLabels, AnnotLevel, AnnotLevels, Time,
@@ -34,5 +37,6 @@ pub use law::{
     in_order_is_legal, replay_goes_on, states_keep_rules, wrong_replies_are_not_legal,
 };
 pub use line::{Answer, Ask, AskFault, Command, Line, Lines, Refusal, Replies, Reply, Request};
+pub use machine::Core;
 pub use queries::answer;
 pub use row::{Row, SegmentList};

@@ -1,0 +1,219 @@
+//! The core: a configuration, a history, and what each session holds, changed by one event at a time.
+ghost use Rattle.emu_names.specs.declared.rules.Fault.{Fault};
+ghost use Rattle.session_core.specs.Effects.{after, IsLegal};
+ghost use Rattle.session_core.specs.Steps.{core_fails, core_step, edit_event, finish_step, look_event, option_list, place_of, query_fails, query_step, session_places, slot, start, steps};
+ghost use Rattle.session_core.specs.Stops.{IsFirstFault, StopsAt};
+ghost use Rattle.std.specs.Prelude.{◌≡◌, ◌⊎◌, ◌++◌, ◌<◌, ◌≤◌, All, IfErr, IfOk, OnErr, OnOk, Some, length};
+
+use crate::bundle::Bundles;
+use crate::config::Config;
+use crate::edit::Entries;
+use crate::event::{Event, Events};
+use crate::line::{Answer, Command, Line, Replies, Reply, Request};
+use crate::moves::{Head, begin_query, close_look, close_query, open_look, replay, try_edit};
+use crate::slots::Slots;
+use emu_lists::Shared;
+use emu_names::{Fault, Memory, SessionNo};
+use std::alloc::Global;
+use std::marker::Model;
+
+/// The core of a database: its configuration, its history, and for each session its open look and
+/// its query under way.
+///
+/// It keeps the bundles after the history, and each look and each query under way shares the
+/// bundles of its moment, so that a look costs one owner more and not a copy.
+#[derive(Drop)]
+pub struct Core {
+    alloc: Global,
+    config: Config,
+    entries: Entries,
+    bundles: Shared<Bundles>,
+    looks: Slots,
+    queries: Slots,
+}
+
+impl Model for Core {
+    ghost use Rattle.session_core.specs.Steps.{State};
+
+    ghost Value = { State };
+
+    ghost use Rattle.session_core.specs.Kept.{IsKept, state_of};
+
+    ghost view = { λ a. state_of a.config a.entries a.looks a.queries };
+
+    ghost invariant = { λ a. IsKept a.config a.entries a.bundles a.looks a.queries };
+}
+
+impl Core {
+    /// The core of a configuration and of a history of at most 100,000 entries, with no look open.
+    /// A history that breaks a rule is refused by the first rule that it breaks.
+    pub fn new(alloc: Global, config: Config, history: Entries) -> Result<Core, Fault>
+        requires { length history ≤ 100000 }
+        ensures begun { IfOk result (λ core. core ≡ start config history) }
+        ensures legal { IfOk result (λ core. IsLegal config history) }
+        ensures broken { IfErr result (λ fault. IsFirstFault fault (after config history)) }
+    {
+        let bundles = Shared::new(alloc, replay(alloc, &config, &history)?)?;
+        let looks = Slots::new(alloc)?;
+        let queries = Slots::new(alloc)?;
+        Ok(Core {
+            alloc,
+            config,
+            entries: history,
+            bundles,
+            looks,
+            queries,
+        })
+    }
+
+    /// The configuration.
+    pub fn config(&self) -> &Config
+        ensures { result.now ≡ self.now.config }
+    {
+        &self.config
+    }
+
+    /// The history, in which no entry breaks a rule.
+    pub fn history(&self) -> &Entries
+        ensures entries { result.now ≡ self.now.entries }
+        ensures legal { IsLegal self.now.config self.now.entries }
+    {
+        &self.entries
+    }
+
+    /// The number of the present state: how many edits it is after.
+    pub fn number(&self) -> u64
+        ensures { result ≡ length self.now.entries }
+    {
+        self.entries.len() as u64
+    }
+
+    /// Tries an edit.
+    fn edit(&mut self, line: Line) -> Result<Option<Reply>, Memory>
+        ensures ok { IfOk result (λ reply. edit_event self.old line line.request ≡ (reply, self.new)) }
+        ensures err { OnErr result (self.new ≡ self.old) }
+    {
+        let head = Head {
+            line: line.line,
+            session: line.session,
+            command: line.command,
+        };
+        match line.request {
+            Request::Edit(edit) => {
+                let reply = try_edit(
+                    self.alloc,
+                    &self.config,
+                    &mut self.entries,
+                    &mut self.bundles,
+                    head,
+                    edit,
+                )?;
+                Ok(Some(reply))
+            }
+            Request::Query(_) => Ok(None),
+            Request::Look(_) => Ok(None),
+            Request::Finish => Ok(None),
+            Request::After(_) => Ok(None),
+        }
+    }
+
+    /// Looks at the present state: for a `look`, for a query or for an `after`.
+    fn look(&mut self, line: Line) -> Result<Option<Reply>, Memory>
+        requires { line.session.0 < session_places }
+        ensures ok { IfOk result (λ reply. look_event self.old line line.request ≡ (reply, self.new)) }
+        ensures err { OnErr result (self.new ≡ self.old) }
+    {
+        let head = Head {
+            line: line.line,
+            session: line.session,
+            command: line.command,
+        };
+        let n = self.entries.len() as u64;
+        match line.request {
+            Request::Look(ask) => {
+                let reply = open_look(self.alloc, &self.bundles, n, &mut self.looks, head, ask)?;
+                Ok(Some(reply))
+            }
+            Request::Query(ask) => {
+                begin_query(self.alloc, &self.bundles, n, &mut self.queries, head, ask)?;
+                Ok(None)
+            }
+            Request::After(_) => Ok(Some(head.reply(Some(n), Answer::Done(head.command)))),
+            Request::Edit(_) => Ok(None),
+            Request::Finish => Ok(None),
+        }
+    }
+
+    /// Answers the session's open look.
+    fn finish(&mut self, line: u32, session: SessionNo) -> Result<Option<Reply>, Memory>
+        requires { session.0 < session_places }
+        ensures ok { IfOk result (λ reply. finish_step self.old line session (slot self.old.looks session.0) ≡ (reply, self.new)) }
+        ensures err { OnErr result (self.new ≡ self.old) }
+    {
+        let reply = close_look(self.alloc, &self.config, &mut self.looks, line, session)?;
+        Ok(Some(reply))
+    }
+
+    /// Answers the session's query under way.
+    fn query(&mut self, line: u32, session: SessionNo) -> Result<Option<Reply>, Memory>
+        requires { session.0 < session_places }
+        ensures ok { IfOk result (λ reply. query_step self.old line session (slot self.old.queries session.0) ≡ (reply, self.new)) }
+        ensures err { OnErr result (self.new ≡ (query_fails self.old line session (slot self.old.queries session.0)).1) }
+    {
+        close_query(self.alloc, &self.config, &mut self.queries, line, session)
+    }
+
+    /// Takes one event: the reply that it gives, if it gives one. The only refusal is want of
+    /// memory, which changes nothing but that it closes a query under way that was to be answered.
+    pub fn step(&mut self, event: Event) -> Result<Option<Reply>, Memory>
+        requires { place_of event < session_places }
+        ensures ok { IfOk result (λ reply. core_step self.old event ≡ (reply, self.new)) }
+        ensures err { OnErr result (self.new ≡ (core_fails self.old event).1) }
+    {
+        match event {
+            Event::Edit { line } => self.edit(line),
+            Event::Look { line } => self.look(line),
+            Event::Piece { session: _ } => Ok(None),
+            Event::Finish {
+                line,
+                session,
+                command,
+            } => match command {
+                Command::Finish => self.finish(line, session),
+                Command::Query => self.query(line, session),
+                Command::Config => Ok(None),
+                Command::AddBundle => Ok(None),
+                Command::Look => Ok(None),
+                Command::After => Ok(None),
+            },
+        }
+    }
+
+    /// Takes one event, and puts its reply behind the others.
+    fn turn(&mut self, event: Event, replies: &mut Replies) -> Result<(), Memory>
+        requires { place_of event < session_places }
+        ensures state { OnOk result (self.new ≡ (core_step self.old event).1) }
+        ensures replies { OnOk result (replies.new ≡ replies.old ++ option_list (core_step self.old event).0) }
+        ensures err { OnErr result ((self.new ≡ (core_step self.old event).1) ⊎ (self.new ≡ (core_fails self.old event).1)) }
+    {
+        if let Some(reply) = self.step(event)? {
+            replies.push(reply)?;
+        }
+        Ok(())
+    }
+
+    /// Takes events in order: the replies that they give. The only refusal is want of memory, which
+    /// leaves the state after the first of the events, but that a query under way is closed where
+    /// memory ran out at its answer.
+    pub fn run(&mut self, mut events: Events) -> Result<Replies, Memory>
+        requires { All (λ event. place_of event < session_places) events.items }
+        ensures ok { IfOk result (λ replies. (replies, self.new) ≡ steps self.old events.items) }
+        ensures err { OnErr result (StopsAt self.old events.items self.new) }
+    {
+        let mut replies = Replies::new(self.alloc);
+        while let Some(event) = events.pop_front() {
+            self.turn(event, &mut replies)?;
+        }
+        Ok(replies)
+    }
+}

@@ -1,0 +1,244 @@
+//! What one event does to the parts of the core, each part on its own.
+ghost use Rattle.session_core.specs.Effects.{after};
+ghost use Rattle.session_core.specs.Gives.{GivesOrBroken};
+ghost use Rattle.session_core.specs.Kept.{change, change_made, head_reply, held_answer, held_at, look_closed, looked, query_closed, query_dropped};
+ghost use Rattle.session_core.specs.Steps.{is_full as is_full_list, put_slot, slot};
+ghost use Rattle.std.specs.Prelude.{◌≡◌, ◌<◌, Ok, Some, IfOk, OnErr, OnOk, length};
+
+use crate::bundle::Bundles;
+use crate::config::Config;
+use crate::edit::{Edit, Entries, Entry};
+use crate::effects::effect;
+use crate::line::{Answer, Ask, Command, Refusal, Reply};
+use crate::queries::answer;
+use crate::slots::{Held, Slots};
+use emu_lists::{PlainData, Shared};
+use emu_names::{Fault, Memory, SessionNo};
+use std::alloc::Global;
+
+/// The most entries of a history.
+const MOST_ENTRIES: usize = 100_000;
+
+/// Where a request comes from, and its command.
+#[derive(Clone, Copy)]
+pub struct Head {
+    /// The line's number.
+    pub line: u32,
+    /// The line's session.
+    pub session: SessionNo,
+    /// The line's command.
+    pub command: Command,
+}
+
+impl Head {
+    /// The reply to the line.
+    pub fn reply(&self, n: Option<u64>, answer: Answer) -> Reply
+        ensures { result ≡ head_reply self.now n answer }
+    {
+        Reply {
+            line: self.line,
+            session: self.session,
+            n,
+            answer,
+        }
+    }
+}
+
+/// The bundles after a history, or the rule that it breaks first, or want of memory.
+pub fn replay(alloc: Global, config: &Config, history: &Entries) -> Result<Bundles, Fault>
+    ensures { GivesOrBroken result (after config.now history.now) }
+{
+    let mut bundles = Bundles::new(alloc);
+    let entries = history.as_slice();
+    for entry in entries {
+        bundles = effect(alloc, config, &bundles, &entry.edit)?;
+    }
+    Ok(bundles)
+}
+
+/// Whether a history has no room for one entry more.
+fn is_full(entries: &Entries) -> bool
+    ensures { result ≡ is_full_list entries.now }
+{
+    MOST_ENTRIES <= entries.len()
+}
+
+/// Accepts an edit that leaves the bundles `next`. Want of memory changes nothing.
+fn accept(
+    alloc: Global,
+    entries: &mut Entries,
+    bundles: &mut Shared<Bundles>,
+    head: Head,
+    edit: Edit,
+    next: Bundles,
+) -> Result<Reply, Memory>
+    requires { length entries.old < 100000 }
+    ensures ok { IfOk result (λ reply. (reply, entries.new, bundles.new) ≡ change_made head edit entries.old bundles.old (Ok next)) }
+    ensures history { OnErr result (entries.new ≡ entries.old) }
+    ensures present { OnErr result (bundles.new ≡ bundles.old) }
+{
+    let n = entries.len() as u64 + 1;
+    let next = Shared::new(alloc, next)?;
+    let entry = Entry {
+        session: head.session,
+        line: head.line,
+        edit,
+    };
+    entries.push(entry)?;
+    *bundles = next;
+    Ok(head.reply(Some(n), Answer::Done(head.command)))
+}
+
+/// Tries an edit: the reply to it. Want of memory changes nothing.
+pub fn try_edit(
+    alloc: Global,
+    config: &Config,
+    entries: &mut Entries,
+    bundles: &mut Shared<Bundles>,
+    head: Head,
+    edit: Edit,
+) -> Result<Reply, Memory>
+    ensures ok { IfOk result (λ reply. (reply, entries.new, bundles.new) ≡ change config.now head edit entries.old bundles.old) }
+    ensures history { OnErr result (entries.new ≡ entries.old) }
+    ensures present { OnErr result (bundles.new ≡ bundles.old) }
+{
+    let n = Some(entries.len() as u64);
+    if is_full(entries) {
+        return Ok(head.reply(n, Answer::Refused(Refusal::HistoryFull)));
+    }
+    match effect(alloc, config, bundles.as_ref(), &edit) {
+        Ok(next) => accept(alloc, entries, bundles, head, edit, next),
+        Err(Fault::Broken(rule)) => Ok(head.reply(n, Answer::Refused(Refusal::Rule(rule)))),
+        Err(Fault::Memory) => Err(Memory),
+    }
+}
+
+/// A query that holds the present state, which it shares.
+fn hold(
+    alloc: Global,
+    bundles: &Shared<Bundles>,
+    n: u64,
+    head: Head,
+    ask: Ask,
+) -> Result<Held, Memory>
+    ensures { IfOk result (λ held. held ≡ held_at head ask n bundles.now) }
+{
+    let bundles = bundles.copy(alloc)?;
+    Ok(Held {
+        line: head.line,
+        n,
+        ask,
+        bundles,
+    })
+}
+
+/// Holds the present state for a look, if the session has none open: the reply to it. Want of
+/// memory changes nothing.
+pub fn open_look(
+    alloc: Global,
+    bundles: &Shared<Bundles>,
+    n: u64,
+    looks: &mut Slots,
+    head: Head,
+    ask: Ask,
+) -> Result<Reply, Memory>
+    requires { head.session.0 < length looks.old }
+    ensures ok { IfOk result (λ reply. (reply, looks.new) ≡ looked head ask n bundles.now looks.old (slot looks.old head.session.0)) }
+    ensures err { OnErr result (looks.new ≡ looks.old) }
+{
+    let place = head.session.0 as usize;
+    match looks.get(place) {
+        Some(_) => Ok(head.reply(None, Answer::Refused(Refusal::LookOpen))),
+        None => {
+            let held = hold(alloc, bundles, n, head, ask)?;
+            looks.put(place, Some(held));
+            Ok(head.reply(Some(n), Answer::Done(head.command)))
+        }
+    }
+}
+
+/// Puts a query under way, which holds the present state. Want of memory changes nothing.
+pub fn begin_query(
+    alloc: Global,
+    bundles: &Shared<Bundles>,
+    n: u64,
+    queries: &mut Slots,
+    head: Head,
+    ask: Ask,
+) -> Result<(), Memory>
+    requires { head.session.0 < length queries.old }
+    ensures ok { OnOk result (queries.new ≡ put_slot queries.old head.session.0 (Some (held_at head ask n bundles.now))) }
+    ensures err { OnErr result (queries.new ≡ queries.old) }
+{
+    let held = hold(alloc, bundles, n, head, ask)?;
+    queries.put(head.session.0 as usize, Some(held));
+    Ok(())
+}
+
+/// The answer to a query over the state that it holds.
+fn answer_held(alloc: Global, config: &Config, held: &Held) -> Result<Answer, Memory>
+    ensures { IfOk result (λ given. given ≡ held_answer config.now held.now) }
+{
+    answer(alloc, config, held.bundles.as_ref(), &held.ask)
+}
+
+/// Answers the session's open look and closes it: the reply. Want of memory leaves it open.
+pub fn close_look(
+    alloc: Global,
+    config: &Config,
+    looks: &mut Slots,
+    line: u32,
+    session: SessionNo,
+) -> Result<Reply, Memory>
+    requires { session.0 < length looks.old }
+    ensures ok { IfOk result (λ reply. (reply, looks.new) ≡ look_closed config.now line session looks.old (slot looks.old session.0)) }
+    ensures err { OnErr result (looks.new ≡ looks.old) }
+{
+    let place = session.0 as usize;
+    match looks.get(place) {
+        None => Ok(Reply {
+            line,
+            session,
+            n: None,
+            answer: Answer::Refused(Refusal::NoLook),
+        }),
+        Some(held) => {
+            let answer = answer_held(alloc, config, held)?;
+            let n = Some(held.n);
+            looks.put(place, None);
+            Ok(Reply {
+                line,
+                session,
+                n,
+                answer,
+            })
+        }
+    }
+}
+
+/// Answers the session's query under way and closes it: the reply, if there is one. Want of memory
+/// closes it too.
+pub fn close_query(
+    alloc: Global,
+    config: &Config,
+    queries: &mut Slots,
+    line: u32,
+    session: SessionNo,
+) -> Result<Option<Reply>, Memory>
+    requires { session.0 < length queries.old }
+    ensures ok { IfOk result (λ reply. (reply, queries.new) ≡ query_closed config.now line session queries.old (slot queries.old session.0)) }
+    ensures err { OnErr result (queries.new ≡ query_dropped session queries.old (slot queries.old session.0)) }
+{
+    match queries.take(session.0 as usize) {
+        None => Ok(None),
+        Some(held) => {
+            let answer = answer_held(alloc, config, &held)?;
+            Ok(Some(Reply {
+                line,
+                session,
+                n: Some(held.n),
+                answer,
+            }))
+        }
+    }
+}
