@@ -1,5 +1,5 @@
 //! The numbers of the request lines that came before.
-ghost use Rattle.std.specs.Prelude.{◌≡◌, [], ◌∷◌, ◌++◌, OnOk, OnErr, nat_eq};
+ghost use Rattle.std.specs.Prelude.{◌≡◌, ◌<◌, [], ◌∷◌, ◌++◌, All, OnOk, OnErr, nat_eq};
 ghost use Rattle.std.specs.List.{list_any};
 
 use emu_names::Memory;
@@ -14,14 +14,18 @@ pub struct LineSet {
 
 impl Model for LineSet {
     ghost use Rattle.std.specs.Prelude.{List, ℕ};
+    ghost use Rattle.std.specs.List.Sorted.{IsStrictlyIncreasing};
 
     ghost Value = { List ℕ };
 
     ghost view = { λ s. s.numbers.items };
+
+    ghost invariant = { λ s. IsStrictlyIncreasing s.numbers.items };
 }
 
 impl LineSet {
     /// The set of no line.
+    #[tactic(auto, using(crate::proofs::Rising::none_rises))]
     pub fn new(alloc: Global) -> LineSet
         ensures { result ≡ [] }
     {
@@ -30,12 +34,22 @@ impl LineSet {
         }
     }
 
-    /// Puts a line's number in. The only refusal is want of memory, which changes nothing.
+    /// Puts a line's number in, which is above all that are there. The only refusal is want of memory,
+    /// which changes nothing.
+    #[tactic(auto, using(crate::proofs::Rising::push_rises))]
     pub fn add(&mut self, line: u32) -> Result<(), Memory>
+        requires { All (λ n. n < line) self.old }
         ensures ok { OnOk result (self.new ≡ self.old ++ line ∷ []) }
         ensures err { OnErr result (self.new ≡ self.old) }
     {
         self.numbers.push(line)?;
         Ok(())
+    }
+
+    /// Whether the number is there.
+    pub fn contains(&self, line: u32) -> bool
+        ensures { result ≡ list_any (nat_eq line) self.now }
+    {
+        self.numbers.binary_search(&line).is_ok()
     }
 }
