@@ -4,12 +4,17 @@ use session_core::{Annot, Config, Edit, Request, Time};
 use std::alloc::{AllocError, Global};
 use std::test::Fail;
 
-const CONFIG: &str = r#"{"do":"config","config":{"name":"t","levelDefinitions":[{"name":"Phonetic","type":"SEGMENT","attributeDefinitions":[{"name":"Phonetic","type":"STRING"}]}],"linkDefinitions":[]}}"#;
+const CONFIG: &str =
+    r#"{"do":"config","config":{"name":"t","levelDefinitions":[{"name":"Phonetic","type":"SEGMENT","attributeDefinitions":[{"name":"Phonetic","type":"STRING"}]}],"linkDefinitions":[]}}"#;
 
-const BUNDLE: &str = r#"{"s":1,"do":"add_bundle","session":"s1","bundle":"b1","annot":{"name":"b1","annotates":"b1.wav","sampleRate":20000,"levels":[{"name":"Phonetic","type":"SEGMENT","items":[{"id":1,"sampleStart":3749,"sampleDur":1389,"labels":[{"name":"Phonetic","value":"V"}]},{"id":2,"sampleStart":5139,"sampleDur":1664,"labels":[{"name":"Phonetic","value":"m"}]}]}],"links":[]}}"#;
+const BUNDLE: &str =
+    r#"{"s":1,"do":"add_bundle","session":"s1","bundle":"b1","annot":{"name":"b1","annotates":"b1.wav","sampleRate":20000,"levels":[{"name":"Phonetic","type":"SEGMENT","items":[{"id":1,"sampleStart":3749,"sampleDur":1389,"labels":[{"name":"Phonetic","value":"V"}]},{"id":2,"sampleStart":5139,"sampleDur":1664,"labels":[{"name":"Phonetic","value":"m"}]}]}],"links":[]}}"#;
 
 fn config_told(alloc: Global, config: &Config) -> Result<String, AllocError> {
-    let mut text = format!(in alloc; "config {}/{}/{}", config.name, config.uuid, config.extension)?;
+    let mut text = format!(in alloc;
+        "config {}/{}/{}",
+        config.name, config.uuid, config.extension
+    )?;
     for level in config.levels.as_slice() {
         let names = format!(in alloc; " {}:{}", level.name, level.attributes.len())?;
         text.push_str(names.as_str())?;
@@ -24,7 +29,10 @@ fn annot_told(alloc: Global, annot: &Annot) -> Result<String, AllocError> {
             for label in item.labels.as_slice() {
                 let part = match item.time {
                     Time::Span { start, dur } => {
-                        format!(in alloc; " {}={} {}:{} {start}+{dur}", level.name, item.id.0, label.name, label.value)?
+                        format!(in alloc;
+                            " {}={} {}:{} {start}+{dur}",
+                            level.name, item.id.0, label.name, label.value
+                        )?
                     }
                     _ => format!(in alloc; " no span")?,
                 };
@@ -82,29 +90,23 @@ fn line_told(alloc: Global, line: &[u8], wants_config: bool) -> Result<String, F
     Ok(told(alloc, &answer)?)
 }
 
-// Rows of a line and what it says, where a request may stand.
-fn check_requests(rt: HostRuntime, rows: &[(&str, &str)]) -> Result<(), Fail> {
-    let alloc = rt.alloc();
-    for (line, want) in rows {
-        let got = line_told(alloc, line.as_bytes(), false)?;
-        assert_eq!(rt; got.as_str(), *want, "{line}");
-    }
-    Ok(())
-}
-
 #[test]
 fn lines_are_read_whole(rt: HostRuntime) -> Result<(), Fail> {
     let alloc = rt.alloc();
     let config = line_told(alloc, CONFIG.as_bytes(), true)?;
-    assert_eq!(rt; config, "config t// Phonetic:1");
+    assert_eq!(rt; config.as_str(), "config t// Phonetic:1");
     let bundle = line_told(alloc, BUNDLE.as_bytes(), false)?;
-    assert_eq!(rt; bundle, "9 s1 s1/b1 b1.wav at 20000 Phonetic=1 Phonetic:V 3749+1389 Phonetic=2 Phonetic:m 5139+1664");
+    assert_eq!(rt;
+        bundle.as_str(),
+        "9 s1 s1/b1 b1.wav at 20000 Phonetic=1 Phonetic:V 3749+1389 Phonetic=2 Phonetic:m 5139+1664"
+    );
     Ok(())
 }
 
 #[test]
 fn faults_come_in_order(rt: HostRuntime) -> Result<(), Fail> {
-    check_requests(rt, &[
+    let alloc = rt.alloc();
+    let rows = [
         ("", "blank"),
         (" \t\r", "blank"),
         ("{", "NotJson"),
@@ -124,21 +126,50 @@ fn faults_come_in_order(rt: HostRuntime) -> Result<(), Fail> {
         (r#"{"do":"query","s":1.0}"#, "$.s: session"),
         (r#"{"do":"query","s":"1"}"#, "$.s: session"),
         (r#"{"do":"add_bundle","s":1}"#, "$.session: name"),
-        (r#"{"do":"add_bundle","s":1,"session":"","bundle":""}"#, "$.session: name"),
-        (r#"{"do":"add_bundle","s":1,"session":"a"}"#, "$.bundle: name"),
-        (r#"{"do":"add_bundle","s":1,"session":"a","bundle":7}"#, "$.bundle: name"),
-        (r#"{"do":"add_bundle","s":1,"session":"a","bundle":"b"}"#, "$.annot: object"),
-        (r#"{"do":"add_bundle","s":1,"session":"a","bundle":"b","annot":7}"#, "$.annot: object"),
+        (
+            r#"{"do":"add_bundle","s":1,"session":"","bundle":""}"#,
+            "$.session: name",
+        ),
+        (
+            r#"{"do":"add_bundle","s":1,"session":"a"}"#,
+            "$.bundle: name",
+        ),
+        (
+            r#"{"do":"add_bundle","s":1,"session":"a","bundle":7}"#,
+            "$.bundle: name",
+        ),
+        (
+            r#"{"do":"add_bundle","s":1,"session":"a","bundle":"b"}"#,
+            "$.annot: object",
+        ),
+        (
+            r#"{"do":"add_bundle","s":1,"session":"a","bundle":"b","annot":7}"#,
+            "$.annot: object",
+        ),
         (r#"{"do":"query","s":1,"time":"T"}"#, "$.eql: text"),
-        (r#"{"do":"query","s":1,"eql":"a == b","time":"T"}"#, "$.time: text"),
-        (r#"{"do":"look","s":16,"eql":"a == b","time":null}"#, "9 s16 look a=b"),
+        (
+            r#"{"do":"query","s":1,"eql":"a == b","time":"T"}"#,
+            "$.time: text",
+        ),
+        (
+            r#"{"do":"look","s":16,"eql":"a == b","time":null}"#,
+            "9 s16 look a=b",
+        ),
         (r#"{"do":"finish","s":2}"#, "9 s2 finish"),
-        (r#"{"do":"after","s":1,"line":4294967296}"#, "$.line: whole number"),
+        (
+            r#"{"do":"after","s":1,"line":4294967296}"#,
+            "$.line: whole number",
+        ),
         (r#"{"do":"after","s":1,"line":1}"#, "BadAfter"),
         (r#"{"do":"after","s":1,"line":4294967295}"#, "BadAfter"),
         (r#"{"do":"after","s":17,"line":1}"#, "$.s: session"),
         (r#"{"do":"after","s":1,"line":3}"#, "9 s1 after 3"),
-    ])
+    ];
+    for (line, want) in &rows {
+        let got = line_told(alloc, line.as_bytes(), false)?;
+        assert_eq!(rt; got.as_str(), *want, "{line}");
+    }
+    Ok(())
 }
 
 #[test]
@@ -165,20 +196,59 @@ fn configurations(rt: HostRuntime) -> Result<(), Fail> {
     let alloc = rt.alloc();
     let refused = "$.config: object";
     let rows = [
-        (r#"{"name":"t","UUID":"u","mediafileExtension":"wav","levelDefinitions":[{"name":"P","type":"SEGMENT","attributeDefinitions":[{"name":"A","type":null}]}]}"#, "config t/u/wav P:1"),
-        (r#"{"levelDefinitions":[{"name":"P","type":"SEGMENT","attributeDefinitions":[{"name":"A"}]}]}"#, refused),
-        (r#"{"name":"t","UUID":5,"levelDefinitions":[{"name":"P","type":"SEGMENT","attributeDefinitions":[{"name":"A"}]}]}"#, refused),
+        (
+            r#"{"name":"t","UUID":"u","mediafileExtension":"wav","levelDefinitions":[{"name":"P","type":"SEGMENT","attributeDefinitions":[{"name":"A","type":null}]}]}"#,
+            "config t/u/wav P:1",
+        ),
+        (
+            r#"{"levelDefinitions":[{"name":"P","type":"SEGMENT","attributeDefinitions":[{"name":"A"}]}]}"#,
+            refused,
+        ),
+        (
+            r#"{"name":"t","UUID":5,"levelDefinitions":[{"name":"P","type":"SEGMENT","attributeDefinitions":[{"name":"A"}]}]}"#,
+            refused,
+        ),
         (r#"{"name":"t","levelDefinitions":[]}"#, refused),
-        (r#"{"name":"t","levelDefinitions":[{"name":"P","type":"SEGMENT","attributeDefinitions":[{"name":"A"}]},{"name":"Q","type":"SEGMENT","attributeDefinitions":[{"name":"B"}]}]}"#, refused),
-        (r#"{"name":"t","levelDefinitions":[{"name":"P","type":"ITEM","attributeDefinitions":[{"name":"A"}]}]}"#, refused),
-        (r#"{"name":"t","levelDefinitions":[{"name":"P","type":"SEGMENT","attributeDefinitions":[]}]}"#, refused),
-        (r#"{"name":"t","levelDefinitions":[{"name":"P","type":"SEGMENT","attributeDefinitions":[{"name":"A"},{"name":"B"}]}]}"#, refused),
-        (r#"{"name":"t","levelDefinitions":[{"name":"P","type":"SEGMENT","attributeDefinitions":[{"name":"A","type":"NUMBER"}]}]}"#, refused),
-        (r#"{"name":"t","levelDefinitions":[{"name":"P","type":"SEGMENT","attributeDefinitions":[{"name":"A","legalLabels":[]}]}]}"#, refused),
-        (r#"{"name":"t","levelDefinitions":[{"name":"P","type":"SEGMENT","attributeDefinitions":[{"name":"A","labelGroups":[]}]}]}"#, refused),
-        (r#"{"name":"t","labelGroups":[],"levelDefinitions":[{"name":"P","type":"SEGMENT","attributeDefinitions":[{"name":"A"}]}]}"#, refused),
-        (r#"{"name":"t","ssffTrackDefinitions":[],"levelDefinitions":[{"name":"P","type":"SEGMENT","attributeDefinitions":[{"name":"A"}]}]}"#, refused),
-        (r#"{"name":"t","linkDefinitions":[{}],"levelDefinitions":[{"name":"P","type":"SEGMENT","attributeDefinitions":[{"name":"A"}]}]}"#, refused),
+        (
+            r#"{"name":"t","levelDefinitions":[{"name":"P","type":"SEGMENT","attributeDefinitions":[{"name":"A"}]},{"name":"Q","type":"SEGMENT","attributeDefinitions":[{"name":"B"}]}]}"#,
+            refused,
+        ),
+        (
+            r#"{"name":"t","levelDefinitions":[{"name":"P","type":"ITEM","attributeDefinitions":[{"name":"A"}]}]}"#,
+            refused,
+        ),
+        (
+            r#"{"name":"t","levelDefinitions":[{"name":"P","type":"SEGMENT","attributeDefinitions":[]}]}"#,
+            refused,
+        ),
+        (
+            r#"{"name":"t","levelDefinitions":[{"name":"P","type":"SEGMENT","attributeDefinitions":[{"name":"A"},{"name":"B"}]}]}"#,
+            refused,
+        ),
+        (
+            r#"{"name":"t","levelDefinitions":[{"name":"P","type":"SEGMENT","attributeDefinitions":[{"name":"A","type":"NUMBER"}]}]}"#,
+            refused,
+        ),
+        (
+            r#"{"name":"t","levelDefinitions":[{"name":"P","type":"SEGMENT","attributeDefinitions":[{"name":"A","legalLabels":[]}]}]}"#,
+            refused,
+        ),
+        (
+            r#"{"name":"t","levelDefinitions":[{"name":"P","type":"SEGMENT","attributeDefinitions":[{"name":"A","labelGroups":[]}]}]}"#,
+            refused,
+        ),
+        (
+            r#"{"name":"t","labelGroups":[],"levelDefinitions":[{"name":"P","type":"SEGMENT","attributeDefinitions":[{"name":"A"}]}]}"#,
+            refused,
+        ),
+        (
+            r#"{"name":"t","ssffTrackDefinitions":[],"levelDefinitions":[{"name":"P","type":"SEGMENT","attributeDefinitions":[{"name":"A"}]}]}"#,
+            refused,
+        ),
+        (
+            r#"{"name":"t","linkDefinitions":[{}],"levelDefinitions":[{"name":"P","type":"SEGMENT","attributeDefinitions":[{"name":"A"}]}]}"#,
+            refused,
+        ),
     ];
     for (config, want) in &rows {
         let line = format!(in alloc; "{{\"do\":\"config\",\"config\":{config}}}")?;
@@ -190,7 +260,9 @@ fn configurations(rt: HostRuntime) -> Result<(), Fail> {
 
 // What a line with an annotation of this rate, these levels and these links says.
 fn annot_line_told(alloc: Global, rate: &str, levels: &str, links: &str) -> Result<String, Fail> {
-    let line = format!(in alloc; "{{\"do\":\"add_bundle\",\"s\":1,\"session\":\"a\",\"bundle\":\"b\",\"annot\":{{\"sampleRate\":{rate},\"levels\":{levels},\"links\":{links}}}}}")?;
+    let line = format!(in alloc;
+        "{{\"do\":\"add_bundle\",\"s\":1,\"session\":\"a\",\"bundle\":\"b\",\"annot\":{{\"sampleRate\":{rate},\"levels\":{levels},\"links\":{links}}}}}"
+    )?;
     line_told(alloc, line.as_bytes(), false)
 }
 
@@ -206,7 +278,12 @@ fn annotations(rt: HostRuntime) -> Result<(), Fail> {
         ("1000001", empty, "[]", refused),
         ("1", empty, "[{}]", refused),
         ("1", "[]", "[]", refused),
-        ("1", r#"[{"name":"P","type":"SEGMENT"},{"name":"Q","type":"SEGMENT"}]"#, "[]", refused),
+        (
+            "1",
+            r#"[{"name":"P","type":"SEGMENT"},{"name":"Q","type":"SEGMENT"}]"#,
+            "[]",
+            refused,
+        ),
         ("1", r#"[{"name":"P","type":"EVENT"}]"#, "[]", refused),
     ];
     for (rate, levels, links, want) in &rows {
@@ -223,18 +300,65 @@ fn items(rt: HostRuntime) -> Result<(), Fail> {
     let label = r#"[{"name":"A","value":"x"}]"#;
     let two = r#"[{"name":"A","value":"x"},{"name":"A","value":"y"}]"#;
     let rows = [
-        (r#""id":1,"sampleStart":0,"sampleDur":4"#, label, r#""id":2,"sampleStart":5,"sampleDur":0"#, "9 s1 a/b  at 1 P=1 A:x 0+4 P=2 A:x 5+0"),
-        (r#""id":1,"sampleStart":0,"sampleDur":5"#, label, r#""id":2,"sampleStart":5,"sampleDur":0"#, refused),
-        (r#""id":1,"sampleStart":0,"sampleDur":4"#, label, r#""id":1,"sampleStart":5,"sampleDur":0"#, refused),
-        (r#""id":1,"sampleStart":0,"sampleDur":4"#, two, r#""id":2,"sampleStart":5,"sampleDur":0"#, refused),
-        (r#""id":1,"sampleStart":0,"sampleDur":4"#, "[]", r#""id":2,"sampleStart":5,"sampleDur":0"#, refused),
-        (r#""id":1,"sampleDur":4"#, label, r#""id":2,"sampleStart":5,"sampleDur":0"#, refused),
-        (r#""id":1,"sampleStart":0,"sampleDur":4"#, label, r#""id":2,"sampleStart":5,"sampleDur":1099511627771"#, refused),
-        (r#""id":1,"sampleStart":0,"sampleDur":4"#, label, r#""id":4294967295,"sampleStart":5,"sampleDur":1099511627770"#, "9 s1 a/b  at 1 P=1 A:x 0+4 P=4294967295 A:x 5+1099511627770"),
-        (r#""id":1,"sampleStart":0,"sampleDur":4"#, label, r#""id":4294967296,"sampleStart":5,"sampleDur":0"#, refused),
+        (
+            r#""id":1,"sampleStart":0,"sampleDur":4"#,
+            label,
+            r#""id":2,"sampleStart":5,"sampleDur":0"#,
+            "9 s1 a/b  at 1 P=1 A:x 0+4 P=2 A:x 5+0",
+        ),
+        (
+            r#""id":1,"sampleStart":0,"sampleDur":5"#,
+            label,
+            r#""id":2,"sampleStart":5,"sampleDur":0"#,
+            refused,
+        ),
+        (
+            r#""id":1,"sampleStart":0,"sampleDur":4"#,
+            label,
+            r#""id":1,"sampleStart":5,"sampleDur":0"#,
+            refused,
+        ),
+        (
+            r#""id":1,"sampleStart":0,"sampleDur":4"#,
+            two,
+            r#""id":2,"sampleStart":5,"sampleDur":0"#,
+            refused,
+        ),
+        (
+            r#""id":1,"sampleStart":0,"sampleDur":4"#,
+            "[]",
+            r#""id":2,"sampleStart":5,"sampleDur":0"#,
+            refused,
+        ),
+        (
+            r#""id":1,"sampleDur":4"#,
+            label,
+            r#""id":2,"sampleStart":5,"sampleDur":0"#,
+            refused,
+        ),
+        (
+            r#""id":1,"sampleStart":0,"sampleDur":4"#,
+            label,
+            r#""id":2,"sampleStart":5,"sampleDur":1099511627771"#,
+            refused,
+        ),
+        (
+            r#""id":1,"sampleStart":0,"sampleDur":4"#,
+            label,
+            r#""id":4294967295,"sampleStart":5,"sampleDur":1099511627770"#,
+            "9 s1 a/b  at 1 P=1 A:x 0+4 P=4294967295 A:x 5+1099511627770",
+        ),
+        (
+            r#""id":1,"sampleStart":0,"sampleDur":4"#,
+            label,
+            r#""id":4294967296,"sampleStart":5,"sampleDur":0"#,
+            refused,
+        ),
     ];
     for (first, labels, second, want) in &rows {
-        let levels = format!(in alloc; "[{{\"name\":\"P\",\"type\":\"SEGMENT\",\"items\":[{{{first},\"labels\":{labels}}},{{{second},\"labels\":{label}}}]}}]")?;
+        let levels = format!(in alloc;
+            "[{{\"name\":\"P\",\"type\":\"SEGMENT\",\"items\":[{{{first},\"labels\":{labels}}},{{{second},\"labels\":{label}}}]}}]"
+        )?;
         let got = annot_line_told(alloc, "1", levels.as_str(), "[]")?;
         assert_eq!(rt; got.as_str(), *want, "{levels}");
     }
@@ -283,20 +407,24 @@ fn limits(rt: HostRuntime) -> Result<(), Fail> {
     let alloc = rt.alloc();
     for (count, read) in [(4096, true), (4097, false)] {
         let word = repeated(alloc, "x", count)?;
-        let label = format!(in alloc; "[{{\"name\":\"P\",\"type\":\"SEGMENT\",\"items\":[{{\"id\":1,\"sampleStart\":0,\"sampleDur\":0,\"labels\":[{{\"name\":\"A\",\"value\":\"{word}\"}}]}}]}}]")?;
+        let label = format!(in alloc;
+            "[{{\"name\":\"P\",\"type\":\"SEGMENT\",\"items\":[{{\"id\":1,\"sampleStart\":0,\"sampleDur\":0,\"labels\":[{{\"name\":\"A\",\"value\":\"{word}\"}}]}}]}}]"
+        )?;
         let got = annot_line_told(alloc, "1", label.as_str(), "[]")?;
-        assert_eq!(rt; got != "$.annot: object", read, "label {count}");
+        assert_eq!(rt; got.as_str() != "$.annot: object", read, "label {count}");
         let spaces = repeated(alloc, " ", count - 6)?;
         let line = format!(in alloc; "{{\"do\":\"query\",\"s\":1,\"eql\":\"a == b{spaces}\"}}")?;
         let got = line_told(alloc, line.as_bytes(), false)?;
-        assert_eq!(rt; got != "$.eql: text", read, "query {count}");
+        assert_eq!(rt; got.as_str() != "$.eql: text", read, "query {count}");
     }
     for (depth, want) in [(126, "$.do: text"), (127, "NotJson")] {
         let open = repeated(alloc, "[", depth)?;
         let close = repeated(alloc, "]", depth)?;
         let line = format!(in alloc; "{{\"deep\":{open}{close}}}")?;
-        assert_eq!(rt; line_told(alloc, line.as_bytes(), false)?, want, "{depth}");
+        let got = line_told(alloc, line.as_bytes(), false)?;
+        assert_eq!(rt; got.as_str(), want, "{depth}");
     }
-    assert_eq!(rt; line_told(alloc, b"{\"do\":\"\xff\"}", false)?, "NotJson");
+    let got = line_told(alloc, b"{\"do\":\"\xff\"}", false)?;
+    assert_eq!(rt; got.as_str(), "NotJson");
     Ok(())
 }

@@ -16,7 +16,7 @@ returns-then-not-branch c =
     let old : c.in_ok-insert.field-0 ≡ false = search rules in
     let there : contains nat_cmp c.loop-place.seen key ≡ true = was_there c.in_ok-insert.field-0 (contains nat_cmp c.loop-place.seen key) added old in
     sym (repeated_key c.args.items.now c.loop-place.place (c.loop-place.place - 1) key c.index-items-place.result step
-        c.loop-place.invariant.within c.index-items-place.is e (sym (c.loop-place.invariant.held key) ∙ there))
+    c.loop-place.invariant.within c.index-items-place.is e (sym (c.loop-place.invariant.held key) ∙ there))
 
 -- An id that was not seen differs from those further on.
 pub loop-place-preserved : goal.loop-place-preserved
@@ -28,11 +28,11 @@ loop-place-preserved c =
     let new : c.in_ok-insert.field-0 ≡ true = search rules in
     let there : contains nat_cmp c.loop-place.seen key ≡ false = was_not_there c.in_ok-insert.field-0 (contains nat_cmp c.loop-place.seen key) added new in
     record {
-        within = omega arith;
-        held = holds_key c.args.items.now c.loop-place.place (c.loop-place.place - 1) key c.index-items-place.result
-            c.loop-place.seen c.insert.new.self step c.loop-place.invariant.within c.index-items-place.is e
-            c.loop-place.invariant.held c.in_ok-insert.ensures.updates;
-        apart = different_key c.args.items.now c.loop-place.place (c.loop-place.place - 1) key c.index-items-place.result step
-            c.loop-place.invariant.within c.index-items-place.is e (sym (c.loop-place.invariant.held key) ∙ there)
-            c.loop-place.invariant.apart
+      within = omega arith;
+      held = holds_key c.args.items.now c.loop-place.place (c.loop-place.place - 1) key c.index-items-place.result
+          c.loop-place.seen c.insert.new.self step c.loop-place.invariant.within c.index-items-place.is e
+          c.loop-place.invariant.held c.in_ok-insert.ensures.updates;
+      apart = different_key c.args.items.now c.loop-place.place (c.loop-place.place - 1) key c.index-items-place.result step
+          c.loop-place.invariant.within c.index-items-place.is e (sym (c.loop-place.invariant.held key) ∙ there)
+          c.loop-place.invariant.apart;
     }

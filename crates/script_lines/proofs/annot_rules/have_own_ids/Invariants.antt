@@ -12,7 +12,7 @@ abbrev pub invariant-loop-place : goal.invariant-loop-place
 invariant-loop-place l = record {
   within : l.place ≤ length l.items;
   held : (q : ℕ) → contains nat_cmp l.seen q ≡ list_any (nat_eq q) (drop l.place (item_ids l.items));
-  apart : are_different (drop l.place (item_ids l.items)) ≡ true
+  apart : are_different (drop l.place (item_ids l.items)) ≡ true;
 }
 
 abbrev pub decreases-loop-place : goal.decreases-loop-place

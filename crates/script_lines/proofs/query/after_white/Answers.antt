@@ -5,4 +5,4 @@ use Rattle.script_lines.proofs.query.after_white.Goals as goal
 pub range_from-requires : goal.range_from-requires
 range_from-requires c some =
     white_boundary c.args.text.now c.as_bytes.result.now c.white_len-len.result c.utf8.text c.as_bytes.ensures.value
-        c.white_len-len.ensures.count
+    c.white_len-len.ensures.count
