@@ -1,0 +1,6 @@
+pub mod Few
+pub mod Cuts
+pub mod Json
+pub mod Rising
+pub mod Ids
+pub mod Stops

@@ -1,0 +1,5 @@
+pub mod Faults
+pub mod Forms
+pub mod Thin
+pub mod Lines
+pub mod Texts

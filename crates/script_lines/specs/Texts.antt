@@ -1,0 +1,168 @@
+-- The texts of replies: each is one JSON object (RFC 8259), printed compact with the members in the
+-- order of their names' bytes, and a line feed.
+use Rattle.std.specs.Prelude.{◌≡◌, ℕ, List, [], ◌∷◌, ◌++◌, Option, Some, None, codes}
+use Rattle.serde_json.specs.Data.{Data, null, number, string, array, object, Num, unsigned, Items, no_items, item, Members, no_members, member}
+use Rattle.serde_json.specs.Written.{compact_text}
+use Rattle.json_view.specs.declared.faults.Shape.{Shape}
+use Rattle.json_view.specs.Words as wanted_words
+use Rattle.emu_names.specs.declared.kinds.ItemId.{ItemId}
+use Rattle.emu_names.specs.declared.rules.What.{What}
+use Rattle.emu_names.specs.declared.rules.Broken.{Broken}
+use Rattle.emu_names.specs.declared.rules.Broken.TheVariants as rules
+use Rattle.emu_names.specs.Rule.{word_of, counted_of}
+use Rattle.session_core.specs.declared.row.Row.{Row}
+use Rattle.session_core.specs.declared.line.Command.{Command}
+use Rattle.session_core.specs.declared.line.Command.TheVariants as commands
+use Rattle.session_core.specs.declared.line.AskFault.{AskFault}
+use Rattle.session_core.specs.declared.line.AskFault.TheVariants.{UnknownName}
+use Rattle.session_core.specs.declared.line.Refusal.{Refusal}
+use Rattle.session_core.specs.declared.line.Refusal.TheVariants as refusals
+use Rattle.session_core.specs.declared.line.Answer.{Answer}
+use Rattle.session_core.specs.declared.line.Answer.TheVariants.{Done, Segments, Refused}
+use Rattle.session_core.specs.declared.line.Reply.{Reply}
+use Rattle.script_lines.specs.declared.faults.LineFault.{LineFault}
+use Rattle.script_lines.specs.declared.faults.LineFault.TheVariants as faults
+
+abbrev pub whole : ℕ → Data
+whole n = number (unsigned n)
+
+abbrev pub whole_or_null : Option ℕ → Data
+whole_or_null None = null
+whole_or_null (Some n) = whole n
+
+-- one line: the compact text and a line feed
+unfoldable pub line_text : Data → List ℕ
+line_text d = compact_text d ++ 10 ∷ []
+
+-- the name of a command
+abbrev pub command_word : Command → List ℕ
+command_word commands.Config = codes "config"
+command_word commands.AddBundle = codes "add_bundle"
+command_word commands.Query = codes "query"
+command_word commands.Look = codes "look"
+command_word commands.Finish = codes "finish"
+command_word commands.After = codes "after"
+
+-- a row of a segment list
+abbrev pub row_data : Row → Data
+row_data r = object
+    (member (codes "attribute") (string r.attribute)
+    (member (codes "bundle") (string r.bundle)
+    (member (codes "end") (whole_or_null r.end)
+    (member (codes "endItem") (whole r.end_item.0)
+    (member (codes "endPos") (whole r.end_pos)
+    (member (codes "labels") (string r.labels)
+    (member (codes "level") (string r.level)
+    (member (codes "sampleEnd") (whole_or_null r.sample_end)
+    (member (codes "sampleRate") (whole r.rate)
+    (member (codes "sampleStart") (whole_or_null r.sample_start)
+    (member (codes "session") (string r.session)
+    (member (codes "start") (whole_or_null r.start)
+    (member (codes "startItem") (whole r.start_item.0)
+    (member (codes "startPos") (whole r.start_pos)
+    no_members))))))))))))))
+
+abbrev pub rows_items : List Row → Items
+rows_items [] = no_items
+rows_items (r ∷ rs) = item (row_data r) (rows_items rs)
+
+abbrev pub rows_data : List Row → Data
+rows_data rows = array (rows_items rows)
+
+-- a refusal: its rule, and the id, the name or the counted thing of the rule
+
+abbrev pub plain_rule : List ℕ → Data
+plain_rule word = object (member (codes "rule") (string word) no_members)
+
+abbrev pub rule_with_id : ItemId → List ℕ → Data
+rule_with_id id word = object (member (codes "id") (whole id.0) (member (codes "rule") (string word) no_members))
+
+abbrev pub rule_with_name : List ℕ → List ℕ → Data
+rule_with_name name word = object (member (codes "name") (string name) (member (codes "rule") (string word) no_members))
+
+abbrev pub rule_with_what : What → List ℕ → Data
+rule_with_what what word = object (member (codes "rule") (string word) (member (codes "what") (string (counted_of what)) no_members))
+
+abbrev pub rule_data : Broken → Data
+rule_data rules.BundleTaken = plain_rule (word_of rules.BundleTaken)
+rule_data rules.NoBundle = plain_rule (word_of rules.NoBundle)
+rule_data (rules.TooMany what) = rule_with_what what (word_of (rules.TooMany what))
+rule_data rules.RateOut = plain_rule (word_of rules.RateOut)
+rule_data (rules.NoLevel name) = rule_with_name name (word_of (rules.NoLevel name))
+rule_data (rules.TwoLevels name) = rule_with_name name (word_of (rules.TwoLevels name))
+rule_data (rules.LevelKind name) = rule_with_name name (word_of (rules.LevelKind name))
+rule_data (rules.NoAttribute name) = rule_with_name name (word_of (rules.NoAttribute name))
+rule_data (rules.TwoLabels name) = rule_with_name name (word_of (rules.TwoLabels name))
+rule_data rules.LabelTooLong = plain_rule (word_of rules.LabelTooLong)
+rule_data rules.IllegalLabel = plain_rule (word_of rules.IllegalLabel)
+rule_data (rules.IdTaken id) = rule_with_id id (word_of (rules.IdTaken id))
+rule_data (rules.NoItem id) = rule_with_id id (word_of (rules.NoItem id))
+rule_data rules.PositionOut = plain_rule (word_of rules.PositionOut)
+rule_data rules.TimeKind = plain_rule (word_of rules.TimeKind)
+rule_data rules.TimeOut = plain_rule (word_of rules.TimeOut)
+rule_data (rules.Overlap id) = rule_with_id id (word_of (rules.Overlap id))
+rule_data (rules.NotRising id) = rule_with_id id (word_of (rules.NotRising id))
+rule_data (rules.NoNeighbour id) = rule_with_id id (word_of (rules.NoNeighbour id))
+rule_data rules.CutOut = plain_rule (word_of rules.CutOut)
+rule_data rules.NoLinkDefinition = plain_rule (word_of rules.NoLinkDefinition)
+rule_data rules.LinkExists = plain_rule (word_of rules.LinkExists)
+rule_data rules.NoLink = plain_rule (word_of rules.NoLink)
+rule_data (rules.OneParent id) = rule_with_id id (word_of (rules.OneParent id))
+rule_data (rules.OneChild id) = rule_with_id id (word_of (rules.OneChild id))
+
+abbrev pub ask_fault_data : AskFault → Data
+ask_fault_data (UnknownName name) = rule_with_name name (codes "UnknownName")
+
+abbrev pub refusal_data : Refusal → Data
+refusal_data (refusals.Rule rule) = rule_data rule
+refusal_data (refusals.Resolve fault) = ask_fault_data fault
+refusal_data refusals.NoLook = plain_rule (codes "NoLook")
+refusal_data refusals.LookOpen = plain_rule (codes "LookOpen")
+refusal_data refusals.HistoryFull = plain_rule (codes "HistoryFull")
+refusal_data refusals.StoreFull = plain_rule (codes "StoreFull")
+refusal_data refusals.Disk = plain_rule (codes "Disk")
+refusal_data refusals.Memory = plain_rule (codes "Memory")
+
+-- a reply: its line, the number of edits where it has one, and the answer
+
+abbrev pub answer_members : Answer → Members
+answer_members (Done command) = member (codes "ok") (string (command_word command)) no_members
+answer_members (Segments rows) = member (codes "segments") (rows_data rows) no_members
+answer_members (Refused refusal) = member (codes "refused") (refusal_data refusal) no_members
+
+abbrev pub numbered_members : Option ℕ → Members → Members
+numbered_members None rest = rest
+numbered_members (Some n) rest = member (codes "n") (whole n) rest
+
+abbrev pub reply_data : Reply → Data
+reply_data r = object (member (codes "line") (whole r.line) (numbered_members r.n (answer_members r.answer)))
+
+unfoldable pub reply_text : Reply → List ℕ
+reply_text r = line_text (reply_data r)
+
+-- The last line of a run that a line at fault ends, with the status 3.
+
+abbrev pub fault_of_line : List ℕ → ℕ → Data
+fault_of_line cause line = object
+    (member (codes "cause") (string cause) (member (codes "line") (whole line) (member (codes "status") (whole 3) no_members)))
+
+abbrev pub shape_of_line : Shape → ℕ → Data
+shape_of_line shape line = object
+    (member (codes "cause") (string (codes "Shape"))
+    (member (codes "line") (whole line)
+    (member (codes "path") (string shape.path)
+    (member (codes "status") (whole 3)
+    (member (codes "wanted") (string (wanted_words.word_of shape.wanted))
+    no_members)))))
+
+-- want of memory is no fault of a line, and has no last line
+abbrev pub fault_data : ℕ → LineFault → Data
+fault_data line faults.NotJson = fault_of_line (codes "NotJson") line
+fault_data line (faults.Shape shape) = shape_of_line shape line
+fault_data line faults.NoSuchCommand = fault_of_line (codes "NoSuchCommand") line
+fault_data line faults.ConfigPlace = fault_of_line (codes "ConfigPlace") line
+fault_data line faults.BadAfter = fault_of_line (codes "BadAfter") line
+fault_data line faults.Memory = null
+
+unfoldable pub fault_text : ℕ → LineFault → List ℕ
+fault_text line fault = line_text (fault_data line fault)

@@ -1,0 +1,18 @@
+//! The lines of a script: the request that a line of JSON stands for, and the text of its reply.
+#![tactic(auto)]
+
+mod annot_forms;
+mod annot_rules;
+mod config_forms;
+mod faults;
+mod forms;
+mod line_set;
+mod print;
+mod query;
+mod read;
+mod requests;
+
+pub use faults::{LineFault, ReadLine};
+pub use line_set::LineSet;
+pub use print::{print_fault, print_reply};
+pub use read::read_line;

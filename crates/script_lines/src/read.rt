@@ -1,0 +1,164 @@
+//! One line of a script.
+ghost use Rattle.std.specs.Prelude.{◌≡◌, ◌≢◌, Bool, IfOk, IfErr, None, Some};
+ghost use Rattle.serde_json.specs.View.{view};
+ghost use Rattle.json_view.specs.Gives.{Gives};
+ghost use Rattle.json_view.specs.Paths.{root_path};
+ghost use Rattle.json_view.specs.Seen.{seen, seen_at};
+ghost use Rattle.script_lines.specs.Faults.{Reads};
+ghost use Rattle.script_lines.specs.Lines.{is_space, is_blank, json_of, json_line, line_in, config_line, placed_line, word_of_line, value_line, request_of};
+
+#[cfg(test)]
+mod tests;
+
+use crate::config_forms::thin_config;
+use crate::faults::{LineFault, ReadLine};
+use crate::line_set::LineSet;
+use crate::requests::{command_named, members_of, session_at};
+use json_view::{View, ViewFault, Wanted};
+use serde_json::Value;
+use session_core::Line;
+use std::alloc::Global;
+use std::str;
+
+// Where a line stands in its script.
+#[derive(Drop)]
+struct Place<'a> {
+    // The line's number, counted from 1.
+    number: u32,
+    // Whether the configuration has to stand here.
+    wants_config: bool,
+    // The numbers of the request lines before it.
+    earlier: &'a LineSet,
+}
+
+fn is_space(byte: u8) -> bool
+    ensures { result ≡ is_space byte }
+{
+    byte == b' ' || byte == b'\t' || byte == b'\n' || byte == b'\r'
+}
+
+fn is_blank(line: &[u8]) -> bool
+    ensures { result ≡ is_blank line.now }
+{
+    line.iter().all(|byte| is_space(*byte))
+}
+
+// The JSON value that a line is.
+#[tactic(auto, using(crate::proofs::Json::json_text, crate::proofs::Json::no_text))]
+fn json_of(alloc: Global, line: &[u8]) -> Result<Value, LineFault>
+    ensures value { IfOk result (λ v. json_of line.now ≡ Some (view v)) }
+    ensures none { IfErr result (λ e. e ≢ LineFault.Memory → json_of line.now ≡ None) }
+    ensures fault { IfErr result (λ e. e ≢ LineFault.Memory → e ≡ LineFault.NotJson) }
+{
+    let Ok(text) = str::from_utf8(line) else {
+        return Err(LineFault::NotJson);
+    };
+    match Value::from_str(alloc, text) {
+        Ok(value) => Ok(value),
+        Err(error) => {
+            if error.is_memory() {
+                return Err(LineFault::Memory);
+            }
+            Err(LineFault::NotJson)
+        }
+    }
+}
+
+// A request, once the line's word is known: the command, the session, the members.
+#[tactic(auto, unfolding(crate::specs::Lines::line_in))]
+fn line_in(alloc: Global, place: &Place, word: &str, view: &View) -> Result<ReadLine, LineFault>
+    ensures { Reads result (line_in place.now.number place.now.earlier.now word.now (seen_at view.now)) }
+{
+    let Some(command) = command_named(word) else {
+        return Err(LineFault::NoSuchCommand);
+    };
+    let session = session_at(view)?;
+    let request = members_of(alloc, command, place.earlier, view)?;
+    Ok(ReadLine::Request(Line {
+        line: place.number,
+        session,
+        command,
+        request,
+    }))
+}
+
+// The line of the configuration.
+#[tactic(auto, unfolding(crate::specs::Lines::config_line))]
+fn config_line(alloc: Global, view: &View) -> Result<ReadLine, LineFault>
+    ensures { Reads result (config_line (seen_at view.now)) }
+{
+    let member = view.member("config", Wanted::Object)?;
+    let config = thin_config(alloc, &member)?;
+    Ok(ReadLine::Config(config))
+}
+
+// The configuration stands where it is wanted, and nowhere else.
+fn placed_line(
+    alloc: Global,
+    place: &Place,
+    is_config: bool,
+    word: &str,
+    view: &View,
+) -> Result<ReadLine, LineFault>
+    ensures { Reads result (placed_line place.now.wants_config is_config place.now.number place.now.earlier.now word.now (seen_at view.now)) }
+{
+    match (place.wants_config, is_config) {
+        (true, true) => config_line(alloc, view),
+        (false, false) => line_in(alloc, place, word, view),
+        _ => Err(LineFault::ConfigPlace),
+    }
+}
+
+// What a line does: an object whose `do` is a text.
+#[tactic(auto, unfolding(crate::specs::Lines::word_of_line, crate::specs::Forms::text_member))]
+fn word_of_line<'a>(view: &View<'a>) -> Result<&'a str, ViewFault>
+    ensures { Gives (λ t. t.now) result (word_of_line (seen_at view.now)) }
+{
+    let _ = view.optional("do")?;
+    let part = view.member("do", Wanted::Text)?;
+    part.text()
+}
+
+#[tactic(auto, unfolding(crate::specs::Lines::value_line))]
+fn value_line(alloc: Global, place: &Place, view: &View) -> Result<ReadLine, LineFault>
+    ensures { Reads result (value_line place.now.number place.now.wants_config place.now.earlier.now (seen_at view.now)) }
+{
+    let word = word_of_line(view)?;
+    placed_line(alloc, place, word == "config", word, view)
+}
+
+// The request of a line that is not blank.
+fn json_line(alloc: Global, place: &Place, line: &[u8]) -> Result<ReadLine, LineFault>
+    ensures { Reads result (json_line place.now.number place.now.wants_config place.now.earlier.now (json_of line.now)) }
+{
+    let value = json_of(alloc, line)?;
+    let view = View::root(alloc, &value)?;
+    value_line(alloc, place, &view)
+}
+
+/// The request of a line of a script, or the first fault, or want of memory. `number` is the line's,
+/// counted from 1; `wants_config` says that the configuration has to stand here; `earlier` are the
+/// numbers of the request lines before it.
+#[tactic(auto, unfolding(crate::specs::Lines::request_of))]
+pub fn read_line(
+    alloc: Global,
+    bytes: &[u8],
+    number: u32,
+    wants_config: bool,
+    earlier: &LineSet,
+) -> Result<ReadLine, LineFault>
+    ensures { Reads result (request_of bytes.now number wants_config earlier.now) }
+{
+    if is_blank(bytes) {
+        if wants_config {
+            return Err(LineFault::ConfigPlace);
+        }
+        return Ok(ReadLine::Blank);
+    }
+    let place = Place {
+        number,
+        wants_config,
+        earlier,
+    };
+    json_line(alloc, &place, bytes)
+}
