@@ -8,5 +8,5 @@ mod read;
 
 pub use faults::{LineFault, ReadLine};
 pub use line_set::LineSet;
-pub use print::{print_fault, print_reply};
+pub use print::{print_fault, print_last, print_reply};
 pub use read::read_line;

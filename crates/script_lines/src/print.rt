@@ -1,5 +1,6 @@
 //! The texts of replies and of last lines.
 ghost use Rattle.std.specs.Prelude.{◌≡◌, ◌≢◌, IfOk};
+ghost use Rattle.script_lines.specs.LastLines.{last_text};
 ghost use Rattle.script_lines.specs.Texts.{reply_text, fault_text};
 
 use crate::faults::LineFault;
@@ -18,6 +19,14 @@ pub fn print_reply(_alloc: Global, _reply: &Reply) -> Result<Text, Memory>
 pub fn print_fault(_alloc: Global, _line: u32, _fault: &LineFault) -> Result<Text, Memory>
     requires { _fault.now ≢ LineFault.Memory }
     ensures { IfOk result (λ text. text ≡ fault_text _line _fault.now) }
+{
+    Err(Memory)
+}
+
+/// The last line of a run that ends with this status for this cause, where no line is named. The
+/// only refusal is want of memory.
+pub fn print_last(_alloc: Global, _cause: &str, _status: u8) -> Result<Text, Memory>
+    ensures { IfOk result (λ text. text ≡ last_text _cause.now _status) }
 {
     Err(Memory)
 }
