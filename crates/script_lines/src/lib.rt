@@ -5,6 +5,8 @@ mod faults;
 mod line_set;
 mod print;
 mod read;
+mod rows;
+mod values;
 
 pub use faults::{LineFault, ReadLine};
 pub use line_set::LineSet;
