@@ -8,6 +8,9 @@ mod read;
 mod rows;
 mod values;
 
+#[cfg(test)]
+mod print_tests;
+
 pub use faults::{LineFault, ReadLine};
 pub use line_set::LineSet;
 pub use print::{print_fault, print_last, print_reply};
