@@ -24,7 +24,6 @@ fn line_of(alloc: Global, value: &Value) -> Result<Text, Memory>
 }
 
 /// The text of a reply: one line, with its line feed. The only refusal is want of memory.
-#[tactic(auto, using(crate::proofs::Printed::reply_line))]
 pub fn print_reply(alloc: Global, reply: &Reply) -> Result<Text, Memory>
     ensures { IfOk result (λ text. text ≡ reply_text reply.now) }
 {
@@ -33,7 +32,6 @@ pub fn print_reply(alloc: Global, reply: &Reply) -> Result<Text, Memory>
 }
 
 /// The last line of a run that the fault of this line ends. The only refusal is want of memory.
-#[tactic(auto, using(crate::proofs::Printed::fault_line))]
 pub fn print_fault(alloc: Global, line: u32, fault: &LineFault) -> Result<Text, Memory>
     requires { fault.now ≢ LineFault.Memory }
     ensures { IfOk result (λ text. text ≡ fault_text line fault.now) }
@@ -44,7 +42,6 @@ pub fn print_fault(alloc: Global, line: u32, fault: &LineFault) -> Result<Text, 
 
 /// The last line of a run that ends with this status for this cause, where no line is named. The
 /// only refusal is want of memory.
-#[tactic(auto, using(crate::proofs::Printed::last_line))]
 pub fn print_last(alloc: Global, cause: &str, status: u8) -> Result<Text, Memory>
     ensures { IfOk result (λ text. text ≡ last_text cause.now status) }
 {
