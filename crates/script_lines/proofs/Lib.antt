@@ -4,3 +4,4 @@ pub mod Json
 pub mod Rising
 pub mod Ids
 pub mod Stops
+pub mod Printed

@@ -3,3 +3,4 @@ pub mod Forms
 pub mod Thin
 pub mod Lines
 pub mod Texts
+pub mod LastLines

@@ -11,8 +11,13 @@ mod print;
 mod query;
 mod read;
 mod requests;
+mod rows;
+mod values;
+
+#[cfg(test)]
+mod print_tests;
 
 pub use faults::{LineFault, ReadLine};
 pub use line_set::LineSet;
-pub use print::{print_fault, print_reply};
+pub use print::{print_fault, print_last, print_reply};
 pub use read::read_line;

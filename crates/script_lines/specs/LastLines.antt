@@ -1,0 +1,10 @@
+-- The last line of a run that ends before its script does, where no line is named.
+use Rattle.std.specs.Prelude.{ℕ, List, codes}
+use Rattle.serde_json.specs.Data.{Data, string, object, no_members, member}
+use Rattle.script_lines.specs.Texts.{whole, line_text}
+
+abbrev pub last_data : List ℕ → ℕ → Data
+last_data cause status = object (member (codes "cause") (string cause) (member (codes "status") (whole status) no_members))
+
+unfoldable pub last_text : List ℕ → ℕ → List ℕ
+last_text cause status = line_text (last_data cause status)

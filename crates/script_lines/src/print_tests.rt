@@ -1,0 +1,148 @@
+//! What no clause says: the printed bytes, and that the calls succeed where memory is ample.
+use super::*;
+use emu_names::{Broken, ItemId, Memory, SessionNo, Text, What};
+use json_view::{View, ViewFault};
+use serde_json::Value;
+use session_core::{Answer, AskFault, Command, Refusal, Reply, Row, SegmentList};
+use std::alloc::Global;
+use std::process::Abort;
+use std::test::Fail;
+
+fn reply(line: u32, n: Option<u64>, answer: Answer) -> Reply {
+    Reply {
+        line,
+        session: SessionNo(1),
+        n,
+        answer,
+    }
+}
+
+/// The row of one item of a level `Phonetic`, in a bundle of the session `s1`.
+fn row(alloc: Global, bundle: &str, labels: &str) -> Result<Row, Memory> {
+    let session = Text::new(alloc, "s1")?;
+    let bundle = Text::new(alloc, bundle)?;
+    let level = Text::new(alloc, "Phonetic")?;
+    let attribute = Text::new(alloc, "Phonetic")?;
+    let labels = Text::new(alloc, labels)?;
+    Ok(Row {
+        session,
+        bundle,
+        level,
+        attribute,
+        labels,
+        start: Some(256_925),
+        end: Some(340_175),
+        sample_start: Some(5_139),
+        sample_end: Some(6_803),
+        rate: 20_000,
+        start_item: ItemId(2),
+        end_item: ItemId(2),
+        start_pos: 1,
+        end_pos: 1,
+    })
+}
+
+fn expect_reply(rt: &impl Abort, alloc: Global, reply: Reply, wanted: &str) -> Result<(), Fail> {
+    let text = print_reply(alloc, &reply)?;
+    assert_eq!(rt; text.as_str(), wanted);
+    Ok(())
+}
+
+#[test]
+fn replies_without_rows(rt: HostRuntime) -> Result<(), Fail> {
+    for (line, n, command, wanted) in [
+        (1, 0, Command::Config, "{\"line\":1,\"n\":0,\"ok\":\"config\"}\n"),
+        (2, 1, Command::AddBundle, "{\"line\":2,\"n\":1,\"ok\":\"add_bundle\"}\n"),
+        (3, 1, Command::Look, "{\"line\":3,\"n\":1,\"ok\":\"look\"}\n"),
+    ] {
+        expect_reply(&rt, rt.alloc(), reply(line, Some(n), Answer::Done(command)), wanted)?;
+    }
+    let none = Answer::Segments(SegmentList::new(rt.alloc()));
+    let wanted = "{\"line\":3,\"n\":1,\"segments\":[]}\n";
+    expect_reply(&rt, rt.alloc(), reply(3, Some(1), none), wanted)
+}
+
+#[test]
+fn rows_in_order(rt: HostRuntime) -> Result<(), Fail> {
+    let alloc = rt.alloc();
+    let mut rows = SegmentList::new(alloc);
+    rows.push(row(alloc, "b1", "m")?)?;
+    let wanted = "{\"line\":3,\"n\":1,\"segments\":[{\"attribute\":\"Phonetic\",\"bundle\":\"b1\",\"end\":340175,\"endItem\":2,\"endPos\":1,\"labels\":\"m\",\"level\":\"Phonetic\",\"sampleEnd\":6803,\"sampleRate\":20000,\"sampleStart\":5139,\"session\":\"s1\",\"start\":256925,\"startItem\":2,\"startPos\":1}]}\n";
+    expect_reply(&rt, alloc, reply(3, Some(1), Answer::Segments(rows)), wanted)?;
+    let mut rows = SegmentList::new(alloc);
+    let mut timeless = row(alloc, "b\"\\", "a\"\\\n\u{1f}\u{e9}\u{1f600}")?;
+    timeless.start = None;
+    timeless.end = None;
+    timeless.sample_start = None;
+    timeless.sample_end = None;
+    rows.push(timeless)?;
+    let wanted = "{\"line\":4,\"n\":18446744073709551615,\"segments\":[{\"attribute\":\"Phonetic\",\"bundle\":\"b\\\"\\\\\",\"end\":null,\"endItem\":2,\"endPos\":1,\"labels\":\"a\\\"\\\\\\n\\u001f\u{e9}\u{1f600}\",\"level\":\"Phonetic\",\"sampleEnd\":null,\"sampleRate\":20000,\"sampleStart\":null,\"session\":\"s1\",\"start\":null,\"startItem\":2,\"startPos\":1}]}\n";
+    expect_reply(&rt, alloc, reply(4, Some(u64::MAX), Answer::Segments(rows)), wanted)
+}
+
+#[test]
+fn refusals(rt: HostRuntime) -> Result<(), Fail> {
+    let alloc = rt.alloc();
+    let name = Text::new(alloc, "a\"b\n")?;
+    let unknown = Refusal::Resolve(AskFault::UnknownName(name));
+    let level = Refusal::Rule(Broken::NoLevel(Text::new(alloc, "Word")?));
+    for (n, refusal, wanted) in [
+        (None, Refusal::NoLook, "{\"line\":7,\"refused\":{\"rule\":\"NoLook\"}}\n"),
+        (None, Refusal::LookOpen, "{\"line\":7,\"refused\":{\"rule\":\"LookOpen\"}}\n"),
+        (None, Refusal::Memory, "{\"line\":7,\"refused\":{\"rule\":\"Memory\"}}\n"),
+        (None, Refusal::Disk, "{\"line\":7,\"refused\":{\"rule\":\"Disk\"}}\n"),
+        (Some(1), unknown, "{\"line\":7,\"n\":1,\"refused\":{\"name\":\"a\\\"b\\n\",\"rule\":\"UnknownName\"}}\n"),
+        (Some(1), level, "{\"line\":7,\"n\":1,\"refused\":{\"name\":\"Word\",\"rule\":\"NoLevel\"}}\n"),
+        (Some(0), Refusal::Rule(Broken::Overlap(ItemId(1))), "{\"line\":7,\"n\":0,\"refused\":{\"id\":1,\"rule\":\"Overlap\"}}\n"),
+        (Some(9), Refusal::Rule(Broken::TooMany(What::Bundles)), "{\"line\":7,\"n\":9,\"refused\":{\"rule\":\"TooMany\",\"what\":\"Bundles\"}}\n"),
+        (Some(9), Refusal::Rule(Broken::LabelTooLong), "{\"line\":7,\"n\":9,\"refused\":{\"rule\":\"LabelTooLong\"}}\n"),
+    ] {
+        expect_reply(&rt, alloc, reply(7, n, Answer::Refused(refusal)), wanted)?;
+    }
+    Ok(())
+}
+
+fn expect_fault(rt: &impl Abort, alloc: Global, fault: LineFault, wanted: &str) -> Result<(), Fail> {
+    if let LineFault::Memory = fault {
+        return Err(Fail::new("want of memory has no last line"));
+    }
+    let text = print_fault(alloc, 2, &fault)?;
+    assert_eq!(rt; text.as_str(), wanted);
+    Ok(())
+}
+
+#[test]
+fn last_lines(rt: HostRuntime) -> Result<(), Fail> {
+    let alloc = rt.alloc();
+    for (fault, wanted) in [
+        (LineFault::NotJson, "{\"cause\":\"NotJson\",\"line\":2,\"status\":3}\n"),
+        (LineFault::ConfigPlace, "{\"cause\":\"ConfigPlace\",\"line\":2,\"status\":3}\n"),
+        (LineFault::BadAfter, "{\"cause\":\"BadAfter\",\"line\":2,\"status\":3}\n"),
+        (LineFault::NoSuchCommand, "{\"cause\":\"NoSuchCommand\",\"line\":2,\"status\":3}\n"),
+    ] {
+        expect_fault(&rt, alloc, fault, wanted)?;
+    }
+    for (cause, status, wanted) in [
+        ("Usage", 2, "{\"cause\":\"Usage\",\"status\":2}\n"),
+        ("Limit", 9, "{\"cause\":\"Limit\",\"status\":9}\n"),
+    ] {
+        assert_eq!(rt; print_last(alloc, cause, status)?.as_str(), wanted);
+    }
+    Ok(())
+}
+
+#[test]
+fn last_line_of_a_form(rt: HostRuntime) -> Result<(), Fail> {
+    let alloc = rt.alloc();
+    let value = Value::from_str(alloc, "{\"s\":17}")?;
+    let root = View::root(alloc, &value)?;
+    let session = root.member("s", json_view::Wanted::Session)?;
+    let shape = session.refuse(json_view::Wanted::Session);
+    match shape {
+        ViewFault::Shape(shape) => {
+            let wanted = "{\"cause\":\"Shape\",\"line\":2,\"path\":\"$.s\",\"status\":3,\"wanted\":\"session\"}\n";
+            expect_fault(&rt, alloc, LineFault::Shape(shape), wanted)
+        }
+        ViewFault::Memory => Err(Fail::new("memory ran out")),
+    }
+}
