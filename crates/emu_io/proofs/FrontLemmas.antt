@@ -1,5 +1,5 @@
 -- What was taken from a source is the front of its text.
-use Rattle.std.proofs.Common.{◌≡◌, ◌↔◌, ◌∙◌, ℕ, ◌<◌, ◌≤◌, Bool, true, false, IsTrue, List, [], ◌++◌, length, take, Option, None, Some, arith, rules, refl, sym, ap, append-nil, append_assoc, length-append, length-take, length-drop, take_all, OnErr, Result, Ok, Err, ◌-◌, ◌+◌, drop, take-add}
+use Rattle.std.proofs.Common.{◌≡◌, ◌∙◌, ℕ, ◌<◌, ◌≤◌, Bool, true, false, IsTrue, List, [], ◌++◌, length, take, Option, None, Some, arith, rules, refl, sym, ap, append-nil, append_assoc, length-append, length-take, length-drop, take_all, OnErr, Result, Ok, Err, ◌-◌, ◌+◌, drop, take-add}
 use Rattle.std.proofs.Math.Seq.{take-append_seam}
 use Rattle.std.proofs.KnownBytes.{Consumes-trans, Appends-trans}
 use Rattle.std.specs.Io.KnownBytes.{Appends, Consumes, IsAtEnd}

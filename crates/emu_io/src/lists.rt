@@ -70,7 +70,19 @@ impl Source for ListSource {
 
     ghost faults = { λ s. s.faults };
 
-    fn read(&mut self, buf: &mut [u8]) -> Result<usize, Failed> {
+    fn read(&mut self, buf: &mut [u8]) -> Result<usize, Failed>
+        ensures bound { ReadsAtMost result buf.new }
+        ensures bytes { ReadConsumes (Some self.old.left) (Some self.new.left) result buf.new }
+        ensures cause { HasCause self.old.faults self.new.faults result }
+
+        // It fails exactly at the listed calls, and else gives as much as there is and fits.
+        ensures listed { IsErr result ↔ Contains self.old.fails (next_count self.old.calls) }
+        ensures amount { IfOk result (λ n. n ≡ min (length self.old.left) (length buf.old)) }
+        ensures counted { self.new.calls ≡ next_count self.old.calls }
+        ensures kept { self.new.fails ≡ self.old.fails }
+        ensures faultless { OnOk result (self.new.faults ≡ self.old.faults) }
+        ensures faulty { OnErr result (self.new.faults ≡ next_count self.old.faults) }
+    {
         self.calls = self.calls.saturating_add(1);
         if self.fails.contains(&self.calls) {
             self.faults = self.faults.saturating_add(1);
@@ -138,7 +150,20 @@ impl Sink for ListSink {
 
     ghost faults = { λ s. s.faults };
 
-    fn write(&mut self, buf: &[u8]) -> Result<usize, Failed> {
+    fn write(&mut self, buf: &[u8]) -> Result<usize, Failed>
+        ensures bound { WritesAtMost result buf.now }
+        ensures some { IfOk result (λ n. 0 < length buf.now → 0 < n) }
+        ensures bytes { WriteAppends (Some self.old.written) (Some self.new.written) result buf.now }
+        ensures cause { HasCause self.old.faults self.new.faults result }
+
+        // It fails at the listed calls, and else, unless memory runs out, takes all.
+        ensures listed { Contains self.old.fails (next_count self.old.calls) → IsErr result }
+        ensures whole { IfOk result (λ n. n ≡ length buf.now) }
+        ensures counted { self.new.calls ≡ next_count self.old.calls }
+        ensures kept { self.new.fails ≡ self.old.fails }
+        ensures faultless { OnOk result (self.new.faults ≡ self.old.faults) }
+        ensures faulty { OnErr result (self.new.faults ≡ next_count self.old.faults) }
+    {
         self.calls = self.calls.saturating_add(1);
         if self.fails.contains(&self.calls) || self.bytes.extend_from_slice(buf).is_err() {
             self.faults = self.faults.saturating_add(1);

@@ -1,8 +1,8 @@
 //! A source in memory that never fails, and a sink in memory that fails only past its room.
-ghost use Rattle.std.specs.Prelude.{◌≡◌, ◌↔◌, ◌+◌, ◌<◌, ◌≤◌, length, min, IsErr, IfOk, IsOk};
+ghost use Rattle.std.specs.Prelude.{◌≡◌, ◌↔◌, ◌+◌, ◌<◌, ◌≤◌, length, min, IsErr, IfOk, IsOk, OnOk, OnErr};
 ghost use Rattle.std.specs.Io.{ReadsAtMost, WritesAtMost};
 ghost use Rattle.std.specs.Io.KnownBytes.{ReadConsumes, WriteAppends};
-ghost use Rattle.emu_io.specs.Cause.{HasCause};
+ghost use Rattle.emu_io.specs.Cause.{HasCause, next_count};
 
 use crate::copying::copy_front;
 use crate::faults::{Failed, Memory};
@@ -50,7 +50,15 @@ impl Source for SureSource {
 
     ghost faults = { λ _. 0 };
 
-    fn read(&mut self, buf: &mut [u8]) -> Result<usize, Failed> {
+    fn read(&mut self, buf: &mut [u8]) -> Result<usize, Failed>
+        ensures bound { ReadsAtMost result buf.new }
+        ensures bytes { ReadConsumes (Some self.old) (Some self.new) result buf.new }
+        ensures cause { HasCause 0 0 result }
+
+        // It never fails, and gives as much as there is and fits.
+        ensures sure { IsOk result }
+        ensures amount { IfOk result (λ n. n ≡ min (length self.old) (length buf.old)) }
+    {
         let count = copy_front(&self.bytes[self.at..], buf);
         self.at += count;
         Ok(count)
@@ -116,7 +124,19 @@ impl Sink for SureSink {
 
     ghost faults = { λ s. s.faults };
 
-    fn write(&mut self, buf: &[u8]) -> Result<usize, Failed> {
+    fn write(&mut self, buf: &[u8]) -> Result<usize, Failed>
+        ensures bound { WritesAtMost result buf.now }
+        ensures some { IfOk result (λ n. 0 < length buf.now → 0 < n) }
+        ensures bytes { WriteAppends (Some self.old.written) (Some self.new.written) result buf.now }
+        ensures cause { HasCause self.old.faults self.new.faults result }
+
+        // It fails exactly where the room is passed, and else takes all.
+        ensures past { IsErr result ↔ (self.old.room < length self.old.written + length buf.now) }
+        ensures whole { IfOk result (λ n. n ≡ length buf.now) }
+        ensures kept { self.new.room ≡ self.old.room }
+        ensures faultless { OnOk result (self.new.faults ≡ self.old.faults) }
+        ensures faulty { OnErr result (self.new.faults ≡ next_count self.old.faults) }
+    {
         if buf.len() > self.room - self.bytes.len() {
             self.faults = self.faults.saturating_add(1);
             return Err(Failed);

@@ -1,4 +1,4 @@
-use Rattle.std.proofs.Common.{rules, ◌-◌, ◌≡◌, ◌≤◌, length, ap}
+use Rattle.std.proofs.Common.{rules, ◌-◌, ◌≡◌, length}
 use Rattle.std.proofs.KnownBytes.{Consumes-trans}
 use Rattle.emu_io.proofs.FrontLemmas.{front_of_taken, taken_past, kept_past, on_any}
 use Rattle.emu_io.proofs.whole.read_front.Goals as goal
