@@ -1,5 +1,5 @@
 //! A source and a sink in memory that fail at the calls that their maker lists.
-ghost use Rattle.std.specs.Prelude.{◌≡◌, ◌↔◌, ◌<◌, ℕ, length, min, drop, take, Contains, IsErr, IfOk, OnErr, OnOk};
+ghost use Rattle.std.specs.Prelude.{◌≡◌, [], ◌↔◌, ◌<◌, length, min, Contains, IsErr, IfOk, OnErr, OnOk};
 ghost use Rattle.std.specs.Io.{ReadsAtMost, WritesAtMost};
 ghost use Rattle.std.specs.Io.KnownBytes.{ReadConsumes, WriteAppends};
 ghost use Rattle.emu_io.specs.Cause.{HasCause, next_count};
@@ -115,7 +115,7 @@ impl Model for ListSink {
 impl ListSink {
     /// An empty sink, whose writes fail at the numbers in `fails`, counted from 1.
     pub fn new(alloc: Global, fails: Vec<u64>) -> ListSink
-        ensures written { length result.written ≡ 0 }
+        ensures written { result.written ≡ [] }
         ensures calls { result.calls ≡ 0 }
         ensures fails { result.fails ≡ fails.items }
         ensures faults { result.faults ≡ 0 }

@@ -1,5 +1,5 @@
 //! A source in memory that never fails, and a sink in memory that fails only past its room.
-ghost use Rattle.std.specs.Prelude.{◌≡◌, ◌↔◌, ◌+◌, ◌<◌, ◌≤◌, length, min, IsErr, IfOk, IsOk, OnOk, OnErr};
+ghost use Rattle.std.specs.Prelude.{◌≡◌, [], ◌↔◌, ◌+◌, ◌<◌, ◌≤◌, length, min, IsErr, IfOk, IsOk, OnOk, OnErr};
 ghost use Rattle.std.specs.Io.{ReadsAtMost, WritesAtMost};
 ghost use Rattle.std.specs.Io.KnownBytes.{ReadConsumes, WriteAppends};
 ghost use Rattle.emu_io.specs.Cause.{HasCause, next_count};
@@ -89,7 +89,7 @@ impl Model for SureSink {
 impl SureSink {
     /// An empty sink with room for `room` bytes. The only refusal is want of memory.
     pub fn new(alloc: Global, room: usize) -> Result<SureSink, Memory>
-        ensures written { IfOk result (λ made. length made.written ≡ 0) }
+        ensures written { IfOk result (λ made. made.written ≡ []) }
         ensures room { IfOk result (λ made. made.room ≡ room) }
         ensures faults { IfOk result (λ made. made.faults ≡ 0) }
     {
