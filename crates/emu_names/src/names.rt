@@ -31,6 +31,15 @@ pub enum NameFault {
     Memory,
 }
 
+impl NameFault {
+    /// The same fault again.
+    pub fn copy(&self) -> NameFault
+        ensures { result ≡ self.now }
+    {
+        *self
+    }
+}
+
 impl From<Memory> for NameFault {
     ghost use Rattle.emu_names.specs.declared.names.NameFault.TheVariants.{Memory as OutOfMemory};
 

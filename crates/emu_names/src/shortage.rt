@@ -1,4 +1,6 @@
 //! The one answer that any call which allocates may give instead of its own.
+ghost use Rattle.std.specs.Prelude.{◌≡◌};
+
 use std::alloc::{AllocError, AllocFailed};
 use thiserror::Error;
 
@@ -6,6 +8,15 @@ use thiserror::Error;
 #[derive(Clone, Copy, Debug, PartialEq, Eq, Error)]
 #[error("out of memory")]
 pub struct Memory;
+
+impl Memory {
+    /// The same again.
+    pub fn copy(&self) -> Memory
+        ensures { result ≡ self.now }
+    {
+        *self
+    }
+}
 
 impl From<AllocError> for Memory {
     fn from(_error: AllocError) -> Memory {

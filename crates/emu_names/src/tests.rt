@@ -15,7 +15,7 @@ fn try_name(rt: &impl Abort, alloc: Global, text: &str, good: bool) -> Result<()
         }
         Err(fault) => {
             assert!(rt; !good);
-            assert_eq!(rt; fault, NameFault::BadName);
+            assert_eq!(rt; fault.copy(), NameFault::BadName);
         }
     }
     Ok(())

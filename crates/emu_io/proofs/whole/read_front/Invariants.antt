@@ -1,0 +1,15 @@
+use Rattle.std.proofs.Common.{◌-◌, ◌≤◌, length}
+use Rattle.std.specs.Io.KnownBytes.{Consumes}
+use Rattle.emu_io.proofs.whole.read_front.Given as goal
+
+-- the bytes so far are what the source has lost, there is room for them, and the count of faults never fell
+abbrev pub invariant-turns : goal.invariant-turns
+invariant-turns g l =
+    record {
+      taken : Consumes (g.S.Source.left l.fn.source) (g.S.Source.left l.source) l.bytes.items;
+      fits : length l.bytes.items ≤ l.most;
+      later : g.S.Source.faults l.fn.source ≤ g.S.Source.faults l.source;
+    }
+
+abbrev pub decreases-turns : goal.decreases-turns
+decreases-turns g l = l.most - length l.bytes.items
