@@ -1,0 +1,7 @@
+pub mod Words
+pub mod Paths
+pub mod Seen
+pub mod Parts
+pub mod Steps
+pub mod Lists
+pub mod Gives

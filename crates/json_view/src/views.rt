@@ -1,0 +1,210 @@
+//! A view of a place in a JSON value, which knows its path.
+ghost use Rattle.std.specs.Prelude.{◌≡◌, ◌≤◌, ◌<◌, ℕ, [], ◌∷◌, IfOk, IfErr, Some, length, map, option_map, string_bytes};
+ghost use Rattle.serde_json.specs.View.{view};
+ghost use Rattle.json_view.specs.Gives.{Gives, Tells};
+ghost use Rattle.json_view.specs.Lists.{each_of, element_of, texts_at};
+ghost use Rattle.json_view.specs.Parts.{elements_at, list_in, member_of, optional_of, present, shape, text_at, whole_at};
+ghost use Rattle.json_view.specs.Paths.{root_path, member_path, element_path};
+ghost use Rattle.json_view.specs.Seen.{seen, seen_at};
+
+use crate::faults::{PathText, Shape, ViewFault};
+use crate::text_views::TextViews;
+use crate::wants::Wanted;
+use serde_json::Value;
+use std::alloc::{AllocError, Global};
+
+/// A place in a JSON value: the value that stands there, and its path.
+#[derive(Drop)]
+pub struct View<'a> {
+    alloc: Global,
+    value: &'a Value,
+    path: String,
+}
+
+impl<'a> View<'a> {
+    /// The whole value, at the path `$`. It fails only for want of memory.
+    pub fn root(alloc: Global, value: &'a Value) -> Result<View<'a>, ViewFault>
+        ensures all { IfOk result (λ v. seen_at v ≡ seen (view value.now) root_path) }
+        ensures memory { IfErr result (λ e. e ≡ ViewFault.Memory) }
+    {
+        let path = String::from_str(alloc, "$")?;
+        Ok(View { alloc, value, path })
+    }
+
+    /// The member of this name. Where the value is no object, or has no such member, or `null` there, the
+    /// fault is a `Shape` with the member's path and the form that is wanted of it.
+    #[tactic(auto, unfolding(crate::specs::Parts::member_of))]
+    pub fn member(&self, name: &str, wanted: Wanted) -> Result<View<'a>, ViewFault>
+        ensures { Gives seen_at result (member_of name.now wanted (seen_at self.now)) }
+    {
+        let path = self.path_of_member(name)?;
+        match self.present(name) {
+            Some(value) => Ok(self.below(value, path)),
+            None => Err(ViewFault::Shape(Shape {
+                path: PathText::of(path),
+                wanted,
+            })),
+        }
+    }
+
+    /// The member of this name, or `None` where the value is an object that has no such member, or `null`
+    /// there. Where the value is no object, the fault is a `Shape` with this view's path and the form
+    /// `Object`.
+    #[tactic(auto, unfolding(crate::specs::Parts::optional_of))]
+    pub fn optional(&self, name: &str) -> Result<Option<View<'a>>, ViewFault>
+        ensures { Gives (option_map seen_at) result (optional_of name.now (seen_at self.now)) }
+    {
+        if !self.value.is_object() {
+            return Err(self.refuse(Wanted::Object));
+        }
+        match self.present(name) {
+            Some(value) => {
+                let path = self.path_of_member(name)?;
+                Ok(Some(self.below(value, path)))
+            }
+            None => Ok(None),
+        }
+    }
+
+    /// The number of elements of a list. Where the value is no list, the fault is a `Shape` with this
+    /// view's path and the form `List`.
+    #[tactic(auto, unfolding(crate::specs::Parts::elements_at))]
+    pub fn list_len(&self) -> Result<usize, ViewFault>
+        ensures list { Gives (λ _. list_in (seen_at self.now).value) result (elements_at (seen_at self.now)) }
+        ensures count { IfOk result (λ n. n ≡ length (list_in (seen_at self.now).value)) }
+    {
+        if !self.value.is_array() {
+            return Err(self.refuse(Wanted::List));
+        }
+        Ok(self.listed().len())
+    }
+
+    /// The element at this place of a list, counted from 0. It fails only for want of memory.
+    #[tactic(auto, unfolding(crate::specs::Lists::element_of))]
+    pub fn at(&self, place: usize) -> Result<View<'a>, ViewFault>
+        requires { place < length (list_in (seen_at self.now).value) }
+        ensures element { IfOk result (λ v. element_of place (seen_at self.now) ≡ Some (seen_at v)) }
+        ensures memory { IfErr result (λ e. e ≡ ViewFault.Memory) }
+    {
+        let path = format!(in self.alloc; "{}[{}]", self.path, place)?;
+        Ok(self.below(&self.listed()[place], path))
+    }
+
+    /// The text. Where the value is no text, the fault is a `Shape` with this view's path and the form
+    /// `Text`.
+    #[tactic(auto, unfolding(crate::specs::Parts::text_at))]
+    pub fn text(&self) -> Result<&'a str, ViewFault>
+        ensures { Gives (λ t. t.now) result (text_at (seen_at self.now)) }
+    {
+        match self.value.as_str() {
+            Some(text) => Ok(text),
+            None => Err(self.refuse(Wanted::Text)),
+        }
+    }
+
+    /// The whole number, from 0 to `most`. Where the value is no such number, the fault is a `Shape` with
+    /// this view's path and the form `Whole`. Numbers with a fraction or an exponent, `-0`, and numbers
+    /// from 2^64 on are no whole numbers.
+    #[tactic(auto, unfolding(crate::specs::Parts::whole_at))]
+    pub fn whole(&self, most: u64) -> Result<u64, ViewFault>
+        ensures number { Gives (λ n. n) result (whole_at most (seen_at self.now)) }
+        ensures bound { IfOk result (λ n. n ≤ most) }
+    {
+        match self.value.as_u64() {
+            Some(number) if number <= most => Ok(number),
+            _ => Err(self.refuse(Wanted::Whole)),
+        }
+    }
+
+    /// The texts of a list of texts, or of a text alone, which counts as a list of one. Where the value is
+    /// neither a text nor a list, the fault is a `Shape` with this view's path and the form `List`; else
+    /// it is that of the first element that is no text, with the element's path and the form `Text`.
+    #[tactic(auto, unfolding(crate::specs::Lists::texts_at))]
+    pub fn texts(&self) -> Result<TextViews<'a>, ViewFault>
+        ensures { Gives (λ t. t) result (texts_at (seen_at self.now)) }
+    {
+        match self.value.as_str() {
+            Some(text) => self.lone_text(text),
+            None => self.listed_texts(),
+        }
+    }
+
+    /// The fault that another form was wanted here: a `Shape` with this view's path.
+    pub fn refuse(&self, wanted: Wanted) -> ViewFault
+        ensures { Tells result (shape (seen_at self.now).path wanted) }
+    {
+        match String::from_str(self.alloc, self.path.as_str()) {
+            Ok(text) => ViewFault::Shape(Shape {
+                path: PathText::of(text),
+                wanted,
+            }),
+            Err(_) => ViewFault::Memory,
+        }
+    }
+}
+
+// What the public calls are made of.
+impl<'a> View<'a> {
+    // The member of this name that is there.
+    fn present(&self, name: &str) -> Option<&'a Value>
+        ensures { option_map (λ v. view v.now) result ≡ present name.now (seen_at self.now).value }
+    {
+        match self.value.get(name) {
+            Some(Value::Null) => None,
+            found => found,
+        }
+    }
+
+    // The elements of a list; no other value has any.
+    #[tactic(auto, using(crate::proofs::Elements::listed_array, crate::proofs::Elements::listed_other))]
+    fn listed(&self) -> &'a [Value]
+        ensures { map view result.now ≡ list_in (seen_at self.now).value }
+    {
+        match self.value.as_array() {
+            Some(list) => list.as_slice(),
+            None => &[],
+        }
+    }
+
+    // A place below this one.
+    fn below(&self, value: &'a Value, path: String) -> View<'a>
+        ensures { seen_at result ≡ seen (view value.now) (string_bytes path) }
+    {
+        View {
+            alloc: self.alloc,
+            value,
+            path,
+        }
+    }
+
+    fn path_of_member(&self, name: &str) -> Result<String, AllocError>
+        ensures { IfOk result (λ p. string_bytes p ≡ member_path (seen_at self.now).path name.now) }
+    {
+        format!(in self.alloc; "{}.{}", self.path, name)
+    }
+
+    fn lone_text(&self, text: &'a str) -> Result<TextViews<'a>, ViewFault>
+        ensures ok { IfOk result (λ t. t ≡ text.now ∷ []) }
+        ensures memory { IfErr result (λ e. e ≡ ViewFault.Memory) }
+    {
+        let mut texts = TextViews::new(self.alloc);
+        texts.push(text)?;
+        Ok(texts)
+    }
+
+    #[tactic(auto, using(crate::proofs::Each::each_begin, crate::proofs::Each::each_more, crate::proofs::Each::each_fault, crate::proofs::Each::each_end))]
+    fn listed_texts(&self) -> Result<TextViews<'a>, ViewFault>
+        ensures { Gives (λ t. t) result (each_of text_at (seen_at self.now)) }
+    {
+        let count = self.list_len()?;
+        let mut texts = TextViews::new(self.alloc);
+        for place in 0..count {
+            let part = self.at(place)?;
+            match part.text() {
+                Ok(text) => texts.push(text)?,
+                Err(fault) => return Err(fault),
+            }
+        }
+        Ok(texts)
+    }
+}
