@@ -6,6 +6,8 @@ use Rattle.std.proofs.lemmas.Option.{slice_get_within, get_or_from_slice_get}
 use Rattle.std.proofs.Math.ListN.{drop_of_length-le}
 use Rattle.serde_json.specs.Data.{Data}
 use Rattle.json_view.specs.declared.faults.Shape.{Shape}
+use Rattle.json_view.specs.declared.faults.ViewFault.{ViewFault}
+use Rattle.json_view.specs.declared.faults.ViewFault.TheVariants as fault
 use Rattle.json_view.specs.Lists.{each_from, each_of, element_of, readings}
 use Rattle.json_view.specs.Parts.{elements_at, list_in}
 use Rattle.json_view.specs.Paths.{element_path}
@@ -52,12 +54,6 @@ each_at read place s part here =
     let is = element_is (slice_get (list_in s.value) place) (element_path s.path place) part here in
     each_from_value read place s part is.0 is.1 is.2
 
--- no element is read yet
-pub each_begin : {A : Type 0} (read : Seen → Result A Shape) (s : Seen) (ds : List Data) → elements_at s ≡ Ok ds
-    → with_front [] (each_from read 0 s) ≡ each_of read s
-unfolding each_of
-each_begin read s ds is = with_front_nil (each_from read 0 s) ∙ (rw is refl)
-
 -- an element is read
 pub each_more : {A E : Type 0} (read : Seen → Result A E) (place : ℕ) (s part : Seen) (front : List A) (x : A) (all : Result (List A) E)
     → with_front front (each_from read place s) ≡ all → element_of place s ≡ Some part → read part ≡ Ok x
@@ -72,9 +68,21 @@ pub each_fault : {A E : Type 0} (read : Seen → Result A E) (place : ℕ) (s pa
 each_fault read place s part front e all before here got =
     sym (rw (each_at read place s part here, got) at before)
 
+-- the same over the answer of a reader: what tells its fault tells that of the list
+pub each_stop : {A : Type 0} (read : Seen → Result A Shape) (place : ℕ) (s part : Seen) (front : List A) (ds : List Data) (e : ViewFault)
+    → elements_at s ≡ Ok ds → with_front front (each_from read place s) ≡ each_from read 0 s → element_of place s ≡ Some part
+    → ((f : Shape) → e ≡ fault.Shape f → read part ≡ Err f)
+    → (f : Shape) → e ≡ fault.Shape f → each_of read s ≡ Err f
+unfolding each_of
+each_stop read place s part front ds e list before here tells f is =
+    rw list (each_fault read place s part front f (each_from read 0 s) before here (tells f is))
+
 -- every element is read
 pub each_end : {A E : Type 0} (read : Seen → Result A E) (place : ℕ) (s : Seen) (front : List A) (all : Result (List A) E)
     → with_front front (each_from read place s) ≡ all → length (list_in s.value) ≤ place → all ≡ Ok front
 unfolding each_from
 each_end read place s front all before past =
     sym (rw (drop_of_length-le (list_in s.value) past, append-nil front) at before)
+
+-- the facts that close a loop over a list's elements but for the exit at a fault, which `each_stop` closes
+pub ruleset each_steps = (with_front_nil, each_more, each_end)

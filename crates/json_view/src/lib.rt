@@ -2,6 +2,8 @@
 #![tactic(auto)]
 
 mod faults;
+#[cfg(test)]
+mod tests;
 mod text_views;
 mod views;
 mod wants;

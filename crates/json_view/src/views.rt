@@ -192,7 +192,7 @@ impl<'a> View<'a> {
         Ok(texts)
     }
 
-    #[tactic(auto, using(crate::proofs::Each::each_begin, crate::proofs::Each::each_more, crate::proofs::Each::each_fault, crate::proofs::Each::each_end))]
+    #[tactic(auto, using(crate::proofs::Each::each_steps), unfolding(crate::specs::Lists::each_of))]
     fn listed_texts(&self) -> Result<TextViews<'a>, ViewFault>
         ensures { Gives (λ t. t) result (each_of text_at (seen_at self.now)) }
     {
