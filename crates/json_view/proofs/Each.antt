@@ -1,5 +1,5 @@
 -- A reading of a list's elements one by one, with what was read before in front.
-use Rattle.std.proofs.Common.{◌≡◌, ℕ, ◌+◌, ◌<◌, ◌≤◌, List, [], ◌∷◌, ◌++◌, length, drop, refl, ap, ◌∙◌, sym, arith, append_assoc, append-nil, zero, suc, get_or, add-one, drop-cons}
+use Rattle.std.proofs.Common.{◌≡◌, ℕ, ◌+◌, ◌≤◌, List, [], ◌∷◌, ◌++◌, length, drop, refl, ap, ◌∙◌, sym, append_assoc, append-nil, suc, add-one, drop-cons}
 use Rattle.std.specs.Prelude.{Option, Some, None, Result, Ok, Err, option_map}
 use Rattle.std.specs.List.{slice_get}
 use Rattle.std.proofs.lemmas.Option.{slice_get_within, get_or_from_slice_get}
@@ -8,7 +8,7 @@ use Rattle.serde_json.specs.Data.{Data}
 use Rattle.json_view.specs.declared.faults.Shape.{Shape}
 use Rattle.json_view.specs.declared.faults.ViewFault.{ViewFault}
 use Rattle.json_view.specs.declared.faults.ViewFault.TheVariants as fault
-use Rattle.json_view.specs.Lists.{each_from, each_of, element_of, readings}
+use Rattle.json_view.specs.Lists.{each_from, each_of, element_of}
 use Rattle.json_view.specs.Parts.{elements_at, list_in}
 use Rattle.json_view.specs.Paths.{element_path}
 use Rattle.json_view.specs.Seen.{Seen, seen}

@@ -1,10 +1,9 @@
 -- The elements of a list, as `serde_json` keeps them.
 use Rattle.std.proofs.Common.{◌≡◌, ℕ, ◌<◌, List, [], ◌∷◌, length, get_or, map, refl, ap, ◌∙◌, sym}
-use Rattle.std.specs.Prelude.{Option, Some, None, option_map}
-use Rattle.std.specs.List.{slice_get}
+use Rattle.std.specs.Prelude.{Some, None}
 use Rattle.std.proofs.lemmas.List.{length-map}
 use Rattle.std.proofs.lemmas.Option.{slice_get-map, slice_get_read}
-use Rattle.serde_json.specs.Data.{Data, null, boolean, number, string, array, object, Items}
+use Rattle.serde_json.specs.Data.{Data, null, boolean, number, string, array, object}
 use Rattle.serde_json.specs.Find.{as_array}
 use Rattle.serde_json.specs.View.{view, items_of, items_view}
 use Rattle.serde_json.specs.declared.value.Value.{Value}
@@ -13,13 +12,12 @@ use Rattle.json_view.specs.Parts.{elements, list_in}
 use Rattle.json_view.specs.Paths.{element_path}
 use Rattle.json_view.specs.Seen.{Seen, seen}
 
+-- the elements that a list is seen as are its elements
 pub elements_items_of : (ds : List Data) → elements (items_of ds) ≡ ds
 elements_items_of [] = refl
 elements_items_of (d ∷ ds) = ap (λ xs. d ∷ xs) (elements_items_of ds)
 
-some_items : Items → Option Items
-some_items xs = Some xs
-
+-- what a list shows is the list of its values
 pub listed_array : (d : Data) (vs : List Value) → Some (items_view vs) ≡ as_array d → map view vs ≡ list_in d
 listed_array null vs h = cc
 listed_array (boolean b) vs h = cc
@@ -30,6 +28,7 @@ listed_array (array ds) vs h =
     sym (elements_items_of (map view vs)) ∙ ap elements e
 listed_array (object ms) vs h = cc
 
+-- no other value has elements
 pub listed_other : (d : Data) → None ≡ as_array d → [] ≡ list_in d
 listed_other null h = refl
 listed_other (boolean b) h = refl

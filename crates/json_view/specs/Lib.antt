@@ -5,3 +5,4 @@ pub mod Parts
 pub mod Steps
 pub mod Lists
 pub mod Gives
+pub mod Laws

@@ -1,12 +1,12 @@
 -- The typed parts of a JSON value (RFC 8259): each is the part, or the fault that says at which path
 -- which form was wanted. A member that is `null` counts as missing.
-use Rattle.std.specs.Prelude.{ℕ, List, [], ◌∷◌, Bool, nat_le, if◌then◌else◌, Option, Some, None, Result, Ok, Err, is_some, ok_or, option_map, option_and_then, map}
+use Rattle.std.specs.Prelude.{ℕ, List, [], ◌∷◌, nat_le, if◌then◌else◌, Option, Some, None, Result, Ok, Err, is_some, ok_or, option_map, option_and_then}
 use Rattle.serde_json.specs.Data.{Data, null, boolean, number, string, array, object, Items, no_items, item}
 use Rattle.serde_json.specs.Find.{get, as_object, as_array, as_str, as_number, as_u64}
 use Rattle.json_view.specs.declared.wants.Wanted.{Wanted}
 use Rattle.json_view.specs.declared.wants.Wanted.TheVariants as wanted
 use Rattle.json_view.specs.declared.faults.Shape.{Shape}
-use Rattle.json_view.specs.Paths.{member_path, element_path}
+use Rattle.json_view.specs.Paths.{member_path}
 use Rattle.json_view.specs.Seen.{Seen, seen}
 
 -- "at this path, this form was wanted"

@@ -1,5 +1,8 @@
--- The word that a refusal prints for each form that may be wanted.
-use Rattle.std.specs.Prelude.{ℕ, List, codes}
+-- The word that a refusal prints for each form that may be wanted, and what a fault prints.
+use Rattle.std.specs.Prelude.{ℕ, List, ◌++◌, codes}
+use Rattle.json_view.specs.declared.faults.Shape.{Shape}
+use Rattle.json_view.specs.declared.faults.ViewFault.{ViewFault}
+use Rattle.json_view.specs.declared.faults.ViewFault.TheVariants as fault
 use Rattle.json_view.specs.declared.wants.Wanted.{Wanted}
 use Rattle.json_view.specs.declared.wants.Wanted.TheVariants as wanted
 
@@ -12,3 +15,11 @@ word_of wanted.Whole = codes "whole number"
 word_of wanted.Name = codes "name"
 word_of wanted.Kind = codes "kind"
 word_of wanted.Session = codes "session"
+
+-- what a fault prints: the path, and the word of what was wanted there
+abbrev pub shape_text : Shape → List ℕ
+shape_text s = s.path ++ (codes ": " ++ (word_of s.wanted ++ codes " wanted"))
+
+abbrev pub fault_text : ViewFault → List ℕ
+fault_text (fault.Shape s) = shape_text s
+fault_text fault.Memory = codes "out of memory"

@@ -98,6 +98,11 @@ impl<T: Drop> From<AllocFailed<T>> for ViewFault {
 }
 
 impl fmt::Display for ViewFault {
+    ghost use Rattle.std.specs.Prelude.{Some};
+    ghost use Rattle.json_view.specs.Words.{fault_text};
+
+    ghost output = { λ e. Some (fault_text e) };
+
     fn fmt<W: fmt::Write>(&self, f: &mut fmt::Formatter<W>) -> fmt::Result {
         match self {
             ViewFault::Shape(shape) => {

@@ -2,6 +2,7 @@
 #![tactic(auto)]
 
 mod faults;
+mod laws;
 #[cfg(test)]
 mod tests;
 mod text_views;
@@ -9,6 +10,7 @@ mod views;
 mod wants;
 
 pub use faults::{PathText, Shape, ViewFault};
+pub use laws::texts_by_cases;
 pub use text_views::TextViews;
 pub use views::View;
 pub use wants::Wanted;

@@ -80,7 +80,7 @@ impl<'a> View<'a> {
     }
 
     /// The element at this place of a list, counted from 0. It fails only for want of memory.
-    #[tactic(auto, unfolding(crate::specs::Lists::element_of))]
+    #[tactic(auto, using(crate::proofs::Elements::element_listed))]
     pub fn at(&self, place: usize) -> Result<View<'a>, ViewFault>
         requires { place < length (list_in (seen_at self.now).value) }
         ensures element { IfOk result (λ v. element_of place (seen_at self.now) ≡ Some (seen_at v)) }
