@@ -1,1 +1,4 @@
 pub mod Micros
+pub mod Reading
+pub mod Sample
+pub mod Spelling

@@ -1,0 +1,239 @@
+//! Values worked by exact fractions outside this program (Python's `fractions`), where a reader through
+//! binary floating-point numbers goes wrong.
+
+use crate::NumberFault::{NotANumber, TooManyDigits};
+use crate::TimeFault::{NegativeTime, TimeTooLarge};
+use crate::{
+    TimeFault, first_sample_from, micros_of_end, micros_of_point, micros_of_start, nearest_sample,
+    read_decimal,
+};
+use std::test::Fail;
+
+static SAMPLES: [(&str, u32, Result<u64, TimeFault>, Result<u64, TimeFault>); 54] = [
+    ("0", 1, Ok(0), Ok(0)),
+    ("0", 1000000, Ok(0), Ok(0)),
+    ("-0.0", 44100, Ok(0), Ok(0)),
+    ("0.201", 20000, Ok(4020), Ok(4020)),
+    ("0.187425", 20000, Ok(3749), Ok(3749)),
+    ("0.256925", 20000, Ok(5139), Ok(5139)),
+    ("0.340175", 20000, Ok(6804), Ok(6804)),
+    ("5.5511151231257827e-17", 20000, Ok(1), Ok(0)),
+    ("5.5511151231257827e-17", 1, Ok(1), Ok(0)),
+    ("0.5", 3, Ok(2), Ok(2)),
+    ("0.5", 1, Ok(1), Ok(1)),
+    ("0.49999999999999999999", 1, Ok(1), Ok(0)),
+    ("0.50000000000000000001", 1, Ok(1), Ok(1)),
+    ("1", 3, Ok(3), Ok(3)),
+    ("0.1", 16000, Ok(1600), Ok(1600)),
+    ("0.1", 44100, Ok(4410), Ok(4410)),
+    ("0.1", 3, Ok(1), Ok(0)),
+    ("0.3", 44100, Ok(13230), Ok(13230)),
+    ("0.7", 1000000, Ok(700000), Ok(700000)),
+    ("2.675", 20000, Ok(53500), Ok(53500)),
+    ("1e-9999", 1000000, Ok(1), Ok(0)),
+    ("1e-30", 1000000, Ok(1), Ok(0)),
+    ("1e-26", 1, Ok(1), Ok(0)),
+    ("1e-27", 1000000, Ok(1), Ok(0)),
+    ("99999999999999999999e-26", 1000000, Ok(1), Ok(1)),
+    (
+        "99999999999999999999e-20",
+        1000000,
+        Ok(1000000),
+        Ok(1000000),
+    ),
+    ("99999999999999999999e-21", 1, Ok(1), Ok(0)),
+    ("0.00005", 20000, Ok(1), Ok(1)),
+    ("0.000025", 20000, Ok(1), Ok(1)),
+    ("0.0000249999", 20000, Ok(1), Ok(0)),
+    ("0.0000250001", 20000, Ok(1), Ok(1)),
+    ("0.00001", 44100, Ok(1), Ok(0)),
+    ("1099511627776", 1, Ok(1099511627776), Err(TimeTooLarge)),
+    (
+        "1099511627776.0000001",
+        1,
+        Err(TimeTooLarge),
+        Err(TimeTooLarge),
+    ),
+    ("1099511627775.5", 1, Ok(1099511627776), Err(TimeTooLarge)),
+    (
+        "1099511627775.4999999",
+        1,
+        Ok(1099511627776),
+        Ok(1099511627775),
+    ),
+    ("1099511627775", 1, Ok(1099511627775), Ok(1099511627775)),
+    (
+        "1099511.627776",
+        1000000,
+        Ok(1099511627776),
+        Err(TimeTooLarge),
+    ),
+    (
+        "1099511.6277755",
+        1000000,
+        Ok(1099511627776),
+        Err(TimeTooLarge),
+    ),
+    (
+        "1099511.6277754999",
+        1000000,
+        Ok(1099511627776),
+        Ok(1099511627775),
+    ),
+    ("68719476.736", 16000, Ok(1099511627776), Err(TimeTooLarge)),
+    (
+        "68719476.73600001",
+        16000,
+        Err(TimeTooLarge),
+        Err(TimeTooLarge),
+    ),
+    ("1e12", 1, Ok(1000000000000), Ok(1000000000000)),
+    ("2e12", 1, Err(TimeTooLarge), Err(TimeTooLarge)),
+    ("1.1e12", 1, Err(TimeTooLarge), Err(TimeTooLarge)),
+    ("1e13", 1, Err(TimeTooLarge), Err(TimeTooLarge)),
+    ("1e9999", 1, Err(TimeTooLarge), Err(TimeTooLarge)),
+    ("1e12", 1000000, Err(TimeTooLarge), Err(TimeTooLarge)),
+    ("-1e-9999", 1, Err(NegativeTime), Err(NegativeTime)),
+    ("-0.5", 16000, Err(NegativeTime), Err(NegativeTime)),
+    ("3600", 44100, Ok(158760000), Ok(158760000)),
+    ("0.0226757369614512", 44100, Ok(1000), Ok(1000)),
+    ("0.02267573696145125", 44100, Ok(1001), Ok(1000)),
+    ("12345.678901234567", 44100, Ok(544444440), Ok(544444440)),
+];
+
+#[test]
+fn samples_of_times(rt: HostRuntime) -> Result<(), Fail> {
+    for &(text, rate, first, nearest) in &SAMPLES {
+        assert!(rt; 1 <= rate && rate <= 1_000_000);
+        let time = read_decimal(text.as_bytes())?;
+        assert_eq!(rt;
+            first_sample_from(&time, rate),
+            first,
+            "first sample at {text}, rate {rate}"
+        );
+        assert_eq!(rt;
+            nearest_sample(&time, rate),
+            nearest,
+            "nearest to {text}, rate {rate}"
+        );
+    }
+    Ok(())
+}
+
+static DECIMALS: [(&str, bool, u128, i32); 20] = [
+    ("7", false, 7, 0),
+    ("-7", true, 7, 0),
+    ("+7", false, 7, 0),
+    ("007", false, 7, 0),
+    ("70", false, 7, 1),
+    ("700e-2", false, 7, 0),
+    ("0.070", false, 7, -2),
+    ("-0.0", false, 0, 0),
+    ("0e5", false, 0, 0),
+    ("-0e-9999", false, 0, 0),
+    ("1e0009999", false, 1, 9999),
+    ("1e-0009999", false, 1, -9999),
+    ("123456789012345678900", false, 1234567890123456789, 2),
+    ("00012345678901234567890.000", false, 1234567890123456789, 1),
+    ("1.5E3", false, 15, 2),
+    ("1.5e+3", false, 15, 2),
+    ("1.5e-3", false, 15, -4),
+    ("-12.50", true, 125, -1),
+    ("10000000000000000000000000000000", false, 1, 31),
+    ("0.00000000000000000000000000000001", false, 1, -32),
+];
+
+#[test]
+fn decimals_in_one_form(rt: HostRuntime) -> Result<(), Fail> {
+    for &(text, negative, digits, exponent) in &DECIMALS {
+        let value = read_decimal(text.as_bytes())?;
+        assert_eq!(rt; value.negative, negative, "sign of {text}");
+        assert_eq!(rt; value.digits, digits, "digits of {text}");
+        assert_eq!(rt; value.exponent, exponent, "exponent of {text}");
+    }
+    Ok(())
+}
+
+#[test]
+fn texts_that_are_refused(rt: HostRuntime) {
+    for text in [
+        "",
+        ".5",
+        "5.",
+        "+",
+        "-",
+        "1e",
+        "1e+",
+        "1e5x",
+        "1.5.2",
+        "1 ",
+        " 1",
+        "1,5",
+        "0x10",
+        "inf",
+        "nan",
+        "--1",
+        "+-1",
+        "1e1.5",
+        "1_000",
+        "e5",
+        "1.e5",
+        "12345678901234567890x",
+    ] {
+        assert_eq!(rt; read_decimal(text.as_bytes()), Err(NotANumber), "{text}");
+    }
+    for text in [
+        "123456789012345678901",
+        "1.00000000000000000001",
+        "0.123456789012345678901",
+        "1e10000",
+        "1e-10000",
+        "0e10000",
+        "1e99999999999999999999",
+        "100000000000000000001e-5",
+    ] {
+        assert_eq!(rt; read_decimal(text.as_bytes()), Err(TooManyDigits), "{text}");
+    }
+}
+
+#[test]
+fn microseconds_of_samples(rt: HostRuntime) {
+    for (sample, rate, start, end, point) in [
+        (0, 20000, 0, 25, 0),
+        (3749, 20000, 187425, 187475, 187450),
+        (5139, 20000, 256925, 256975, 256950),
+        (1, 3, 166666, 500000, 333333),
+        (1, 1000000, 0, 1, 1),
+        (
+            1099511627775,
+            1,
+            1099511627774500000,
+            1099511627775500000,
+            1099511627775000000,
+        ),
+        (
+            1099511627775,
+            1000000,
+            1099511627774,
+            1099511627775,
+            1099511627775,
+        ),
+    ] {
+        assert!(rt; sample < 1 << 40 && 1 <= rate && rate <= 1_000_000);
+        assert_eq!(rt;
+            micros_of_start(sample, rate),
+            start,
+            "start of {sample}, rate {rate}"
+        );
+        assert_eq!(rt;
+            micros_of_end(sample, rate),
+            end,
+            "end of {sample}, rate {rate}"
+        );
+        assert_eq!(rt;
+            micros_of_point(sample, rate),
+            point,
+            "point at {sample}, rate {rate}"
+        );
+    }
+}
