@@ -5,3 +5,4 @@ pub mod Rising
 pub mod Ids
 pub mod Stops
 pub mod Printed
+pub mod KnownLines

@@ -4,3 +4,4 @@ pub mod Thin
 pub mod Lines
 pub mod Texts
 pub mod LastLines
+pub mod Known

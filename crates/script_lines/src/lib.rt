@@ -6,6 +6,7 @@ mod annot_rules;
 mod config_forms;
 mod faults;
 mod forms;
+mod law;
 mod line_set;
 mod print;
 mod query;
@@ -18,6 +19,7 @@ mod values;
 mod print_tests;
 
 pub use faults::{LineFault, ReadLine};
+pub use law::read_lines_are_known;
 pub use line_set::LineSet;
 pub use print::{print_fault, print_last, print_reply};
 pub use read::read_line;

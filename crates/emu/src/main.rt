@@ -1,0 +1,36 @@
+//! The program `emu`: the words of the command line, the standard streams and the status.
+#![tactic(auto)]
+
+use emu_cli::emu;
+use emu_io::{InputSource, OutputSink};
+use std::env;
+use std::io;
+use std::process::ExitCode;
+
+/// The status where memory ran out before the program began.
+const OUT_OF_MEMORY: u8 = 8;
+
+/// The words after the program's name. Words that are not UTF-8 are no command, and count as none.
+fn words<R: Env + AllocGlobal>(rt: &R) -> io::Result<Vec<String>> {
+    let mut words = Vec::new(rt.alloc());
+    match env::args(rt) {
+        Ok(args) => {
+            for word in args.skip(1) {
+                words.push(word)?;
+            }
+            Ok(words)
+        }
+        Err(error) if error.kind() == io::ErrorKind::InvalidData => Ok(words),
+        Err(error) => Err(error),
+    }
+}
+
+fn main(rt: HostRuntime) -> ExitCode {
+    let Ok(words) = words(&rt) else {
+        return ExitCode::from(OUT_OF_MEMORY);
+    };
+    let mut script = InputSource::new(rt.reader());
+    let mut out = OutputSink::new(io::writer(&rt));
+    let status = emu(&rt, rt.alloc(), words.as_slice(), &mut script, &mut out);
+    ExitCode::from(status)
+}

@@ -1,0 +1,237 @@
+-- What a status says, from what was read, run and written.
+use Rattle.std.proofs.Common.{◌≡◌, ◌≢◌, ◌⊎◌, inl, inr, ◌↔◌, ℕ, ◌+◌, ◌<◌, ◌≤◌, ◌-◌, ◌^◌, Bool, true, false, IsTrue, List, [], ◌∷◌, ◌++◌, length, take, Option, Some, None, Result, Ok, Err, refl, sym, ◌∙◌, ap, subst, arith, nat_lt, append-nil}
+use Rattle.std.proofs.lemmas.Bool.{ltb-true, ltb-false}
+use Rattle.std.specs.Io.KnownBytes.{Appends, IsAtEnd, Consumes}
+use Rattle.std.proofs.KnownBytes.{Appends-nil, Appends-trans}
+use Rattle.emu_io.specs.Cause.{Rose}
+use Rattle.emu_io.specs.Fronts.{Tells, TakesFront, IsFrontOf, WritesFront}
+use Rattle.session_core.specs.InOrder.{Outage}
+use Rattle.script_lines.specs.declared.faults.LineFault.{LineFault}
+use Rattle.emu_cli.specs.declared.status.Status.{Status}
+use Rattle.emu_cli.specs.declared.status.Status.TheVariants as statuses
+use Rattle.emu_cli.specs.Cuts.{cut}
+use Rattle.emu_cli.specs.Scripts.{Parsed, nothing_read, parse, parsed_front, ended, is_past, lines_of, script_of, front_of, script_limit, Stop, limit, at_fault, ◌>>=◌}
+use Rattle.emu_cli.specs.Runs.{run_text, IsRun, usage_text, stop_text}
+use Rattle.emu_cli.specs.Says.{Call, call_of, IsCommand, Says, RanWhole, EndedEarly, FoundFault, NoCommand, IsLastLine, Unfinished, UnfinishedUsage, BrokeOff, ReadFailed, WriteFailed, WritesLast, IsFaultless, code_of}
+use Rattle.emu_cli.specs.Reached.{Broke, BrokeIn, RanScript, StoppedScript}
+use Rattle.emu_cli.proofs.TextLemmas.{front_all, front_more, whole_more}
+use Rattle.emu_cli.proofs.OrderedLemmas.{legal_run}
+
+-- The script that was read.
+
+past_cases : (text : List ℕ) (past test : Bool) → nat_lt script_limit (length text) ≡ test → IsTrue past ↔ (script_limit < length text) → test ≡ past
+past_cases text true true e h = refl
+past_cases text true false e h = let low : length text ≤ script_limit = ltb-false script_limit (length text) e in let high : script_limit < length text = h.0 refl in absurd (omega arith)
+past_cases text false true e h = let bad : false ≡ true = h.1 (ltb-true script_limit (length text) e) in cc
+past_cases text false false e h = refl
+
+-- what was read of a source: some text, which is the source's own where it tells it
+record Script (left : Option (List ℕ)) (past : Bool) (bytes : List ℕ) : Type 0 where
+  text : List ℕ
+  told : Tells left text
+  lines : lines_of text ≡ cut past bytes
+  past_is : is_past text ≡ past
+
+script_read : (left : Option (List ℕ)) (past : Bool) (bytes : List ℕ) → IsFrontOf left script_limit bytes past → Script left past bytes
+script_read left past bytes f =
+    let same : is_past f.text ≡ past = past_cases f.text past (is_past f.text) refl f.longer in record {
+      text = f.text;
+      told = f.told;
+      lines = rw (same, f.front) refl;
+      past_is = same;
+    }
+
+script_is : (left : Option (List ℕ)) (past : Bool) (bytes : List ℕ) (s : Script left past bytes) → script_of s.text ≡ (parse nothing_read (cut past bytes) >>= ended past)
+script_is left past bytes s = rw (s.lines, s.past_is) refl
+
+front_is : (left : Option (List ℕ)) (past : Bool) (bytes : List ℕ) (s : Script left past bytes) → front_of s.text ≡ parsed_front nothing_read (cut past bytes)
+front_is left past bytes s = ap (parsed_front nothing_read) s.lines
+
+abbrev ok_front : Parsed → Result Parsed Stop
+ok_front p = Ok p
+
+-- a script that is run to its end does not pass its limit
+not_past : (first : Result Parsed Stop) (q : Parsed) → (first >>= ended true) ≡ Ok q → ⊥
+not_past (Ok p) q h = cc
+not_past (Err stop) q h = cc
+
+end_of : (left after : Option (List ℕ)) (bytes : List ℕ) (past : Bool) (first : Result Parsed Stop) (q : Parsed) → TakesFront left after bytes past → (first >>= ended past) ≡ Ok q → IsAtEnd after
+end_of left after bytes true first q t h = absurd (not_past first q h)
+end_of left after bytes false first q t h = t.1
+
+-- 0
+pub says_fine : (words : List (List ℕ)) (left left_after written written_after : Option (List ℕ)) (r rs w ws : ℕ) (past : Bool) (bytes : List ℕ) → IsCommand words →
+    IsFrontOf left script_limit bytes past → TakesFront left left_after bytes past → RanScript past (cut past bytes) written written_after →
+    Says statuses.Fine (call_of words left left_after written written_after r rs w ws)
+says_fine words left left_after written written_after r rs w ws past bytes command front taken ran =
+    let s = script_read left past bytes front in record {
+      command = command;
+      text = s.text;
+      told = s.told;
+      at_end = end_of left left_after bytes past (parse nothing_read (cut past bytes)) ran.parsed taken ran.script;
+      parsed = ran.parsed;
+      script = script_is left past bytes s ∙ ran.script;
+      outages = ran.outages;
+      run = legal_run (cut past bytes) ran.parsed ran.outages ran.read ran.each;
+      output = ran.output;
+    }
+
+-- the run of the lines before something that ends a script early
+early_run : (left : Option (List ℕ)) (past : Bool) (bytes : List ℕ) (stop : Stop) (before now : Option (List ℕ)) (s : Script left past bytes) (e : StoppedScript stop past (cut past bytes) before now) → IsRun (front_of s.text) e.outages
+early_run left past bytes stop before now s e =
+    subst (λ p. IsRun p e.outages) (sym (front_is left past bytes s)) (legal_run (take e.done (cut past bytes)) (parsed_front nothing_read (cut past bytes)) e.outages e.read e.each)
+
+early_output : (left : Option (List ℕ)) (past : Bool) (bytes : List ℕ) (stop : Stop) (before now : Option (List ℕ)) (s : Script left past bytes) (e : StoppedScript stop past (cut past bytes) before now) → Appends before now (run_text (front_of s.text) e.outages)
+early_output left past bytes stop before now s e = subst (λ p. Appends before now (run_text p e.outages)) (sym (front_is left past bytes s)) e.output
+
+-- 3 and 9, where the last line was written
+ended_early : (words : List (List ℕ)) (left left_after before mid after : Option (List ℕ)) (r rs w ws : ℕ) (past : Bool) (bytes : List ℕ) (stop : Stop) → IsCommand words →
+    IsFrontOf left script_limit bytes past → StoppedScript stop past (cut past bytes) before mid → Appends mid after (stop_text stop) →
+    EndedEarly (call_of words left left_after before after r rs w ws) stop
+ended_early words left left_after before mid after r rs w ws past bytes stop command front e last =
+    let s = script_read left past bytes front in record {
+      command = command;
+      text = s.text;
+      told = s.told;
+      script = script_is left past bytes s ∙ e.script;
+      outages = e.outages;
+      run = early_run left past bytes stop before mid s e;
+      output = whole_more before mid after (run_text (front_of s.text) e.outages) (stop_text stop) (early_output left past bytes stop before mid s e) last;
+    }
+
+-- 5 and 8, where a front of the last line was written
+broke_early : (words : List (List ℕ)) (left left_after before mid after : Option (List ℕ)) (r rs w ws : ℕ) (past : Bool) (bytes : List ℕ) (stop : Stop) → IsCommand words →
+    IsFrontOf left script_limit bytes past → StoppedScript stop past (cut past bytes) before mid → WritesFront mid after (stop_text stop) →
+    BrokeOff (call_of words left left_after before after r rs w ws)
+broke_early words left left_after before mid after r rs w ws past bytes stop command front e last =
+    let s = script_read left past bytes front in inl (record {
+      command = command;
+      text = s.text;
+      told = s.told;
+      done = e.done;
+      parsed = front_of s.text;
+      script = ap (λ ls. parse nothing_read (take e.done ls)) s.lines ∙ e.read ∙ sym (ap ok_front (front_is left past bytes s));
+      outages = e.outages;
+      run = early_run left past bytes stop before mid s e;
+      last = stop_text stop;
+      line = inr (record { stop = stop; script = script_is left past bytes s ∙ e.script; front = refl; line = refl });
+      output = front_more before mid after (run_text (front_of s.text) e.outages) (stop_text stop) (early_output left past bytes stop before mid s e) last;
+    })
+
+-- 5 and 8, where the run broke off
+pub broke_off : (words : List (List ℕ)) (left left_after before after : Option (List ℕ)) (r rs w ws : ℕ) (past : Bool) (bytes : List ℕ) → IsCommand words →
+    IsFrontOf left script_limit bytes past → BrokeIn (cut past bytes) before after →
+    BrokeOff (call_of words left left_after before after r rs w ws)
+broke_off words left left_after before after r rs w ws past bytes command front b =
+    let s = script_read left past bytes front in inl (record {
+      command = command;
+      text = s.text;
+      told = s.told;
+      done = b.done;
+      parsed = b.broke.parsed;
+      script = ap (λ ls. parse nothing_read (take b.done ls)) s.lines ∙ b.broke.script;
+      outages = b.broke.outages;
+      run = legal_run (take b.done (cut past bytes)) b.broke.parsed b.broke.outages b.broke.script b.broke.each;
+      last = [];
+      line = inl refl;
+      output = subst (λ t. WritesFront before after t) (sym (append-nil (run_text b.broke.parsed b.broke.outages))) b.broke.output;
+    })
+
+-- 9
+pub says_over : (words : List (List ℕ)) (left left_after before mid after : Option (List ℕ)) (r rs w mids ws : ℕ) (past : Bool) (bytes : List ℕ) (status : Status) → IsCommand words →
+    IsFrontOf left script_limit bytes past → StoppedScript limit past (cut past bytes) before mid → w ≤ mids → WritesLast status statuses.Limit mid after mids ws (stop_text limit) →
+    Says status (call_of words left left_after before after r rs w ws)
+says_over words left left_after before mid after r rs w mids ws past bytes status command front e later (inl h) =
+    subst (λ st. Says st (call_of words left left_after before after r rs w ws)) (sym h.0) (ended_early words left left_after before mid after r rs w ws past bytes limit command front e h.1)
+says_over words left left_after before mid after r rs w mids ws past bytes status command front e later (inr (inl h)) =
+    subst (λ st. Says st (call_of words left left_after before after r rs w ws)) (sym h.0) (record { cause = omega (arith, h.1); output = broke_early words left left_after before mid after r rs w ws past bytes limit command front e h.2 })
+says_over words left left_after before mid after r rs w mids ws past bytes status command front e later (inr (inr h)) =
+    subst (λ st. Says st (call_of words left left_after before after r rs w ws)) (sym h.0) (broke_early words left left_after before mid after r rs w ws past bytes limit command front e h.1)
+
+-- 3
+pub says_fault : (words : List (List ℕ)) (left left_after before mid after : Option (List ℕ)) (r rs w mids ws : ℕ) (past : Bool) (bytes : List ℕ) (number : ℕ) (fault : LineFault) (status : Status) → IsCommand words →
+    IsFrontOf left script_limit bytes past → StoppedScript (at_fault number fault) past (cut past bytes) before mid → w ≤ mids → WritesLast status statuses.Script mid after mids ws (stop_text (at_fault number fault)) →
+    Says status (call_of words left left_after before after r rs w ws)
+says_fault words left left_after before mid after r rs w mids ws past bytes number fault status command front e later (inl h) =
+    subst (λ st. Says st (call_of words left left_after before after r rs w ws)) (sym h.0) (record { number = number; fault = fault; stopped = ended_early words left left_after before mid after r rs w ws past bytes (at_fault number fault) command front e h.1 })
+says_fault words left left_after before mid after r rs w mids ws past bytes number fault status command front e later (inr (inl h)) =
+    subst (λ st. Says st (call_of words left left_after before after r rs w ws)) (sym h.0) (record { cause = omega (arith, h.1); output = broke_early words left left_after before mid after r rs w ws past bytes (at_fault number fault) command front e h.2 })
+says_fault words left left_after before mid after r rs w mids ws past bytes number fault status command front e later (inr (inr h)) =
+    subst (λ st. Says st (call_of words left left_after before after r rs w ws)) (sym h.0) (broke_early words left left_after before mid after r rs w ws past bytes (at_fault number fault) command front e h.1)
+
+-- 2
+pub says_usage : (words : List (List ℕ)) (left before after : Option (List ℕ)) (r w ws : ℕ) (status : Status) → (IsCommand words → ⊥) → WritesLast status statuses.Usage before after w ws usage_text →
+    Says status (call_of words left left before after r r w ws)
+says_usage words left before after r w ws status none (inl h) = subst (λ st. Says st (call_of words left left before after r r w ws)) (sym h.0) (record { words = none; output = h.1 })
+says_usage words left before after r w ws status none (inr (inl h)) = subst (λ st. Says st (call_of words left left before after r r w ws)) (sym h.0) (record { cause = h.1; output = inr (record { words = none; output = h.2 }) })
+says_usage words left before after r w ws status none (inr (inr h)) = subst (λ st. Says st (call_of words left left before after r r w ws)) (sym h.0) (inr (record { words = none; output = h.1 }))
+
+-- memory ran out before the script was read
+abbrev some_text : Option (List ℕ) → List ℕ
+some_text None = []
+some_text (Some known) = known
+
+told_some : (left : Option (List ℕ)) → Tells left (some_text left)
+told_some None = tt
+told_some (Some known) = refl
+
+pub says_unread : (words : List (List ℕ)) (left left_after now : Option (List ℕ)) (r rs w : ℕ) → IsCommand words → BrokeOff (call_of words left left_after now now r rs w w)
+says_unread words left left_after now r rs w command = inl (record {
+  command = command;
+  text = some_text left;
+  told = told_some left;
+  done = 0;
+  parsed = nothing_read;
+  script = refl;
+  outages = [];
+  run = legal_run [] nothing_read [] refl refl;
+  last = [];
+  line = inl refl;
+  output = (0, Appends-nil now);
+})
+
+-- Completeness.
+
+abbrev some_bytes : List ℕ → Option (List ℕ)
+some_bytes x = Some x
+
+abbrev no_bytes : Option (List ℕ)
+no_bytes = None
+
+no_text : (known : List ℕ) → no_bytes ≡ some_bytes known → ⊥
+no_text known h = cc
+
+text_same : {x known text : List ℕ} → some_bytes x ≡ some_bytes known → x ≡ text → known ≡ text
+text_same h t = cc
+
+abbrev err_stop : Stop → Result Parsed Stop
+err_stop s = Err s
+
+ok_not_err : (p : Parsed) (s : Stop) → ok_front p ≡ err_stop s → ⊥
+ok_not_err p s h = cc
+
+told_is : (left : Option (List ℕ)) (known text : List ℕ) → left ≡ Some known → Tells left text → known ≡ text
+told_is None known text h t = absurd (no_text known h)
+told_is (Some x) known text h t = text_same h t
+
+script_both : (known text : List ℕ) (parsed : Parsed) (stop : Stop) → known ≡ text → script_of known ≡ Ok parsed → script_of text ≡ Err stop → ⊥
+script_both known text parsed stop same ok err = ok_not_err parsed stop (sym ok ∙ ap script_of same ∙ err)
+
+not_early : (call : Call) (stop : Stop) → IsFaultless call → EndedEarly call stop → ⊥
+not_early call stop f e = script_both f.text e.text f.parsed stop (told_is call.left f.text e.text f.known e.told) f.script e.script
+
+not_risen : (before now : ℕ) → now ≡ before → before < 2 ^ 64 - 1 → Rose before now → ⊥
+not_risen before now same room rose = absurd (omega arith)
+
+-- where nothing is wrong outside or in the script, a run ends well or for want of memory
+pub complete : (status : Status) (call : Call) → Says status call → IsFaultless call → (code_of status ≡ 0) ⊎ (code_of status ≡ 8)
+complete statuses.Fine call says f = inl refl
+complete statuses.Usage call says f = absurd (says.words f.command)
+complete statuses.Script call says f = absurd (not_early call (at_fault says.number says.fault) f says.stopped)
+complete statuses.Read call says f = absurd (not_risen call.reads call.reads_after f.reads f.reads_room says.cause)
+complete statuses.Write call says f = absurd (not_risen call.writes call.writes_after f.writes f.writes_room says.cause)
+complete statuses.Memory call says f = inr refl
+complete statuses.Limit call says f = absurd (not_early call limit f says)
+
+pub complete_code : (result : ℕ) (status : Status) (call : Call) → result ≡ code_of status → Says status call → IsFaultless call → (result ≡ 0) ⊎ (result ≡ 8)
+complete_code result status call same says f = subst (λ n. (n ≡ 0) ⊎ (n ≡ 8)) (sym same) (complete status call says f)

@@ -1,0 +1,16 @@
+use Rattle.std.proofs.Common.{◌≤◌, ℕ, All, List, ◌++◌, length, Option}
+use Rattle.session_core.specs.declared.config.Config.{Config}
+use Rattle.emu_cli.specs.Cuts.{cut}
+use Rattle.emu_cli.specs.Reached.{Reached, InLines}
+use Rattle.emu_cli.proofs.script.run_rest.Given as goal
+
+-- the lines so far were run, and those of the rest come next
+abbrev pub invariant-lines : goal.invariant-lines
+invariant-lines g l = record {
+  rises : All (λ n. n ≤ l.running.number) l.running.earlier;
+  ran : (config : Config) (lines : List (List ℕ)) (before : Option (List ℕ)) → Reached config lines l.fn.running before (g.K.Sink.written l.fn.out) → InLines config (lines ++ cut l.past l.bytes) (cut l.past l.rest) l.running before (g.K.Sink.written l.out);
+  later : g.K.Sink.faults l.fn.out ≤ g.K.Sink.faults l.out;
+}
+
+abbrev pub decreases-lines : goal.decreases-lines
+decreases-lines g l = length l.rest

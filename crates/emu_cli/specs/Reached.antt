@@ -1,0 +1,145 @@
+-- How far a run has come, and how it ends.
+use Rattle.std.specs.Prelude.{◌≡◌, ◌≢◌, ◌⊎◌, ℕ, ◌+◌, ◌≤◌, Bool, List, [], ◌∷◌, ◌++◌, length, take, Option, Some, None, Result, Ok, Err}
+use Rattle.std.specs.Io.KnownBytes.{Appends}
+use Rattle.emu_io.specs.Fronts.{WritesFront}
+use Rattle.emu_io.specs.Cause.{Rose}
+use Rattle.session_core.specs.declared.config.Config.{Config}
+use Rattle.session_core.specs.Steps.{State, start}
+use Rattle.session_core.specs.declared.line.Line.{Line}
+use Rattle.session_core.specs.declared.line.Reply.{Reply}
+use Rattle.session_core.specs.InOrder.{Outage, in_turn, one_turn}
+use Rattle.script_lines.specs.declared.faults.LineFault.{LineFault}
+use Rattle.script_lines.specs.declared.faults.LineFault.TheVariants as faults
+use Rattle.script_lines.specs.declared.faults.ReadLine.{ReadLine}
+use Rattle.script_lines.specs.declared.faults.ReadLine.TheVariants as reads
+use Rattle.script_lines.specs.Texts.{reply_text}
+use Rattle.emu_cli.specs.declared.ended.Ended.{Ended}
+use Rattle.emu_cli.specs.declared.ended.Ended.TheVariants as ends
+use Rattle.emu_cli.specs.declared.running.Running.{Running}
+use Rattle.emu_cli.specs.Scripts.{Parsed, nothing_read, parse, parse_line, parsed_front, ended, Stop, limit, at_fault, numbers_of, ◌>>=◌}
+use Rattle.emu_cli.specs.Runs.{run_text}
+
+-- the run stands behind what was read of the script
+pub record IsAt (running : Running) (config : Config) (p : Parsed) (outages : List Outage) : Type 0 where
+  pub begun : p.config ≡ Some config
+  pub core : running.core ≡ (in_turn (start config []) p.requests outages).1
+  pub earlier : running.earlier ≡ numbers_of p.requests
+  pub number : running.number ≡ p.number
+  pub each : length outages ≡ length p.requests
+
+-- the lines so far were run, and their replies written
+pub record Reached (config : Config) (lines : List (List ℕ)) (running : Running) (before now : Option (List ℕ)) : Type 0 where
+  pub parsed : Parsed
+  pub script : parse nothing_read lines ≡ Ok parsed
+  pub outages : List Outage
+  pub at : IsAt running config parsed outages
+  pub output : Appends before now (run_text parsed outages)
+
+-- the lines were run, and a front of their replies was written
+pub record Broke (lines : List (List ℕ)) (before now : Option (List ℕ)) : Type 0 where
+  pub parsed : Parsed
+  pub script : parse nothing_read lines ≡ Ok parsed
+  pub outages : List Outage
+  pub each : length outages ≡ length parsed.requests
+  pub output : WritesFront before now (run_text parsed outages)
+
+-- the lines were run and their replies written, and the next line stops the script
+pub record Stopped (stop : Stop) (lines : List (List ℕ)) (line : List ℕ) (before now : Option (List ℕ)) : Type 0 where
+  pub parsed : Parsed
+  pub script : parse nothing_read lines ≡ Ok parsed
+  pub stops : parse_line parsed line ≡ Err stop
+  pub outages : List Outage
+  pub each : length outages ≡ length parsed.requests
+  pub output : Appends before now (run_text parsed outages)
+
+-- the end of a run behind these lines, or behind these lines and one more
+abbrev pub EndsOnLine : Ended → List (List ℕ) → List ℕ → Option (List ℕ) → Option (List ℕ) → Type 0
+EndsOnLine ends.Limit lines line before now = Stopped limit lines line before now
+EndsOnLine (ends.AtFault number fault) lines line before now = Stopped (at_fault number fault) lines line before now × (fault ≢ faults.Memory)
+EndsOnLine ends.Write lines line before now = Broke lines before now ⊎ Broke (lines ++ line ∷ []) before now
+EndsOnLine ends.Memory lines line before now = Broke lines before now ⊎ Broke (lines ++ line ∷ []) before now
+
+-- one line was run
+abbrev pub RunsLine : {A : Type 0} → Result A Ended → Running → Config → List (List ℕ) → List ℕ → Option (List ℕ) → Option (List ℕ) → Type 0
+RunsLine (Ok x) running config lines line before now = Reached config (lines ++ line ∷ []) running before now
+RunsLine (Err end) running config lines line before now = EndsOnLine end lines line before now
+
+-- all lines were run and their replies written
+pub record RanAll (lines : List (List ℕ)) (before now : Option (List ℕ)) : Type 0 where
+  pub parsed : Parsed
+  pub config : Config
+  pub begun : parsed.config ≡ Some config
+  pub script : parse nothing_read lines ≡ Ok parsed
+  pub outages : List Outage
+  pub each : length outages ≡ length parsed.requests
+  pub output : Appends before now (run_text parsed outages)
+
+-- a line stops the script; the lines before it were run and their replies written
+pub record StoppedIn (stop : Stop) (lines : List (List ℕ)) (before now : Option (List ℕ)) : Type 0 where
+  pub script : parse nothing_read lines ≡ Err stop
+  pub done : ℕ
+  pub read : parse nothing_read (take done lines) ≡ Ok (parsed_front nothing_read lines)
+  pub outages : List Outage
+  pub each : length outages ≡ length (parsed_front nothing_read lines).requests
+  pub output : Appends before now (run_text (parsed_front nothing_read lines) outages)
+
+-- the first lines were run, and a front of their replies was written
+pub record BrokeIn (lines : List (List ℕ)) (before now : Option (List ℕ)) : Type 0 where
+  pub done : ℕ
+  pub broke : Broke (take done lines) before now
+
+abbrev pub EndsIn : Ended → List (List ℕ) → Option (List ℕ) → Option (List ℕ) → Type 0
+EndsIn ends.Limit lines before now = StoppedIn limit lines before now
+EndsIn (ends.AtFault number fault) lines before now = StoppedIn (at_fault number fault) lines before now × (fault ≢ faults.Memory)
+EndsIn ends.Write lines before now = BrokeIn lines before now
+EndsIn ends.Memory lines before now = BrokeIn lines before now
+
+abbrev pub RunsLines : {A : Type 0} → Result A Ended → List (List ℕ) → Option (List ℕ) → Option (List ℕ) → Type 0
+RunsLines (Ok x) lines before now = RanAll lines before now
+RunsLines (Err end) lines before now = EndsIn end lines before now
+
+-- a whole script was run and its replies written
+pub record RanScript (past : Bool) (lines : List (List ℕ)) (before now : Option (List ℕ)) : Type 0 where
+  pub parsed : Parsed
+  pub script : (parse nothing_read lines >>= ended past) ≡ Ok parsed
+  pub read : parse nothing_read lines ≡ Ok parsed
+  pub outages : List Outage
+  pub each : length outages ≡ length parsed.requests
+  pub output : Appends before now (run_text parsed outages)
+
+-- something ends the script early; the lines before it were run and their replies written
+pub record StoppedScript (stop : Stop) (past : Bool) (lines : List (List ℕ)) (before now : Option (List ℕ)) : Type 0 where
+  pub script : (parse nothing_read lines >>= ended past) ≡ Err stop
+  pub done : ℕ
+  pub read : parse nothing_read (take done lines) ≡ Ok (parsed_front nothing_read lines)
+  pub outages : List Outage
+  pub each : length outages ≡ length (parsed_front nothing_read lines).requests
+  pub output : Appends before now (run_text (parsed_front nothing_read lines) outages)
+
+abbrev pub RunsScript : {A : Type 0} → Result A Ended → Bool → List (List ℕ) → Option (List ℕ) → Option (List ℕ) → Type 0
+RunsScript (Ok x) past lines before now = RanScript past lines before now
+RunsScript (Err ends.Limit) past lines before now = StoppedScript limit past lines before now
+RunsScript (Err (ends.AtFault number fault)) past lines before now = StoppedScript (at_fault number fault) past lines before now × (fault ≢ faults.Memory)
+RunsScript (Err ends.Write) past lines before now = BrokeIn lines before now
+RunsScript (Err ends.Memory) past lines before now = BrokeIn lines before now
+
+-- between two lines of a loop: these lines were run, and those of the rest come next
+pub record InLines (config : Config) (all : List (List ℕ)) (rest : List (List ℕ)) (running : Running) (before now : Option (List ℕ)) : Type 0 where
+  pub done : List (List ℕ)
+  pub split : all ≡ done ++ rest
+  pub reached : Reached config done running before now
+
+-- an end that comes from a failed write has its cause
+abbrev pub EndHasCause : Ended → ℕ → ℕ → Type 0
+EndHasCause ends.Write before now = Rose before now
+EndHasCause ends.Memory before now = Unit {0}
+EndHasCause ends.Limit before now = Unit {0}
+EndHasCause (ends.AtFault number fault) before now = Unit {0}
+
+-- what a text was written as, or why it was not
+abbrev pub WritesText : {A : Type 0} → Result A Ended → Option (List ℕ) → Option (List ℕ) → List ℕ → Type 0
+WritesText (Ok x) before now text = Appends before now text
+WritesText (Err ends.Write) before now text = WritesFront before now text
+WritesText (Err ends.Memory) before now text = Appends before now []
+WritesText (Err ends.Limit) before now text = ⊥
+WritesText (Err (ends.AtFault number fault)) before now text = ⊥

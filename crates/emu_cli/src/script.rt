@@ -1,0 +1,158 @@
+//! The lines of a script, run one after another.
+ghost use Rattle.std.specs.Prelude.{◌≡◌, ◌≤◌, ℕ, List, [], ◌∷◌, ◌++◌, All, Option, IfErr, OnOk, if◌then◌else◌};
+ghost use Rattle.session_core.specs.declared.config.Config.{Config as Configuration};
+ghost use Rattle.emu_cli.specs.Cuts.{cut};
+ghost use Rattle.emu_cli.specs.Reached.{EndHasCause, Reached, RunsLine, RunsLines, RunsScript, WritesText};
+ghost use Rattle.script_lines.specs.Texts.{reply_text};
+ghost use Rattle.emu_cli.specs.Runs.{config_reply};
+ghost use Rattle.emu_cli.specs.Scripts.{nothing_read, parse_line, with_read};
+
+use crate::cut::next_line;
+use crate::ended::Ended;
+use crate::output::write_reply;
+use crate::running::{Running, begin, read_next};
+use emu_io::Sink;
+use emu_names::SessionNo;
+use script_lines::{LineFault, LineSet, ReadLine};
+use session_core::{Answer, Command, Config, Reply};
+use std::alloc::Global;
+
+/// Runs one line behind that of the configuration, and writes its reply.
+fn one_line<K: Sink>(
+    alloc: Global,
+    running: &mut Running,
+    line: &[u8],
+    out: &mut K,
+) -> Result<(), Ended>
+    requires { All (λ n. n ≤ running.old.number) running.old.earlier }
+    ensures rises { OnOk result (All (λ n. n ≤ running.new.number) running.new.earlier) }
+    ensures ran { (config : Configuration) (lines : List (List ℕ)) (before : Option (List ℕ)) →
+        Reached config lines running.old before (K.written out.old) →
+        RunsLine result running.new config lines line.now before (K.written out.new) }
+    ensures cause { IfErr result (λ end. EndHasCause end (K.faults out.old) (K.faults out.new)) }
+    ensures later { K.faults out.old ≤ K.faults out.new }
+{
+    match read_next(alloc, running.number, false, &running.earlier, line) {
+        Err(end) => Err(end),
+        Ok(ReadLine::Blank) => {
+            running.number += 1;
+            Ok(())
+        }
+        Ok(ReadLine::Config(_)) => unreachable!(),
+        Ok(ReadLine::Request(request)) => match running.take(request) {
+            Ok(reply) => write_reply(alloc, out, &reply),
+            Err(_) => Err(Ended::Memory),
+        },
+    }
+}
+
+/// Runs the lines behind that of the configuration, one after another.
+fn run_rest<K: Sink>(
+    alloc: Global,
+    running: &mut Running,
+    past: bool,
+    bytes: &[u8],
+    out: &mut K,
+) -> Result<(), Ended>
+    requires { All (λ n. n ≤ running.old.number) running.old.earlier }
+    ensures ran { (config : Configuration) (lines : List (List ℕ)) (before : Option (List ℕ)) →
+        Reached config lines running.old before (K.written out.old) →
+        RunsLines result (lines ++ cut past bytes.now) before (K.written out.new) }
+    ensures cause { IfErr result (λ end. EndHasCause end (K.faults out.old) (K.faults out.new)) }
+    ensures later { K.faults out.old ≤ K.faults out.new }
+{
+    let mut rest = bytes;
+    'lines: loop {
+        match next_line(past, rest) {
+            None => return Ok(()),
+            Some((line, after)) => {
+                match one_line(alloc, running, line, out) {
+                    Ok(()) => {}
+                    Err(end) => return Err(end),
+                }
+                rest = after;
+            }
+        }
+    }
+}
+
+/// Writes the reply to the line of the configuration.
+fn write_config<K: Sink>(alloc: Global, out: &mut K) -> Result<(), Ended>
+    ensures output { WritesText result (K.written out.old) (K.written out.new) (reply_text config_reply) }
+    ensures cause { IfErr result (λ end. EndHasCause end (K.faults out.old) (K.faults out.new)) }
+    ensures later { K.faults out.old ≤ K.faults out.new }
+{
+    let reply = Reply {
+        line: 1,
+        session: SessionNo(0),
+        n: Some(0),
+        answer: Answer::Done(Command::Config),
+    };
+    write_reply(alloc, out, &reply)
+}
+
+/// Runs a script: the line of its configuration, and the lines behind it.
+pub(crate) fn run_script<K: Sink>(
+    alloc: Global,
+    past: bool,
+    bytes: &[u8],
+    out: &mut K,
+) -> Result<(), Ended>
+    ensures ran { RunsScript result past (cut past bytes.now) (K.written out.old) (K.written out.new) }
+    ensures cause { IfErr result (λ end. EndHasCause end (K.faults out.old) (K.faults out.new)) }
+    ensures later { K.faults out.old ≤ K.faults out.new }
+{
+    let (line, rest) = match next_line(past, bytes) {
+        None => return Err(empty(past)),
+        Some(next) => next,
+    };
+    let config = match read_next(alloc, 0, true, &LineSet::new(alloc), line) {
+        Err(end) => return Err(end),
+        Ok(ReadLine::Config(config)) => config,
+        Ok(ReadLine::Blank) => unreachable!(),
+        Ok(ReadLine::Request(_)) => unreachable!(),
+    };
+    run_configured(alloc, config, past, rest, out)
+}
+
+/// Runs the lines behind that of the configuration, which was read.
+fn run_configured<K: Sink>(
+    alloc: Global,
+    config: Config,
+    past: bool,
+    rest: &[u8],
+    out: &mut K,
+) -> Result<(), Ended>
+    ensures ran { (line : List ℕ) → parse_line nothing_read line ≡ Ok (with_read nothing_read (ReadLine.Config config)) →
+        RunsScript result past (line ∷ cut past rest.now) (K.written out.old) (K.written out.new) }
+    ensures cause { IfErr result (λ end. EndHasCause end (K.faults out.old) (K.faults out.new)) }
+    ensures later { K.faults out.old ≤ K.faults out.new }
+{
+    let mut running = match begin(alloc, config) {
+        Ok(running) => running,
+        Err(_) => return Err(Ended::Memory),
+    };
+    match write_config(alloc, out) {
+        Ok(()) => {}
+        Err(end) => return Err(end),
+    }
+    match run_rest(alloc, &mut running, past, rest, out) {
+        Ok(()) => {}
+        Err(end) => return Err(end),
+    }
+    if past {
+        return Err(Ended::Limit);
+    }
+    Ok(())
+}
+
+/// What ends a script without a line.
+fn empty(past: bool) -> Ended
+    ensures { result ≡ (if past then Ended.Limit else Ended.AtFault 1 LineFault.ConfigPlace) }
+{
+    if past {
+        Ended::Limit
+    } else {
+        Ended::AtFault(1, LineFault::ConfigPlace)
+    }
+}

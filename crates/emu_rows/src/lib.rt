@@ -1,0 +1,11 @@
+//! Scripts run by the whole program, with the output that is known from outside.
+#![tactic(auto)]
+
+#[cfg(test)]
+mod limits;
+#[cfg(test)]
+mod outside;
+#[cfg(test)]
+mod scripts;
+#[cfg(test)]
+mod worked;

@@ -1,0 +1,84 @@
+//! The limits of a line, of the number of lines and of a script, each at the limit and one past it.
+use crate::scripts::CONFIG;
+use emu_cli::emu;
+use emu_io::{Failed, ListSink, Source};
+use std::io::Read;
+use std::test::Fail;
+
+const WITHIN: &[u8] = b"{\"line\":1,\"n\":0,\"ok\":\"config\"}\n";
+
+const OVER: &[u8] =
+    b"{\"line\":1,\"n\":0,\"ok\":\"config\"}\n{\"cause\":\"Limit\",\"status\":9}\n";
+
+/// A source that makes its bytes as it is read: the line of the configuration, and then lines of
+/// spaces.
+#[derive(Drop)]
+struct Blanks {
+    /// What is left of the configuration.
+    head: &'static [u8],
+    /// How many bytes follow.
+    left: u64,
+    /// How many spaces stand in each line.
+    width: u64,
+    /// How many spaces of the line were made.
+    column: u64,
+}
+
+impl Source for Blanks {
+    ghost use Rattle.std.specs.Prelude.{None};
+
+    ghost left = { λ _. None };
+
+    ghost faults = { λ _. 0 };
+
+    fn read(&mut self, buf: &mut [u8]) -> Result<usize, Failed> {
+        if let Ok(count) = self.head.read(buf)
+            && count > 0
+        {
+            return Ok(count);
+        }
+        for place in buf.iter_mut() {
+            if self.column < self.width {
+                *place = b' ';
+                self.column = self.column.saturating_add(1);
+            } else {
+                *place = b'\n';
+                self.column = 0;
+            }
+        }
+        let room = buf.len() as u64;
+        let count = if self.left < room { self.left } else { room };
+        self.left -= count;
+        Ok(count as usize)
+    }
+}
+
+#[test]
+fn limits_of_scripts(rt: HostRuntime) -> Result<(), Fail> {
+    let head = CONFIG.len() as u64;
+    let script = 268_435_456u64;
+    let rows = [
+        (9_999, script, 0),
+        (9_999, script + 1, 9),
+        (0, head + 200_000, 0),
+        (0, head + 200_001, 9),
+        (16_777_216, head + 1 + 16_777_216, 0),
+        (16_777_217, head + 1 + 16_777_217, 9),
+    ];
+    for &(width, len, status) in &rows {
+        let mut words = Vec::new(rt.alloc());
+        words.push(String::from_str(rt.alloc(), "run")?)?;
+        let mut source = Blanks {
+            head: CONFIG.as_bytes(),
+            left: len.saturating_sub(head),
+            width,
+            column: width,
+        };
+        let mut sink = ListSink::new(rt.alloc(), Vec::new(rt.alloc()));
+        let ended = emu(&rt, rt.alloc(), words.as_slice(), &mut source, &mut sink);
+        assert_eq!(rt; ended, status, "width {width}, {len} bytes");
+        let want = if status == 0 { WITHIN } else { OVER };
+        assert_eq!(rt; sink.bytes(), want);
+    }
+    Ok(())
+}

@@ -1,0 +1,52 @@
+//! Lines of scripts, and runs of the program over sources and sinks in memory.
+use emu_cli::emu;
+use emu_io::{ListSink, ListSource};
+use std::alloc::{AllocError, Global};
+use std::sync::Wait;
+use std::thread::Threads;
+
+/// A configuration with the SEGMENT level Phonetic, which has one attribute of its name.
+pub const CONFIG: &str = "{\"do\":\"config\",\"config\":{\"name\":\"t\",\"levelDefinitions\":[{\"name\":\"Phonetic\",\"type\":\"SEGMENT\",\"attributeDefinitions\":[{\"name\":\"Phonetic\",\"type\":\"STRING\"}]}],\"linkDefinitions\":[]}}";
+
+/// The bundle b1 at 20000 samples a second: V from 3749 to 5138, m from 5139 to 6803.
+pub const BUNDLE: &str = "{\"s\":1,\"do\":\"add_bundle\",\"session\":\"s1\",\"bundle\":\"b1\",\"annot\":{\"name\":\"b1\",\"annotates\":\"b1.wav\",\"sampleRate\":20000,\"levels\":[{\"name\":\"Phonetic\",\"type\":\"SEGMENT\",\"items\":[{\"id\":1,\"sampleStart\":3749,\"sampleDur\":1389,\"labels\":[{\"name\":\"Phonetic\",\"value\":\"V\"}]},{\"id\":2,\"sampleStart\":5139,\"sampleDur\":1664,\"labels\":[{\"name\":\"Phonetic\",\"value\":\"m\"}]}]}],\"links\":[]}}";
+
+/// The same as the bundle b2, by session 2.
+pub const OTHER_BUNDLE: &str = "{\"s\":2,\"do\":\"add_bundle\",\"session\":\"s1\",\"bundle\":\"b2\",\"annot\":{\"name\":\"b1\",\"annotates\":\"b1.wav\",\"sampleRate\":20000,\"levels\":[{\"name\":\"Phonetic\",\"type\":\"SEGMENT\",\"items\":[{\"id\":1,\"sampleStart\":3749,\"sampleDur\":1389,\"labels\":[{\"name\":\"Phonetic\",\"value\":\"V\"}]},{\"id\":2,\"sampleStart\":5139,\"sampleDur\":1664,\"labels\":[{\"name\":\"Phonetic\",\"value\":\"m\"}]}]}],\"links\":[]}}";
+
+/// What a run answered and wrote.
+#[derive(Drop)]
+pub struct Ran {
+    pub status: u8,
+    pub output: Vec<u8>,
+}
+
+/// The lines of a script, each with its end.
+pub fn joined(alloc: Global, lines: &[&str], end: &str) -> Result<Vec<u8>, AllocError> {
+    let mut bytes = Vec::new(alloc);
+    for line in lines {
+        bytes.extend_from_slice(line.as_bytes())?;
+        bytes.extend_from_slice(end.as_bytes())?;
+    }
+    Ok(bytes)
+}
+
+/// Runs the words over a script, with a source and a sink that fail on these calls, counted from 1.
+pub fn run<R: Threads + Wait + Sync>(
+    rt: &R,
+    alloc: Global,
+    words: &[&str],
+    script: Vec<u8>,
+    bad_reads: &[u64],
+    bad_writes: &[u64],
+) -> Result<Ran, AllocError> {
+    let mut all = Vec::new(alloc);
+    for word in words {
+        all.push(String::from_str(alloc, word)?)?;
+    }
+    let mut source = ListSource::new(script, Vec::from_slice(alloc, bad_reads)?);
+    let mut sink = ListSink::new(alloc, Vec::from_slice(alloc, bad_writes)?);
+    let status = emu(rt, alloc, all.as_slice(), &mut source, &mut sink);
+    let output = Vec::from_slice(alloc, sink.bytes())?;
+    Ok(Ran { status, output })
+}

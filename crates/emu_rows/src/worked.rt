@@ -1,0 +1,253 @@
+//! Worked runs: whole scripts and the exact output of each.
+use crate::scripts::{BUNDLE, CONFIG, OTHER_BUNDLE, Ran, joined, run};
+use std::test::Fail;
+
+/// A script, line by line, and how its run ends and what it writes.
+struct Row {
+    name: &'static str,
+    lines: &'static [&'static str],
+    status: u8,
+    output: &'static [&'static str],
+}
+
+static ROWS: [Row; 16] = [
+    Row {
+        name: "one segment",
+        lines: &[
+            CONFIG,
+            BUNDLE,
+            "{\"s\":1,\"do\":\"query\",\"eql\":\"Phonetic == m\"}",
+        ],
+        status: 0,
+        output: &[
+            "{\"line\":1,\"n\":0,\"ok\":\"config\"}",
+            "{\"line\":2,\"n\":1,\"ok\":\"add_bundle\"}",
+            "{\"line\":3,\"n\":1,\"segments\":[{\"attribute\":\"Phonetic\",\"bundle\":\"b1\",\"end\":340175,\"endItem\":2,\"endPos\":1,\"labels\":\"m\",\"level\":\"Phonetic\",\"sampleEnd\":6803,\"sampleRate\":20000,\"sampleStart\":5139,\"session\":\"s1\",\"start\":256925,\"startItem\":2,\"startPos\":1}]}",
+        ],
+    },
+    Row {
+        name: "no segment",
+        lines: &[
+            CONFIG,
+            BUNDLE,
+            "{\"s\":1,\"do\":\"query\",\"eql\":\"Phonetic == x\"}",
+        ],
+        status: 0,
+        output: &[
+            "{\"line\":1,\"n\":0,\"ok\":\"config\"}",
+            "{\"line\":2,\"n\":1,\"ok\":\"add_bundle\"}",
+            "{\"line\":3,\"n\":1,\"segments\":[]}",
+        ],
+    },
+    Row {
+        name: "no bundle",
+        lines: &[
+            CONFIG,
+            "{\"s\":1,\"do\":\"query\",\"eql\":\"Phonetic == m\"}",
+        ],
+        status: 0,
+        output: &[
+            "{\"line\":1,\"n\":0,\"ok\":\"config\"}",
+            "{\"line\":2,\"n\":0,\"segments\":[]}",
+        ],
+    },
+    Row {
+        name: "unknown name",
+        lines: &[
+            CONFIG,
+            BUNDLE,
+            "{\"s\":1,\"do\":\"query\",\"eql\":\"Word == w\"}",
+        ],
+        status: 0,
+        output: &[
+            "{\"line\":1,\"n\":0,\"ok\":\"config\"}",
+            "{\"line\":2,\"n\":1,\"ok\":\"add_bundle\"}",
+            "{\"line\":3,\"n\":1,\"refused\":{\"name\":\"Word\",\"rule\":\"UnknownName\"}}",
+        ],
+    },
+    Row {
+        name: "no line",
+        lines: &[
+        ],
+        status: 3,
+        output: &[
+            "{\"cause\":\"ConfigPlace\",\"line\":1,\"status\":3}",
+        ],
+    },
+    Row {
+        name: "a first blank line",
+        lines: &[
+            "",
+            CONFIG,
+        ],
+        status: 3,
+        output: &[
+            "{\"cause\":\"ConfigPlace\",\"line\":1,\"status\":3}",
+        ],
+    },
+    Row {
+        name: "two configurations",
+        lines: &[
+            CONFIG,
+            CONFIG,
+        ],
+        status: 3,
+        output: &[
+            "{\"line\":1,\"n\":0,\"ok\":\"config\"}",
+            "{\"cause\":\"ConfigPlace\",\"line\":2,\"status\":3}",
+        ],
+    },
+    Row {
+        name: "blank lines",
+        lines: &[
+            CONFIG,
+            "",
+            BUNDLE,
+            " \t\r",
+            "{\"s\":1,\"do\":\"query\",\"eql\":\"Phonetic == m\"}",
+        ],
+        status: 0,
+        output: &[
+            "{\"line\":1,\"n\":0,\"ok\":\"config\"}",
+            "{\"line\":3,\"n\":1,\"ok\":\"add_bundle\"}",
+            "{\"line\":5,\"n\":1,\"segments\":[{\"attribute\":\"Phonetic\",\"bundle\":\"b1\",\"end\":340175,\"endItem\":2,\"endPos\":1,\"labels\":\"m\",\"level\":\"Phonetic\",\"sampleEnd\":6803,\"sampleRate\":20000,\"sampleStart\":5139,\"session\":\"s1\",\"start\":256925,\"startItem\":2,\"startPos\":1}]}",
+        ],
+    },
+    Row {
+        name: "a bundle twice",
+        lines: &[
+            CONFIG,
+            BUNDLE,
+            BUNDLE,
+            "{\"s\":1,\"do\":\"query\",\"eql\":\"Phonetic == V\"}",
+        ],
+        status: 0,
+        output: &[
+            "{\"line\":1,\"n\":0,\"ok\":\"config\"}",
+            "{\"line\":2,\"n\":1,\"ok\":\"add_bundle\"}",
+            "{\"line\":3,\"n\":1,\"refused\":{\"rule\":\"BundleTaken\"}}",
+            "{\"line\":4,\"n\":1,\"segments\":[{\"attribute\":\"Phonetic\",\"bundle\":\"b1\",\"end\":256925,\"endItem\":1,\"endPos\":0,\"labels\":\"V\",\"level\":\"Phonetic\",\"sampleEnd\":5138,\"sampleRate\":20000,\"sampleStart\":3749,\"session\":\"s1\",\"start\":187425,\"startItem\":1,\"startPos\":0}]}",
+        ],
+    },
+    Row {
+        name: "no JSON",
+        lines: &[
+            CONFIG,
+            BUNDLE,
+            "{",
+            "{\"s\":1,\"do\":\"query\",\"eql\":\"Phonetic == m\"}",
+        ],
+        status: 3,
+        output: &[
+            "{\"line\":1,\"n\":0,\"ok\":\"config\"}",
+            "{\"line\":2,\"n\":1,\"ok\":\"add_bundle\"}",
+            "{\"cause\":\"NotJson\",\"line\":3,\"status\":3}",
+        ],
+    },
+    Row {
+        name: "no such command",
+        lines: &[
+            CONFIG,
+            BUNDLE,
+            "{\"s\":1,\"do\":\"fly\"}",
+        ],
+        status: 3,
+        output: &[
+            "{\"line\":1,\"n\":0,\"ok\":\"config\"}",
+            "{\"line\":2,\"n\":1,\"ok\":\"add_bundle\"}",
+            "{\"cause\":\"NoSuchCommand\",\"line\":3,\"status\":3}",
+        ],
+    },
+    Row {
+        name: "after no line",
+        lines: &[
+            CONFIG,
+            BUNDLE,
+            "{\"s\":1,\"do\":\"after\",\"line\":9}",
+        ],
+        status: 3,
+        output: &[
+            "{\"line\":1,\"n\":0,\"ok\":\"config\"}",
+            "{\"line\":2,\"n\":1,\"ok\":\"add_bundle\"}",
+            "{\"cause\":\"BadAfter\",\"line\":3,\"status\":3}",
+        ],
+    },
+    Row {
+        name: "after a line",
+        lines: &[
+            CONFIG,
+            BUNDLE,
+            "{\"s\":2,\"do\":\"after\",\"line\":2}",
+            "{\"s\":1,\"do\":\"query\",\"eql\":\"Phonetic == m\"}",
+        ],
+        status: 0,
+        output: &[
+            "{\"line\":1,\"n\":0,\"ok\":\"config\"}",
+            "{\"line\":2,\"n\":1,\"ok\":\"add_bundle\"}",
+            "{\"line\":3,\"n\":1,\"ok\":\"after\"}",
+            "{\"line\":4,\"n\":1,\"segments\":[{\"attribute\":\"Phonetic\",\"bundle\":\"b1\",\"end\":340175,\"endItem\":2,\"endPos\":1,\"labels\":\"m\",\"level\":\"Phonetic\",\"sampleEnd\":6803,\"sampleRate\":20000,\"sampleStart\":5139,\"session\":\"s1\",\"start\":256925,\"startItem\":2,\"startPos\":1}]}",
+        ],
+    },
+    Row {
+        name: "session 16",
+        lines: &[
+            CONFIG,
+            "{\"s\":16,\"do\":\"finish\"}",
+        ],
+        status: 0,
+        output: &[
+            "{\"line\":1,\"n\":0,\"ok\":\"config\"}",
+            "{\"line\":2,\"refused\":{\"rule\":\"NoLook\"}}",
+        ],
+    },
+    Row {
+        name: "session 17",
+        lines: &[
+            CONFIG,
+            "{\"s\":17,\"do\":\"finish\"}",
+        ],
+        status: 3,
+        output: &[
+            "{\"line\":1,\"n\":0,\"ok\":\"config\"}",
+            "{\"cause\":\"Shape\",\"line\":2,\"path\":\"$.s\",\"status\":3,\"wanted\":\"session\"}",
+        ],
+    },
+    Row {
+        name: "a look holds its state",
+        lines: &[
+            CONFIG,
+            BUNDLE,
+            "{\"s\":1,\"do\":\"look\",\"eql\":\"Phonetic == m\"}",
+            OTHER_BUNDLE,
+            "{\"s\":1,\"do\":\"finish\"}",
+            "{\"s\":1,\"do\":\"query\",\"eql\":\"Phonetic == m\"}",
+            "{\"s\":1,\"do\":\"finish\"}",
+            "{\"s\":1,\"do\":\"look\",\"eql\":\"Phonetic == V\"}",
+            "{\"s\":1,\"do\":\"look\",\"eql\":\"Phonetic == V\"}",
+        ],
+        status: 0,
+        output: &[
+            "{\"line\":1,\"n\":0,\"ok\":\"config\"}",
+            "{\"line\":2,\"n\":1,\"ok\":\"add_bundle\"}",
+            "{\"line\":3,\"n\":1,\"ok\":\"look\"}",
+            "{\"line\":4,\"n\":2,\"ok\":\"add_bundle\"}",
+            "{\"line\":5,\"n\":1,\"segments\":[{\"attribute\":\"Phonetic\",\"bundle\":\"b1\",\"end\":340175,\"endItem\":2,\"endPos\":1,\"labels\":\"m\",\"level\":\"Phonetic\",\"sampleEnd\":6803,\"sampleRate\":20000,\"sampleStart\":5139,\"session\":\"s1\",\"start\":256925,\"startItem\":2,\"startPos\":1}]}",
+            "{\"line\":6,\"n\":2,\"segments\":[{\"attribute\":\"Phonetic\",\"bundle\":\"b1\",\"end\":340175,\"endItem\":2,\"endPos\":1,\"labels\":\"m\",\"level\":\"Phonetic\",\"sampleEnd\":6803,\"sampleRate\":20000,\"sampleStart\":5139,\"session\":\"s1\",\"start\":256925,\"startItem\":2,\"startPos\":1},{\"attribute\":\"Phonetic\",\"bundle\":\"b2\",\"end\":340175,\"endItem\":2,\"endPos\":1,\"labels\":\"m\",\"level\":\"Phonetic\",\"sampleEnd\":6803,\"sampleRate\":20000,\"sampleStart\":5139,\"session\":\"s1\",\"start\":256925,\"startItem\":2,\"startPos\":1}]}",
+            "{\"line\":7,\"refused\":{\"rule\":\"NoLook\"}}",
+            "{\"line\":8,\"n\":2,\"ok\":\"look\"}",
+            "{\"line\":9,\"refused\":{\"rule\":\"LookOpen\"}}",
+        ],
+    },
+];
+
+#[test]
+fn rows_are_answered(rt: HostRuntime) -> Result<(), Fail> {
+    for row in &ROWS {
+        let script = joined(rt.alloc(), row.lines, "\n")?;
+        let want = joined(rt.alloc(), row.output, "\n")?;
+        let ran = run(&rt, rt.alloc(), &["run"], script, &[], &[])?;
+        assert_eq!(rt; ran.status, row.status, "{}", row.name);
+        assert_eq!(rt; ran.output.as_slice(), want.as_slice(), "{}", row.name);
+    }
+    Ok(())
+}

@@ -1,0 +1,239 @@
+-- What is known of a line that was read: the kind that was wanted, and a request that the core takes.
+use Rattle.std.proofs.Common.{◌≡◌, ℕ, ◌<◌, ◌≤◌, Bool, true, false, cond, List, Option, Some, None, Result, Ok, Err, refl, sym, ◌∙◌, ap, subst, arith, nat_eq, nat_le, codes}
+use Rattle.std.proofs.lemmas.Bool.{leb-true}
+use Rattle.std.specs.List.{list_any}
+use Rattle.std.specs.Prelude.{ok_or, option_and_then}
+use Rattle.serde_json.specs.Data.{Data}
+use Rattle.json_view.specs.declared.faults.Shape.{Shape}
+use Rattle.json_view.specs.declared.wants.Wanted.TheVariants as wanted
+use Rattle.json_view.specs.Seen.{Seen, seen}
+use Rattle.json_view.specs.Paths.{root_path}
+use Rattle.json_view.specs.Parts.{shape, member_of, whole_at, whole_in, at_most}
+use Rattle.json_view.specs.Steps.{◌>>=◌}
+use Rattle.emu_names.specs.declared.kinds.SessionNo.{SessionNo}
+use Rattle.session_core.specs.declared.line.Command.{Command}
+use Rattle.session_core.specs.declared.line.Command.TheVariants as commands
+use Rattle.session_core.specs.declared.line.Request.{Request}
+use Rattle.session_core.specs.declared.line.Request.TheVariants as requests
+use Rattle.session_core.specs.declared.line.Line.{Line}
+use Rattle.session_core.specs.declared.annot.Annot.{Annot}
+use Rattle.session_core.specs.declared.config.Config.{Config}
+use Rattle.session_core.specs.declared.edit.Edit.TheVariants as edits
+use Rattle.session_core.specs.declared.line.Ask.{Ask}
+use Rattle.emu_names.specs.declared.names.BundleKey.{BundleKey}
+use Rattle.session_core.specs.Configs.{same_text}
+use Rattle.session_core.specs.Steps.{session_places}
+use Rattle.session_core.specs.Worlds.{is_command_of}
+use Rattle.script_lines.specs.declared.faults.LineFault.{LineFault}
+use Rattle.script_lines.specs.declared.faults.LineFault.TheVariants as faults
+use Rattle.script_lines.specs.declared.faults.ReadLine.{ReadLine}
+use Rattle.script_lines.specs.declared.faults.ReadLine.TheVariants as reads
+use Rattle.script_lines.specs.Faults.{form}
+use Rattle.script_lines.specs.Forms.{or_shape, name_at, whole_member, id_limit}
+use Rattle.script_lines.specs.Thin.{thin_config, thin_annot}
+use Rattle.script_lines.specs.Lines.{request_of, blank_line, json_line, value_line, placed_line, config_line, line_in, if_command, command_named, session_at, session_in, if_session, members_of, bundle_request, query_request, look_request, after_request, if_earlier, ask_in, is_blank, json_of, word_of_line}
+use Rattle.script_lines.specs.Known.{Known, IsRequestLine, NamesOneOf}
+
+abbrev ok_shape : Request → Result Request Shape
+ok_shape x = Ok x
+
+abbrev ok_line : Request → Result Request LineFault
+ok_line x = Ok x
+
+abbrev ok_read : ReadLine → Result ReadLine LineFault
+ok_read x = Ok x
+
+line_ok_is : {x y : Request} → ok_line x ≡ ok_line y → x ≡ y
+line_ok_is h = cc
+
+read_is : {x y : ReadLine} → ok_read x ≡ ok_read y → x ≡ y
+read_is h = cc
+
+form_ok : {A : Type 0} (r : Result A Shape) (x : A) → form r ≡ Ok x → r ≡ Ok x
+form_ok (Ok y) x h = cc
+form_ok (Err s) x h = absurd (cc)
+
+or_shape_ok : {A : Type 0} (s : Shape) (r : Result A Shape) (x : A) → or_shape s r ≡ Ok x → r ≡ Ok x
+or_shape_ok s (Ok y) x h = h
+or_shape_ok s (Err other) x h = absurd (cc)
+
+ok_or_ok : {A E : Type 0} (o : Option A) (e : E) (x : A) → ok_or o e ≡ Ok x → o ≡ Some x
+ok_or_ok (Some y) e x h = cc
+ok_or_ok None e x h = absurd (cc)
+
+and_then_some : {A B : Type 0} (f : A → Option B) (o : Option A) (y : B) → option_and_then f o ≡ Some y → (x : A) × (f x ≡ Some y)
+and_then_some f (Some x) y h = (x, h)
+and_then_some f None y h = absurd (cc)
+
+ok_is : {x y : Request} → ok_shape x ≡ ok_shape y → x ≡ y
+ok_is h = cc
+
+-- sessions
+
+kept_most : (most m n : ℕ) (b : Bool) → (b ≡ true → m ≤ most) → cond b (Some m) None ≡ Some n → n ≤ most
+kept_most most m n true within h = let same : m ≡ n = cc in let low : m ≤ most = within refl in omega arith
+kept_most most m n false within h = absurd (cc)
+
+whole_most : (most : ℕ) (s : Seen) (n : ℕ) → whole_at most s ≡ Ok n → n ≤ most
+unfolding whole_at
+whole_most most s n h =
+    let found = and_then_some (at_most most) (whole_in s.value) n (ok_or_ok _ (shape s.path wanted.Whole) n h) in
+    kept_most most found.0 n (nat_le found.0 most) (leb-true found.0 most) found.1
+
+number_in : Result SessionNo Shape → ℕ
+number_in (Ok session) = session.0
+number_in (Err e) = 0
+
+session_same : (s : Seen) (b : Bool) (n : ℕ) (session : SessionNo) → cond b (Ok (record { 0 = n })) (Err (shape s.path wanted.Session)) ≡ Ok session → n ≡ session.0
+unfolding number_in
+session_same s true n session h = ap number_in h
+session_same s false n session h = absurd (cc)
+
+-- the session of a member that was read
+
+within_place : (at : Seen) (whole : Result ℕ Shape) (session : SessionNo) → ((n : ℕ) → whole ≡ Ok n → n ≤ 16) → (whole >>= λ n. if_session at (Some n)) ≡ Ok session → session.0 < session_places
+within_place at (Ok n) session most h =
+    let low : n ≤ 16 = most n refl in
+    let same : n ≡ session.0 = session_same at (nat_le 1 n) n session h in
+    omega arith
+within_place at (Err e) session most h = absurd (cc)
+
+member_place : (member : Result Seen Shape) (session : SessionNo) → (member >>= session_in) ≡ Ok session → session.0 < session_places
+unfolding session_in
+member_place (Ok at) session h = within_place at (whole_at 16 at) session (whole_most 16 at) (or_shape_ok (shape at.path wanted.Session) (whole_at 16 at >>= λ n. if_session at (Some n)) session h)
+member_place (Err e) session h = absurd (cc)
+
+session_place : (s : Seen) (session : SessionNo) → session_at s ≡ Ok session → session.0 < session_places
+unfolding session_at
+session_place s session h = member_place (member_of (codes "s") wanted.Session s) session h
+
+-- members
+
+record IsMade (word : Command) (earlier : List ℕ) (r : Request) : Type 0 where
+  command : is_command_of word r ≡ true
+  names : NamesOneOf earlier r
+
+made_of : (word : Command) (earlier : List ℕ) (x y : Request) → ok_shape x ≡ ok_shape y → IsMade word earlier x → IsMade word earlier y
+made_of word earlier x y h made = let same : x ≡ y = ok_is h in subst (λ q. IsMade word earlier q) same made
+
+annot_made : (earlier : List ℕ) (key : BundleKey) (annot : Result Annot Shape) (r : Request) → (annot >>= λ a. Ok (requests.Edit (edits.AddBundle key a))) ≡ Ok r → IsMade commands.AddBundle earlier r
+annot_made earlier key (Ok a) r h = made_of commands.AddBundle earlier (requests.Edit (edits.AddBundle key a)) r h (record { command = refl; names = tt })
+annot_made earlier key (Err e) r h = absurd (cc)
+
+member_made : (earlier : List ℕ) (key : BundleKey) (member : Result Seen Shape) (r : Request) → (member >>= λ m. thin_annot m >>= λ a. Ok (requests.Edit (edits.AddBundle key a))) ≡ Ok r → IsMade commands.AddBundle earlier r
+member_made earlier key (Ok m) r h = annot_made earlier key (thin_annot m) r h
+member_made earlier key (Err e) r h = absurd (cc)
+
+abbrev key_of : List ℕ → List ℕ → BundleKey
+key_of session bundle = record { session = session; bundle = bundle }
+
+bundle_name_made : (earlier session : List ℕ) (s : Seen) (bundle : Result (List ℕ) Shape) (r : Request) → (bundle >>= λ b. member_of (codes "annot") wanted.Object s >>= λ m. thin_annot m >>= λ a. Ok (requests.Edit (edits.AddBundle (key_of session b) a))) ≡ Ok r → IsMade commands.AddBundle earlier r
+bundle_name_made earlier session s (Ok b) r h = member_made earlier (key_of session b) (member_of (codes "annot") wanted.Object s) r h
+bundle_name_made earlier session s (Err e) r h = absurd (cc)
+
+session_name_made : (earlier : List ℕ) (s : Seen) (session : Result (List ℕ) Shape) (r : Request) → (session >>= λ n. name_at (codes "bundle") s >>= λ b. member_of (codes "annot") wanted.Object s >>= λ m. thin_annot m >>= λ a. Ok (requests.Edit (edits.AddBundle (key_of n b) a))) ≡ Ok r → IsMade commands.AddBundle earlier r
+session_name_made earlier s (Ok n) r h = bundle_name_made earlier n s (name_at (codes "bundle") s) r h
+session_name_made earlier s (Err e) r h = absurd (cc)
+
+bundle_made : (earlier : List ℕ) (s : Seen) (r : Request) → bundle_request s ≡ Ok r → IsMade commands.AddBundle earlier r
+unfolding bundle_request
+bundle_made earlier s r h = session_name_made earlier s (name_at (codes "session") s) r h
+
+asked_made : (earlier : List ℕ) (ask : Result Ask Shape) (r : Request) → (ask >>= λ a. Ok (requests.Query a)) ≡ Ok r → IsMade commands.Query earlier r
+asked_made earlier (Ok a) r h = made_of commands.Query earlier (requests.Query a) r h (record { command = refl; names = tt })
+asked_made earlier (Err e) r h = absurd (cc)
+
+query_made : (earlier : List ℕ) (s : Seen) (r : Request) → query_request s ≡ Ok r → IsMade commands.Query earlier r
+unfolding query_request
+query_made earlier s r h = asked_made earlier (ask_in s) r h
+
+looked_made : (earlier : List ℕ) (ask : Result Ask Shape) (r : Request) → (ask >>= λ a. Ok (requests.Look a)) ≡ Ok r → IsMade commands.Look earlier r
+looked_made earlier (Ok a) r h = made_of commands.Look earlier (requests.Look a) r h (record { command = refl; names = tt })
+looked_made earlier (Err e) r h = absurd (cc)
+
+look_made : (earlier : List ℕ) (s : Seen) (r : Request) → look_request s ≡ Ok r → IsMade commands.Look earlier r
+unfolding look_request
+look_made earlier s r h = looked_made earlier (ask_in s) r h
+
+earlier_made : (earlier : List ℕ) (line : ℕ) (b : Bool) (r : Request) → list_any (nat_eq line) earlier ≡ b → cond b (Ok (requests.After line)) (Err faults.BadAfter) ≡ ok_line r → IsMade commands.After earlier r
+earlier_made earlier line true r any h = let same : requests.After line ≡ r = line_ok_is h in subst (λ q. IsMade commands.After earlier q) same (record { command = refl; names = any })
+earlier_made earlier line false r any h = absurd (cc)
+
+line_made : (earlier : List ℕ) (line : Result ℕ LineFault) (r : Request) → (line >>= if_earlier earlier) ≡ Ok r → IsMade commands.After earlier r
+line_made earlier (Ok line) r h = earlier_made earlier line (list_any (nat_eq line) earlier) r refl h
+line_made earlier (Err e) r h = absurd (cc)
+
+after_made : (earlier : List ℕ) (s : Seen) (r : Request) → after_request earlier s ≡ Ok r → IsMade commands.After earlier r
+unfolding after_request
+after_made earlier s r h = line_made earlier (form (whole_member (codes "line") id_limit s)) r h
+
+members_made : (command : Command) (earlier : List ℕ) (s : Seen) (r : Request) → members_of command earlier s ≡ Ok r → IsMade command earlier r
+members_made commands.AddBundle earlier s r h = bundle_made earlier s r (form_ok (bundle_request s) r h)
+members_made commands.Query earlier s r h = query_made earlier s r (form_ok (query_request s) r h)
+members_made commands.Look earlier s r h = look_made earlier s r (form_ok (look_request s) r h)
+members_made commands.Finish earlier s r h = let same : requests.Finish ≡ r = line_ok_is h in subst (λ q. IsMade commands.Finish earlier q) same (record { command = refl; names = tt })
+members_made commands.After earlier s r h = after_made earlier s r h
+members_made commands.Config earlier s r h = absurd (cc)
+
+-- lines
+
+abbrev request_line : ℕ → SessionNo → Command → Request → Line
+request_line number session command request = record { line = number; session = session; command = command; request = request }
+
+requested : (number : ℕ) (earlier : List ℕ) (command : Command) (session : SessionNo) (request : Result Request LineFault) (read : ReadLine) → ((r : Request) → request ≡ Ok r → IsMade command earlier r) → session.0 < session_places → (request >>= λ r. Ok (reads.Request (request_line number session command r))) ≡ Ok read → Known number false earlier read
+requested number earlier command session (Ok r) read made place h =
+    let same : reads.Request (request_line number session command r) ≡ read = read_is h in
+    let ours : IsMade command earlier r = made r refl in
+    subst (λ q. Known number false earlier q) same (record { number = refl; place = place; command = ours.command; names = ours.names })
+requested number earlier command session (Err e) read made place h = absurd (cc)
+
+in_session : (number : ℕ) (earlier : List ℕ) (command : Command) (s : Seen) (session : Result SessionNo LineFault) (read : ReadLine) → ((n : SessionNo) → session ≡ Ok n → n.0 < session_places) → (session >>= λ n. members_of command earlier s >>= λ r. Ok (reads.Request (request_line number n command r))) ≡ Ok read → Known number false earlier read
+in_session number earlier command s (Ok n) read place h = requested number earlier command n (members_of command earlier s) read (members_made command earlier s) (place n refl) h
+in_session number earlier command s (Err e) read place h = absurd (cc)
+
+commanded : (number : ℕ) (earlier : List ℕ) (s : Seen) (command : Result Command LineFault) (read : ReadLine) → (command >>= λ c. form (session_at s) >>= λ n. members_of c earlier s >>= λ r. Ok (reads.Request (request_line number n c r))) ≡ Ok read → Known number false earlier read
+commanded number earlier s (Ok c) read h = in_session number earlier c s (form (session_at s)) read (λ n e. session_place s n (form_ok (session_at s) n e)) h
+commanded number earlier s (Err e) read h = absurd (cc)
+
+request_known : (number : ℕ) (earlier word : List ℕ) (s : Seen) (read : ReadLine) → line_in number earlier word s ≡ Ok read → Known number false earlier read
+unfolding line_in
+request_known number earlier word s read h = commanded number earlier s (if_command (command_named word)) read h
+
+configured : (number : ℕ) (earlier : List ℕ) (config : Result Config LineFault) (read : ReadLine) → (config >>= λ c. Ok (reads.Config c)) ≡ Ok read → Known number true earlier read
+configured number earlier (Ok c) read h = let same : reads.Config c ≡ read = read_is h in subst (λ q. Known number true earlier q) same tt
+configured number earlier (Err e) read h = absurd (cc)
+
+config_known : (number : ℕ) (earlier : List ℕ) (s : Seen) (read : ReadLine) → config_line s ≡ Ok read → Known number true earlier read
+unfolding config_line
+config_known number earlier s read h = configured number earlier (form (member_of (codes "config") wanted.Object s >>= thin_config)) read h
+
+placed_known : (wants is_config : Bool) (number : ℕ) (earlier word : List ℕ) (s : Seen) (read : ReadLine) → placed_line wants is_config number earlier word s ≡ Ok read → Known number wants earlier read
+placed_known true true number earlier word s read h = config_known number earlier s read h
+placed_known true false number earlier word s read h = absurd (cc)
+placed_known false true number earlier word s read h = absurd (cc)
+placed_known false false number earlier word s read h = request_known number earlier word s read h
+
+word_known : (number : ℕ) (wants : Bool) (earlier : List ℕ) (s : Seen) (word : Result (List ℕ) LineFault) (read : ReadLine) → (word >>= λ w. placed_line wants (same_text w (codes "config")) number earlier w s) ≡ Ok read → Known number wants earlier read
+word_known number wants earlier s (Ok w) read h = placed_known wants (same_text w (codes "config")) number earlier w s read h
+word_known number wants earlier s (Err e) read h = absurd (cc)
+
+value_known : (number : ℕ) (wants : Bool) (earlier : List ℕ) (s : Seen) (read : ReadLine) → value_line number wants earlier s ≡ Ok read → Known number wants earlier read
+unfolding value_line
+value_known number wants earlier s read h = word_known number wants earlier s (form (word_of_line s)) read h
+
+json_known : (number : ℕ) (wants : Bool) (earlier : List ℕ) (d : Option Data) (read : ReadLine) → json_line number wants earlier d ≡ Ok read → Known number wants earlier read
+json_known number wants earlier None read h = absurd (cc)
+json_known number wants earlier (Some d) read h = value_known number wants earlier (seen d root_path) read h
+
+blank_known : (number : ℕ) (wants : Bool) (earlier : List ℕ) (read : ReadLine) → blank_line wants ≡ Ok read → Known number wants earlier read
+blank_known number true earlier read h = absurd (cc)
+blank_known number false earlier read h = let same : reads.Blank ≡ read = read_is h in subst (λ q. Known number false earlier q) same tt
+
+either_known : (number : ℕ) (wants blank : Bool) (earlier line : List ℕ) (read : ReadLine) → cond blank (blank_line wants) (json_line number wants earlier (json_of line)) ≡ Ok read → Known number wants earlier read
+either_known number wants true earlier line read h = blank_known number wants earlier read h
+either_known number wants false earlier line read h = json_known number wants earlier (json_of line) read h
+
+-- a line that was read is of the kind that was wanted, and a request can be taken by the core
+pub known : (line : List ℕ) (number : ℕ) (wants : Bool) (earlier : List ℕ) (read : ReadLine) → request_of line number wants earlier ≡ Ok read → Known number wants earlier read
+unfolding request_of
+known line number wants earlier read h = either_known number wants (is_blank line) earlier line read h
