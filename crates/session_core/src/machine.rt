@@ -217,3 +217,6 @@ impl Core {
         Ok(replies)
     }
 }
+
+#[cfg(test)]
+mod tests;
