@@ -202,9 +202,9 @@ impl Core {
         Ok(())
     }
 
-    /// Takes events in order: the replies that they give. The only refusal is want of memory, which
-    /// leaves the state after the first of the events, but that a query under way is closed where
-    /// memory ran out at its answer.
+    /// Takes events in order: the replies that they give. The only refusal is want of memory. The
+    /// state is then the one after some of the events, from the first on, but that a query under
+    /// way is closed where memory ran out at its answer.
     pub fn run(&mut self, mut events: Events) -> Result<Replies, Memory>
         requires { All (λ event. place_of event < session_places) events.items }
         ensures ok { IfOk result (λ replies. (replies, self.new) ≡ steps self.old events.items) }
@@ -217,3 +217,6 @@ impl Core {
         Ok(replies)
     }
 }
+
+#[cfg(test)]
+mod tests;
