@@ -1,10 +1,10 @@
 -- Where a query may be cut: behind white space, and at the end of a word.
-use Rattle.std.proofs.Common.{◌≡◌, ◌≢◌, ℕ, ◌+◌, ◌<◌, ◌≤◌, List, [], ◌∷◌, length, drop, get_or, refl, subst, arith, rules, suc, zero, add-one}
-use Rattle.std.specs.Prelude.{Bool, true, false, ◌||◌, nat_eq, codes, if◌then◌else◌, Option, None}
+use Rattle.std.proofs.Common.{◌≡◌, ◌≢◌, ℕ, ◌+◌, ◌<◌, ◌≤◌, List, [], ◌∷◌, length, get_or, refl, subst, arith, suc}
+use Rattle.std.specs.Prelude.{Bool, true, false, ◌||◌, nat_eq, codes, if◌then◌else◌, None}
 use Rattle.std.specs.List.{starts_with}
 use Rattle.std.specs.Str.{IsUtf8, IsCharBoundary}
 use Rattle.std.proofs.lemmas.Bool.Decides.{nat_tests}
-use Rattle.std.proofs.lemmas.Str.{IsUtf8-drop, IsCharBoundary-start, IsCharBoundary-end, IsCharBoundary-before_ascii, IsCharBoundary-after_ascii, IsCharBoundary-from_rest}
+use Rattle.std.proofs.lemmas.Str.{IsUtf8-drop, IsCharBoundary-start, IsCharBoundary-after_ascii, IsCharBoundary-from_rest}
 use Rattle.session_core.specs.declared.line.Ask.{Ask}
 use Rattle.script_lines.specs.Thin.{is_white, is_mark, word_len, white_len, nothing_left}
 

@@ -1,9 +1,8 @@
 -- Lists of no element, of one, and of more.
-use Rattle.std.proofs.Common.{◌≡◌, ◌≢◌, ℕ, List, [], ◌∷◌, length, refl, arith}
+use Rattle.std.proofs.Common.{◌≡◌, ◌≢◌, List, [], ◌∷◌, length, refl, arith}
 use Rattle.std.specs.List.{slice_get}
-use Rattle.std.specs.Prelude.{Bool, true, Option, Some, None, Result, Ok, Err, option_map}
+use Rattle.std.specs.Prelude.{true, Some, Ok, Err, option_map}
 use Rattle.serde_json.specs.Data.{Data}
-use Rattle.json_view.specs.declared.faults.Shape.{Shape}
 use Rattle.json_view.specs.declared.wants.Wanted.TheVariants as wanted
 use Rattle.json_view.specs.Lists.{element_of}
 use Rattle.json_view.specs.Parts.{shape, list_in}

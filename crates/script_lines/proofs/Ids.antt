@@ -1,13 +1,12 @@
 -- Ids that are looked at from the last to the first, beside the set of those that were seen.
-use Rattle.std.proofs.Common.{◌≡◌, ℕ, ◌+◌, ◌-◌, ◌<◌, ◌≤◌, List, [], ◌∷◌, length, drop, get_or, map, refl, ap, sym, ◌∙◌, subst, arith, rules, suc, zero, inl, inr}
-use Rattle.std.specs.Prelude.{Bool, true, false, ◌||◌, ◌&&◌, not, nat_eq, ◌⊎◌}
+use Rattle.std.proofs.Common.{◌≡◌, ℕ, ◌<◌, ◌≤◌, List, [], ◌∷◌, length, drop, get_or, refl, ap, sym, ◌∙◌, subst, arith, suc, zero, inl, inr}
+use Rattle.std.specs.Prelude.{Bool, true, false, ◌&&◌, not, nat_eq, ◌⊎◌}
 use Rattle.std.specs.List.{list_any}
 use Rattle.std.specs.BTreeMap.{is_at}
 use Rattle.std.specs.BTreeSet.{BTreeSet, contains, Updates}
 use Rattle.std.specs.Ordering.{nat_cmp}
 use Rattle.std.proofs.lemmas.Bool.{cases_eq}
 use Rattle.std.proofs.lemmas.Bool.Decides.{nat_tests}
-use Rattle.std.proofs.lemmas.Grind.{common_steps}
 use Rattle.session_core.specs.declared.annot.AnnotItem.{AnnotItem}
 use Rattle.session_core.specs.Valid.{are_different}
 use Rattle.script_lines.specs.Thin.{item_ids}

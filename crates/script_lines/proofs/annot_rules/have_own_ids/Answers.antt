@@ -1,5 +1,5 @@
-use Rattle.std.proofs.Common.{◌≡◌, ◌-◌, ℕ, suc, sym, ap, drop, get_or, ◌∙◌, arith, rules}
-use Rattle.std.specs.Prelude.{true, false, nat_eq, not}
+use Rattle.std.proofs.Common.{◌≡◌, ◌-◌, ℕ, suc, sym, ap, get_or, ◌∙◌, arith, rules}
+use Rattle.std.specs.Prelude.{true, false, not}
 use Rattle.std.specs.BTreeSet.{contains}
 use Rattle.std.specs.Ordering.{nat_cmp}
 use Rattle.session_core.specs.declared.annot.AnnotItem.{AnnotItem}

@@ -1,4 +1,4 @@
-use Rattle.std.proofs.Common.{sym, ◌∙◌, rules}
+use Rattle.std.proofs.Common.{sym, ◌∙◌}
 use Rattle.script_lines.proofs.Cuts.{equal_boundary}
 use Rattle.script_lines.proofs.query.equal_at.Goals as goal
 

@@ -1,4 +1,3 @@
-use Rattle.std.proofs.Common.{◌≡◌, rules}
 use Rattle.script_lines.proofs.Rising.{found_is}
 use Rattle.script_lines.proofs.line_set.LineSet.contains.Goals as goal
 
