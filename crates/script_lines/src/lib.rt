@@ -4,12 +4,11 @@
 mod faults;
 mod line_set;
 mod print;
+#[cfg(test)]
+mod print_tests;
 mod read;
 mod rows;
 mod values;
-
-#[cfg(test)]
-mod print_tests;
 
 pub use faults::{LineFault, ReadLine};
 pub use line_set::LineSet;
