@@ -1,6 +1,6 @@
 -- What the values of replies and of last lines are: members put at the end, rows, and no float.
 use Rattle.std.proofs.Common.{◌≡◌, ℕ, List, [], ◌∷◌, Option, None, Some, false, map, codes, refl, ap, ◌∙◌}
-use Rattle.serde_json.specs.Data.{Data, Items, item, Members, no_members, member, put}
+use Rattle.serde_json.specs.Data.{Data, item, Members, no_members, member, put}
 use Rattle.serde_json.specs.View.{items_of}
 use Rattle.serde_json.specs.Written.{has_float, items_have_float, members_have_float}
 use Rattle.emu_names.specs.declared.rules.Broken.{Broken}

@@ -9,14 +9,13 @@ mod forms;
 mod law;
 mod line_set;
 mod print;
+#[cfg(test)]
+mod print_tests;
 mod query;
 mod read;
 mod requests;
 mod rows;
 mod values;
-
-#[cfg(test)]
-mod print_tests;
 
 pub use faults::{LineFault, ReadLine};
 pub use law::read_lines_are_known;

@@ -51,11 +51,31 @@ fn expect_reply(rt: &impl Abort, alloc: Global, reply: Reply, wanted: &str) -> R
 #[test]
 fn replies_without_rows(rt: HostRuntime) -> Result<(), Fail> {
     for (line, n, command, wanted) in [
-        (1, 0, Command::Config, "{\"line\":1,\"n\":0,\"ok\":\"config\"}\n"),
-        (2, 1, Command::AddBundle, "{\"line\":2,\"n\":1,\"ok\":\"add_bundle\"}\n"),
-        (3, 1, Command::Look, "{\"line\":3,\"n\":1,\"ok\":\"look\"}\n"),
+        (
+            1,
+            0,
+            Command::Config,
+            "{\"line\":1,\"n\":0,\"ok\":\"config\"}\n",
+        ),
+        (
+            2,
+            1,
+            Command::AddBundle,
+            "{\"line\":2,\"n\":1,\"ok\":\"add_bundle\"}\n",
+        ),
+        (
+            3,
+            1,
+            Command::Look,
+            "{\"line\":3,\"n\":1,\"ok\":\"look\"}\n",
+        ),
     ] {
-        expect_reply(&rt, rt.alloc(), reply(line, Some(n), Answer::Done(command)), wanted)?;
+        expect_reply(
+            &rt,
+            rt.alloc(),
+            reply(line, Some(n), Answer::Done(command)),
+            wanted,
+        )?;
     }
     let none = Answer::Segments(SegmentList::new(rt.alloc()));
     let wanted = "{\"line\":3,\"n\":1,\"segments\":[]}\n";
@@ -67,8 +87,14 @@ fn rows_in_order(rt: HostRuntime) -> Result<(), Fail> {
     let alloc = rt.alloc();
     let mut rows = SegmentList::new(alloc);
     rows.push(row(alloc, "b1", "m")?)?;
-    let wanted = "{\"line\":3,\"n\":1,\"segments\":[{\"attribute\":\"Phonetic\",\"bundle\":\"b1\",\"end\":340175,\"endItem\":2,\"endPos\":1,\"labels\":\"m\",\"level\":\"Phonetic\",\"sampleEnd\":6803,\"sampleRate\":20000,\"sampleStart\":5139,\"session\":\"s1\",\"start\":256925,\"startItem\":2,\"startPos\":1}]}\n";
-    expect_reply(&rt, alloc, reply(3, Some(1), Answer::Segments(rows)), wanted)?;
+    let wanted =
+        "{\"line\":3,\"n\":1,\"segments\":[{\"attribute\":\"Phonetic\",\"bundle\":\"b1\",\"end\":340175,\"endItem\":2,\"endPos\":1,\"labels\":\"m\",\"level\":\"Phonetic\",\"sampleEnd\":6803,\"sampleRate\":20000,\"sampleStart\":5139,\"session\":\"s1\",\"start\":256925,\"startItem\":2,\"startPos\":1}]}\n";
+    expect_reply(
+        &rt,
+        alloc,
+        reply(3, Some(1), Answer::Segments(rows)),
+        wanted,
+    )?;
     let mut rows = SegmentList::new(alloc);
     let mut timeless = row(alloc, "b\"\\", "a\"\\\n\u{1f}\u{e9}\u{1f600}")?;
     timeless.start = None;
@@ -76,8 +102,14 @@ fn rows_in_order(rt: HostRuntime) -> Result<(), Fail> {
     timeless.sample_start = None;
     timeless.sample_end = None;
     rows.push(timeless)?;
-    let wanted = "{\"line\":4,\"n\":18446744073709551615,\"segments\":[{\"attribute\":\"Phonetic\",\"bundle\":\"b\\\"\\\\\",\"end\":null,\"endItem\":2,\"endPos\":1,\"labels\":\"a\\\"\\\\\\n\\u001f\u{e9}\u{1f600}\",\"level\":\"Phonetic\",\"sampleEnd\":null,\"sampleRate\":20000,\"sampleStart\":null,\"session\":\"s1\",\"start\":null,\"startItem\":2,\"startPos\":1}]}\n";
-    expect_reply(&rt, alloc, reply(4, Some(u64::MAX), Answer::Segments(rows)), wanted)
+    let wanted =
+        "{\"line\":4,\"n\":18446744073709551615,\"segments\":[{\"attribute\":\"Phonetic\",\"bundle\":\"b\\\"\\\\\",\"end\":null,\"endItem\":2,\"endPos\":1,\"labels\":\"a\\\"\\\\\\n\\u001f\u{e9}\u{1f600}\",\"level\":\"Phonetic\",\"sampleEnd\":null,\"sampleRate\":20000,\"sampleStart\":null,\"session\":\"s1\",\"start\":null,\"startItem\":2,\"startPos\":1}]}\n";
+    expect_reply(
+        &rt,
+        alloc,
+        reply(4, Some(u64::MAX), Answer::Segments(rows)),
+        wanted,
+    )
 }
 
 #[test]
@@ -87,22 +119,63 @@ fn refusals(rt: HostRuntime) -> Result<(), Fail> {
     let unknown = Refusal::Resolve(AskFault::UnknownName(name));
     let level = Refusal::Rule(Broken::NoLevel(Text::new(alloc, "Word")?));
     for (n, refusal, wanted) in [
-        (None, Refusal::NoLook, "{\"line\":7,\"refused\":{\"rule\":\"NoLook\"}}\n"),
-        (None, Refusal::LookOpen, "{\"line\":7,\"refused\":{\"rule\":\"LookOpen\"}}\n"),
-        (None, Refusal::Memory, "{\"line\":7,\"refused\":{\"rule\":\"Memory\"}}\n"),
-        (None, Refusal::Disk, "{\"line\":7,\"refused\":{\"rule\":\"Disk\"}}\n"),
-        (Some(1), unknown, "{\"line\":7,\"n\":1,\"refused\":{\"name\":\"a\\\"b\\n\",\"rule\":\"UnknownName\"}}\n"),
-        (Some(1), level, "{\"line\":7,\"n\":1,\"refused\":{\"name\":\"Word\",\"rule\":\"NoLevel\"}}\n"),
-        (Some(0), Refusal::Rule(Broken::Overlap(ItemId(1))), "{\"line\":7,\"n\":0,\"refused\":{\"id\":1,\"rule\":\"Overlap\"}}\n"),
-        (Some(9), Refusal::Rule(Broken::TooMany(What::Bundles)), "{\"line\":7,\"n\":9,\"refused\":{\"rule\":\"TooMany\",\"what\":\"Bundles\"}}\n"),
-        (Some(9), Refusal::Rule(Broken::LabelTooLong), "{\"line\":7,\"n\":9,\"refused\":{\"rule\":\"LabelTooLong\"}}\n"),
+        (
+            None,
+            Refusal::NoLook,
+            "{\"line\":7,\"refused\":{\"rule\":\"NoLook\"}}\n",
+        ),
+        (
+            None,
+            Refusal::LookOpen,
+            "{\"line\":7,\"refused\":{\"rule\":\"LookOpen\"}}\n",
+        ),
+        (
+            None,
+            Refusal::Memory,
+            "{\"line\":7,\"refused\":{\"rule\":\"Memory\"}}\n",
+        ),
+        (
+            None,
+            Refusal::Disk,
+            "{\"line\":7,\"refused\":{\"rule\":\"Disk\"}}\n",
+        ),
+        (
+            Some(1),
+            unknown,
+            "{\"line\":7,\"n\":1,\"refused\":{\"name\":\"a\\\"b\\n\",\"rule\":\"UnknownName\"}}\n",
+        ),
+        (
+            Some(1),
+            level,
+            "{\"line\":7,\"n\":1,\"refused\":{\"name\":\"Word\",\"rule\":\"NoLevel\"}}\n",
+        ),
+        (
+            Some(0),
+            Refusal::Rule(Broken::Overlap(ItemId(1))),
+            "{\"line\":7,\"n\":0,\"refused\":{\"id\":1,\"rule\":\"Overlap\"}}\n",
+        ),
+        (
+            Some(9),
+            Refusal::Rule(Broken::TooMany(What::Bundles)),
+            "{\"line\":7,\"n\":9,\"refused\":{\"rule\":\"TooMany\",\"what\":\"Bundles\"}}\n",
+        ),
+        (
+            Some(9),
+            Refusal::Rule(Broken::LabelTooLong),
+            "{\"line\":7,\"n\":9,\"refused\":{\"rule\":\"LabelTooLong\"}}\n",
+        ),
     ] {
         expect_reply(&rt, alloc, reply(7, n, Answer::Refused(refusal)), wanted)?;
     }
     Ok(())
 }
 
-fn expect_fault(rt: &impl Abort, alloc: Global, fault: LineFault, wanted: &str) -> Result<(), Fail> {
+fn expect_fault(
+    rt: &impl Abort,
+    alloc: Global,
+    fault: LineFault,
+    wanted: &str,
+) -> Result<(), Fail> {
     if let LineFault::Memory = fault {
         return Err(Fail::new("want of memory has no last line"));
     }
@@ -115,10 +188,22 @@ fn expect_fault(rt: &impl Abort, alloc: Global, fault: LineFault, wanted: &str) 
 fn last_lines(rt: HostRuntime) -> Result<(), Fail> {
     let alloc = rt.alloc();
     for (fault, wanted) in [
-        (LineFault::NotJson, "{\"cause\":\"NotJson\",\"line\":2,\"status\":3}\n"),
-        (LineFault::ConfigPlace, "{\"cause\":\"ConfigPlace\",\"line\":2,\"status\":3}\n"),
-        (LineFault::BadAfter, "{\"cause\":\"BadAfter\",\"line\":2,\"status\":3}\n"),
-        (LineFault::NoSuchCommand, "{\"cause\":\"NoSuchCommand\",\"line\":2,\"status\":3}\n"),
+        (
+            LineFault::NotJson,
+            "{\"cause\":\"NotJson\",\"line\":2,\"status\":3}\n",
+        ),
+        (
+            LineFault::ConfigPlace,
+            "{\"cause\":\"ConfigPlace\",\"line\":2,\"status\":3}\n",
+        ),
+        (
+            LineFault::BadAfter,
+            "{\"cause\":\"BadAfter\",\"line\":2,\"status\":3}\n",
+        ),
+        (
+            LineFault::NoSuchCommand,
+            "{\"cause\":\"NoSuchCommand\",\"line\":2,\"status\":3}\n",
+        ),
     ] {
         expect_fault(&rt, alloc, fault, wanted)?;
     }
@@ -140,7 +225,8 @@ fn last_line_of_a_form(rt: HostRuntime) -> Result<(), Fail> {
     let shape = session.refuse(json_view::Wanted::Session);
     match shape {
         ViewFault::Shape(shape) => {
-            let wanted = "{\"cause\":\"Shape\",\"line\":2,\"path\":\"$.s\",\"status\":3,\"wanted\":\"session\"}\n";
+            let wanted =
+                "{\"cause\":\"Shape\",\"line\":2,\"path\":\"$.s\",\"status\":3,\"wanted\":\"session\"}\n";
             expect_fault(&rt, alloc, LineFault::Shape(shape), wanted)
         }
         ViewFault::Memory => Err(Fail::new("memory ran out")),

@@ -20,7 +20,12 @@ fn number_or_null(n: Option<u64>) -> Value
 }
 
 /// Puts a text at a name.
-fn put_text(members: &mut Map<String, Value>, alloc: Global, name: &str, text: &Text) -> Result<(), Memory>
+fn put_text(
+    members: &mut Map<String, Value>,
+    alloc: Global,
+    name: &str,
+    text: &Text,
+) -> Result<(), Memory>
     ensures { OnOk result (members_view members.new.entries
         ≡ with_member name.now (string text.now) (members_view members.old.entries)) }
 {
@@ -59,7 +64,12 @@ fn put_times(members: &mut Map<String, Value>, alloc: Global, row: &Row) -> Resu
 {
     serde_json::put(members, alloc, "start", number_or_null(row.start))?;
     serde_json::put(members, alloc, "end", number_or_null(row.end))?;
-    serde_json::put(members, alloc, "sampleStart", number_or_null(row.sample_start))?;
+    serde_json::put(
+        members,
+        alloc,
+        "sampleStart",
+        number_or_null(row.sample_start),
+    )?;
     serde_json::put(members, alloc, "sampleEnd", number_or_null(row.sample_end))?;
     serde_json::put(members, alloc, "sampleRate", Value::from(row.rate))?;
     Ok(())

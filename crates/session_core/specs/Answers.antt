@@ -26,11 +26,6 @@ query_answer (Err fault) = Refused (refusals.Resolve fault)
 abbrev pub answer_at : Config → List Entry → ℕ → Ask → Answer
 answer_at c history n ask = query_answer (asked c (bundles_after c (take n history)) ask)
 
--- an edit is done, or refused by the first rule that it breaks
-abbrev pub edit_answer : Command → Result (List BundleParts) Broken → Answer
-edit_answer command (Ok bundles) = Done command
-edit_answer command (Err rule) = Refused (refusals.Rule rule)
-
 -- want of memory, which is an answer to every request
 abbrev pub memory : Answer
 memory = Refused refusals.Memory

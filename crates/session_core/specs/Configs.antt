@@ -20,7 +20,7 @@ level_named name (def ∷ defs) = if same_text def.name name then Some def else 
 abbrev pub has_attribute : List AttributeDef → List ℕ → Bool
 has_attribute defs name = list_any (λ def. same_text def.name name) defs
 
--- the names that stand in a level: its own, and those of its attributes that differ from it
+-- the names of a level's attributes
 abbrev pub attribute_names : LevelDef → List (List ℕ)
 attribute_names def = map (λ a. a.name) def.attributes
 
@@ -32,7 +32,7 @@ are_distinct (name ∷ names) = not (list_any (same_text name) names) && are_dis
 abbrev pub share_no_name : List (List ℕ) → List (List ℕ) → Bool
 share_no_name ours theirs = list_all (λ name. not (list_any (same_text name) theirs)) ours
 
--- all names of a level
+-- the names that stand in a level: its own and its attributes'
 abbrev pub names_of : LevelDef → List (List ℕ)
 names_of def = def.name ∷ attribute_names def
 

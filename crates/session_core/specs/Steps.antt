@@ -34,7 +34,7 @@ pub record State : Type 0 where
   pub looks : List (Option Opened)
   pub queries : List (Option Opened)
 
--- sessions are 1 to 16; 0 is the program itself
+-- a script has the sessions 1 to 16, and 0 is the program itself; no other session has a place
 abbrev pub session_places : ℕ
 session_places = 17
 
@@ -74,7 +74,7 @@ present st = length st.entries
 
 -- An edit.
 
--- the most entries of a history
+-- whether a history has no room for one more entry: it has at most 100,000
 abbrev pub is_full : List Entry → Bool
 is_full history = nat_le 100000 (length history)
 
@@ -169,7 +169,7 @@ abbrev pub steps : State → List Event → List Reply × State
 steps st [] = ([], st)
 steps st (e ∷ es) = (option_list (core_step st e).0 ++ (steps (core_step st e).1 es).0, (steps (core_step st e).1 es).1)
 
--- the sessions that have a place
+-- the place of an event's session
 abbrev pub place_of : Event → ℕ
 place_of (events.Edit l) = l.session.0
 place_of (events.Look l) = l.session.0

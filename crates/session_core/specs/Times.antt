@@ -38,7 +38,7 @@ is_rate rate = nat_le 1 rate && nat_le rate 1000000
 abbrev pub is_item_in_time : Item → Bool
 is_item_in_time item = is_in_time item.time
 
--- a level of a bundle: at most 65,536 items, all in time
+-- a level of a bundle: no more items than a bundle may have, all in time
 abbrev pub is_list_within : List Item → Bool
 is_list_within items = nat_le (length items) 65536 && list_all is_item_in_time items
 

@@ -37,7 +37,6 @@ outcome_of st e false = core_step st e
 abbrev pub outcome : State → Moment → Option Reply × State
 outcome st m = outcome_of st m.event m.fails
 
--- the command that a request stands for; an edit may have several
 abbrev pub same_command : Command → Command → Bool
 same_command commands.Config commands.Config = true
 same_command commands.AddBundle commands.AddBundle = true
@@ -47,6 +46,7 @@ same_command commands.Finish commands.Finish = true
 same_command commands.After commands.After = true
 same_command a b = false
 
+-- whether a command is one of a request
 abbrev pub is_command_of : Command → Request → Bool
 is_command_of command (requests.Edit edit) = same_command command commands.AddBundle
 is_command_of command (requests.Query ask) = same_command command commands.Query
