@@ -3,9 +3,9 @@
 
 use emu_cli::emu;
 use emu_io::{InputSource, OutputSink};
-use std::env;
-use std::io;
 use std::process::ExitCode;
+use std::rt::Env;
+use std::{env, io};
 
 /// The status where memory ran out before the program began.
 const OUT_OF_MEMORY: u8 = 8;

@@ -106,7 +106,7 @@ ordered_step p q line (Err stop) o k h = absurd (cc)
 ordered_line : (p q : Parsed) (line : List ℕ) → Ordered p → parse_line p line ≡ Ok q → Ordered q
 ordered_line p q line o h =
     ordered_step p q line (line_at (p.number + 1) (is_none p.config) (numbers_of p.requests) line) o
-      (λ read e. known line (p.number + 1) (is_none p.config) (numbers_of p.requests) read (over_ok (passes_limit (p.number + 1) line) (p.number + 1) (request_of line (p.number + 1) (is_none p.config) (numbers_of p.requests)) read e)) h
+    (λ read e. known line (p.number + 1) (is_none p.config) (numbers_of p.requests) read (over_ok (passes_limit (p.number + 1) line) (p.number + 1) (request_of line (p.number + 1) (is_none p.config) (numbers_of p.requests)) read e)) h
 
 ordered_first : (first : Result Parsed Stop) (lines : List (List ℕ)) (q : Parsed) → ((n : Parsed) → first ≡ Ok n → Ordered n) → ((n : Parsed) → Ordered n → parse n lines ≡ Ok q → Ordered q) → (first >>= λ n. parse n lines) ≡ Ok q → Ordered q
 ordered_first (Ok n) lines q this later h = later n (this n refl) h

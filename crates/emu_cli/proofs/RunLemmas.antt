@@ -80,8 +80,8 @@ answered config p outages running new l reply t at =
         each = one_more outages p.requests t.outage l at.each;
       };
       text = text_begun (with_read p (reads.Request l)) config (outages ++ t.outage ∷ []) at.begun
-        ∙ begun_push config p.requests outages l t.outage reply new.core at.each here
-        ∙ ap (λ x. x ++ reply_text reply) (sym (text_begun p config outages at.begun));
+          ∙ begun_push config p.requests outages l t.outage reply new.core at.each here
+          ∙ ap (λ x. x ++ reply_text reply) (sym (text_begun p config outages at.begun));
     }
 
 -- its reply was written
@@ -293,7 +293,13 @@ stopped_first : (stop : Stop) (past : Bool) (line : List ℕ) (rest : List (List
 stopped_first stop past line rest now h =
     let stops : parse_line nothing_read line ≡ Err stop = ap (λ r. r >>= λ x. Ok (with_read nothing_read x)) h in
     stopped_script stop past (line ∷ rest) now now (stopped_in stop (line ∷ rest) [] line rest now now refl (record {
-      parsed = nothing_read; script = refl; stops = stops; outages = []; each = refl; output = Appends-nil now }))
+      parsed = nothing_read;
+      script = refl;
+      stops = stops;
+      outages = [];
+      each = refl;
+      output = Appends-nil now;
+    }))
 
 pub ends_first : (A : Type 0) (end : Ended) (past : Bool) (line : List ℕ) (rest all : List (List ℕ)) (now : Option (List ℕ)) → all ≡ line ∷ rest → ReadsNext (Err end) (line_at 1 true [] line) → RunsScript {A = A} (Err end) past all now now
 ends_first A ends.Limit past line rest all now split h = subst (λ ls. StoppedScript limit past ls now now) (sym split) (stopped_first limit past line rest now h)

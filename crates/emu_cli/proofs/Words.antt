@@ -34,6 +34,7 @@ head_is a b h = ap heads h
 pub word_is : {A : Type 0} (bytes_of : A → List ℕ) (ws : List A) (w : A) (text run : List ℕ) (r : Bool) → 1 ≤ length ws → length ws < 2 → w ≡ get_or ws 0 w → text ≡ bytes_of w → r ≡ pointwise nat_eq text run →
     (IsTrue r → map bytes_of ws ≡ run ∷ []) × (map bytes_of ws ≡ run ∷ [] → IsTrue r)
 word_is bytes_of ws w text run r some few is shown compared =
-    let one = ap (map bytes_of) (one_of ws w some few is) in
-    ((λ h. one ∙ ap (λ x. x ∷ []) (sym shown ∙ same_true text run (sym compared ∙ h))),
-     (λ h. compared ∙ ap (λ t. pointwise nat_eq t run) (shown ∙ head_is (bytes_of w) run (sym one ∙ h)) ∙ same_self run))
+    let one = ap (map bytes_of) (one_of ws w some few is) in (
+      (λ h. one ∙ ap (λ x. x ∷ []) (sym shown ∙ same_true text run (sym compared ∙ h))),
+      (λ h. compared ∙ ap (λ t. pointwise nat_eq t run) (shown ∙ head_is (bytes_of w) run (sym one ∙ h)) ∙ same_self run),
+    )

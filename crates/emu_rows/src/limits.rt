@@ -7,8 +7,7 @@ use std::test::Fail;
 
 const WITHIN: &[u8] = b"{\"line\":1,\"n\":0,\"ok\":\"config\"}\n";
 
-const OVER: &[u8] =
-    b"{\"line\":1,\"n\":0,\"ok\":\"config\"}\n{\"cause\":\"Limit\",\"status\":9}\n";
+const OVER: &[u8] = b"{\"line\":1,\"n\":0,\"ok\":\"config\"}\n{\"cause\":\"Limit\",\"status\":9}\n";
 
 /// A source that makes its bytes as it is read: the line of the configuration, and then lines of
 /// spaces.

@@ -46,7 +46,14 @@ fn failing_writes(rt: HostRuntime) -> Result<(), Fail> {
         assert_eq!(rt; ran.status, 5);
         assert_eq!(rt; ran.output.as_slice(), want.as_slice());
     }
-    let ran = run(&rt, rt.alloc(), &["fly"], joined(rt.alloc(), &lines, "\n")?, &[], &[1])?;
+    let ran = run(
+        &rt,
+        rt.alloc(),
+        &["fly"],
+        joined(rt.alloc(), &lines, "\n")?,
+        &[],
+        &[1],
+    )?;
     assert_eq!(rt; ran.status, 5);
     assert_eq!(rt; ran.output.len(), 0);
     Ok(())
@@ -54,12 +61,21 @@ fn failing_writes(rt: HostRuntime) -> Result<(), Fail> {
 
 #[test]
 fn words_that_are_no_command(rt: HostRuntime) -> Result<(), Fail> {
-    let wrong: [&[&str]; 5] = [&[], &["fly"], &["run", "run"], &["run", "--store"], &["Run"]];
+    let wrong: [&[&str]; 5] = [
+        &[],
+        &["fly"],
+        &["run", "run"],
+        &["run", "--store"],
+        &["Run"],
+    ];
     for words in &wrong {
         let script = joined(rt.alloc(), &[CONFIG], "\n")?;
         let ran = run(&rt, rt.alloc(), words, script, &[], &[])?;
         assert_eq!(rt; ran.status, 2);
-        assert_eq!(rt; ran.output.as_slice(), b"{\"cause\":\"Usage\",\"status\":2}\n".as_slice());
+        assert_eq!(rt;
+            ran.output.as_slice(),
+            b"{\"cause\":\"Usage\",\"status\":2}\n".as_slice()
+        );
     }
     Ok(())
 }

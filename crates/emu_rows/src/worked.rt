@@ -67,30 +67,19 @@ static ROWS: [Row; 16] = [
     },
     Row {
         name: "no line",
-        lines: &[
-        ],
+        lines: &[],
         status: 3,
-        output: &[
-            "{\"cause\":\"ConfigPlace\",\"line\":1,\"status\":3}",
-        ],
+        output: &["{\"cause\":\"ConfigPlace\",\"line\":1,\"status\":3}"],
     },
     Row {
         name: "a first blank line",
-        lines: &[
-            "",
-            CONFIG,
-        ],
+        lines: &["", CONFIG],
         status: 3,
-        output: &[
-            "{\"cause\":\"ConfigPlace\",\"line\":1,\"status\":3}",
-        ],
+        output: &["{\"cause\":\"ConfigPlace\",\"line\":1,\"status\":3}"],
     },
     Row {
         name: "two configurations",
-        lines: &[
-            CONFIG,
-            CONFIG,
-        ],
+        lines: &[CONFIG, CONFIG],
         status: 3,
         output: &[
             "{\"line\":1,\"n\":0,\"ok\":\"config\"}",
@@ -146,11 +135,7 @@ static ROWS: [Row; 16] = [
     },
     Row {
         name: "no such command",
-        lines: &[
-            CONFIG,
-            BUNDLE,
-            "{\"s\":1,\"do\":\"fly\"}",
-        ],
+        lines: &[CONFIG, BUNDLE, "{\"s\":1,\"do\":\"fly\"}"],
         status: 3,
         output: &[
             "{\"line\":1,\"n\":0,\"ok\":\"config\"}",
@@ -160,11 +145,7 @@ static ROWS: [Row; 16] = [
     },
     Row {
         name: "after no line",
-        lines: &[
-            CONFIG,
-            BUNDLE,
-            "{\"s\":1,\"do\":\"after\",\"line\":9}",
-        ],
+        lines: &[CONFIG, BUNDLE, "{\"s\":1,\"do\":\"after\",\"line\":9}"],
         status: 3,
         output: &[
             "{\"line\":1,\"n\":0,\"ok\":\"config\"}",
@@ -190,10 +171,7 @@ static ROWS: [Row; 16] = [
     },
     Row {
         name: "session 16",
-        lines: &[
-            CONFIG,
-            "{\"s\":16,\"do\":\"finish\"}",
-        ],
+        lines: &[CONFIG, "{\"s\":16,\"do\":\"finish\"}"],
         status: 0,
         output: &[
             "{\"line\":1,\"n\":0,\"ok\":\"config\"}",
@@ -202,10 +180,7 @@ static ROWS: [Row; 16] = [
     },
     Row {
         name: "session 17",
-        lines: &[
-            CONFIG,
-            "{\"s\":17,\"do\":\"finish\"}",
-        ],
+        lines: &[CONFIG, "{\"s\":17,\"do\":\"finish\"}"],
         status: 3,
         output: &[
             "{\"line\":1,\"n\":0,\"ok\":\"config\"}",

@@ -5,5 +5,4 @@ ghost use Rattle.script_lines.specs.Known.{ReadLinesAreKnown};
 /// session with a place, the command of its request, and where it is an `after` an earlier request.
 pub fn read_lines_are_known()
     ensures { ReadLinesAreKnown }
-{
-}
+{}

@@ -12,16 +12,16 @@ mod effects;
 mod event;
 mod law;
 mod line;
+mod machine;
 mod make;
+mod moves;
 mod queries;
 mod row;
 mod rows;
+mod slots;
 #[cfg(test)]
 mod state_tests;
 mod taken;
-mod machine;
-mod moves;
-mod slots;
 
 pub use annot::{
     Annot, AnnotItem, AnnotItems, AnnotLabel, AnnotLabels, AnnotLevel, AnnotLevels, Time,

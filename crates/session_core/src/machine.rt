@@ -217,6 +217,3 @@ impl Core {
         Ok(replies)
     }
 }
-
-#[cfg(test)]
-mod tests;

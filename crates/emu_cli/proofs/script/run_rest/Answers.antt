@@ -15,8 +15,8 @@ pub lines-preserved : goal.lines-preserved
 lines-preserved g c = record {
   rises = c.in-Ok.ensures.rises;
   ran = λ config lines before r.
-    let i = c.lines.invariant.ran config lines before r in
-    lines_more config (lines ++ cut c.args.past c.args.bytes.now) c.in-Some.line.now (cut c.args.past c.in-Some.after.now) i.done c.one_line.new.running before (g.K.Sink.written c.one_line.new.out) (split_more _ i.done _ _ i.split c.in-Some.ensures.lines) (c.in-Ok.ensures.ran config i.done before i.reached);
+      let i = c.lines.invariant.ran config lines before r in
+      lines_more config (lines ++ cut c.args.past c.args.bytes.now) c.in-Some.line.now (cut c.args.past c.in-Some.after.now) i.done c.one_line.new.running before (g.K.Sink.written c.one_line.new.out) (split_more _ i.done _ _ i.split c.in-Some.ensures.lines) (c.in-Ok.ensures.ran config i.done before i.reached);
   later = omega (arith, c.lines.invariant.later, c.in-Ok.ensures.later);
 }
 

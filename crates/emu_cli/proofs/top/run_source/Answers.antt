@@ -14,10 +14,12 @@ pub returns-in-Err-AtFault : goal.returns-in-Err-AtFault
 returns-in-Err-AtFault g c = record { says = λ words command. says_fault words (g.S.Source.left c.args.script.now) (g.S.Source.left c.read_front.new.source) (g.K.Sink.written c.args.out.now) (g.K.Sink.written c.run_script.new.out) (g.K.Sink.written c.at_fault.new.out) (g.S.Source.faults c.args.script.now) (g.S.Source.faults c.read_front.new.source) (g.K.Sink.faults c.args.out.now) (g.K.Sink.faults c.run_script.new.out) (g.K.Sink.faults c.at_fault.new.out) c.in-Ok.front.past c.in-Ok.front.bytes.items c.in-Err-AtFault.line c.in-Err-AtFault.fault c.at_fault.result command c.in-Ok.ensures.front (rw c.as_slice.ensures.value at (rw c.in-Err-AtFault.field-0-is at c.in-Err-AtFault.ensures.ran)).0 c.run_script.ensures.later c.at_fault.ensures.last }
 
 pub returns-in-Err-Write : goal.returns-in-Err-Write
-returns-in-Err-Write g c = record { says = λ words command. record {
-  cause = rw c.in-Err-Write.field-0-is at c.in-Err-Write.ensures.cause;
-  output = broke_off words (g.S.Source.left c.args.script.now) (g.S.Source.left c.read_front.new.source) (g.K.Sink.written c.args.out.now) (g.K.Sink.written c.run_script.new.out) (g.S.Source.faults c.args.script.now) (g.S.Source.faults c.read_front.new.source) (g.K.Sink.faults c.args.out.now) (g.K.Sink.faults c.run_script.new.out) c.in-Ok.front.past c.in-Ok.front.bytes.items command c.in-Ok.ensures.front (rw c.as_slice.ensures.value at (rw c.in-Err-Write.field-0-is at c.in-Err-Write.ensures.ran));
-} }
+returns-in-Err-Write g c = record {
+  says = λ words command. record {
+    cause = rw c.in-Err-Write.field-0-is at c.in-Err-Write.ensures.cause;
+    output = broke_off words (g.S.Source.left c.args.script.now) (g.S.Source.left c.read_front.new.source) (g.K.Sink.written c.args.out.now) (g.K.Sink.written c.run_script.new.out) (g.S.Source.faults c.args.script.now) (g.S.Source.faults c.read_front.new.source) (g.K.Sink.faults c.args.out.now) (g.K.Sink.faults c.run_script.new.out) c.in-Ok.front.past c.in-Ok.front.bytes.items command c.in-Ok.ensures.front (rw c.as_slice.ensures.value at (rw c.in-Err-Write.field-0-is at c.in-Err-Write.ensures.ran));
+  };
+}
 
 pub returns : goal.returns
 returns g c = record { says = λ words command. broke_off words (g.S.Source.left c.args.script.now) (g.S.Source.left c.read_front.new.source) (g.K.Sink.written c.args.out.now) (g.K.Sink.written c.run_script.new.out) (g.S.Source.faults c.args.script.now) (g.S.Source.faults c.read_front.new.source) (g.K.Sink.faults c.args.out.now) (g.K.Sink.faults c.run_script.new.out) c.in-Ok.front.past c.in-Ok.front.bytes.items command c.in-Ok.ensures.front (rw c.as_slice.ensures.value at (rw c.in-Err-Memory-run_script.field-0-is at c.in-Err-Memory-run_script.ensures.ran)) }
