@@ -8,4 +8,6 @@ mod outside;
 #[cfg(test)]
 mod scripts;
 #[cfg(test)]
+mod sessions;
+#[cfg(test)]
 mod worked;

@@ -1,4 +1,4 @@
-//! The limits of a line, of the number of lines and of a script, each at the limit and one past it.
+//! The limits of a line and of the number of lines, each at the limit and one past it.
 use crate::scripts::CONFIG;
 use emu_cli::emu;
 use emu_io::{Failed, ListSink, Source};
@@ -55,10 +55,7 @@ impl Source for Blanks {
 #[test]
 fn limits_of_scripts(rt: HostRuntime) -> Result<(), Fail> {
     let head = CONFIG.len() as u64;
-    let script = 268_435_456u64;
     let rows = [
-        (9_999, script, 0),
-        (9_999, script + 1, 9),
         (0, head + 200_000, 0),
         (0, head + 200_001, 9),
         (16_777_216, head + 1 + 16_777_216, 0),
