@@ -6,7 +6,7 @@ use Rattle.emu_disk.specs.Disk.{Torn, Scrambled, Follows, Within, Only, Elapses}
 use Rattle.emu_disk.specs.declared.call.Call.{Call}
 use Rattle.emu_disk.specs.declared.call.Call.TheVariants.{Write, Cut, Sync}
 use Rattle.emu_disk.specs.declared.memory.Log.{Log}
-use Rattle.emu_disk.specs.Memory.{content, effect, Leaves, LeavesAfter, IsImage, WasImage}
+use Rattle.emu_disk.specs.Memory.{content, effect, Step, Leaves, LeavesAfter, IsImage, WasImage}
 use Rattle.emu_disk.specs.Moves.{Adds, Stays}
 use Rattle.emu_disk.specs.Laws.{torn_same, scrambled_same, reads_image}
 
@@ -108,13 +108,20 @@ module _ (old new : Log) where
   same_failed call same moves = ⊎_elim (λ adds. bytes_by call adds ∙ same) bytes_stay moves
 
   -- a call that changes no image
-  pub within_failed : (call : Call) → ((xs : List ℕ) (P : List ℕ → Type 0) (c : List ℕ) → Leaves call xs P c → P c) → Adds call old new ⊎ Stays old new → Within (IsImage old.first.items old.calls.items) (IsImage new.first.items new.calls.items)
-  within_failed call quiet moves c image =
-      ⊎_elim (λ adds. quiet _ _ c (image_by call old new c adds image)) (λ stays. image_before old new c stays image) moves
+  pub within_adds : (call : Call) → ((xs d c : List ℕ) → Step call xs d c → c ≡ d) → Adds call old new → Within (IsImage old.first.items old.calls.items) (IsImage new.first.items new.calls.items)
+  within_adds call quiet adds c image =
+      let from = image_by call old new c adds image in
+      subst (IsImage old.first.items old.calls.items) (sym (quiet (content old.first.items old.calls.items) from.0 c from.2)) from.1
 
-  pub all_failed : (call : Call) → ((xs : List ℕ) (P : List ℕ → Type 0) (c : List ℕ) → P c → Leaves call xs P c) → Adds call old new ⊎ Stays old new → Within (IsImage new.first.items new.calls.items) (IsImage old.first.items old.calls.items)
-  all_failed call quiet moves c image =
-      ⊎_elim (λ adds. image_of call old new c adds (quiet _ _ c image)) (λ stays. image_after old new c stays image) moves
+  pub all_adds : (call : Call) → ((xs d : List ℕ) → Step call xs d d) → Adds call old new → Within (IsImage new.first.items new.calls.items) (IsImage old.first.items old.calls.items)
+  all_adds call quiet adds c image = image_of call old new c adds (c, image, quiet (content old.first.items old.calls.items) c)
+
+  pub within_failed : (call : Call) → ((xs d c : List ℕ) → Step call xs d c → c ≡ d) → Adds call old new ⊎ Stays old new → Within (IsImage old.first.items old.calls.items) (IsImage new.first.items new.calls.items)
+  within_failed call quiet moves c image =
+      ⊎_elim (λ adds. within_adds call quiet adds c image) (λ stays. image_before old new c stays image) moves
+
+  pub all_failed : (call : Call) → ((xs d : List ℕ) → Step call xs d d) → Adds call old new ⊎ Stays old new → Within (IsImage new.first.items new.calls.items) (IsImage old.first.items old.calls.items)
+  all_failed call quiet moves c image = ⊎_elim (λ adds. all_adds call quiet adds c image) (λ stays. image_after old new c stays image) moves
 
   pub torn_failed : (at : ℕ) (bytes : List ℕ) → Adds (Write at bytes false) old new ⊎ Stays old new → Follows (Torn at (length bytes)) (IsImage old.first.items old.calls.items) (IsImage new.first.items new.calls.items)
   torn_failed at bytes moves c image =
@@ -125,11 +132,11 @@ module _ (old new : Log) where
       ⊎_elim (λ adds. image_by (Cut len false) old new c adds image) (λ stays. (c, image_before old new c stays image, scrambled_same len c)) moves
 
   pub synced : Adds (Sync true) old new → Only (Some old.bytes.items) (IsImage new.first.items new.calls.items)
-  synced adds c image = ap Some (old.replays ∙ sym (image_by (Sync true) old new c adds image))
+  synced adds c image = ap Some (old.replays ∙ sym ((image_by (Sync true) old new c adds image).2))
 
   pub synced_within : Adds (Sync true) old new → Within (IsImage old.first.items old.calls.items) (IsImage new.first.items new.calls.items)
   synced_within adds c image =
-      subst (IsImage old.first.items old.calls.items) (sym (image_by (Sync true) old new c adds image)) (reads_image old.first.items old.calls.items)
+      subst (IsImage old.first.items old.calls.items) (sym ((image_by (Sync true) old new c adds image).2)) (reads_image old.first.items old.calls.items)
 
   pub calls_failed : (call : Call) → Adds call old new ⊎ Stays old new → (new.calls.items ≡ old.calls.items ++ call ∷ []) ⊎ (new.calls.items ≡ old.calls.items)
   calls_failed call moves = ⊎_elim (λ adds. inl adds.calls) (λ stays. inr stays.calls) moves

@@ -7,7 +7,7 @@ use Rattle.std.proofs.lemmas.Slice.{drop-append-drop}
 use Rattle.emu_disk.specs.declared.call.Call.{Call}
 use Rattle.emu_disk.specs.declared.call.Call.TheVariants.{Read, Write, Cut, Sync}
 use Rattle.emu_disk.specs.Disk.{put, Torn, Shorter, Scrambled}
-use Rattle.emu_disk.specs.Memory.{landed, kept, content, effect, Leaves, CutLeaves, SyncLeaves, LeavesAfter, IsImage, WasImage}
+use Rattle.emu_disk.specs.Memory.{landed, kept, content, effect, Step, Leaves, CutLeaves, SyncLeaves, LeavesAfter, IsImage, WasImage}
 
 put_parts : (at : ℕ) (bytes xs : List ℕ) → put at bytes xs ≡ take at xs ++ (bytes ++ drop (at + length bytes) xs)
 put_parts at bytes xs = append_assoc (take at xs) bytes (drop (at + length bytes) xs)
@@ -53,26 +53,30 @@ cut_kept true n xs = record {
 }
 cut_kept false n xs = scrambled_same n xs
 
-sync_kept : (done : Bool) (xs : List ℕ) (P : List ℕ → Type 0) → P xs → SyncLeaves done xs P xs
-sync_kept true xs P has = refl
-sync_kept false xs P has = has
+sync_kept : (done : Bool) (xs : List ℕ) → SyncLeaves done xs xs xs
+sync_kept true xs = refl
+sync_kept false xs = refl
 
--- what a read gives is left by a crash
-step_reads : (call : Call) (xs : List ℕ) (P : List ℕ → Type 0) → P xs → Leaves call xs P (effect call xs)
-step_reads (Read at len done) xs P has = has
-step_reads (Write at bytes done) xs P has = (xs, has, torn_put at (length bytes) (landed done bytes) xs (landed_fits done bytes))
-step_reads (Cut len done) xs P has = (xs, has, cut_kept done len xs)
-step_reads (Sync done) xs P has = sync_kept done xs P has
+-- what a read gives, before a call and after it
+reads_step : (call : Call) (xs : List ℕ) → Step call xs xs (effect call xs)
+reads_step (Read at len done) xs = refl
+reads_step (Write at bytes done) xs = torn_put at (length bytes) (landed done bytes) xs (landed_fits done bytes)
+reads_step (Cut len done) xs = cut_kept done len xs
+reads_step (Sync done) xs = sync_kept done xs
 
 reads_after : (calls : List Call) (xs : List ℕ) (P : List ℕ → Type 0) → P xs → LeavesAfter P xs calls (content xs calls)
 reads_after [] xs P has = has
-reads_after (call ∷ calls) xs P has = reads_after calls (effect call xs) (Leaves call xs P) (step_reads call xs P has)
+reads_after (call ∷ calls) xs P has = reads_after calls (effect call xs) (Leaves call xs P) (xs, has, reads_step call xs)
 
 pub reads_image : (first : List ℕ) (calls : List Call) → IsImage first calls (content first calls)
 reads_image first calls = reads_after calls first (λ d. d ≡ first) refl
 
 pub as_read_of : (first : List ℕ) (calls : List Call) (bytes xs : List ℕ) → bytes ≡ content first calls → Some bytes ≡ Some xs → IsImage first calls xs
 as_read_of first calls bytes xs replays is = let same : content first calls ≡ xs = cc in subst (IsImage first calls) same (reads_image first calls)
+
+-- a disk that tells nothing
+pub not_told : (xs : List ℕ) → None ≡ Some xs → ⊥
+not_told xs is = cc
 
 pub image_now : (first : List ℕ) (calls : List Call) (t : ℕ) (c : List ℕ) → t ≤ length calls → IsImage first calls c → WasImage first calls t c
 image_now first calls t c le image = (length calls, le, omega arith, subst (λ (l : List Call). IsImage first l c) (sym (take_all (length calls) calls (omega arith))) image)

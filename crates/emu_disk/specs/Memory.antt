@@ -27,24 +27,28 @@ abbrev pub content : List ℕ → List Call → List ℕ
 content xs [] = xs
 content xs (call ∷ calls) = content (effect call xs) calls
 
--- what a crash leaves of a cut
+-- what a crash may leave after a cut, in place of an image
 abbrev pub CutLeaves : Bool → ℕ → List ℕ → List ℕ → Type 0
 CutLeaves true len = Shorter len
 CutLeaves false len = Scrambled len
 
--- what a crash may leave after a sync, where it might have left P and a read gives xs
-abbrev pub SyncLeaves : Bool → List ℕ → (List ℕ → Type 0) → List ℕ → Type 0
-SyncLeaves true xs P c = c ≡ xs
-SyncLeaves false xs P c = P c
+-- and after a sync, where a read gives xs
+abbrev pub SyncLeaves : Bool → List ℕ → List ℕ → List ℕ → Type 0
+SyncLeaves true xs old new = new ≡ xs
+SyncLeaves false xs old new = new ≡ old
 
--- what a crash may leave after a call, where before it might have left P and a read gave xs
+-- what a crash may leave after a call, in place of an image from before it, where a read gave xs
+abbrev pub Step : Call → List ℕ → List ℕ → List ℕ → Type 0
+Step (Read at len done) xs old new = new ≡ old
+Step (Write at bytes done) xs old new = Torn at (length bytes) old new
+Step (Cut len done) xs old new = CutLeaves done len old new
+Step (Sync done) xs old new = SyncLeaves done xs old new
+
+-- some image from before the call, and the step
 abbrev pub Leaves : Call → List ℕ → (List ℕ → Type 0) → List ℕ → Type 0
-Leaves (Read at len done) xs P c = P c
-Leaves (Write at bytes done) xs P c = (d : List ℕ) × P d × Torn at (length bytes) d c
-Leaves (Cut len done) xs P c = (d : List ℕ) × P d × CutLeaves done len d c
-Leaves (Sync done) xs P c = SyncLeaves done xs P c
+Leaves call xs P c = (d : List ℕ) × P d × Step call xs d c
 
--- and after these calls
+-- what a crash may leave after these calls, where before it might have left P and a read gave xs
 abbrev pub LeavesAfter : (List ℕ → Type 0) → List ℕ → List Call → List ℕ → Type 0
 LeavesAfter P xs [] c = P c
 LeavesAfter P xs (call ∷ calls) c = LeavesAfter (Leaves call xs P) (effect call xs) calls c

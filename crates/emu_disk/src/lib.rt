@@ -3,7 +3,11 @@
 
 mod call;
 mod disk;
+mod faults;
+mod file;
 mod memory;
 
 pub use call::{Call, Written};
 pub use disk::{Disk, Failed};
+pub use file::FileDisk;
+pub use memory::{Memory, MemoryDisk};

@@ -6,6 +6,7 @@ ghost use Rattle.emu_disk.specs.Laws.{as_read_of, image_now, image_only_now};
 
 use crate::call::{Call, Written};
 use crate::disk::{Disk, Failed};
+use crate::faults::fault;
 use std::alloc::{AllocError, AllocFailed, Global};
 
 /// Want of memory.
@@ -200,15 +201,6 @@ impl Plan {
         };
         !stopped && !self.failing.contains(&place)
     }
-}
-
-// Counts a fault.
-fn fault(faults: &mut u64) -> Failed
-    ensures rose { Rose faults.old faults.new }
-    ensures later { faults.old ≤ faults.new }
-{
-    *faults = faults.saturating_add(1);
-    Failed
 }
 
 /// A disk in memory. It keeps a list of all its calls, fails at the calls that it is told to, and shows what

@@ -19,10 +19,10 @@ pub returns-in-Err-clause-same : goal.returns-in-Err-clause-same
 returns-in-Err-clause-same c = ap Some (same_failed _ _ _ refl c.in-Err.ensures.moves)
 
 pub returns-in-Err-clause-crash : goal.returns-in-Err-clause-crash
-returns-in-Err-clause-crash c = within_failed _ _ (Sync false) (λ xs P d left. left) c.in-Err.ensures.moves
+returns-in-Err-clause-crash c = within_failed _ _ (Sync false) (λ xs d e is. is) c.in-Err.ensures.moves
 
 pub returns-in-Err-clause-all : goal.returns-in-Err-clause-all
-returns-in-Err-clause-all c = all_failed _ _ (Sync false) (λ xs P d left. left) c.in-Err.ensures.moves
+returns-in-Err-clause-all c = all_failed _ _ (Sync false) (λ xs d. refl) c.in-Err.ensures.moves
 
 pub returns-in-Err-clause-time : goal.returns-in-Err-clause-time
 returns-in-Err-clause-time c = time_failed _ _ _ c.in-Err.ensures.moves
