@@ -1,12 +1,12 @@
 -- The images of a disk that keeps its calls, from call to call.
-use Rattle.std.proofs.Common.{◌≡◌, ◌⊎◌, inl, inr, ⊎_elim, ℕ, ◌+◌, ◌≤◌, List, [], ◌∷◌, ◌++◌, length, take, Bool, true, false, Some, if◌then◌else◌, refl, sym, ◌∙◌, ap, subst, arith, length-append}
+use Rattle.std.proofs.Common.{◌≡◌, ◌⊎◌, inl, inr, ⊎_elim, ℕ, ◌+◌, ◌<◌, ◌≤◌, List, [], ◌∷◌, ◌++◌, length, take, Bool, true, false, Some, if◌then◌else◌, refl, sym, ◌∙◌, ap, subst, arith, get_or, length-append}
 use Rattle.std.proofs.lemmas.Bool.{cases_lt}
-use Rattle.std.proofs.lemmas.List.{take_all, take-append-le}
-use Rattle.emu_disk.specs.Disk.{Torn, Scrambled, Follows, Within, Only, Elapses}
+use Rattle.std.proofs.lemmas.List.{take_all, take_more, take-append-le}
+use Rattle.emu_disk.specs.Disk.{Torn, Shorter, Scrambled, Follows, Within, Only, Elapses}
 use Rattle.emu_disk.specs.declared.call.Call.{Call}
 use Rattle.emu_disk.specs.declared.call.Call.TheVariants.{Write, Cut, Sync}
 use Rattle.emu_disk.specs.declared.memory.Log.{Log}
-use Rattle.emu_disk.specs.Memory.{content, effect, Step, Leaves, LeavesAfter, IsImage, WasImage}
+use Rattle.emu_disk.specs.Memory.{content, effect, CutLeaves, Step, Leaves, LeavesAfter, IsImage, WasImage}
 use Rattle.emu_disk.specs.Moves.{Adds, Stays}
 use Rattle.emu_disk.specs.Laws.{torn_same, scrambled_same, reads_image}
 
@@ -143,3 +143,17 @@ module _ (old new : Log) where
 
   pub first_failed : (call : Call) → Adds call old new ⊎ Stays old new → new.first.items ≡ old.first.items
   first_failed call moves = ⊎_elim (λ adds. adds.first) (λ stays. stays.first) moves
+
+-- one call more of a replay
+pub replayed : (first : List ℕ) (calls : List Call) (i : ℕ) (call : Call) (bytes bytes' image image' : List ℕ) → i < length calls → call ≡ get_or calls i call → bytes ≡ content first (take i calls) → IsImage first (take i calls) image → bytes' ≡ effect call bytes → Step call bytes image image' → (bytes' ≡ content first (take (i + 1) calls)) × IsImage first (take (i + 1) calls) image'
+replayed first calls i call bytes bytes' image image' lt is so_far was by step =
+    let taken : take (i + 1) calls ≡ take i calls ++ call ∷ [] = take_more calls i call lt ∙ ap (λ (x : Call). take i calls ++ x ∷ []) (sym is) in (
+      by ∙ ap (effect call) so_far ∙ sym (content-push first (take i calls) call) ∙ ap (content first) (sym taken),
+      subst (λ (l : List Call). IsImage first l image') (sym taken)
+      (left_of (λ d. d ≡ first) first (take i calls) call image' (image, was, subst (λ (xs : List ℕ). Step call xs image image') so_far step)),
+    )
+
+-- what fits both a cut that was done and one that failed
+pub cut_leaves : (done : Bool) (n : ℕ) (old new : List ℕ) → Shorter n old new → Scrambled n old new → CutLeaves done n old new
+cut_leaves true n old new shorter scrambled = shorter
+cut_leaves false n old new shorter scrambled = scrambled

@@ -1,2 +1,3 @@
-pub mod Moments
 mod Kept
+pub mod Moments
+mod Past

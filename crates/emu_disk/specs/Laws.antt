@@ -6,6 +6,8 @@ use Rattle.std.proofs.lemmas.Bool.{cases_lt}
 use Rattle.std.proofs.lemmas.Slice.{drop-append-drop}
 use Rattle.emu_disk.specs.declared.call.Call.{Call}
 use Rattle.emu_disk.specs.declared.call.Call.TheVariants.{Read, Write, Cut, Sync}
+use Rattle.emu_disk.specs.declared.sure.Mark.{Mark}
+use Rattle.emu_disk.specs.Sure.{replay, Held}
 use Rattle.emu_disk.specs.Disk.{put, Torn, Shorter, Scrambled}
 use Rattle.emu_disk.specs.Memory.{landed, kept, content, effect, Step, Leaves, CutLeaves, SyncLeaves, LeavesAfter, IsImage, WasImage}
 
@@ -83,3 +85,14 @@ image_now first calls t c le image = (length calls, le, omega arith, subst (λ (
 
 pub image_only_now : (first : List ℕ) (calls : List Call) (c : List ℕ) → WasImage first calls (length calls) c → IsImage first calls c
 image_only_now first calls c was = subst (λ (l : List Call). IsImage first l c) (take_all was.0 calls was.1) was.3
+
+module _ (marks : List Mark) (written bytes : List ℕ) (replays : bytes ≡ replay marks written []) where
+  pub held_now : (t : ℕ) (c : List ℕ) → t ≤ length marks → c ≡ bytes → Held marks written t c
+  held_now t c le is =
+      (length marks, le, omega arith, is ∙ replays ∙ ap (λ (l : List Mark). replay l written []) (sym (take_all (length marks) marks (omega arith))))
+
+  pub held_only_now : (c : List ℕ) → Held marks written (length marks) c → c ≡ bytes
+  held_only_now c held = held.3 ∙ ap (λ (l : List Mark). replay l written []) (take_all held.0 marks held.1) ∙ sym replays
+
+pub some_same : (xs ys : List ℕ) → Some xs ≡ Some ys → ys ≡ xs
+some_same xs ys is = cc

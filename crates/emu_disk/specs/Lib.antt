@@ -2,5 +2,7 @@ pub mod Disk
 pub mod Laws
 pub mod Memory
 pub mod Moves
-pub mod Planned
 pub mod Plan
+pub mod Planned
+pub mod Roomy
+pub mod Sure

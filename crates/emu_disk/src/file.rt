@@ -11,12 +11,12 @@ use std::rt::Files;
 
 const NAME: &str = "emu.store";
 
-// The file, once it is there and open, and whether its folder's entry is still to be synced.
+// The file, once it is there and open, and whether its entry in the folder was synced.
 #[derive(Drop)]
 struct Store<R: Files + Drop> {
     rt: R,
     file: Option<R::File>,
-    entry_unsafe: bool,
+    entry_safe: bool,
 }
 
 impl<R: Files + Drop> Store<R> {
@@ -30,7 +30,6 @@ impl<R: Files + Drop> Store<R> {
             Err(error) if error.kind() == ErrorKind::NotFound => {
                 if make {
                     self.file = Some(File::create_new(&self.rt, NAME)?);
-                    self.entry_unsafe = true;
                 }
             }
             Err(error) => return Err(error),
@@ -76,9 +75,9 @@ impl<R: Files + Drop> Store<R> {
             return Ok(());
         };
         file.sync_all()?;
-        if self.entry_unsafe {
+        if !self.entry_safe {
             File::open(&self.rt, ".")?.sync_all()?;
-            self.entry_unsafe = false;
+            self.entry_safe = true;
         }
         Ok(())
     }
@@ -110,13 +109,13 @@ pub struct FileDisk<R: Files + Drop> {
 impl<R: Files + Drop> FileDisk<R> {
     /// The disk, of which no call has failed. The file is opened at the first call.
     pub fn new(rt: R) -> FileDisk<R>
-        ensures { result.faults ≡ 0 }
+        ensures { ⟦<FileDisk<R> as Disk>⟧.faults result ≡ 0 }
     {
         FileDisk {
             store: Store {
                 rt,
                 file: None,
-                entry_unsafe: false,
+                entry_safe: false,
             },
             faults: 0,
         }

@@ -4,9 +4,11 @@ ghost use Rattle.emu_disk.specs.Disk.{put, told, IsRead, Torn, Shorter, Scramble
 ghost use Rattle.emu_disk.specs.Memory.{landed, kept, content, effect, IsImage, WasImage};
 ghost use Rattle.emu_disk.specs.Laws.{as_read_of, image_now, image_only_now};
 
+use crate::bytes::copy_from;
 use crate::call::{Call, Written};
 use crate::disk::{Disk, Failed};
 use crate::faults::fault;
+use crate::replay::{Fate, Replay, front, part, with_written};
 use std::alloc::{AllocError, AllocFailed, Global};
 
 /// Want of memory.
@@ -85,7 +87,7 @@ impl Log {
         if !done {
             return Err(Failed);
         }
-        Ok(copy_from(&self.bytes, at as usize, buf))
+        Ok(copy_from(&self.bytes, at, buf))
     }
 
     fn write(
@@ -99,7 +101,7 @@ impl Log {
         ensures due { OnOk result (done ≡ true) }
         ensures moves { Keeps (λ done. Call.Write at bytes.now done) result self.old self.new }
     {
-        let next = with_written(alloc, &self.bytes, at as usize, part(bytes, done))?;
+        let next = with_written(alloc, &self.bytes, at, part(bytes, done))?;
         let bytes = Written::new(bytes.to_vec(alloc)?);
         self.change(Call::Write { at, bytes, done }, next)?;
         if done { Ok(()) } else { Err(Failed) }
@@ -125,54 +127,6 @@ impl Log {
         self.note(Call::Sync { done })?;
         if done { Ok(()) } else { Err(Failed) }
     }
-}
-
-// The bytes of a write that land.
-fn part(bytes: &[u8], done: bool) -> &[u8]
-    ensures { result.now ≡ landed done bytes.now }
-{
-    if done { bytes } else { &bytes[..bytes.len() / 2] }
-}
-
-// The first bytes, at most as many as there are.
-fn front(bytes: &[u8], len: u64) -> &[u8]
-    ensures { result.now ≡ take len bytes.now }
-{
-    if len < bytes.len() as u64 {
-        &bytes[..len as usize]
-    } else {
-        bytes
-    }
-}
-
-// The old bytes with others at a place.
-fn with_written(
-    alloc: Global,
-    old: &[u8],
-    at: usize,
-    bytes: &[u8],
-) -> Result<Vec<u8>, AllocError>
-    requires { at ≤ length old.now }
-    ensures { IfOk result (λ v. v.items ≡ put at bytes.now old.now) }
-{
-    let mut next = old[..at].to_vec(alloc)?;
-    next.extend_from_slice(bytes)?;
-    if bytes.len() < old.len() - at {
-        next.extend_from_slice(&old[at + bytes.len()..])?;
-    }
-    Ok(next)
-}
-
-// Copies the bytes from a place, as many as fit and are there, and says how many.
-fn copy_from(bytes: &[u8], at: usize, buf: &mut [u8]) -> usize
-    ensures { IsRead bytes.now at result buf.new }
-{
-    if at >= bytes.len() {
-        return 0;
-    }
-    let count = buf.len().min(bytes.len() - at);
-    buf[..count].copy_from_slice(&bytes[at..at + count]);
-    count
 }
 
 // Which calls are to fail: those at the listed places, and all once it has stopped.
@@ -216,7 +170,7 @@ pub struct MemoryDisk {
 }
 
 impl MemoryDisk {
-    ghost use Rattle.emu_disk.specs.Planned.{bytes_of, calls_of, first_of, failing_of, stop_of, made_of};
+    ghost use Rattle.emu_disk.specs.Planned.{bytes_of, calls_of, first_of, failing_of, images_of, stop_of, made_of};
 
     /// A disk with these bytes, all of them safe. No call is to fail.
     pub fn new(alloc: Global, bytes: &[u8]) -> Result<MemoryDisk, Memory>
@@ -276,6 +230,22 @@ impl MemoryDisk {
         ensures { result.now ≡ bytes_of self.now }
     {
         &self.log.bytes
+    }
+
+    /// An image that a crash may leave now. Each write and cut since the last sync that succeeded meets its
+    /// fate, in order; those behind the list's end are whole.
+    pub fn image(&self, alloc: Global, fates: &[Fate]) -> Result<Vec<u8>, Memory>
+        ensures { IfOk result (λ image. images_of self.now image.items) }
+    {
+        let mut replay = Replay {
+            bytes: self.log.first.to_vec(alloc)?,
+            image: self.log.first.to_vec(alloc)?,
+            changes: 0,
+        };
+        for call in &self.log.calls {
+            replay.step(alloc, call, fates)?;
+        }
+        Ok(replay.image)
     }
 
     /// The calls that it kept, in order.
