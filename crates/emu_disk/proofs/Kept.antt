@@ -150,7 +150,7 @@ replayed first calls i call bytes bytes' image image' lt is so_far was by step =
     let taken : take (i + 1) calls ≡ take i calls ++ call ∷ [] = take_more calls i call lt ∙ ap (λ (x : Call). take i calls ++ x ∷ []) (sym is) in (
       by ∙ ap (effect call) so_far ∙ sym (content-push first (take i calls) call) ∙ ap (content first) (sym taken),
       subst (λ (l : List Call). IsImage first l image') (sym taken)
-      (left_of (λ d. d ≡ first) first (take i calls) call image' (image, was, subst (λ (xs : List ℕ). Step call xs image image') so_far step)),
+          (left_of (λ d. d ≡ first) first (take i calls) call image' (image, was, subst (λ (xs : List ℕ). Step call xs image image') so_far step)),
     )
 
 -- what fits both a cut that was done and one that failed

@@ -1,7 +1,7 @@
 -- How the bytes of a disk with its own room follow from its changes.
-use Rattle.std.proofs.Common.{◌≡◌, ◌⊎◌, inl, inr, ℕ, zero, suc, ◌+◌, ◌≤◌, List, [], ◌∷◌, ◌++◌, length, take, drop, refl, sym, ◌∙◌, ap, subst, arith, length-append, length-drop, take_at}
+use Rattle.std.proofs.Common.{◌≡◌, ◌⊎◌, inl, inr, ℕ, zero, suc, ◌+◌, ◌≤◌, List, [], ◌∷◌, ◌++◌, length, take, drop, refl, sym, ◌∙◌, ap, subst, arith, length-append, length-drop}
 use Rattle.std.proofs.lemmas.Bool.{cases_lt}
-use Rattle.std.proofs.lemmas.List.{take_all, drop_at, drop-drop, append-nil, take-append-le, drop-append-le}
+use Rattle.std.proofs.lemmas.List.{take_all, drop_at, drop-drop, take-append-le, drop-append-le}
 use Rattle.emu_disk.specs.Disk.{put, Elapses}
 use Rattle.emu_disk.specs.declared.sure.Mark.{Mark}
 use Rattle.emu_disk.specs.declared.sure.Mark.TheVariants.{Wrote, Cut}
@@ -37,10 +37,10 @@ total-take (suc k) (Cut len ∷ marks) = total-take k marks
 pub wrote : (marks : List Mark) (written bytes with_bytes : List ℕ) (at n : ℕ) → bytes ≡ replay marks written [] → total marks ≡ length written → n ≡ length with_bytes → put at with_bytes bytes ≡ replay (marks ++ Wrote at n ∷ []) (written ++ with_bytes) []
 wrote marks written bytes with_bytes at n replays all is =
     sym (
-      replay-append marks (Wrote at n ∷ []) (written ++ with_bytes) []
-      ∙ ap (λ (l : List ℕ). put at (take n l) (replay marks (written ++ with_bytes) [])) (drop_at written with_bytes (total marks) (sym all))
-      ∙ ap (λ (l : List ℕ). put at l (replay marks (written ++ with_bytes) [])) (take_all n with_bytes (omega arith))
-      ∙ ap (λ (l : List ℕ). put at with_bytes l) (replay-longer marks written with_bytes [] (omega arith) ∙ sym replays)
+    replay-append marks (Wrote at n ∷ []) (written ++ with_bytes) []
+    ∙ ap (λ (l : List ℕ). put at (take n l) (replay marks (written ++ with_bytes) [])) (drop_at written with_bytes (total marks) (sym all))
+    ∙ ap (λ (l : List ℕ). put at l (replay marks (written ++ with_bytes) [])) (take_all n with_bytes (omega arith))
+    ∙ ap (λ (l : List ℕ). put at with_bytes l) (replay-longer marks written with_bytes [] (omega arith) ∙ sym replays)
     )
 
 pub shortened : (marks : List Mark) (written bytes : List ℕ) (n : ℕ) → bytes ≡ replay marks written [] → take n bytes ≡ replay (marks ++ Cut n ∷ []) written []

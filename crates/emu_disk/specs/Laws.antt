@@ -1,14 +1,14 @@
 -- The laws of a disk that keeps its calls.
-use Rattle.std.specs.Prelude.{◌≡◌, ℕ, ◌+◌, ◌-◌, ◌/◌, ◌≤◌, max, min, List, [], ◌∷◌, ◌++◌, length, take, drop, Bool, true, false, Option, None, Some}
+use Rattle.std.specs.Prelude.{◌≡◌, ℕ, ◌+◌, ◌-◌, ◌/◌, ◌≤◌, min, List, [], ◌∷◌, ◌++◌, length, take, drop, Bool, true, false, None, Some}
 use Rattle.std.proofs.Common.{refl, sym, ◌∙◌, ap, subst, arith, append_assoc, inl, inr, length-append, length-take, length-drop}
-use Rattle.std.proofs.lemmas.List.{take_all, drop_all, take_at, take_min, take-append-le, drop-append-le}
+use Rattle.std.proofs.lemmas.List.{take_all, drop_all, take_at, take_min}
 use Rattle.std.proofs.lemmas.Bool.{cases_lt}
 use Rattle.std.proofs.lemmas.Slice.{drop-append-drop}
 use Rattle.emu_disk.specs.declared.call.Call.{Call}
 use Rattle.emu_disk.specs.declared.call.Call.TheVariants.{Read, Write, Cut, Sync}
 use Rattle.emu_disk.specs.declared.sure.Mark.{Mark}
 use Rattle.emu_disk.specs.Sure.{replay, Held}
-use Rattle.emu_disk.specs.Disk.{put, Torn, Shorter, Scrambled}
+use Rattle.emu_disk.specs.Disk.{put, Torn, Scrambled}
 use Rattle.emu_disk.specs.Memory.{landed, kept, content, effect, Step, Leaves, CutLeaves, SyncLeaves, LeavesAfter, IsImage, WasImage}
 
 put_parts : (at : ℕ) (bytes xs : List ℕ) → put at bytes xs ≡ take at xs ++ (bytes ++ drop (at + length bytes) xs)

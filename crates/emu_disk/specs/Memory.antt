@@ -1,6 +1,5 @@
 -- What a disk in memory holds after its calls, and what a crash may leave of it.
-use Rattle.std.specs.Prelude.{◌≡◌, ℕ, ◌/◌, ◌≤◌, List, [], ◌∷◌, length, take, Bool, true, false, Vec}
-use Rattle.std.specs.declared.alloc.Global.{Global}
+use Rattle.std.specs.Prelude.{◌≡◌, ℕ, ◌/◌, ◌≤◌, List, [], ◌∷◌, length, take, Bool, true, false}
 use Rattle.emu_disk.specs.Disk.{put, Torn, Shorter, Scrambled}
 use Rattle.emu_disk.specs.declared.call.Call.{Call}
 use Rattle.emu_disk.specs.declared.call.Call.TheVariants.{Read, Write, Cut, Sync}

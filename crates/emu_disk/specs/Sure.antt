@@ -1,5 +1,5 @@
 -- What a disk that keeps its changes in room of its own has held.
-use Rattle.std.specs.Prelude.{◌≡◌, ℕ, ◌+◌, ◌-◌, ◌≤◌, List, [], ◌∷◌, length, take, drop}
+use Rattle.std.specs.Prelude.{◌≡◌, ℕ, ◌+◌, ◌≤◌, List, [], ◌∷◌, length, take, drop}
 use Rattle.emu_disk.specs.Disk.{put}
 use Rattle.emu_disk.specs.declared.sure.Mark.{Mark}
 use Rattle.emu_disk.specs.declared.sure.Mark.TheVariants.{Wrote, Cut}

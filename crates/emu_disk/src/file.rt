@@ -25,7 +25,11 @@ impl<R: Files + Drop> Store<R> {
         if self.file.is_some() {
             return Ok(());
         }
-        match OpenOptions::new().read(true).write(true).open(&self.rt, NAME) {
+        match OpenOptions::new()
+            .read(true)
+            .write(true)
+            .open(&self.rt, NAME)
+        {
             Ok(file) => self.file = Some(file),
             Err(error) if error.kind() == ErrorKind::NotFound => {
                 if make {

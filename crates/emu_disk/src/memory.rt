@@ -90,13 +90,7 @@ impl Log {
         Ok(copy_from(&self.bytes, at, buf))
     }
 
-    fn write(
-        &mut self,
-        alloc: Global,
-        at: u64,
-        bytes: &[u8],
-        done: bool,
-    ) -> Result<(), Failed>
+    fn write(&mut self, alloc: Global, at: u64, bytes: &[u8], done: bool) -> Result<(), Failed>
         requires { at ≤ length self.old.bytes.items }
         ensures due { OnOk result (done ≡ true) }
         ensures moves { Keeps (λ done. Call.Write at bytes.now done) result self.old self.new }

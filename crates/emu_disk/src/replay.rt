@@ -93,7 +93,11 @@ impl Replay {
 pub(crate) fn part(bytes: &[u8], done: bool) -> &[u8]
     ensures { result.now ≡ landed done bytes.now }
 {
-    if done { bytes } else { &bytes[..bytes.len() / 2] }
+    if done {
+        bytes
+    } else {
+        &bytes[..bytes.len() / 2]
+    }
 }
 
 /// The first bytes, at most as many as there are.
@@ -133,13 +137,7 @@ pub(crate) fn with_written(
 }
 
 // What a fate leaves of a write.
-fn torn(
-    alloc: Global,
-    old: &[u8],
-    at: u64,
-    bytes: &[u8],
-    fate: Fate,
-) -> Result<Vec<u8>, AllocError>
+fn torn(alloc: Global, old: &[u8], at: u64, bytes: &[u8], fate: Fate) -> Result<Vec<u8>, AllocError>
     ensures { IfOk result (λ v. Torn at (length bytes.now) old.now v.items) }
 {
     match fate {

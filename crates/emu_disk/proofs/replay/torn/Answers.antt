@@ -1,6 +1,6 @@
-use Rattle.std.proofs.Common.{false, length, ◌≡◌, sym, ◌∙◌, ap, subst}
+use Rattle.std.proofs.Common.{false, length, sym, subst}
 use Rattle.std.proofs.lemmas.Result.{IfOk-weaker}
-use Rattle.emu_disk.specs.Disk.{Torn, put}
+use Rattle.emu_disk.specs.Disk.{Torn}
 use Rattle.emu_disk.specs.Laws.{torn_put, landed_fits}
 use Rattle.emu_disk.proofs.replay.torn.Goals as goal
 

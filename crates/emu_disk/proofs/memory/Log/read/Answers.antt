@@ -1,4 +1,4 @@
-use Rattle.std.proofs.Common.{sym, ◌∙◌, subst}
+use Rattle.std.proofs.Common.{◌∙◌, subst}
 use Rattle.emu_disk.specs.Disk.{IsRead}
 use Rattle.emu_disk.proofs.memory.Log.read.Goals as goal
 

@@ -1,4 +1,4 @@
-use Rattle.std.proofs.Common.{length, true, false, Some, inl, refl, ap}
+use Rattle.std.proofs.Common.{length, true, false, Some, refl, ap}
 use Rattle.emu_disk.specs.declared.call.Call.TheVariants.{Read}
 use Rattle.emu_disk.proofs.Kept.{calls_failed, first_failed, within_adds, all_adds, time_adds, time_failed, bytes_by, same_failed, within_failed, all_failed}
 use Rattle.emu_disk.proofs.memory.MemoryDiskDisk.read.Goals as goal

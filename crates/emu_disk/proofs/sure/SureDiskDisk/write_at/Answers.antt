@@ -19,4 +19,4 @@ returns-clause-time c =
     let s = c.args.self.now in
     time_to s.marks.items c.push.new.marks.items (Wrote c.args.at (length c.args.bytes.now)) s.written.items c.args.bytes.now c.extend.new.bytes.items c.overlay.new.bytes.items s.all c.push.ensures.marks c.extend.ensures.bytes
     (wrote_to s.marks.items c.push.new.marks.items s.written.items c.extend.new.bytes.items s.bytes.items c.overlay.new.bytes.items c.args.bytes.now c.args.at (length c.args.bytes.now)
-      s.replays s.all refl c.overlay.ensures.bytes c.extend.ensures.bytes c.push.ensures.marks)
+    s.replays s.all refl c.overlay.ensures.bytes c.extend.ensures.bytes c.push.ensures.marks)
