@@ -1,0 +1,4 @@
+pub mod Held
+pub mod Recovery
+pub mod Staged
+pub mod Store
