@@ -1,10 +1,10 @@
 -- What recovery reads and finds.
-use Rattle.std.proofs.Common.{◌≡◌, ◌≢◌, ◌⊎◌, inl, inr, ℕ, zero, suc, ◌+◌, ◌-◌, ◌<◌, ◌≤◌, min, List, [], ◌∷◌, ◌++◌, length, take, drop, Option, None, Some, Result, Ok, Err, refl, sym, ◌∙◌, ap, subst, arith, append_assoc, length-append, length-take, length-drop, take-append-drop}
+use Rattle.std.proofs.Common.{◌≡◌, ◌≢◌, ℕ, suc, ◌+◌, ◌<◌, ◌≤◌, List, [], ◌∷◌, ◌++◌, length, take, drop, Option, None, Some, Ok, Err, refl, sym, ◌∙◌, ap, subst, arith, append_assoc, length-append, length-take, take-append-drop}
 use Rattle.std.proofs.lemmas.List.{take_all}
 use Rattle.std.proofs.Math.Seq.{take-add}
 use Rattle.emu_disk.specs.Disk.{IsRead}
 use Rattle.edit_journal.specs.declared.body.Body.{Body}
-use Rattle.edit_journal.specs.Store.{limit, head, body_at, walk, with_front, bodies, frame, frames, start, placed, IsSized, AreSized, StandsFor}
+use Rattle.edit_journal.specs.Store.{limit, head, body_at, walk, with_front, bodies, frame, frames, start, placed, IsSized, AreSized}
 use Rattle.edit_journal.specs.Held.{texts_of, Stands, Tells, Reads}
 use Rattle.edit_journal.specs.Recovery.{IsFront}
 use Rattle.edit_journal.proofs.Walk.{bodies-too_long, bodies-start, length-start, length_frame, start-push, sized_push, stands_back}
@@ -47,7 +47,7 @@ placed-push : (at : ℕ) (texts : List (List ℕ)) (text : List ℕ) → placed 
 placed-push at [] text = ap (λ (n : ℕ). body_at n text ∷ []) (omega arith)
 placed-push at (t ∷ texts) text =
     ap (λ (l : List Body). body_at at t ∷ l) (placed-push (at + 5 + length t) texts text
-      ∙ ap (λ (n : ℕ). placed (at + 5 + length t) texts ++ body_at n text ∷ []) (omega (arith, length_frame t, length-append (frame t) (frames texts))))
+    ∙ ap (λ (n : ℕ). placed (at + 5 + length t) texts ++ body_at n text ∷ []) (omega (arith, length_frame t, length-append (frame t) (frames texts))))
 
 body_is : (at at' : ℕ) (text : List ℕ) → at ≡ at' → body_at at' text ≡ record { at = at; bytes = text }
 unfolding body_at

@@ -1,14 +1,14 @@
 -- What a journal holds after each of its writes.
-use Rattle.std.proofs.Common.{◌≡◌, ◌≢◌, ◌⊎◌, inl, inr, ⊎_elim, ℕ, ◌+◌, ◌<◌, ◌≤◌, List, [], ◌∷◌, ◌++◌, length, Bool, Option, None, Some, Result, Ok, Err, OnOk, OnErr, w32, refl, sym, ◌∙◌, ap, subst, arith, length-append}
+use Rattle.std.proofs.Common.{◌≡◌, ◌⊎◌, inl, inr, ⊎_elim, ℕ, ◌+◌, ◌≤◌, List, [], ◌∷◌, ◌++◌, length, Bool, Option, None, Some, Result, Ok, Err, OnOk, OnErr, refl, sym, ◌∙◌, ap, subst, arith, length-append}
 use Rattle.std.proofs.Math.Logic.{∥∥₁_elim, ∥∥₁_map}
 use Rattle.std.proofs.Props.{props}
 use Rattle.emu_disk.specs.Disk.{put, Torn, Follows}
 use Rattle.edit_journal.specs.declared.journal.Journal.{Journal}
 use Rattle.edit_journal.specs.declared.journal.Gate.{Gate}
 use Rattle.edit_journal.specs.declared.journal.Gate.TheVariants.{Missing, Closed, InDoubt}
-use Rattle.edit_journal.specs.Store.{limit, head, frame, frames, start, bodies, placed, IsSized, AreSized, StandsFor}
+use Rattle.edit_journal.specs.Store.{limit, head, frame, start, IsSized, AreSized, StandsFor}
 use Rattle.edit_journal.specs.Staged.{staged_of}
-use Rattle.edit_journal.specs.Held.{AtGate, Stands, IsHeldBy, FitsGate, Holds, IsHeld, IsStagedIn, MayHave, DuringAppend, IsAsBefore}
+use Rattle.edit_journal.specs.Held.{Stands, IsHeldBy, FitsGate, Holds, IsHeld, IsStagedIn, MayHave, DuringAppend, IsAsBefore}
 use Rattle.edit_journal.proofs.Walk.{bodies-short, stands_back, may_have, sized_push, start-push}
 use Rattle.edit_journal.proofs.Steps.{staging, staged, gate_torn, opened, shut_again, end_within, head_put, head_torn}
 
@@ -66,8 +66,8 @@ module _ {D : Type 0} (may_leave : D → List ℕ → Type 0) where
 
       pub begun_ok : new.gate ≡ Closed → Follows (λ d c. c ≡ put 0 (head ++ 0 ∷ []) d) (may_leave old.disk) (may_leave new.disk) → Holds may_leave texts None new
       begun_ok closed follows = holds_closed texts new holds.sized closed new_end new_small (λ c image.
-        let from = follows c image in
-        subst (λ (t : List (List ℕ)). Stands t None c) (sym no_text) (head_put from.0 c (image_at Missing missing from.0 from.1) from.2))
+          let from = follows c image in
+          subst (λ (t : List (List ℕ)). Stands t None c) (sym no_text) (head_put from.0 c (image_at Missing missing from.0 from.1) from.2))
 
       pub begun_err : new.gate ≡ Missing → Follows (Torn 0 9) (may_leave old.disk) (may_leave new.disk) → Holds may_leave texts lost new
       begun_err still follows = record {
@@ -98,8 +98,8 @@ module _ {D : Type 0} (may_leave : D → List ℕ → Type 0) where
 
       pub shut_ok : new.gate ≡ Closed → Follows (λ d c. c ≡ put old.end (0 ∷ []) d) (may_leave old.disk) (may_leave new.disk) → Holds may_leave texts None new
       shut_ok closed follows = holds_closed texts new holds.sized closed new_end new_small (λ c image.
-        let from = follows c image in
-        shut_again texts old.end holds.end in_doubt.0 from.0 c (stands_in from.0 from.1) from.2)
+          let from = follows c image in
+          shut_again texts old.end holds.end in_doubt.0 from.0 c (stands_in from.0 from.1) from.2)
 
       torn_in : (c : List ℕ) → ((d : List ℕ) × may_leave old.disk d × Torn old.end 1 d c) → Stands texts (Some in_doubt.0) c
       torn_in c from =
@@ -152,8 +152,8 @@ module _ {D : Type 0} (may_leave : D → List ℕ → Type 0) where
           let h = is_staged.holds in
           let far : new.end ≡ length (start (texts ++ body ∷ [])) = omega (arith, end, h.end, ap length (start-push texts body), length-append (start texts) (frame body)) in
           holds_closed (texts ++ body ∷ []) new (sized_push texts body h.sized is_staged.sized) closed far (omega (arith, end)) (λ c image.
-            let from = follows c image in
-            opened texts old.end h.end body from.0 c (is_staged.staged from.0 from.1) from.2)
+          let from = follows c image in
+          opened texts old.end h.end body from.0 c (is_staged.staged from.0 from.1) from.2)
 
       pub open_may : (c : List ℕ) → ((d : List ℕ) × may_leave old.disk d × Torn old.end 1 d c) → MayHave texts (Some body) c
       open_may c from = may_have texts body c is_staged.holds.sized is_staged.sized (torn_open c from)
@@ -164,8 +164,10 @@ module _ {D : Type 0} (may_leave : D → List ℕ → Type 0) where
     where
       at : (g : Gate) → journal.gate ≡ g → FitsGate g texts lost
       at g is = subst (λ (h : Gate). FitsGate h texts lost) is holds.by_gate
+
       held : (g : Gate) → journal.gate ≡ g → IsHeldBy g texts lost c
       held g is = subst (λ (h : Gate). IsHeldBy h texts lost c) is (holds.images c image)
+
       by_gate : (g : Gate) → journal.gate ≡ g → MayHave texts lost c
       by_gate Missing is =
           subst (λ (l : Option (List ℕ)). MayHave texts l c) (sym (at Missing is).1) (subst (λ (t : List (List ℕ)). StandsFor t c) (sym (at Missing is).0) (bodies-short c (held Missing is)))

@@ -2,3 +2,4 @@ pub mod Found
 pub mod Kept
 pub mod Steps
 pub mod Walk
+pub mod Written

@@ -1,12 +1,12 @@
 -- What each write of an append leaves of a store.
-use Rattle.std.proofs.Common.{◌≡◌, ◌≢◌, ◌⊎◌, inl, inr, ℕ, zero, suc, ◌+◌, ◌-◌, ◌<◌, ◌≤◌, max, min, List, [], ◌∷◌, ◌++◌, length, get_or, take, drop, Option, None, Some, w32, refl, sym, ◌∙◌, ap, subst, arith, append_assoc, length-append, length-take, length-drop, take_at, take-append-drop}
+use Rattle.std.proofs.Common.{◌≡◌, ◌≢◌, ℕ, ◌+◌, ◌≤◌, min, List, [], ◌∷◌, ◌++◌, length, get_or, take, drop, Option, None, Some, w32, refl, sym, ◌∙◌, ap, arith, append_assoc, length-append, length-drop, take_at, take-append-drop}
 use Rattle.std.specs.Int.{to_be_bytes}
-use Rattle.std.proofs.lemmas.List.{append-nil, take_all, drop_all, drop_at, drop_more}
+use Rattle.std.proofs.lemmas.List.{drop_all, drop_at, drop_more}
 use Rattle.emu_disk.specs.Disk.{put, Torn}
-use Rattle.edit_journal.specs.Store.{limit, head, frame, frames, start, IsSized, AreSized}
+use Rattle.edit_journal.specs.Store.{limit, head, frame, start}
 use Rattle.edit_journal.specs.Staged.{staged_of, body_of}
-use Rattle.edit_journal.specs.Held.{AtGate, Stands}
-use Rattle.edit_journal.proofs.Walk.{length-start, start-push}
+use Rattle.edit_journal.specs.Held.{Stands}
+use Rattle.edit_journal.proofs.Walk.{start-push}
 
 -- a list cut behind its gate
 module _ (p rest c : List ℕ) (gate e : ℕ) (split : c ≡ p ++ gate ∷ rest) (size : length p ≡ e) where

@@ -1,5 +1,5 @@
 -- What is read of a store is what was written.
-use Rattle.std.proofs.Common.{◌≡◌, ◌≢◌, ◌⊎◌, inl, inr, ⊎_elim, ℕ, zero, suc, ◌+◌, ◌-◌, ◌*◌, ◌^◌, ◌<◌, ◌≤◌, List, [], ◌∷◌, ◌++◌, length, get_or, take, drop, Bool, true, false, ◌&&◌, ◌==◌, nat_eq, nat_lt, nat_le, if◌then◌else◌, Option, None, Some, Result, Ok, Err, w32, refl, sym, ◌∙◌, ap, subst, arith, append_assoc, length-append, take_at, zero-add, add-zero}
+use Rattle.std.proofs.Common.{◌≡◌, ◌≢◌, ◌⊎◌, inl, inr, ⊎_elim, ℕ, suc, ◌+◌, ◌-◌, ◌*◌, ◌^◌, ◌<◌, ◌≤◌, List, [], ◌∷◌, ◌++◌, length, get_or, take, drop, Bool, true, false, ◌&&◌, nat_eq, nat_lt, nat_le, if◌then◌else◌, None, Some, Result, Ok, Err, w32, refl, sym, ◌∙◌, ap, subst, arith, append_assoc, length-append, take_at, zero-add, add-zero}
 use Rattle.std.specs.Int.{from_be_bytes, to_be_bytes}
 use Rattle.std.specs.Cmp.Lexicographic.{pointwise}
 use Rattle.std.proofs.lemmas.Bool.{cases_lt, cases_eq, lt-ltb, le-ltb, le-leb, lt-leb, eq-eqb, ne_eqb, and_right}
@@ -7,7 +7,7 @@ use Rattle.std.proofs.lemmas.List.{append-nil, drop_at}
 use Rattle.std.proofs.lemmas.Nat.{from_be_bytes-to_be_bytes_4}
 use Rattle.edit_journal.specs.declared.body.Body.{Body}
 use Rattle.edit_journal.specs.Store.{limit, head, body_at, size_of, is_whole, with_front, walk, bodies, frame, frames, start, placed, IsSized, AreSized, StandsFor}
-use Rattle.edit_journal.specs.Held.{AtGate, Stands, MayHave}
+use Rattle.edit_journal.specs.Held.{Stands, MayHave}
 
 with_front-nil : (r : Result (List Body) ℕ) → with_front [] r ≡ r
 with_front-nil (Ok more) = refl
@@ -61,9 +61,9 @@ walk-closed steps at gate (a ∷ b ∷ []) shut = ap (λ (t : Bool). if t then E
 walk-closed steps at gate (a ∷ b ∷ c ∷ []) shut = ap (λ (t : Bool). if t then Err at else Ok []) (ne_eqb gate 1 shut)
 walk-closed steps at gate (a ∷ b ∷ c ∷ d ∷ rest) shut =
     ap (λ (t : Bool). if t then (
-      if is_whole (size_of a b c d) rest
-      then with_front (body_at at (take (size_of a b c d) rest) ∷ []) (walk steps (at + 5 + size_of a b c d) (drop (size_of a b c d) rest))
-      else Err at
+    if is_whole (size_of a b c d) rest
+    then with_front (body_at at (take (size_of a b c d) rest) ∷ []) (walk steps (at + 5 + size_of a b c d) (drop (size_of a b c d) rest))
+    else Err at
     ) else Ok []) (ne_eqb gate 1 shut)
 
 -- an open gate with a length that is 0 or passes the end
@@ -84,9 +84,9 @@ walk-unwhole (gate ∷ a ∷ b ∷ c ∷ d ∷ more) steps at n long is_open is 
     let same : size ≡ n = sym is in
     let past : (size ≡ 0) ⊎ (length more < size) = ⊎_elim (λ none. inl (same ∙ none)) (λ less. inr (omega (arith, same, less))) bad in
     ap (λ (t : Bool). if t then (
-      if is_whole size more
-      then with_front (body_at at (take size more) ∷ []) (walk steps (at + 5 + size) (drop size more))
-      else Err at
+    if is_whole size more
+    then with_front (body_at at (take size more) ∷ []) (walk steps (at + 5 + size) (drop size more))
+    else Err at
     ) else Ok []) (eq-eqb gate 1 is_open)
     ∙ ap (λ (t : Bool). if t then with_front (body_at at (take size more) ∷ []) (walk steps (at + 5 + size) (drop size more)) else Err at) (unwhole size more past)
 
@@ -127,9 +127,9 @@ bodies-start texts rest sized some fits =
     let enough : length c ≡ length texts + suc steps = omega (arith, frames_long texts, length-append (frames texts) rest) in (
       steps,
       bodies-begun c (omega arith) fits refl
-      ∙ ap (λ (n : ℕ). walk n 8 (frames texts ++ rest)) enough
-      ∙ walk-frames texts (suc steps) 8 rest sized
-      ∙ ap (λ (n : ℕ). with_front (placed 8 texts) (walk (suc steps) n rest)) (sym (length-start texts)),
+          ∙ ap (λ (n : ℕ). walk n 8 (frames texts ++ rest)) enough
+          ∙ walk-frames texts (suc steps) 8 rest sized
+          ∙ ap (λ (n : ℕ). with_front (placed 8 texts) (walk (suc steps) n rest)) (sym (length-start texts)),
     )
 
 short_none : (texts : List (List ℕ)) (rest : List ℕ) → length (start texts ++ rest) ≤ 9 → texts ≡ []

@@ -1,11 +1,11 @@
 -- What a journal holds: a list of bodies, and perhaps one more that a crash may bring back.
-use Rattle.std.specs.Prelude.{◌≡◌, ◌≢◌, ◌⊎◌, ℕ, ◌+◌, ◌<◌, ◌≤◌, List, [], ◌∷◌, ◌++◌, length, Bool, Option, None, Some, Result, Ok, Err}
+use Rattle.std.specs.Prelude.{◌≡◌, ◌≢◌, ◌⊎◌, ℕ, ◌≤◌, List, [], ◌∷◌, ◌++◌, length, Bool, Option, None, Some, Result}
 use Rattle.std.specs.Int.{w32, to_be_bytes}
 use Rattle.edit_journal.specs.declared.body.Body.{Body}
 use Rattle.edit_journal.specs.declared.journal.Journal.{Journal}
 use Rattle.edit_journal.specs.declared.journal.Gate.{Gate}
 use Rattle.edit_journal.specs.declared.journal.Gate.TheVariants.{Missing, Closed, InDoubt}
-use Rattle.edit_journal.specs.Store.{limit, start, frame, bodies, placed, IsSized, AreSized, StandsFor}
+use Rattle.edit_journal.specs.Store.{limit, start, bodies, IsSized, AreSized, StandsFor}
 
 -- the disk that a journal owns
 abbrev pub disk_of : {D : Type 0} → Journal D → D

@@ -1,5 +1,5 @@
 -- The bytes of a store, and the list of bodies that they stand for. Numbers are big-endian.
-use Rattle.std.specs.Prelude.{◌≡◌, ℕ, zero, suc, ◌+◌, ◌^◌, ◌<◌, ◌≤◌, List, [], ◌∷◌, ◌++◌, length, take, drop, Bool, ◌&&◌, ◌==◌, nat_eq, nat_lt, nat_le, if◌then◌else◌, Option, None, Some, Result, Ok, Err}
+use Rattle.std.specs.Prelude.{◌≡◌, ℕ, zero, suc, ◌+◌, ◌^◌, ◌≤◌, List, [], ◌∷◌, ◌++◌, length, take, drop, Bool, ◌&&◌, ◌==◌, nat_eq, nat_lt, nat_le, if◌then◌else◌, Result, Ok, Err}
 use Rattle.std.specs.Int.{w32, from_be_bytes, to_be_bytes}
 use Rattle.std.specs.Cmp.Lexicographic.{pointwise}
 use Rattle.edit_journal.specs.declared.body.Body.{Body}
@@ -37,9 +37,9 @@ walk zero at bytes = Err at
 walk (suc steps) at [] = Err at
 walk (suc steps) at (gate ∷ a ∷ b ∷ c ∷ d ∷ rest) =
     if gate == 1 then (
-      if is_whole (size_of a b c d) rest
-      then with_front (body_at at (take (size_of a b c d) rest) ∷ []) (walk steps (at + 5 + size_of a b c d) (drop (size_of a b c d) rest))
-      else Err at
+    if is_whole (size_of a b c d) rest
+    then with_front (body_at at (take (size_of a b c d) rest) ∷ []) (walk steps (at + 5 + size_of a b c d) (drop (size_of a b c d) rest))
+    else Err at
     ) else Ok []
 walk (suc steps) at (gate ∷ rest) = if gate == 1 then Err at else Ok []
 
@@ -47,8 +47,8 @@ walk (suc steps) at (gate ∷ rest) = if gate == 1 then Err at else Ok []
 abbrev pub bodies : List ℕ → Result (List Body) ℕ
 bodies bytes =
     if nat_le (length bytes) limit then (
-      if nat_le (length bytes) 9 then Ok []
-      else (if pointwise nat_eq (take 8 bytes) head then walk (length bytes) 8 (drop 8 bytes) else Err 0)
+    if nat_le (length bytes) 9 then Ok []
+    else (if pointwise nat_eq (take 8 bytes) head then walk (length bytes) 8 (drop 8 bytes) else Err 0)
     ) else Err limit
 
 -- a body behind an open gate, as it is written

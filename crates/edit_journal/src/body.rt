@@ -38,6 +38,13 @@ impl BodyBytes {
         })
     }
 
+    /// The same bytes once more.
+    pub fn copy(&self, alloc: Global) -> Result<BodyBytes, Memory>
+        ensures { IfOk result (λ b. b ≡ self.now) }
+    {
+        BodyBytes::from_slice(alloc, &self.bytes)
+    }
+
     /// Adds a byte.
     pub fn push(&mut self, byte: u8) -> Result<(), Memory>
         ensures ok { OnOk result (self.new ≡ self.old ++ byte ∷ []) }
@@ -76,6 +83,18 @@ pub struct Body {
     pub bytes: BodyBytes,
 }
 
+impl Body {
+    /// The same body once more.
+    pub fn copy(&self, alloc: Global) -> Result<Body, Memory>
+        ensures { IfOk result (λ body. body ≡ self.now) }
+    {
+        Ok(Body {
+            at: self.at,
+            bytes: self.bytes.copy(alloc)?,
+        })
+    }
+}
+
 /// Bodies in the order of the store.
 #[derive(Debug, Drop)]
 pub struct Bodies {
@@ -99,6 +118,17 @@ impl Bodies {
         Bodies {
             items: Vec::new(alloc),
         }
+    }
+
+    /// The same bodies once more.
+    pub fn copy(&self, alloc: Global) -> Result<Bodies, Memory>
+        ensures { IfOk result (λ bodies. bodies ≡ self.now) }
+    {
+        let mut bodies = Bodies::new(alloc);
+        for body in &self.items {
+            bodies.push(body.copy(alloc)?)?;
+        }
+        Ok(bodies)
     }
 
     /// Adds a body.

@@ -4,7 +4,7 @@ ghost use Rattle.edit_journal.specs.declared.fault.JournalFault.TheVariants as F
 
 use emu_disk::Disk;
 use std::alloc::{AllocError, AllocFailed};
-use std::fmt;
+use thiserror::Error;
 
 /// Want of memory.
 #[derive(Clone, Copy, Debug, PartialEq, Eq)]
@@ -23,15 +23,19 @@ impl<T: Drop> From<AllocFailed<T>> for Memory {
 }
 
 /// A journal's refusal.
-#[derive(Clone, Copy, Debug, PartialEq, Eq)]
+#[derive(Clone, Copy, Debug, PartialEq, Eq, Error)]
 pub enum JournalFault {
     /// The disk failed in this call.
+    #[error("the disk failed")]
     Disk,
     /// The store's bytes stand for no list of bodies: the place of the damage, in bytes from 0.
+    #[error("the store is damaged at byte {0}")]
     Damaged(u64),
     /// The store with this body would pass its limit of 268,435,456 bytes.
+    #[error("the store is full")]
     StoreFull,
     /// Want of memory.
+    #[error("out of memory")]
     Memory,
 }
 
@@ -51,22 +55,9 @@ impl From<AllocError> for JournalFault {
     }
 }
 
-impl fmt::Display for JournalFault {
-    fn fmt<W: fmt::Write>(&self, f: &mut fmt::Formatter<W>) -> fmt::Result {
-        match self {
-            JournalFault::Disk => write!(f, "the disk failed"),
-            JournalFault::Damaged(at) => write!(f, "the store is damaged at byte {at}"),
-            JournalFault::StoreFull => write!(f, "the store is full"),
-            JournalFault::Memory => write!(f, "out of memory"),
-        }
-    }
-}
-
-impl std::error::Error for JournalFault {}
-
 /// A disk from which no journal was recovered, and why.
 #[derive(Drop)]
-pub struct NoJournal<D: Disk + Drop> {
+pub struct NoJournal<D: Disk> {
     pub fault: JournalFault,
     pub disk: D,
 }

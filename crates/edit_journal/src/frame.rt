@@ -38,6 +38,15 @@ impl Frame {
         Ok(Frame { staged })
     }
 
+    /// The same frame once more.
+    pub fn copy(&self, alloc: Global) -> Result<Frame, Memory>
+        ensures { IfOk result (λ frame. frame ≡ self.now) }
+    {
+        Ok(Frame {
+            staged: self.staged.to_vec(alloc)?,
+        })
+    }
+
     /// How many bytes the body has.
     pub fn len(&self) -> u64
         ensures len { result ≡ length self.now }

@@ -25,7 +25,7 @@ pub(crate) enum Gate {
 
 /// A list of bodies on a disk, which the journal owns.
 #[derive(Drop)]
-pub struct Journal<D: Disk + Drop> {
+pub struct Journal<D: Disk> {
     pub(crate) disk: D,
     pub(crate) end: u64,
     pub(crate) gate: Gate,
@@ -44,7 +44,7 @@ fn write_safely<D: Disk>(disk: &mut D, at: u64, bytes: &[u8]) -> Result<(), Fail
     disk.sync()
 }
 
-impl<D: Disk + Drop> Journal<D> {
+impl<D: Disk> Journal<D> {
     /// The place of the last gate, in bytes from 0.
     pub fn end(&self) -> u64
         ensures { (texts : List (List ℕ)) (lost : Option (List ℕ)) → Holds D.may_leave texts lost self.now → result ≡ length (start texts) }
@@ -76,8 +76,7 @@ impl<D: Disk + Drop> Journal<D> {
     pub fn stands(&self)
         requires { IsHeld D.may_leave self.now }
         ensures { (texts : List (List ℕ)) (lost : Option (List ℕ)) → Holds D.may_leave texts lost self.now → (c : List ℕ) → D.may_leave (disk_of self.now) c → MayHave texts lost c }
-    {
-    }
+    {}
 
     // Writes the head and a closed gate.
     fn begin(&mut self) -> Result<(), Failed>

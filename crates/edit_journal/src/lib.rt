@@ -6,6 +6,7 @@ mod body;
 mod fault;
 mod frame;
 mod journal;
+pub mod law;
 mod next;
 mod recovery;
 
@@ -14,3 +15,6 @@ pub use fault::{JournalFault, Memory, NoJournal};
 pub use frame::Frame;
 pub use journal::Journal;
 pub use recovery::Recovered;
+
+#[cfg(test)]
+mod tests;

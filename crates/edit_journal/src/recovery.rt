@@ -16,7 +16,7 @@ const BUFFER: usize = 4096;
 
 /// A journal that was recovered, and the bodies of its store.
 #[derive(Drop)]
-pub struct Recovered<D: Disk + Drop> {
+pub struct Recovered<D: Disk> {
     pub journal: Journal<D>,
     pub bodies: Bodies,
 }
@@ -29,7 +29,7 @@ pub(crate) struct Found {
     pub(crate) gate: Gate,
 }
 
-impl<D: Disk + Drop> Journal<D> {
+impl<D: Disk> Journal<D> {
     /// The journal of a disk, and the bodies of its store. It begins with a sync, reads all and writes nothing.
     /// `Damaged` comes exactly where the bytes stand for no list of bodies, and says where the damage is: at 0
     /// where more than 9 bytes do not begin with `EMUSTORE`; where the store ends and a gate should stand; at an

@@ -1,4 +1,4 @@
-use Rattle.std.proofs.Common.{◌≡◌, ◌+◌, ◌-◌, inl, inr, ⊎_elim, get_or, length, take, drop, arith, length-take, length-drop}
+use Rattle.std.proofs.Common.{◌≡◌, ◌-◌, inl, inr, ⊎_elim, get_or, length, drop, arith, length-take, length-drop}
 use Rattle.edit_journal.proofs.Walk.{walk-unwhole}
 use Rattle.edit_journal.proofs.next.next_at.Goals as goal
 

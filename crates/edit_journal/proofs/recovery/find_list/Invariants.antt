@@ -1,4 +1,4 @@
-use Rattle.std.proofs.Common.{◌≡◌, length}
+use Rattle.std.proofs.Common.{length}
 use Rattle.edit_journal.specs.Recovery.{IsFront}
 use Rattle.edit_journal.proofs.recovery.find_list.Given as goal
 

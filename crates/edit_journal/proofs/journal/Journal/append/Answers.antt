@@ -1,4 +1,4 @@
-use Rattle.std.proofs.Common.{true, false, None, inl, [], ◌∷◌, ◌++◌, arith}
+use Rattle.std.proofs.Common.{true, false, None, inl, [], ◌∷◌, ◌++◌}
 use Rattle.emu_disk.proofs.Moments.{started}
 use Rattle.edit_journal.specs.Held.{DuringAppend}
 use Rattle.edit_journal.proofs.Kept.{small_end, stands_may, noted, noted_held, noted_before}

@@ -1,4 +1,4 @@
-use Rattle.std.proofs.Common.{None, Some, List, [], ◌∷◌, ◌++◌}
+use Rattle.std.proofs.Common.{None, Some, [], ◌∷◌, ◌++◌}
 use Rattle.std.proofs.Math.Logic.{∥∥₁_map}
 use Rattle.edit_journal.proofs.Kept.{held_after}
 use Rattle.edit_journal.proofs.journal.Journal.put.Goals as goal
@@ -14,10 +14,10 @@ returns-in_err-stage-clause-held g c = ∥∥₁_map c.requires.held (λ (texts,
 
 pub open_gate-requires-clause-held : goal.open_gate-requires-clause-held
 open_gate-requires-clause-held g c = ∥∥₁_map c.requires.held (λ (texts, lost, holds).
-  let is_staged = c.in_ok-stage.ensures.ok texts (c.in_ok-settle.ensures.ok texts lost holds) in
-  (texts, None, is_staged.holds))
+    let is_staged = c.in_ok-stage.ensures.ok texts (c.in_ok-settle.ensures.ok texts lost holds) in
+    (texts, None, is_staged.holds))
 
 pub returns-clause-held : goal.returns-clause-held
 returns-clause-held g c = ∥∥₁_map c.requires.held (λ (texts, lost, holds).
-  let is_staged = c.in_ok-stage.ensures.ok texts (c.in_ok-settle.ensures.ok texts lost holds) in
-  held_after g.D.Disk.may_leave c.open_gate.result texts (texts ++ c.args.frame.now ∷ []) (Some c.args.frame.now) c.open_gate.new.self (c.open_gate.ensures.ok texts is_staged) (c.open_gate.ensures.err texts is_staged))
+    let is_staged = c.in_ok-stage.ensures.ok texts (c.in_ok-settle.ensures.ok texts lost holds) in
+    held_after g.D.Disk.may_leave c.open_gate.result texts (texts ++ c.args.frame.now ∷ []) (Some c.args.frame.now) c.open_gate.new.self (c.open_gate.ensures.ok texts is_staged) (c.open_gate.ensures.err texts is_staged))

@@ -1,4 +1,4 @@
-use Rattle.std.proofs.Common.{inl, refl, arith}
+use Rattle.std.proofs.Common.{inl, refl}
 use Rattle.std.proofs.lemmas.Result.{on_ok_weaker}
 use Rattle.emu_disk.proofs.Moments.{weaker}
 use Rattle.edit_journal.specs.Store.{StandsFor}
