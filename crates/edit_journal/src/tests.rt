@@ -3,7 +3,7 @@ ghost use Rattle.std.specs.Prelude.{IfOk};
 ghost use Rattle.emu_disk.specs.Planned.{images_of};
 ghost use Rattle.edit_journal.specs.Held.{IsHeld};
 
-use crate::{Bodies, Frame, Journal, JournalFault, Memory, Recovered};
+use crate::{Bodies, Body, BodyBytes, Frame, Journal, JournalFault, Recovered};
 use emu_disk::{Call, Fate, MemoryDisk};
 use std::alloc::Global;
 use std::test::Fail;
@@ -24,6 +24,8 @@ impl From<emu_disk::Memory> for JournalFault {
         JournalFault::Memory
     }
 }
+
+fn is_sendable<T: Send>(_: &T) {}
 
 fn opened(alloc: Global, disk: MemoryDisk) -> Result<Recovered<MemoryDisk>, JournalFault>
     ensures { IfOk result (λ r. IsHeld images_of r.journal) }
@@ -174,5 +176,23 @@ fn places_of_damage(rt: HostRuntime) -> Result<(), Fail> {
     }
     assert!(rt; are(&bodies_of(alloc, b"EMUSTORE\x01")?, &[]));
     assert!(rt; are(&bodies_of(alloc, b"EMUSTORE\x02rest")?, &[]));
+    Ok(())
+}
+
+#[test]
+fn lists_and_copies(rt: HostRuntime) -> Result<(), Fail> {
+    let alloc = rt.alloc();
+    let mut bytes = BodyBytes::new(alloc);
+    bytes.push(b'x')?;
+    assert_eq!(rt; (bytes.len(), bytes.get(0), bytes.get(1)), (1, Some(b'x'), None));
+    let mut bodies = Bodies::new(alloc);
+    bodies.push(Body { at: 8, bytes })?;
+    let copied = bodies.copy(alloc)?;
+    assert!(rt; are(&copied, &[b"x"]));
+    assert_eq!(rt; copied.get(0).map(|body| body.at), Some(8));
+    let frame = Frame::new(alloc, b"AB")?.copy(alloc)?;
+    assert_eq!(rt; frame.len(), 2);
+    is_sendable(&frame);
+    is_sendable(&opened(alloc, MemoryDisk::new(alloc, b"")?)?.journal);
     Ok(())
 }
