@@ -184,7 +184,10 @@ fn lists_and_copies(rt: HostRuntime) -> Result<(), Fail> {
     let alloc = rt.alloc();
     let mut bytes = BodyBytes::new(alloc);
     bytes.push(b'x')?;
-    assert_eq!(rt; (bytes.len(), bytes.get(0), bytes.get(1)), (1, Some(b'x'), None));
+    assert_eq!(rt;
+        (bytes.len(), bytes.get(0), bytes.get(1)),
+        (1, Some(b'x'), None)
+    );
     let mut bodies = Bodies::new(alloc);
     bodies.push(Body { at: 8, bytes })?;
     let copied = bodies.copy(alloc)?;
