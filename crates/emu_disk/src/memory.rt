@@ -164,7 +164,7 @@ pub struct MemoryDisk {
 }
 
 impl MemoryDisk {
-    ghost use Rattle.emu_disk.specs.Planned.{bytes_of, calls_of, first_of, failing_of, images_of, stop_of, made_of};
+    ghost use Rattle.emu_disk.specs.Planned.{bytes_of, calls_of, first_of, failing_of, images_of, stop_of, made_of, faults_of};
 
     /// A disk with these bytes, all of them safe. No call is to fail.
     pub fn new(alloc: Global, bytes: &[u8]) -> Result<MemoryDisk, Memory>
@@ -174,6 +174,7 @@ impl MemoryDisk {
         ensures failing { IfOk result (λ disk. failing_of disk ≡ []) }
         ensures stop { IfOk result (λ disk. stop_of disk ≡ None) }
         ensures made { IfOk result (λ disk. made_of disk ≡ 0) }
+        ensures faults { IfOk result (λ disk. faults_of disk ≡ 0) }
     {
         let log = Log {
             first: bytes.to_vec(alloc)?,
@@ -202,6 +203,7 @@ impl MemoryDisk {
         ensures first { first_of self.new ≡ first_of self.old }
         ensures stop { stop_of self.new ≡ stop_of self.old }
         ensures made { made_of self.new ≡ made_of self.old }
+        ensures faults { faults_of self.new ≡ faults_of self.old }
     {
         self.plan.failing.extend_from_slice(places)?;
         Ok(())
@@ -215,6 +217,7 @@ impl MemoryDisk {
         ensures first { first_of self.new ≡ first_of self.old }
         ensures failing { failing_of self.new ≡ failing_of self.old }
         ensures made { made_of self.new ≡ made_of self.old }
+        ensures faults { faults_of self.new ≡ faults_of self.old }
     {
         self.plan.stop = Some(calls);
     }

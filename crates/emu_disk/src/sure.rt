@@ -46,12 +46,13 @@ pub struct SureDisk {
 }
 
 impl SureDisk {
-    ghost use Rattle.emu_disk.specs.Roomy.{bytes_of, room_of};
+    ghost use Rattle.emu_disk.specs.Roomy.{bytes_of, room_of, faults_of};
 
     /// A disk of no byte, with room for so many bytes to be written.
     pub fn new(alloc: Global, room: usize) -> Result<SureDisk, Memory>
         ensures bytes { IfOk result (λ disk. bytes_of disk ≡ []) }
         ensures room { IfOk result (λ disk. room_of disk ≡ room) }
+        ensures faults { IfOk result (λ disk. faults_of disk ≡ 0) }
     {
         let Some(changes) = room.checked_mul(2) else {
             return Err(Memory);
