@@ -1,0 +1,5 @@
+pub mod Found
+pub mod Kept
+pub mod Steps
+pub mod Walk
+pub mod Written

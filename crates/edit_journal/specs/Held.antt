@@ -1,0 +1,91 @@
+-- What a journal holds: a list of bodies, and perhaps one more that a crash may bring back.
+use Rattle.std.specs.Prelude.{◌≡◌, ◌≢◌, ◌⊎◌, ℕ, ◌≤◌, List, [], ◌∷◌, ◌++◌, length, Bool, Option, None, Some, Result}
+use Rattle.std.specs.Int.{w32, to_be_bytes}
+use Rattle.edit_journal.specs.declared.body.Body.{Body}
+use Rattle.edit_journal.specs.declared.journal.Journal.{Journal}
+use Rattle.edit_journal.specs.declared.journal.Gate.{Gate}
+use Rattle.edit_journal.specs.declared.journal.Gate.TheVariants.{Missing, Closed, InDoubt}
+use Rattle.edit_journal.specs.Store.{limit, start, bodies, IsSized, AreSized, StandsFor}
+
+-- the disk that a journal owns
+abbrev pub disk_of : {D : Type 0} → Journal D → D
+disk_of journal = journal.disk
+
+-- the texts of bodies, without their places
+abbrev pub texts_of : List Body → List (List ℕ)
+texts_of [] = []
+texts_of (body ∷ more) = body.bytes ∷ texts_of more
+
+-- What stands at the end of the list: a closed gate; or, where a body is in doubt, a gate of any byte, the body, and
+-- a closed gate behind it.
+abbrev pub AtGate : Option (List ℕ) → ℕ → List ℕ → Type 0
+AtGate None gate rest = gate ≢ 1
+AtGate (Some body) gate rest = (shut : ℕ) × (more : List ℕ) × (shut ≢ 1) × (rest ≡ to_be_bytes w32 (length body) ++ body ++ shut ∷ more)
+
+-- bytes of a store with these bodies, and perhaps one in doubt
+pub record Stands (texts : List (List ℕ)) (lost : Option (List ℕ)) (c : List ℕ) : Type 0 where
+  pub gate : ℕ
+  pub rest : List ℕ
+  pub split : c ≡ start texts ++ gate ∷ rest
+  pub at_gate : AtGate lost gate rest
+  pub fits : length c ≤ limit
+
+-- where the store has no gate yet, its bytes are too few for a body
+abbrev pub IsHeldBy : Gate → List (List ℕ) → Option (List ℕ) → List ℕ → Type 0
+IsHeldBy Missing texts lost c = length c ≤ 9
+IsHeldBy Closed texts lost c = Stands texts None c
+IsHeldBy InDoubt texts lost c = Stands texts lost c
+
+-- the gate is in doubt exactly where there is a body in doubt, and is missing only where there is no body
+abbrev pub FitsGate : Gate → List (List ℕ) → Option (List ℕ) → Type 0
+FitsGate Missing texts lost = (texts ≡ []) × (lost ≡ None)
+FitsGate Closed texts lost = lost ≡ None
+FitsGate InDoubt texts lost = (body : List ℕ) × (lost ≡ Some body) × IsSized body
+
+-- A journal holds these bodies, and perhaps one in doubt. Its end is the place of the last gate, and each image of its
+-- disk is such a store.
+pub record Holds {D : Type 0} (may_leave : D → List ℕ → Type 0) (texts : List (List ℕ)) (lost : Option (List ℕ)) (journal : Journal D) : Type 0 where
+  pub sized : AreSized texts
+  pub end : journal.end ≡ length (start texts)
+  pub small : journal.end ≤ limit
+  pub by_gate : FitsGate journal.gate texts lost
+  pub images : (c : List ℕ) → may_leave journal.disk c → IsHeldBy journal.gate texts lost c
+
+-- the last append answered that the disk failed
+abbrev pub has_failed : {D : Type 0} → Journal D → Bool
+has_failed journal = journal.failed
+
+-- it holds these bodies, and behind the gate stands one more
+pub record IsStagedIn {D : Type 0} (may_leave : D → List ℕ → Type 0) (texts : List (List ℕ)) (body : List ℕ) (journal : Journal D) : Type 0 where
+  pub sized : IsSized body
+  pub holds : Holds may_leave texts None journal
+  pub staged : (c : List ℕ) → may_leave journal.disk c → Stands texts (Some body) c
+
+-- it holds some list
+abbrev pub IsHeld : {D : Type 0} → (D → List ℕ → Type 0) → Journal D → Type 0
+IsHeld may_leave journal = ∥ ((texts : List (List ℕ)) × (lost : Option (List ℕ)) × Holds may_leave texts lost journal) ∥₁
+
+-- a crash leaves these bodies, or also the one in doubt
+abbrev pub MayHave : List (List ℕ) → Option (List ℕ) → List ℕ → Type 0
+MayHave texts None c = StandsFor texts c
+MayHave texts (Some body) c = StandsFor texts c ⊎ StandsFor (texts ++ body ∷ []) c
+
+-- while a body is appended a crash leaves the bodies from before, or also the one in doubt in the new one's place, or
+-- these and the new one
+abbrev pub DuringAppend : List (List ℕ) → Option (List ℕ) → List ℕ → List ℕ → Type 0
+DuringAppend texts lost body c = MayHave texts lost c ⊎ StandsFor (texts ++ body ∷ []) c
+
+-- A failed append leaves the list as it was. In doubt may be what was in doubt before, or the body that failed.
+pub record IsAsBefore {D : Type 0} (may_leave : D → List ℕ → Type 0) (texts : List (List ℕ)) (lost : Option (List ℕ)) (body : List ℕ) (journal : Journal D) : Type 0 where
+  pub left : Option (List ℕ)
+  pub holds : Holds may_leave texts left journal
+  pub which : (left ≡ None) ⊎ (left ≡ lost) ⊎ (left ≡ Some body)
+
+-- where a disk tells what a read gives, it is these bytes
+abbrev pub Tells : Option (List ℕ) → List ℕ → Type 0
+Tells None bytes = Unit {0}
+Tells (Some xs) bytes = bytes ≡ xs
+
+-- the bytes of a disk stand for these bodies, or are damaged at that place
+abbrev pub Reads : Option (List ℕ) → Result (List Body) ℕ → Type 0
+Reads reads result = (bytes : List ℕ) × Tells reads bytes × (bodies bytes ≡ result)

@@ -1,0 +1,5 @@
+pub mod Held
+pub mod Law
+pub mod Recovery
+pub mod Staged
+pub mod Store

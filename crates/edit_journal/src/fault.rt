@@ -1,0 +1,63 @@
+//! Why a journal cannot be recovered or added to.
+ghost use Rattle.std.specs.Prelude.{◌≡◌};
+ghost use Rattle.edit_journal.specs.declared.fault.JournalFault.TheVariants as Fault;
+
+use emu_disk::Disk;
+use std::alloc::{AllocError, AllocFailed};
+use thiserror::Error;
+
+/// Want of memory.
+#[derive(Clone, Copy, Debug, PartialEq, Eq)]
+pub struct Memory;
+
+impl From<AllocError> for Memory {
+    fn from(_: AllocError) -> Self {
+        Memory
+    }
+}
+
+impl<T: Drop> From<AllocFailed<T>> for Memory {
+    fn from(_: AllocFailed<T>) -> Self {
+        Memory
+    }
+}
+
+/// A journal's refusal.
+#[derive(Clone, Copy, Debug, PartialEq, Eq, Error)]
+pub enum JournalFault {
+    /// The disk failed in this call.
+    #[error("the disk failed")]
+    Disk,
+    /// The store's bytes stand for no list of bodies: the place of the damage, in bytes from 0.
+    #[error("the store is damaged at byte {0}")]
+    Damaged(u64),
+    /// The store with this body would pass its limit of 268,435,456 bytes.
+    #[error("the store is full")]
+    StoreFull,
+    /// Want of memory.
+    #[error("out of memory")]
+    Memory,
+}
+
+impl From<Memory> for JournalFault {
+    ghost from_gives = { λ _ e. e ≡ Fault.Memory };
+
+    fn from(_: Memory) -> Self {
+        JournalFault::Memory
+    }
+}
+
+impl From<AllocError> for JournalFault {
+    ghost from_gives = { λ _ e. e ≡ Fault.Memory };
+
+    fn from(_: AllocError) -> Self {
+        JournalFault::Memory
+    }
+}
+
+/// A disk from which no journal was recovered, and why.
+#[derive(Drop)]
+pub struct NoJournal<D: Disk> {
+    pub fault: JournalFault,
+    pub disk: D,
+}

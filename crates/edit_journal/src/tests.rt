@@ -1,0 +1,201 @@
+//! The calls of an append, faults and stops at each of them with the images that a crash may leave, and damage.
+ghost use Rattle.std.specs.Prelude.{IfOk};
+ghost use Rattle.emu_disk.specs.Planned.{images_of};
+ghost use Rattle.edit_journal.specs.Held.{IsHeld};
+
+use crate::{Bodies, Body, BodyBytes, Frame, Journal, JournalFault, Recovered};
+use emu_disk::{Call, Fate, MemoryDisk};
+use std::alloc::Global;
+use std::test::Fail;
+
+// A store with the body `x`.
+const STORE: [u8; 15] = *b"EMUSTORE\x01\0\0\0\x01x\0";
+
+const FATES: [Fate; 5] = [
+    Fate::Lost,
+    Fate::Half,
+    Fate::Whole,
+    Fate::Filled(0),
+    Fate::Filled(1),
+];
+
+impl From<emu_disk::Memory> for JournalFault {
+    fn from(_: emu_disk::Memory) -> Self {
+        JournalFault::Memory
+    }
+}
+
+fn is_sendable<T: Send>(_: &T) {}
+
+fn opened(alloc: Global, disk: MemoryDisk) -> Result<Recovered<MemoryDisk>, JournalFault>
+    ensures { IfOk result (λ r. IsHeld images_of r.journal) }
+{
+    match Journal::recover(alloc, disk) {
+        Ok(recovered) => Ok(recovered),
+        Err(none) => Err(none.fault),
+    }
+}
+
+fn bodies_of(alloc: Global, image: &[u8]) -> Result<Bodies, JournalFault> {
+    let recovered = opened(alloc, MemoryDisk::new(alloc, image)?)?;
+    Ok(recovered.bodies)
+}
+
+fn are(bodies: &Bodies, wanted: &[&[u8]]) -> bool {
+    bodies.len() == wanted.len()
+        && bodies
+            .as_slice()
+            .iter()
+            .zip(wanted)
+            .all(|(body, text)| body.bytes.as_slice() == *text)
+}
+
+fn is_write(call: &Call, place: u64, text: &[u8]) -> bool {
+    match call {
+        Call::Write { at, bytes, done } => *done && *at == place && bytes.as_slice() == text,
+        _ => false,
+    }
+}
+
+fn is_sync(call: &Call) -> bool {
+    matches!(call, Call::Sync { done: true })
+}
+
+// Whether each image of a disk stands for `x` with `AB` or, unless it is safe, without.
+fn each_image_stands(alloc: Global, disk: &MemoryDisk, safe: bool) -> Result<bool, JournalFault> {
+    for first in FATES {
+        for second in FATES {
+            let image = disk.image(alloc, &[first, second])?;
+            let bodies = bodies_of(alloc, &image)?;
+            if !are(&bodies, &[b"x", b"AB"]) && (safe || !are(&bodies, &[b"x"])) {
+                return Ok(false);
+            }
+        }
+    }
+    Ok(true)
+}
+
+#[test]
+fn the_calls_of_a_first_append(rt: HostRuntime) -> Result<(), Fail> {
+    let alloc = rt.alloc();
+    let mut journal = opened(alloc, MemoryDisk::new(alloc, b"")?)?.journal;
+    journal.append(&Frame::new(alloc, b"AB")?)?;
+    assert_eq!(rt; journal.end(), 15);
+    let disk = journal.into_disk();
+    assert_eq!(rt; disk.bytes(), b"EMUSTORE\x01\0\0\0\x02AB\0".as_slice());
+    let calls = disk.calls();
+    assert_eq!(rt; calls.len(), 8);
+    assert!(rt; is_write(&calls[2], 0, b"EMUSTORE\0") && is_sync(&calls[3]));
+    assert!(rt; is_write(&calls[4], 9, b"\0\0\0\x02AB\0") && is_sync(&calls[5]));
+    assert!(rt; is_write(&calls[6], 8, b"\x01") && is_sync(&calls[7]));
+    Ok(())
+}
+
+#[test]
+fn a_body_that_is_too_large(rt: HostRuntime) -> Result<(), Fail> {
+    let alloc = rt.alloc();
+    let mut journal = opened(alloc, MemoryDisk::new(alloc, b"")?)?.journal;
+    let large = Frame::new(alloc, &vec![in alloc; 0u8; 268_435_443]?)?;
+    assert_eq!(rt; journal.append(&large), Err(JournalFault::StoreFull));
+    assert_eq!(rt; journal.into_disk().calls().len(), 2);
+    Ok(())
+}
+
+#[test]
+fn a_gate_in_doubt_is_closed_first(rt: HostRuntime) -> Result<(), Fail> {
+    let alloc = rt.alloc();
+    let frame = Frame::new(alloc, b"AB")?;
+    let mut disk = MemoryDisk::new(alloc, b"")?;
+    disk.fail_at(&[7, 9])?;
+    let mut journal = opened(alloc, disk)?.journal;
+    assert_eq!(rt; journal.append(&frame), Err(JournalFault::Disk));
+    assert!(rt; journal.failed_last());
+    assert_eq!(rt; journal.append(&frame), Err(JournalFault::Disk));
+    journal.append(&frame)?;
+    assert!(rt; !journal.failed_last());
+    let disk = journal.into_disk();
+    let calls = disk.calls();
+    assert_eq!(rt; calls.len(), 16);
+    assert!(rt; is_write(&calls[8], 8, b"\0") && calls[9] == Call::Sync { done: false });
+    assert!(rt; is_write(&calls[10], 8, b"\0") && is_sync(&calls[11]));
+    assert!(rt; are(&bodies_of(alloc, disk.bytes())?, &[b"AB"]));
+    Ok(())
+}
+
+#[test]
+fn each_stop_with_each_image(rt: HostRuntime) -> Result<(), Fail> {
+    let alloc = rt.alloc();
+    let frame = Frame::new(alloc, b"AB")?;
+    for stop in 3..=7 {
+        let mut disk = MemoryDisk::new(alloc, &STORE)?;
+        disk.stop_after(stop);
+        let mut journal = opened(alloc, disk)?.journal;
+        let safe = journal.append(&frame).is_ok();
+        assert_eq!(rt; safe, stop == 7);
+        let disk = journal.into_disk();
+        assert!(rt;
+            each_image_stands(alloc, &disk, safe)?,
+            "after {stop} calls"
+        );
+    }
+    Ok(())
+}
+
+#[test]
+fn each_failed_call(rt: HostRuntime) -> Result<(), Fail> {
+    let alloc = rt.alloc();
+    let frame = Frame::new(alloc, b"AB")?;
+    for place in 3..7 {
+        let mut disk = MemoryDisk::new(alloc, &STORE)?;
+        disk.fail_at(&[place])?;
+        let mut journal = opened(alloc, disk)?.journal;
+        assert_eq!(rt; journal.append(&frame), Err(JournalFault::Disk));
+        journal.append(&frame)?;
+        let disk = journal.into_disk();
+        assert!(rt; each_image_stands(alloc, &disk, true)?, "call {place}");
+    }
+    Ok(())
+}
+
+#[test]
+fn places_of_damage(rt: HostRuntime) -> Result<(), Fail> {
+    let alloc = rt.alloc();
+    let table = [
+        (b"NOTASTORE!".as_slice(), 0),
+        (b"EMUSTORE\x01\0".as_slice(), 8),
+        (b"EMUSTORE\x01\0\0\0\0\0".as_slice(), 8),
+        (b"EMUSTORE\x01\0\0\0\x02x".as_slice(), 8),
+        (b"EMUSTORE\x01\0\0\0\x01x".as_slice(), 14),
+        (b"EMUSTORE\x01\0\0\0\x01x\x01\0\0\0\x09".as_slice(), 14),
+    ];
+    for (store, at) in table {
+        match bodies_of(alloc, store) {
+            Ok(_) => assert!(rt; false, "no damage at {at}"),
+            Err(fault) => assert_eq!(rt; fault, JournalFault::Damaged(at)),
+        }
+    }
+    assert!(rt; are(&bodies_of(alloc, b"EMUSTORE\x01")?, &[]));
+    assert!(rt; are(&bodies_of(alloc, b"EMUSTORE\x02rest")?, &[]));
+    Ok(())
+}
+
+#[test]
+fn lists_and_copies(rt: HostRuntime) -> Result<(), Fail> {
+    let alloc = rt.alloc();
+    let mut bytes = BodyBytes::new(alloc);
+    bytes.push(b'x')?;
+    assert_eq!(rt;
+        (bytes.len(), bytes.get(0), bytes.get(1)),
+        (1, Some(b'x'), None)
+    );
+    let mut bodies = Bodies::new(alloc);
+    bodies.push(Body { at: 8, bytes })?;
+    let copied = bodies.copy(alloc)?;
+    assert!(rt; are(&copied, &[b"x"]));
+    assert_eq!(rt; copied.get(0).map(|body| body.at), Some(8));
+    let frame = Frame::new(alloc, b"AB")?.copy(alloc)?;
+    assert_eq!(rt; frame.len(), 2);
+    is_sendable(&frame);
+    is_sendable(&opened(alloc, MemoryDisk::new(alloc, b"")?)?.journal);
+    Ok(())
+}

@@ -1,0 +1,38 @@
+use Rattle.std.proofs.Common.{Some, ap}
+use Rattle.emu_disk.proofs.Kept.{calls_failed, first_failed, image_by, time_adds, time_failed, bytes_by, scrambled_failed}
+use Rattle.emu_disk.proofs.memory.MemoryDiskDisk.cut.Goals as goal
+
+pub returns-in-Ok-clause-cut : goal.returns-in-Ok-clause-cut
+returns-in-Ok-clause-cut c = ap Some (bytes_by _ _ _ c.in-Ok.ensures.moves)
+
+pub returns-in-Ok-clause-crash : goal.returns-in-Ok-clause-crash
+returns-in-Ok-clause-crash c = λ d image. image_by _ _ _ d c.in-Ok.ensures.moves image
+
+pub returns-in-Ok-clause-time : goal.returns-in-Ok-clause-time
+returns-in-Ok-clause-time c = time_adds _ _ _ c.in-Ok.ensures.moves
+
+pub returns-in-Err-clause-scrambled : goal.returns-in-Err-clause-scrambled
+returns-in-Err-clause-scrambled c = scrambled_failed _ _ _ c.in-Err.ensures.moves
+
+pub returns-in-Err-clause-time : goal.returns-in-Err-clause-time
+returns-in-Err-clause-time c = time_failed _ _ _ c.in-Err.ensures.moves
+
+pub returns-in-Ok-clause-made : goal.returns-in-Ok-clause-made
+returns-in-Ok-clause-made c = record {
+  due = c.turn-done.ensures.due c.in-Ok.ensures.due;
+  calls = c.in-Ok.ensures.moves.calls;
+  first = c.in-Ok.ensures.moves.first;
+  failing = c.turn-done.ensures.failing;
+  stop = c.turn-done.ensures.stop;
+  made = c.turn-done.ensures.made;
+}
+
+pub returns-in-Err-clause-made : goal.returns-in-Err-clause-made
+returns-in-Err-clause-made c = record {
+  due = tt;
+  calls = calls_failed _ _ _ c.in-Err.ensures.moves;
+  first = first_failed _ _ _ c.in-Err.ensures.moves;
+  failing = c.turn-done.ensures.failing;
+  stop = c.turn-done.ensures.stop;
+  made = c.turn-done.ensures.made;
+}

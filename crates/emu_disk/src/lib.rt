@@ -1,0 +1,21 @@
+//! A disk of bytes that may fail at any call and may crash at any moment, in memory and as a real file.
+#![tactic(auto)]
+
+mod bytes;
+mod call;
+mod disk;
+mod faults;
+mod file;
+mod memory;
+mod replay;
+mod sure;
+
+pub use call::{Call, Written};
+pub use disk::{Disk, Failed};
+pub use file::FileDisk;
+pub use memory::{Memory, MemoryDisk};
+pub use replay::Fate;
+pub use sure::SureDisk;
+
+#[cfg(test)]
+mod tests;
