@@ -1,9 +1,12 @@
-//! The limits of a line and of the number of lines, each at the limit and one past it.
+//! The limits of a line, of the number of lines and of a script, each at the limit and one past it.
 use crate::scripts::CONFIG;
 use emu_cli::emu;
 use emu_io::{Failed, ListSink, Source};
 use std::io::Read;
+use std::process::Abort;
+use std::sync::Wait;
 use std::test::Fail;
+use std::thread::Threads;
 
 const WITHIN: &[u8] = b"{\"line\":1,\"n\":0,\"ok\":\"config\"}\n";
 
@@ -52,29 +55,47 @@ impl Source for Blanks {
     }
 }
 
+/// Runs a script of so many bytes, whose lines behind the configuration have so many spaces.
+fn ends_with(
+    rt: &(impl Abort + Threads + Wait + Sync + AllocGlobal),
+    width: u64,
+    len: u64,
+    status: u8,
+) -> Result<(), Fail> {
+    let mut words = Vec::new(rt.alloc());
+    words.push(String::from_str(rt.alloc(), "run")?)?;
+    let mut source = Blanks {
+        head: CONFIG.as_bytes(),
+        left: len.saturating_sub(CONFIG.len() as u64),
+        width,
+        column: width,
+    };
+    let mut sink = ListSink::new(rt.alloc(), Vec::new(rt.alloc()));
+    let ended = emu(rt, rt.alloc(), words.as_slice(), &mut source, &mut sink);
+    assert_eq!(rt; ended, status, "width {width}, {len} bytes");
+    let want = if status == 0 { WITHIN } else { OVER };
+    assert_eq!(rt; sink.bytes(), want);
+    Ok(())
+}
+
 #[test]
-fn limits_of_scripts(rt: HostRuntime) -> Result<(), Fail> {
+fn limits_of_lines(rt: HostRuntime) -> Result<(), Fail> {
     let head = CONFIG.len() as u64;
-    let rows = [
+    for (width, len, status) in [
         (0, head + 200_000, 0),
         (0, head + 200_001, 9),
         (16_777_216, head + 1 + 16_777_216, 0),
         (16_777_217, head + 1 + 16_777_217, 9),
-    ];
-    for &(width, len, status) in &rows {
-        let mut words = Vec::new(rt.alloc());
-        words.push(String::from_str(rt.alloc(), "run")?)?;
-        let mut source = Blanks {
-            head: CONFIG.as_bytes(),
-            left: len.saturating_sub(head),
-            width,
-            column: width,
-        };
-        let mut sink = ListSink::new(rt.alloc(), Vec::new(rt.alloc()));
-        let ended = emu(&rt, rt.alloc(), words.as_slice(), &mut source, &mut sink);
-        assert_eq!(rt; ended, status, "width {width}, {len} bytes");
-        let want = if status == 0 { WITHIN } else { OVER };
-        assert_eq!(rt; sink.bytes(), want);
+    ] {
+        ends_with(&rt, width, len, status)?;
+    }
+    Ok(())
+}
+
+#[test]
+fn limit_of_a_script(rt: HostRuntime) -> Result<(), Fail> {
+    for (len, status) in [(268_435_456, 0), (268_435_457, 9)] {
+        ends_with(&rt, 9_999, len, status)?;
     }
     Ok(())
 }
