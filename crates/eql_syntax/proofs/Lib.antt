@@ -1,0 +1,2 @@
+mod Accepts
+mod Residual

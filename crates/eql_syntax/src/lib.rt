@@ -1,0 +1,9 @@
+//! EQL, the query language of emuDB: the tokens of a text, the query that they spell, and the text of a
+//! query. (EMU-SDMS Manual, "The EMU Query Language version 2".)
+#![tactic(auto)]
+
+mod query;
+mod token;
+
+pub use query::{Compare, Op, Place, Query, QueryFault, Term, Terms, Words};
+pub use token::{Placed, Sign, Token, Tokens};
