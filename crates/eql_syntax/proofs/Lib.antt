@@ -1,2 +1,3 @@
 mod Accepts
+mod Exact
 mod Residual

@@ -3,3 +3,4 @@ pub mod Words
 pub mod Grammar
 pub mod Fault
 pub mod Machine
+pub mod Reading
