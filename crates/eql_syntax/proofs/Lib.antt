@@ -1,3 +1,4 @@
 mod Accepts
+mod Cuts
 mod Exact
 mod Residual

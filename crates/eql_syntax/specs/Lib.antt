@@ -1,3 +1,4 @@
+pub mod Tokens
 pub mod Tree
 pub mod Words
 pub mod Grammar

@@ -2,8 +2,10 @@
 //! query. (EMU-SDMS Manual, "The EMU Query Language version 2".)
 #![tactic(auto)]
 
+mod lexer;
 mod query;
 mod token;
 
 pub use query::{Compare, Op, Place, Query, QueryFault, Term, Terms, Words};
+pub use lexer::read_tokens;
 pub use token::{Placed, Sign, Token, Tokens};
