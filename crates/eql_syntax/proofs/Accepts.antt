@@ -88,23 +88,35 @@ counting_is word is =
     subst (λ (x : List ℕ). function_of true x ≡ Some Counting) (sym same) refl
 
 body_on : (m : Bool) {ts : List Token} {t : Term} {rest : List Token} → SpellsBody m ts t rest → (bs : List Bracket) (before : List Term) → TermOn bs before (start_of m before) ts t rest
-body_on m {rest = rest} (test {bare = bare} {name = name} {sign = sign} {op = op} {ts = ts} {labels = labels} is spells) bs before =
-    (Labelled before m name op labels, (labelled,
-        start_on m bs before bare name (Between sign ∷ ts)
-        ∙ (ap (λ (o : Option Op). steps (tested bs before m name o) ts) is ∙ tested_on spells bs before m name op)))
+body_on m {rest = rest} (test {bare = bare} {name = name} {sign = sign} {op = op} {ts = ts} {labels = labels} is spells) bs before = (
+  Labelled before m name op labels,
+  (
+    labelled,
+    start_on m bs before bare name (Between sign ∷ ts)
+        ∙ (ap (λ (o : Option Op). steps (tested bs before m name o) ts) is ∙ tested_on spells bs before m name op),
+  ),
+)
 body_on m {rest = rest} (place {function = function} {upper_bare = a} {upper = upper} {lower_bare = b} {lower = lower} {bit = bit} {at = p} {wanted = wanted} is wants) bs before =
-    let behind : List Token = Word a upper ∷ Comma ∷ Word b lower ∷ RightParen ∷ Between signs.Is ∷ Word true bit ∷ rest in
-    (Ended (before ++ terms.Place m p upper lower wanted ∷ []), (ended,
+    let behind : List Token = Word a upper ∷ Comma ∷ Word b lower ∷ RightParen ∷ Between signs.Is ∷ Word true bit ∷ rest in (
+      Ended (before ++ terms.Place m p upper lower wanted ∷ []),
+      (
+        ended,
         start_on m bs before true function (LeftParen ∷ behind)
-        ∙ (ap (λ (o : Option Function). steps (called bs before m o) behind) (placing_is function p is)
-            ∙ ap (λ (o : Option Bool). steps (placed bs before m p upper lower o) rest) wants)))
+            ∙ (ap (λ (o : Option Function). steps (called bs before m o) behind) (placing_is function p is)
+            ∙ ap (λ (o : Option Bool). steps (placed bs before m p upper lower o) rest) wants),
+      ),
+    )
 body_on m {rest = rest} (count {function = function} {upper_bare = a} {upper = upper} {lower_bare = b} {lower = lower} {digits = digits} {sign = sign} {compare = compare} {number = number} is compares counts) bs before =
-    let behind : List Token = Word a upper ∷ Comma ∷ Word b lower ∷ RightParen ∷ Between sign ∷ Word true digits ∷ rest in
-    (Ended (before ++ terms.Num m upper lower compare number ∷ []), (ended,
+    let behind : List Token = Word a upper ∷ Comma ∷ Word b lower ∷ RightParen ∷ Between sign ∷ Word true digits ∷ rest in (
+      Ended (before ++ terms.Num m upper lower compare number ∷ []),
+      (
+        ended,
         start_on m bs before true function (LeftParen ∷ behind)
-        ∙ (ap (λ (o : Option Function). steps (called bs before m o) behind) (counting_is function is)
+            ∙ (ap (λ (o : Option Function). steps (called bs before m o) behind) (counting_is function is)
             ∙ (ap (λ (o : Option Compare). steps (compared bs before m upper lower o) (Word true digits ∷ rest)) compares
-                ∙ ap (λ (o : Option ℕ). steps (counted bs before m upper lower compare o) rest) counts))))
+            ∙ ap (λ (o : Option ℕ). steps (counted bs before m upper lower compare o) rest) counts)),
+      ),
+    )
 
 term_on : {ts : List Token} {t : Term} {rest : List Token} → SpellsTerm ts t rest → (bs : List Bracket) (before : List Term) → TermOn bs before (Another before) ts t rest
 term_on (plain body) bs before = body_on false body bs before
@@ -120,9 +132,13 @@ terms_on : {ts : List Token} {others : List Term} {rest : List Token} → Spells
 terms_on (last_term spells) bs before = term_on spells bs before
 terms_on (term_and {term = t} {mid = mid} {others = others} spells more) bs before =
     let one = term_on spells bs before in
-    let next = terms_on more bs (before ++ t ∷ []) in
-    (next.0, (subst (TermEnd next.0) (append_assoc before (t ∷ []) others) next.1.0,
-        one.1.1 ∙ (ap (λ (o : Option State). steps o mid) (end_and bs one.0 (before ++ t ∷ []) one.1.0) ∙ next.1.1)))
+    let next = terms_on more bs (before ++ t ∷ []) in (
+      next.0,
+      (
+        subst (TermEnd next.0) (append_assoc before (t ∷ []) others) next.1.0,
+        one.1.1 ∙ (ap (λ (o : Option State). steps o mid) (end_and bs one.0 (before ++ t ∷ []) one.1.0) ∙ next.1.1),
+      ),
+    )
 
 begins_on : {ts : List Token} {others : List Term} {rest : List Token} → SpellsTerms ts others rest → (bs : List Bracket) → steps (at bs Beginning) ts ≡ steps (at bs (Another [])) ts
 begins_on (last_term spells) bs = begin_on spells bs
@@ -140,16 +156,24 @@ query_on {q = q} {rest = rest} (brackets spells) bs =
     (Closed q, (closed_end, inner.1.1 ∙ ap (λ (o : Option State). steps o rest) (end_close (Opened ∷ bs) inner.0 q inner.1.0)))
 query_on {rest = rest} (sequence {left = left} {mid = mid} {right = right} first second) bs =
     let one = query_on first (Opened ∷ bs) in
-    let two = query_on second (Before left ∷ bs) in
-    (Closed (Sequence left right), (closed_end,
+    let two = query_on second (Before left ∷ bs) in (
+      Closed (Sequence left right),
+      (
+        closed_end,
         one.1.1 ∙ (ap (λ (o : Option State). steps o mid) (end_arrow (Opened ∷ bs) one.0 left one.1.0)
-            ∙ (two.1.1 ∙ ap (λ (o : Option State). steps o rest) (end_close (Before left ∷ bs) two.0 right two.1.0)))))
+            ∙ (two.1.1 ∙ ap (λ (o : Option State). steps o rest) (end_close (Before left ∷ bs) two.0 right two.1.0))),
+      ),
+    )
 query_on {rest = rest} (dominance {left = left} {mid = mid} {right = right} first second) bs =
     let one = query_on first (Opened ∷ bs) in
-    let two = query_on second (Over left ∷ bs) in
-    (Closed (Dominance left right), (closed_end,
+    let two = query_on second (Over left ∷ bs) in (
+      Closed (Dominance left right),
+      (
+        closed_end,
         one.1.1 ∙ (ap (λ (o : Option State). steps o mid) (end_above (Opened ∷ bs) one.0 left one.1.0)
-            ∙ (two.1.1 ∙ ap (λ (o : Option State). steps o rest) (end_close (Over left ∷ bs) two.0 right two.1.0)))))
+            ∙ (two.1.1 ∙ ap (λ (o : Option State). steps o rest) (end_close (Over left ∷ bs) two.0 right two.1.0))),
+      ),
+    )
 
 -- From each state some tokens complete a query.
 abbrev pub Finishable : List Bracket → Spot → Type 0

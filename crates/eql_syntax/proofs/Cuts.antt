@@ -60,9 +60,9 @@ one_of false false z is = inr (inr is)
 pub end_below : (b next : ℕ) → ends_word b next ≡ true → b < 128
 end_below b next is =
     elim (one_of (is_space b) (is_mark b) (is_arrow b next) is) [
-        inl space ↦ space_below b space
-        | inr (inl mark) ↦ mark_below b mark
-        | inr (inr arrow) ↦ arrow_below b next arrow
+      | inl space ↦ space_below b space
+      | inr (inl mark) ↦ mark_below b mark
+      | inr (inr arrow) ↦ arrow_below b next arrow
     ]
 
 word_stops_if : (ends : Bool) (b : ℕ) (bs : List ℕ) → ends_word b (front bs) ≡ ends → (word_len bs < length bs → get_or bs (word_len bs) 0 < 128) → cond ends 0 (1 + word_len bs) < suc (length bs) → get_or (b ∷ bs) (cond ends 0 (1 + word_len bs)) 0 < 128

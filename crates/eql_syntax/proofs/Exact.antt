@@ -36,7 +36,7 @@ reached_next : (done : List Token) (r : Reading) (t : Token) (s : State) → Rea
 reached_next done r t s reached is = record {
   state = state_next done r t reached ∙ is;
   depth = ap (λ (n : ℕ). depth_step n t) reached.depth ∙ sym (open-append 0 done t);
-  marked = ap (λ (m : Bool). mark_step m t) reached.marked ∙ sym (marked-append false done t)
+  marked = ap (λ (m : Bool). mark_step m t) reached.marked ∙ sym (marked-append false done t);
 }
 
 -- what is said of an answer

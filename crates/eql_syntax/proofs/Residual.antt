@@ -118,10 +118,16 @@ label_more : (bs : List Bracket) (ts : List Term) (m : Bool) (name : List ℕ) (
 label_more bs ts m name op labels bare label tok w (inl ends) = (label ∷ [], (tok, (last_label, ends)))
 label_more bs ts m name op labels bare label tok w (inr next) =
     let others = next.1.1 in
-    let joined : (labels ++ label ∷ []) ++ others.0 ≡ labels ++ (label ∷ others.0) = append_assoc labels (label ∷ []) others.0 in
-    (label ∷ others.0, (others.1.0,
-        (subst (λ (x : List Token). SpellsLabels (Word bare label ∷ x) (label ∷ others.0) others.1.0) (sym next.1.0) (label_or others.1.1.0),
-        subst (λ (x : List (List ℕ)). TermEnds bs (ts ++ terms.Test m name op x ∷ []) others.1.0 w) joined others.1.1.1)))
+    let joined : (labels ++ label ∷ []) ++ others.0 ≡ labels ++ (label ∷ others.0) = append_assoc labels (label ∷ []) others.0 in (
+      label ∷ others.0,
+      (
+        others.1.0,
+        (
+          subst (λ (x : List Token). SpellsLabels (Word bare label ∷ x) (label ∷ others.0) others.1.0) (sym next.1.0) (label_or others.1.1.0),
+          subst (λ (x : List (List ℕ)). TermEnds bs (ts ++ terms.Test m name op x ∷ []) others.1.0 w) joined others.1.1.1,
+        ),
+      ),
+    )
 
 test_back : (bs : List Bracket) (ts : List Term) (m bare : Bool) (name : List ℕ) (sign : Sign) (o : Option Op) (tok : List Token) (w : Tree) → op_of sign ≡ o → FinishesFrom (tested bs ts m name o) tok w → Goes bs ts (mark_then m (Word bare name ∷ Between sign ∷ tok)) w
 test_back bs ts m bare name sign None tok w is h = absurd h

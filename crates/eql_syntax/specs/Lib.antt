@@ -5,3 +5,4 @@ pub mod Grammar
 pub mod Fault
 pub mod Machine
 pub mod Reading
+pub mod View

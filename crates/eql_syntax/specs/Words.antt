@@ -39,7 +39,7 @@ abbrev pub place_of : List ℕ → Option Place
 place_of word =
     if is_text word (codes "Start") then Some places.Start
     else (if is_text word (codes "Medial") then Some places.Medial
-        else (if is_text word (codes "End") then Some places.End else None))
+    else (if is_text word (codes "End") then Some places.End else None))
 
 -- the function that counts
 abbrev pub is_count : List ℕ → Bool

@@ -1,7 +1,7 @@
 //! The token at the front of a text.
 ghost use Rattle.std.specs.Prelude.{◌≡◌, ℕ, ◌+◌, ◌<◌, ◌≤◌, length, drop, slice_index, IfOk, IfSome, MatchOption, None, Some, true, false, [], ◌∷◌, ◌++◌, ◌^◌};
 ghost use Rattle.std.specs.Str.{IsCharBoundary};
-ghost use Rattle.eql_syntax.specs.Tokens.{is_space, is_mark, is_arrow, ends_word, word_len, symbol, quoted_len, is_unquoted, quoted, bare, token_at, front, tokens_of};
+ghost use Rattle.eql_syntax.specs.Tokens.{is_space, is_mark, is_arrow, ends_word, word_len, symbol, quoted_len, is_unquoted, quoted, bare, token_at, front, tokens_from, tokens_of};
 
 use crate::token::{Placed, Sign, Token, Tokens};
 use emu_names::{Memory, Text};
@@ -20,7 +20,19 @@ fn is_mark(byte: u8) -> bool
 {
     matches!(
         byte,
-        b'[' | b']' | b'(' | b')' | b',' | b'&' | b'|' | b'^' | b'#' | b'\'' | b'=' | b'!' | b'<' | b'>'
+        b'[' | b']'
+            | b'('
+            | b')'
+            | b','
+            | b'&'
+            | b'|'
+            | b'^'
+            | b'#'
+            | b'\''
+            | b'='
+            | b'!'
+            | b'<'
+            | b'>'
     )
 }
 
@@ -164,14 +176,12 @@ fn token(alloc: Global, text: &str) -> Result<(Token, usize), Memory>
 
 /// Takes what stands at the front: white space, or a token, which is put behind the others. Gives the
 /// length of what it took.
-#[tactic(auto, using(crate::proofs::Cuts::space_cut))]
+#[tactic(auto, using(crate::proofs::Cuts::space_cut, crate::proofs::Behind::token_len))]
 fn take_front(alloc: Global, tokens: &mut Tokens, at: u32, text: &str) -> Result<usize, Memory>
     requires { 0 < length text.now }
-    ensures space { IfOk result (λ len. is_space (front text.now) ≡ true
-        → (tokens.new ≡ tokens.old) × (len ≡ 1)) }
-    ensures token { IfOk result (λ len. is_space (front text.now) ≡ false
-        → (tokens.new ≡ tokens.old ++ record { at = at; token = (token_at (front text.now) (drop 1 text.now)).0 } ∷ [])
-        × (len ≡ (token_at (front text.now) (drop 1 text.now)).1)) }
+    ensures next { IfOk result (λ len. tokens.old ++ tokens_from text.now 0 at
+        ≡ tokens.new ++ tokens_from (drop len text.now) 0 (at + len)) }
+    ensures some { IfOk result (λ len. 0 < len) }
     ensures cut { IfOk result (λ len. IsCharBoundary text.now len) }
 {
     if is_space(front(text.as_bytes())) {
@@ -183,6 +193,7 @@ fn take_front(alloc: Global, tokens: &mut Tokens, at: u32, text: &str) -> Result
 }
 
 /// The tokens of the text, in their order. The only refusal is want of memory.
+#[tactic(auto, unfolding(crate::specs::Tokens::tokens_of))]
 pub fn read_tokens(alloc: Global, text: &str) -> Result<Tokens, Memory>
     requires { length text.now < 2 ^ 32 }
     ensures { IfOk result (λ tokens. tokens ≡ tokens_of text.now) }

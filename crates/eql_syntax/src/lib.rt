@@ -3,9 +3,11 @@
 #![tactic(auto)]
 
 mod lexer;
+mod machine;
 mod query;
 mod token;
+mod words;
 
-pub use query::{Compare, Op, Place, Query, QueryFault, Term, Terms, Words};
 pub use lexer::read_tokens;
+pub use query::{Compare, Op, Place, Query, QueryFault, Term, Terms, Words};
 pub use token::{Placed, Sign, Token, Tokens};
