@@ -3,5 +3,6 @@ mod Behind
 mod Cuts
 mod Exact
 mod Numbers
+mod Public
 mod Residual
 mod Stack

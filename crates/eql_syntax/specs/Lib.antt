@@ -6,3 +6,4 @@ pub mod Fault
 pub mod Machine
 pub mod Reading
 pub mod View
+pub mod Answer

@@ -1,5 +1,5 @@
 -- What the reader of tokens in the program's memory stands for.
-use Rattle.std.specs.Prelude.{◌≡◌, ℕ, List, [], ◌∷◌, Option, Some, None, Result, Ok, Err}
+use Rattle.std.specs.Prelude.{◌≡◌, ◌≢◌, ℕ, List, [], ◌∷◌, Option, Some, None, Result, Ok, Err}
 use Rattle.emu_names.specs.declared.shortage.Memory.{Memory}
 use Rattle.eql_syntax.specs.declared.machine.Function.{Function as CodeFunction}
 use Rattle.eql_syntax.specs.declared.machine.Function.TheVariants as functions
@@ -8,7 +8,12 @@ use Rattle.eql_syntax.specs.declared.machine.Bracket.TheVariants as code_bracket
 use Rattle.eql_syntax.specs.declared.machine.Spot.{Spot as CodeSpot}
 use Rattle.eql_syntax.specs.declared.machine.Spot.TheVariants as spots
 use Rattle.eql_syntax.specs.declared.machine.State.{State as CodeState}
-use Rattle.eql_syntax.specs.Tree.{tree_of}
+use Rattle.eql_syntax.specs.declared.reader.Reading.{Reading as CodeReading}
+use Rattle.eql_syntax.specs.declared.query.Query.{Query}
+use Rattle.eql_syntax.specs.declared.query.QueryFault.{QueryFault}
+use Rattle.eql_syntax.specs.declared.query.QueryFault.TheVariants as faults
+use Rattle.eql_syntax.specs.Tree.{Tree, tree_of}
+use Rattle.eql_syntax.specs.Reading.{Reading}
 use Rattle.eql_syntax.specs.Machine.{Bracket, Opened, Before, Over, Function, Placing, Counting, Spot, Beginning, Another, Marked, Named, Tested, Labelled, Parted, Called, Upper, Split, Lower, Sided, Asked, Counted, Ended, Closed, State}
 
 abbrev pub function_view : CodeFunction → Function
@@ -54,3 +59,16 @@ abbrev pub Moves : Result (Option CodeState) Memory → Option State → Type 0
 Moves (Ok None) there = there ≡ None
 Moves (Ok (Some s)) there = there ≡ Some (state_view s)
 Moves (Err _) there = Unit {0}
+
+abbrev pub reading_view : CodeReading → Reading
+reading_view r = record { brackets = stack r.brackets.items; spot = spot_view r.spot; depth = r.depth; marked = r.marked }
+
+-- a reading of the program is the one that there is, or its fault is the one that there is
+abbrev pub Takes : Result CodeReading QueryFault → Result Reading QueryFault → Type 0
+Takes (Ok r) there = there ≡ Ok (reading_view r)
+Takes (Err e) there = e ≢ faults.Memory → there ≡ Err e
+
+-- and so for a query
+abbrev pub Gives : Result Query QueryFault → Result Tree QueryFault → Type 0
+Gives (Ok q) there = there ≡ Ok (tree_of q)
+Gives (Err e) there = e ≢ faults.Memory → there ≡ Err e

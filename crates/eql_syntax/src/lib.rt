@@ -5,9 +5,11 @@
 mod lexer;
 mod machine;
 mod query;
+mod reader;
 mod token;
 mod words;
 
 pub use lexer::read_tokens;
 pub use query::{Compare, Op, Place, Query, QueryFault, Term, Terms, Words};
+pub use reader::read_query;
 pub use token::{Placed, Sign, Token, Tokens};

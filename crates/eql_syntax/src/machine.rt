@@ -3,7 +3,7 @@ ghost use Rattle.std.specs.Prelude.{◌≡◌, ℕ, [], ◌∷◌, ◌++◌, IfO
 ghost use Rattle.eql_syntax.specs.Tree.{tree_of, Conjunction};
 ghost use Rattle.eql_syntax.specs.Words.{op_of, compare_of, place_of, is_count, bit_of, number_of};
 ghost use Rattle.eql_syntax.specs.Machine.{function_of, after, after_terms, first_of, tested, called, placed, compared, counted, step};
-ghost use Rattle.eql_syntax.specs.Machine.{Named, Tested, Labelled, Parted, Called, Upper, Split, Lower, Sided, Asked, Counted};
+ghost use Rattle.eql_syntax.specs.Machine.{Beginning, Marked, Named, Tested, Labelled, Parted, Called, Upper, Split, Lower, Sided, Asked, Counted};
 ghost use Rattle.eql_syntax.specs.View.{function_view, bracket_view, spot_view, stack, Moves};
 
 use crate::query::{Compare, Op, Place, Query, Term, Terms, Words};
@@ -72,7 +72,7 @@ fn push(brackets: Vec<Bracket>, bracket: Bracket) -> Result<Vec<Bracket>, Memory
 
 /// The innermost bracket, and the others.
 #[tactic(auto, using(crate::proofs::Stack::stack_more))]
-fn pop(brackets: Vec<Bracket>) -> Option<(Bracket, Vec<Bracket>)>
+pub fn pop(brackets: Vec<Bracket>) -> Option<(Bracket, Vec<Bracket>)>
     ensures { MatchOption result (stack brackets.items ≡ [])
         (λ r. stack brackets.items ≡ bracket_view r.0 ∷ stack r.1.items) }
 {
@@ -396,5 +396,183 @@ fn counted(
             None => Ok(None),
         },
         _ => Ok(None),
+    }
+}
+
+/// Behind a mark, or where a name is wanted of a function: a word.
+fn marked(
+    alloc: Global,
+    brackets: Vec<Bracket>,
+    terms: Terms,
+    token: &Token,
+) -> Result<Option<State>, Memory>
+    ensures { Moves result (step (stack brackets.items) (Marked terms) token.now) }
+{
+    match token {
+        Token::Word { bare, text } => {
+            let name = text.copy(alloc)?;
+            Ok(Some(State {
+                brackets,
+                spot: Spot::Named(terms, true, *bare, name),
+            }))
+        }
+        _ => Ok(None),
+    }
+}
+
+/// Behind a function's bracket: its first name.
+fn called(
+    alloc: Global,
+    brackets: Vec<Bracket>,
+    terms: Terms,
+    marked: bool,
+    function: Function,
+    token: &Token,
+) -> Result<Option<State>, Memory>
+    ensures { Moves result (step (stack brackets.items) (Called terms marked (function_view function)) token.now) }
+{
+    match token {
+        Token::Word { bare, text } => {
+            let _bare = *bare;
+            let upper = text.copy(alloc)?;
+            Ok(Some(State {
+                brackets,
+                spot: Spot::Upper(terms, marked, function, upper),
+            }))
+        }
+        _ => Ok(None),
+    }
+}
+
+/// Behind a function's comma: its second name.
+fn split(
+    alloc: Global,
+    brackets: Vec<Bracket>,
+    terms: Terms,
+    marked: bool,
+    function: Function,
+    upper: Text,
+    token: &Token,
+) -> Result<Option<State>, Memory>
+    ensures { Moves result (step (stack brackets.items) (Split terms marked (function_view function) upper) token.now) }
+{
+    match token {
+        Token::Word { bare, text } => {
+            let _bare = *bare;
+            let lower = text.copy(alloc)?;
+            Ok(Some(State {
+                brackets,
+                spot: Spot::Lower(terms, marked, function, upper, lower),
+            }))
+        }
+        _ => Ok(None),
+    }
+}
+
+/// Where a query begins: a bracket, or a condition.
+fn beginning(alloc: Global, brackets: Vec<Bracket>, token: &Token) -> Result<Option<State>, Memory>
+    ensures { Moves result (step (stack brackets.items) Beginning token.now) }
+{
+    match token {
+        Token::Open => {
+            let brackets = push(brackets, Bracket::Opened)?;
+            Ok(Some(State {
+                brackets,
+                spot: Spot::Beginning,
+            }))
+        }
+        _ => first_of(alloc, brackets, Terms::new(alloc), token),
+    }
+}
+
+/// Behind the first name of a function: the comma.
+fn upper(
+    brackets: Vec<Bracket>,
+    terms: Terms,
+    marked: bool,
+    function: Function,
+    upper: Text,
+    token: &Token,
+) -> Result<Option<State>, Memory>
+    ensures { Moves result (step (stack brackets.items) (Upper terms marked (function_view function) upper) token.now) }
+{
+    match token {
+        Token::Comma => Ok(Some(State {
+            brackets,
+            spot: Spot::Split(terms, marked, function, upper),
+        })),
+        _ => Ok(None),
+    }
+}
+
+/// Behind the second name of a function: the bracket.
+fn lower(
+    brackets: Vec<Bracket>,
+    terms: Terms,
+    marked: bool,
+    function: Function,
+    upper: Text,
+    lower: Text,
+    token: &Token,
+) -> Result<Option<State>, Memory>
+    ensures { Moves result (step (stack brackets.items) (Lower terms marked (function_view function) upper lower) token.now) }
+{
+    match token {
+        Token::RightParen => Ok(Some(State {
+            brackets,
+            spot: Spot::Sided(terms, marked, function, upper, lower),
+        })),
+        _ => Ok(None),
+    }
+}
+
+/// The state behind one token more, where some query goes on with it.
+pub fn step(
+    alloc: Global,
+    brackets: Vec<Bracket>,
+    spot: Spot,
+    token: &Token,
+) -> Result<Option<State>, Memory>
+    ensures { Moves result (step (stack brackets.items) (spot_view spot) token.now) }
+{
+    match spot {
+        Spot::Beginning => beginning(alloc, brackets, token),
+        Spot::Another(terms) => first_of(alloc, brackets, terms, token),
+        Spot::Marked(terms) => marked(alloc, brackets, terms, token),
+        Spot::Named(terms, mark, bare, name) => named(
+            alloc, brackets, terms, mark, bare, name, token,
+        ),
+        Spot::Tested(terms, mark, name, op) => tested(
+            alloc, brackets, terms, mark, name, op, token,
+        ),
+        Spot::Labelled(terms, mark, name, op, labels) => labelled(
+            alloc, brackets, terms, mark, name, op, labels, token,
+        ),
+        Spot::Parted(terms, mark, name, op, labels) => parted(
+            alloc, brackets, terms, mark, name, op, labels, token,
+        ),
+        Spot::Called(terms, mark, function) => called(
+            alloc, brackets, terms, mark, function, token,
+        ),
+        Spot::Upper(terms, mark, function, first) => upper(
+            brackets, terms, mark, function, first, token,
+        ),
+        Spot::Split(terms, mark, function, first) => split(
+            alloc, brackets, terms, mark, function, first, token,
+        ),
+        Spot::Lower(terms, mark, function, first, second) => lower(
+            brackets, terms, mark, function, first, second, token,
+        ),
+        Spot::Sided(terms, mark, function, first, second) => sided(
+            brackets, terms, mark, function, first, second, token,
+        ),
+        Spot::Asked(terms, mark, place, first, second) => asked(
+            brackets, terms, mark, place, first, second, token,
+        ),
+        Spot::Counted(terms, mark, first, second, compare) => counted(
+            brackets, terms, mark, first, second, compare, token,
+        ),
+        Spot::Ended(terms) => after_terms(alloc, brackets, terms, token),
+        Spot::Closed(query) => after(alloc, brackets, query, token),
     }
 }

@@ -2,7 +2,7 @@
 ghost use Rattle.std.specs.Prelude.{◌≡◌, ◌++◌, ◌∷◌, [], IfOk};
 
 use emu_names::{Memory, Text};
-use std::alloc::{AllocFailed, Global};
+use std::alloc::Global;
 use std::marker::Model;
 use thiserror::Error;
 
@@ -187,4 +187,14 @@ pub enum QueryFault {
     /// Memory ran out.
     #[error("out of memory")]
     Memory,
+}
+
+impl From<Memory> for QueryFault {
+    ghost use Rattle.eql_syntax.specs.declared.query.QueryFault.TheVariants.{Memory as OutOfMemory};
+
+    ghost from_gives = { λ _ e. e ≡ OutOfMemory };
+
+    fn from(_error: Memory) -> QueryFault {
+        QueryFault::Memory
+    }
 }
