@@ -6,6 +6,8 @@ mod lexer;
 mod machine;
 mod query;
 mod reader;
+#[cfg(test)]
+mod tests;
 mod token;
 mod words;
 
