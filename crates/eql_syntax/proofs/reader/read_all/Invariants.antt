@@ -1,0 +1,10 @@
+use Rattle.std.proofs.Common.{◌≡◌, ◌≤◌, drop, Ok}
+use Rattle.eql_syntax.specs.Reading.{read, reads}
+use Rattle.eql_syntax.specs.View.{reading_view}
+use Rattle.eql_syntax.proofs.reader.read_all.Given as goal
+
+abbrev pub invariant-loop-placed : goal.invariant-loop-placed
+invariant-loop-placed l = record {
+  depth : l.reading.depth ≤ 32;
+  same : reads (Ok (reading_view l.reading)) (drop l.placed-index l.tokens) l.length ≡ read l.tokens l.length;
+}

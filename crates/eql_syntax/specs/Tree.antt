@@ -1,0 +1,14 @@
+-- Queries without their boxes: what a query says.
+use Rattle.std.specs.Prelude.{List}
+use Rattle.eql_syntax.specs.declared.query.Term.{Term}
+use Rattle.eql_syntax.specs.declared.query.Query.{Query, Terms, Sequence', Dominance'}
+
+pub data Tree : Type 0 where
+  Conjunction : List Term → Tree
+  Sequence : Tree → Tree → Tree
+  Dominance : Tree → Tree → Tree
+
+abbrev pub tree_of : Query → Tree
+tree_of (Terms terms) = Conjunction terms
+tree_of (Sequence' p left q right) = Sequence (tree_of left) (tree_of right)
+tree_of (Dominance' p left q right) = Dominance (tree_of left) (tree_of right)

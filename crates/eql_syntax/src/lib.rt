@@ -1,0 +1,17 @@
+//! EQL, the query language of emuDB: the tokens of a text, the query that they spell, and the text of a
+//! query. (EMU-SDMS Manual, "The EMU Query Language version 2".)
+#![tactic(auto)]
+
+mod lexer;
+mod machine;
+mod query;
+mod reader;
+#[cfg(test)]
+mod tests;
+mod token;
+mod words;
+
+pub use lexer::read_tokens;
+pub use query::{Compare, Op, Place, Query, QueryFault, Term, Terms, Words};
+pub use reader::read_query;
+pub use token::{Placed, Sign, Token, Tokens};
