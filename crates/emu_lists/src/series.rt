@@ -3,7 +3,7 @@ ghost use Rattle.std.specs.Prelude.{◌≡◌, ◌<◌, ◌≤◌, ◌==◌, ℕ
 
 use crate::plain::PlainData;
 use emu_names::Memory;
-use std::alloc::Global;
+use std::alloc::{AllocError, Global};
 use std::marker::Model;
 
 /// A list of any number of elements.
@@ -111,5 +111,16 @@ impl<T: PlainData> PlainData for Series<T> {
     fn copy(&self, alloc: Global) -> Result<Series<T>, Memory> {
         let items = copied(alloc, self.items.as_slice())?;
         Ok(Series { items })
+    }
+}
+
+impl<T: PlainData> Clone for Series<T> {
+    ghost is_clone = { λ s t. t ≡ s };
+
+    fn clone(&self) -> Result<Series<T>, AllocError> {
+        match copied(*self.items.allocator(), self.items.as_slice()) {
+            Ok(items) => Ok(Series { items }),
+            Err(Memory) => Err(AllocError),
+        }
     }
 }

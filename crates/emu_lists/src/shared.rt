@@ -1,7 +1,8 @@
 //! A value that has several owners and is never changed, which contracts see as the value itself.
-ghost use Rattle.std.specs.Prelude.{◌≡◌, IfOk};
+ghost use Rattle.std.specs.Prelude.{◌≡◌, ◌≤◌, length, insert, IfOk, OnErr, OnOk};
 
 use crate::plain::PlainData;
+use crate::series::Series;
 use emu_names::Memory;
 use std::alloc::Global;
 use std::marker::Model;
@@ -34,6 +35,20 @@ impl<T: Drop> Shared<T> {
         ensures { result.now ≡ self.now }
     {
         self.inside.as_ref()
+    }
+}
+
+impl<T: PlainData> Shared<Series<T>> {
+    /// Puts an element at a place of the list, before the element that stands there. The other
+    /// owners keep the old list: where there are some, this one takes a copy of the list first. The
+    /// only refusal is want of memory, which changes nothing.
+    pub fn insert(&mut self, place: usize, item: T) -> Result<(), Memory>
+        requires { place ≤ length self.old }
+        ensures ok { OnOk result (self.new ≡ insert self.old place item) }
+        ensures err { OnErr result (self.new ≡ self.old) }
+    {
+        let list = Rc::make_mut(&mut self.inside)?;
+        list.insert(place, item)
     }
 }
 

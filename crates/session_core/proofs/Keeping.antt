@@ -1,5 +1,6 @@
 -- What the moves of the parts mean for the state that the parts stand for.
-use Rattle.std.proofs.Common.{◌≡◌, ℕ, zero, suc, Bool, true, false, List, [], ◌∷◌, ◌++◌, length, replicate, Option, Some, None, Result, Ok, Err, IfOk, OnErr, refl, ap, sym, subst, arith, ◌∙◌}
+use Rattle.std.proofs.Common.{◌≡◌, ℕ, zero, suc, Bool, true, false, List, [], ◌∷◌, ◌++◌, length, take, slice_get, replicate, Option, Some, None, Result, Ok, Err, IfOk, OnErr, refl, ap, sym, subst, arith, ◌∙◌}
+use Rattle.std.proofs.Math.Seq.{take-append_seam}
 use Rattle.std.proofs.lemmas.List.{take-append-le, length-append, take_all}
 use Rattle.std.specs.Option.{option_map}
 use Rattle.emu_names.specs.declared.kinds.SessionNo.{SessionNo}
@@ -9,6 +10,8 @@ use Rattle.session_core.specs.declared.config.Config.{Config}
 use Rattle.session_core.specs.declared.bundle.BundleParts.{BundleParts}
 use Rattle.session_core.specs.declared.edit.Edit.{Edit}
 use Rattle.session_core.specs.declared.edit.Entry.{Entry}
+use Rattle.session_core.specs.declared.line.Answer.TheVariants.{Refused}
+use Rattle.session_core.specs.declared.line.Refusal.TheVariants as refusals
 use Rattle.session_core.specs.declared.line.Ask.{Ask}
 use Rattle.session_core.specs.declared.line.Line.{Line}
 use Rattle.session_core.specs.declared.line.Reply.{Reply}
@@ -17,7 +20,7 @@ use Rattle.session_core.specs.declared.slots.Held.{Held}
 use Rattle.session_core.specs.declared.moves.Head.{Head}
 use Rattle.session_core.specs.Effects.{◌>>=◌, after, replayed, effect, edited}
 use Rattle.session_core.specs.Steps.{State, slot, put_slot, is_full, session_places, edit_event, look_event, edit_step, look_step, finish_step, query_step, with_query, opened_at, query_fails}
-use Rattle.session_core.specs.Kept.{opened_by, opened_in, state_of, IsMoment, IsHeld, AreHeld, IsKept, head_entry, held_at, change, change_step, looked, look_closed, query_closed, query_dropped}
+use Rattle.session_core.specs.Kept.{head_reply, opened_by, opened_in, state_of, IsMoment, IsHeld, AreHeld, IsKept, head_entry, held_at, change, change_step, looked, look_closed, query_closed, query_dropped}
 use Rattle.session_core.proofs.SlotPlaces.{slot_put, length_put_slot, slot_map, put_slot_map}
 
 -- A history that grows.
@@ -109,6 +112,36 @@ pub changed_step : (c : Config) (l : Line) (edit : Edit) (H H2 : List Entry) (bs
 changed_step c l edit H H2 bs bs2 ls qs r e k =
     let told : Reply × List Entry × List BundleParts → Option Reply × State = λ t. (Some t.0, state_of c t.1 ls qs) in
     rw k.present (step_cases c l edit H bs ls qs (is_full H) (effect c bs edit) ∙ ap told (sym e))
+
+some_same : (x y : Entry) → Some x ≡ Some y → x ≡ y
+some_same x y e = ap (λ (o : Option Entry). option_get o x) e
+  where
+    option_get : Option Entry → Entry → Entry
+    option_get None d = d
+    option_get (Some v) d = v
+
+-- An edit that is refused: its entry was put last, and is taken out again.
+
+last_entry : (H : List Entry) (e found : Entry) → slice_get (H ++ e ∷ []) (length H) ≡ Some found → found ≡ e
+last_entry [] e found is = some_same found e (sym is)
+last_entry (x ∷ H) e found is = last_entry H e found is
+
+change_refused : (c : Config) (head : Head) (edit : Edit) (H : List Entry) (bs : List BundleParts) (full : Bool) (made : Result (List BundleParts) Broken) (rule : Broken)
+    → full ≡ false → made ≡ Err rule → change_step head edit H bs full made ≡ (head_reply head (Some (length H)) (Refused (refusals.Rule rule)), H, bs)
+change_refused c head edit H bs full made rule room broken = rw (room, broken) refl
+
+pub refused_change : (c : Config) (head : Head) (edit : Edit) (H H2 H3 : List Entry) (bs bs2 : List BundleParts) (found : Entry) (rule : Broken) (reply : Reply) (n : ℕ) (full : Bool)
+    → full ≡ is_full H → full ≡ false → n ≡ length H → H2 ≡ H ++ head_entry head edit ∷ [] → slice_get H2 n ≡ Some found
+    → effect c bs found.edit ≡ Err rule → bs2 ≡ bs → H3 ≡ take n H2 → reply ≡ head_reply head (Some n) (Refused (refusals.Rule rule))
+    → (reply, H3, bs2) ≡ change c head edit H bs
+refused_change c head edit H H2 H3 bs bs2 found rule reply n full counted room count pushed there broken same cut told =
+    let place : slice_get (H ++ head_entry head edit ∷ []) (length H) ≡ Some found =
+        subst (λ (k : ℕ). slice_get (H ++ head_entry head edit ∷ []) k ≡ Some found) count (subst (λ (xs : List Entry). slice_get xs n ≡ Some found) pushed there) in
+    let own : found ≡ head_entry head edit = last_entry H (head_entry head edit) found place in
+    let refused : effect c bs edit ≡ Err rule = subst (λ (e : Entry). effect c bs e.edit ≡ Err rule) own broken in
+    let back : take n H2 ≡ H = ap (λ (k : ℕ). take k H2) count ∙ ap (λ (xs : List Entry). take (length H) xs) pushed ∙ take-append_seam H (head_entry head edit ∷ []) in
+    let as_was : (reply, H3, bs2) ≡ (head_reply head (Some (length H)) (Refused (refusals.Rule rule)), H, bs) = rw (told, cut, back, same, count) refl in
+    as_was ∙ sym (change_refused c head edit H bs (is_full H) (effect c bs edit) rule (sym counted ∙ room) refused)
 
 -- A look.
 

@@ -26,7 +26,7 @@ use Rattle.session_core.proofs.Builds.{text_same, made_valid}
 
 -- The order of keys.
 
-same_itself : (a : BundleKey) → same_key a a ≡ true
+pub same_itself : (a : BundleKey) → same_key a a ≡ true
 same_itself a = and_from (same_text a.session a.session) (same_text a.bundle a.bundle) (text_same a.session) (text_same a.bundle)
 
 apart_keys : (a b : BundleKey) → same_key a b ≡ false → key_cmp a b ≡ Equal → ⊥
@@ -39,7 +39,7 @@ before_back o Equal flip later apart = absurd (apart refl)
 before_back o Greater flip later apart = absurd (true≢false (sym (ap is_lt flip) ∙ later))
 
 -- of two different keys one stands before the other
-before_or : (a b : BundleKey) → is_before a b ≡ false → same_key b a ≡ false → is_before b a ≡ true
+pub before_or : (a b : BundleKey) → is_before a b ≡ false → same_key b a ≡ false → is_before b a ≡ true
 before_or a b later apart = before_back (key_cmp a b) (key_cmp b a) (keys_total.antisymm a b) later (apart_keys b a apart)
 
 -- One more bundle.
@@ -59,7 +59,7 @@ rising_step : (new a : BundleParts) (rest : List BundleParts) (here : Bool) → 
 rising_step new a rest true is rising later = rising_pair new a rest is rising
 rising_step new a rest false is rising later = later is
 
-rising_put : (new : BundleParts) (bs : List BundleParts) → has_key new.key bs ≡ false → are_keys_rising bs ≡ true → are_keys_rising (put_in_order new bs) ≡ true
+pub rising_put : (new : BundleParts) (bs : List BundleParts) → has_key new.key bs ≡ false → are_keys_rising bs ≡ true → are_keys_rising (put_in_order new bs) ≡ true
 rising_put new [] absent rising = refl
 rising_put new (a ∷ []) absent rising =
     rising_step new a [] (is_before new.key a.key) refl rising
@@ -84,7 +84,7 @@ items_cond : (b : Bool) (xs ys : List BundleParts) (k : ℕ) → all_items xs �
 items_cond true xs ys k left right = left
 items_cond false xs ys k left right = right
 
-put_items : (new : BundleParts) (bs : List BundleParts) → all_items (put_in_order new bs) ≡ all_items bs + item_count new
+pub put_items : (new : BundleParts) (bs : List BundleParts) → all_items (put_in_order new bs) ≡ all_items bs + item_count new
 put_items new [] =
     let one : all_items (new ∷ []) ≡ item_count new + all_items [] = sum_by-cons item_count new [] in
     omega (arith, one)
@@ -148,14 +148,14 @@ of_kept c bundles kept =
 abbrev ok_of : {A : Type 0} → A → Result A Broken
 ok_of x = Ok x
 
-err_ok : {A : Type 0} (r : Broken) (x : A) → Err r ≡ Ok x → ⊥
+pub err_ok : {A : Type 0} (r : Broken) (x : A) → Err r ≡ Ok x → ⊥
 err_ok r x e = true≢false (ap is_err e)
   where
     is_err : {A : Type 0} → Result A Broken → Bool
     is_err (Ok x) = false
     is_err (Err r) = true
 
-ok_same : {A : Type 0} (x y : A) → ok_of x ≡ ok_of y → x ≡ y
+pub ok_same : {A : Type 0} (x y : A) → ok_of x ≡ ok_of y → x ≡ y
 ok_same {A = A} x y e = ap (λ (r : Result A Broken). inside r x) e
   where
     inside : {B : Type 0} → Result B Broken → B → B

@@ -8,6 +8,7 @@ pub mod Runs
 pub mod Worked
 pub mod Builds
 pub mod Kept
+pub mod KeyPlaces
 pub mod Alone
 pub mod Ordered
 pub mod Refusals

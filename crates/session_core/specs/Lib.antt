@@ -5,6 +5,7 @@ pub mod Build
 pub mod Valid
 pub mod Rules
 pub mod Effects
+pub mod Sets
 pub mod Queries
 pub mod Answers
 pub mod Sizes

@@ -5,10 +5,10 @@
 mod annot;
 mod building;
 mod bundle;
+mod bundle_set;
 mod check;
 mod config;
 mod edit;
-mod effects;
 mod event;
 mod law;
 mod line;
@@ -28,9 +28,9 @@ pub use annot::{
 };
 pub use building::build;
 pub use bundle::{Bundle, BundleParts, Bundles, Item, ItemLists, Items, Labels};
+pub use bundle_set::BundleSet;
 pub use config::{AttributeDef, AttributeDefs, Config, LevelDef, LevelDefs};
 pub use edit::{Edit, Entries, Entry};
-pub use effects::effect;
 pub use event::{Event, Events};
 pub use law::{
     an_example_is_legal, building_refuses_exactly, every_core_run_is_legal, every_run_is_legal,

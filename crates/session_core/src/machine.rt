@@ -5,14 +5,13 @@ ghost use Rattle.session_core.specs.Steps.{core_fails, core_step, edit_event, fi
 ghost use Rattle.session_core.specs.Stops.{IsFirstFault, StopsAt};
 ghost use Rattle.std.specs.Prelude.{◌≡◌, ◌⊎◌, ◌++◌, ◌<◌, ◌≤◌, All, IfErr, IfOk, OnErr, OnOk, Some, length};
 
-use crate::bundle::Bundles;
+use crate::bundle_set::BundleSet;
 use crate::config::Config;
 use crate::edit::Entries;
 use crate::event::{Event, Events};
 use crate::line::{Answer, Command, Line, Replies, Reply, Request};
 use crate::moves::{Head, begin_query, close_look, close_query, open_look, replay, try_edit};
 use crate::slots::Slots;
-use emu_lists::Shared;
 use emu_names::{Fault, Memory, SessionNo};
 use std::alloc::Global;
 use std::marker::Model;
@@ -27,7 +26,7 @@ pub struct Core {
     alloc: Global,
     config: Config,
     entries: Entries,
-    bundles: Shared<Bundles>,
+    bundles: BundleSet,
     looks: Slots,
     queries: Slots,
 }
@@ -53,7 +52,7 @@ impl Core {
         ensures legal { IfOk result (λ core. IsLegal config history) }
         ensures broken { IfErr result (λ fault. IsFirstFault fault (after config history)) }
     {
-        let bundles = Shared::new(alloc, replay(alloc, &config, &history)?)?;
+        let bundles = replay(alloc, &config, &history)?;
         let looks = Slots::new(alloc)?;
         let queries = Slots::new(alloc)?;
         Ok(Core {

@@ -1,18 +1,16 @@
 //! What one event does to the parts of the core, each part on its own.
 ghost use Rattle.session_core.specs.Effects.{after};
 ghost use Rattle.session_core.specs.Gives.{GivesOrBroken};
-ghost use Rattle.session_core.specs.Kept.{change, change_made, head_reply, held_answer, held_at, look_closed, looked, query_closed, query_dropped};
+ghost use Rattle.session_core.specs.Kept.{change, head_reply, held_answer, held_at, look_closed, looked, query_closed, query_dropped};
 ghost use Rattle.session_core.specs.Steps.{is_full as is_full_list, put_slot, slot};
 ghost use Rattle.std.specs.Prelude.{◌≡◌, ◌<◌, Ok, Some, IfOk, OnErr, OnOk, length};
 
-use crate::bundle::Bundles;
+use crate::bundle_set::BundleSet;
 use crate::config::Config;
 use crate::edit::{Edit, Entries, Entry};
-use crate::effects::effect;
 use crate::line::{Answer, Ask, Command, Refusal, Reply};
 use crate::queries::answer;
 use crate::slots::{Held, Slots};
-use emu_lists::{PlainData, Shared};
 use emu_names::{Fault, Memory, SessionNo};
 use std::alloc::Global;
 
@@ -45,13 +43,12 @@ impl Head {
 }
 
 /// The bundles after a history, or the rule that it breaks first, or want of memory.
-pub fn replay(alloc: Global, config: &Config, history: &Entries) -> Result<Bundles, Fault>
+pub fn replay(alloc: Global, config: &Config, history: &Entries) -> Result<BundleSet, Fault>
     ensures { GivesOrBroken result (after config.now history.now) }
 {
-    let mut bundles = Bundles::new(alloc);
-    let entries = history.as_slice();
-    for entry in entries {
-        bundles = effect(alloc, config, &bundles, &entry.edit)?;
+    let mut bundles = BundleSet::new(alloc)?;
+    for entry in history.as_slice() {
+        bundles.apply(alloc, config, &entry.edit)?;
     }
     Ok(bundles)
 }
@@ -63,38 +60,13 @@ fn is_full(entries: &Entries) -> bool
     MOST_ENTRIES <= entries.len()
 }
 
-/// Accepts an edit that leaves the bundles `next`. Want of memory changes nothing.
-fn accept(
-    alloc: Global,
-    entries: &mut Entries,
-    bundles: &mut Shared<Bundles>,
-    head: Head,
-    edit: Edit,
-    next: Bundles,
-) -> Result<Reply, Memory>
-    requires { length entries.old < 100000 }
-    ensures ok { IfOk result (λ reply. (reply, entries.new, bundles.new) ≡ change_made head edit entries.old bundles.old (Ok next)) }
-    ensures history { OnErr result (entries.new ≡ entries.old) }
-    ensures present { OnErr result (bundles.new ≡ bundles.old) }
-{
-    let n = entries.len() as u64 + 1;
-    let next = Shared::new(alloc, next)?;
-    let entry = Entry {
-        session: head.session,
-        line: head.line,
-        edit,
-    };
-    entries.push(entry)?;
-    *bundles = next;
-    Ok(head.reply(Some(n), Answer::Done(head.command)))
-}
-
-/// Tries an edit: the reply to it. Want of memory changes nothing.
+/// Tries an edit: the reply to it. It is put last in the history first, and taken out again where it
+/// is refused, or where memory runs out, which changes nothing.
 pub fn try_edit(
     alloc: Global,
     config: &Config,
     entries: &mut Entries,
-    bundles: &mut Shared<Bundles>,
+    bundles: &mut BundleSet,
     head: Head,
     edit: Edit,
 ) -> Result<Reply, Memory>
@@ -102,28 +74,40 @@ pub fn try_edit(
     ensures history { OnErr result (entries.new ≡ entries.old) }
     ensures present { OnErr result (bundles.new ≡ bundles.old) }
 {
-    let n = Some(entries.len() as u64);
+    let before = entries.len();
+    let n = before as u64;
     if is_full(entries) {
-        return Ok(head.reply(n, Answer::Refused(Refusal::HistoryFull)));
+        return Ok(head.reply(Some(n), Answer::Refused(Refusal::HistoryFull)));
     }
-    match effect(alloc, config, bundles.as_ref(), &edit) {
-        Ok(next) => accept(alloc, entries, bundles, head, edit, next),
-        Err(Fault::Broken(rule)) => Ok(head.reply(n, Answer::Refused(Refusal::Rule(rule)))),
-        Err(Fault::Memory) => Err(Memory),
+    entries.push(Entry {
+        session: head.session,
+        line: head.line,
+        edit,
+    })?;
+    match bundles.apply(alloc, config, &entries.get(before).edit) {
+        Ok(()) => Ok(head.reply(Some(n + 1), Answer::Done(head.command))),
+        Err(Fault::Broken(rule)) => {
+            entries.truncate(before);
+            Ok(head.reply(Some(n), Answer::Refused(Refusal::Rule(rule))))
+        }
+        Err(Fault::Memory) => {
+            entries.truncate(before);
+            Err(Memory)
+        }
     }
 }
 
 /// A query that holds the present state, which it shares.
 fn hold(
     alloc: Global,
-    bundles: &Shared<Bundles>,
+    bundles: &BundleSet,
     n: u64,
     head: Head,
     ask: Ask,
 ) -> Result<Held, Memory>
     ensures { IfOk result (λ held. held ≡ held_at head ask n bundles.now) }
 {
-    let bundles = bundles.copy(alloc)?;
+    let bundles = bundles.share(alloc)?;
     Ok(Held {
         line: head.line,
         n,
@@ -136,7 +120,7 @@ fn hold(
 /// memory changes nothing.
 pub fn open_look(
     alloc: Global,
-    bundles: &Shared<Bundles>,
+    bundles: &BundleSet,
     n: u64,
     looks: &mut Slots,
     head: Head,
@@ -160,7 +144,7 @@ pub fn open_look(
 /// Puts a query under way, which holds the present state. Want of memory changes nothing.
 pub fn begin_query(
     alloc: Global,
-    bundles: &Shared<Bundles>,
+    bundles: &BundleSet,
     n: u64,
     queries: &mut Slots,
     head: Head,

@@ -2,7 +2,7 @@ use Rattle.std.proofs.Common.{◌≡◌, ◌+◌, ◌++◌, ◌≤◌, map, take
 use Rattle.std.specs.Prelude.{List, ℕ, sum_by}
 use Rattle.session_core.specs.declared.bundle.Item.{Item}
 use Rattle.session_core.specs.Effects.{item_count}
-use Rattle.session_core.proofs.effects.counted.Given as goal
+use Rattle.session_core.proofs.bundle_set.counted.Given as goal
 
 abbrev pub invariant-loop-items : goal.invariant-loop-items
 invariant-loop-items l = record {
