@@ -17,3 +17,4 @@ pub mod MadeParts
 pub mod RowLists
 pub mod Keeping
 pub mod Turning
+pub mod Readings
