@@ -18,3 +18,5 @@ pub mod MadeParts
 pub mod RowLists
 pub mod Keeping
 pub mod Turning
+pub mod ReadingSteps
+pub mod Readings

@@ -16,5 +16,6 @@ pub mod InOrder
 pub mod Example
 pub mod Laws
 pub mod OrderLaws
+pub mod Readings
 pub mod Kept
 pub mod Stops

@@ -1,0 +1,445 @@
+-- A legal run in order has one reading: at one line, the reply is the one in turn.
+use Rattle.std.proofs.Common.{◌≡◌, ◌≢◌, ⊎_elim, ℕ, ◌+◌, ◌<◌, ◌≤◌, Bool, true, false, List, [], ◌∷◌, ◌++◌, length, take, slice_get, Option, Some, None, Result, Ok, Err, option_map, refl, sym, ◌∙◌, ap, subst, arith, append_assoc, length-append}
+use Rattle.std.proofs.lemmas.Bool.{cases_eq, lt-leb, le-leb, false≢true}
+use Rattle.std.proofs.lemmas.List.{take_at}
+use Rattle.emu_names.specs.declared.rules.Broken.{Broken}
+use Rattle.session_core.specs.declared.config.Config.{Config}
+use Rattle.session_core.specs.declared.bundle.BundleParts.{BundleParts}
+use Rattle.session_core.specs.declared.edit.Edit.{Edit}
+use Rattle.session_core.specs.declared.edit.Entry.{Entry}
+use Rattle.session_core.specs.declared.row.Row.{Row}
+use Rattle.session_core.specs.declared.line.Command.{Command}
+use Rattle.session_core.specs.declared.line.Ask.{Ask}
+use Rattle.session_core.specs.declared.line.AskFault.{AskFault}
+use Rattle.session_core.specs.declared.line.Answer.{Answer}
+use Rattle.session_core.specs.declared.line.Answer.TheVariants.{Done, Segments, Refused}
+use Rattle.session_core.specs.declared.line.Refusal.{Refusal}
+use Rattle.session_core.specs.declared.line.Refusal.TheVariants as refusals
+use Rattle.session_core.specs.declared.line.Request.{Request}
+use Rattle.session_core.specs.declared.line.Request.TheVariants as requests
+use Rattle.session_core.specs.declared.line.Line.{Line}
+use Rattle.session_core.specs.declared.line.Reply.{Reply}
+use Rattle.session_core.specs.Effects.{edited}
+use Rattle.session_core.specs.Queries.{asked}
+use Rattle.session_core.specs.Effects.{bundles_after}
+use Rattle.session_core.specs.Answers.{query_answer, answer_at, memory, reply_to, entry_of}
+use Rattle.session_core.specs.Steps.{Opened, State, slot, put_slot, session_places, is_full, opened_at, with_look, with_query, with_entry, present, edit_step, look_step, finish_step, query_step}
+use Rattle.session_core.specs.Legal.{accepting, history_limit, IsAcceptance, IsRightAt, IsRightAlone, IsRight, Look, open_after, LookReplyFits, FinishReplyFits, ReplyFits}
+use Rattle.session_core.specs.InOrder.{Outage, fine, replied, looked, query_turn, unless_outage, request_turn}
+use Rattle.session_core.specs.Readings.{IsStanding, outage_in}
+use Rattle.session_core.proofs.Places.{slot_put, slot_other, put_length}
+use Rattle.session_core.proofs.Seats.{answer_same, look_of, IsIn, in_more}
+
+-- Answers that differ.
+
+abbrev is_memory : Answer → Bool
+is_memory (Refused refusals.Memory) = true
+is_memory (Refused (refusals.Rule rule)) = false
+is_memory (Refused (refusals.Resolve fault)) = false
+is_memory (Refused refusals.NoLook) = false
+is_memory (Refused refusals.LookOpen) = false
+is_memory (Refused refusals.HistoryFull) = false
+is_memory (Refused refusals.StoreFull) = false
+is_memory (Refused refusals.Disk) = false
+is_memory (Done command) = false
+is_memory (Segments rows) = false
+
+not_memory : (answer : Answer) → is_memory answer ≡ false → answer ≡ memory → ⊥
+not_memory answer other same = false≢true (sym other ∙ ap is_memory same)
+
+-- a query's answer is no want of memory
+query_fine : (found : Result (List Row) AskFault) → outage_in (query_answer found) ≡ fine
+query_fine (Ok rows) = refl
+query_fine (Err fault) = refl
+
+some_same : {A : Type 0} (x y : A) → Some x ≡ Some y → x ≡ y
+some_same {A = A} x y e = ap (λ (o : Option A). unwrapped x o) e
+  where
+    unwrapped : {A : Type 0} → A → Option A → A
+    unwrapped d None = d
+    unwrapped d (Some v) = v
+
+none_some : {A : Type 0} (x : A) → None ≡ Some x → ⊥
+none_some x e = cc
+
+-- an entry behind the ones that stand is the next one
+next_entry : (E more : List Entry) (e : Entry) → slice_get (E ++ more) (length E) ≡ Some e → (rest : List Entry) × (more ≡ e ∷ rest)
+next_entry [] [] e found = absurd (none_some e found)
+next_entry [] (x ∷ more) e found = (more, ap (λ (y : Entry). y ∷ more) (some_same x e found))
+next_entry (x ∷ E) more e found = next_entry E more e found
+
+-- Where a run stands: k entries of the history are there, and each open look is over some of them.
+
+pub record Stands (c : Config) (H : List Entry) (k : ℕ) (st : State) : Type 0 where
+  pub config : st.config ≡ c
+  pub more : List Entry
+  pub prefix : H ≡ st.entries ++ more
+  pub count : length st.entries ≡ k
+  pub looks_count : length st.looks ≡ session_places
+  pub queries_count : length st.queries ≡ session_places
+  pub looks_in : (s : ℕ) → IsIn 0 st.entries (slot st.looks s)
+
+-- the look of a place
+abbrev pub seen_look : Option Opened → Option Look
+seen_look held = option_map look_of held
+
+-- One line: its reply is the one in turn, and its session's look is the one that the reply leaves.
+
+pub record Follows (c : Config) (H : List Entry) (k : ℕ) (st : State) (l : Line) (request : Request) (n : Option ℕ) (answer : Answer) (out : Reply × State) : Type 0 where
+  pub reply : out.0 ≡ reply_to l n answer
+  pub there : Stands c H (k + length (accepting l request n answer)) out.1
+  pub own : seen_look (slot out.1.looks l.session.0) ≡ open_after (seen_look (slot st.looks l.session.0)) request n
+  pub others : (s : ℕ) → l.session.0 ≢ s → slot out.1.looks s ≡ slot st.looks s
+
+-- what is right of an answer, with the request told
+abbrev pub IsRightFor : Config → ℕ → List Entry → Line → Request → Option ℕ → Answer → Type 0
+IsRightFor c m H l request None answer = IsRightAlone false request answer
+IsRightFor c m H l request (Some n) answer = (m ≤ n) × (n ≤ length H) × IsRightAt c H false l request n answer
+
+pub right_for : (c : Config) (m : ℕ) (H : List Entry) (l : Line) (n : Option ℕ) (answer : Answer) → IsRight c m H false l n answer → IsRightFor c m H l l.request n answer
+right_for c m H l None answer right = right
+right_for c m H l (Some n) answer right = right
+
+module _ (c : Config) (m : ℕ) (H : List Entry) (k : ℕ) (st : State) (r : Stands c H k st) (l : Line) (place : l.session.0 < session_places) where
+  abbrev held : Option Opened
+  held = slot st.looks l.session.0
+
+  moved : (request : Request) (n : Option ℕ) (answer : Answer) (made out : Reply × State) → made ≡ out
+      → Follows c H k st l request n answer made → Follows c H k st l request n answer out
+  moved request n answer made out same follows = subst (λ (o : Reply × State). Follows c H k st l request n answer o) same follows
+
+  -- the state stays as it is
+  stays : (request : Request) (n : Option ℕ) (answer : Answer) → length (accepting l request n answer) ≡ 0 → open_after (seen_look held) request n ≡ seen_look held
+      → Follows c H k st l request n answer (reply_to l n answer, st)
+  stays request n answer none opens = record {
+    reply = refl;
+    there = subst (λ (j : ℕ). Stands c H j st) (let here : k ≡ k + length (accepting l request n answer) = omega (arith, none) in here) r;
+    own = sym opens;
+    others = λ s ne. refl;
+  }
+
+  -- the history's first entries are those that stand
+  front : (n : ℕ) → n ≡ k → take n H ≡ st.entries
+  front n is =
+      let at : length st.entries ≡ n = r.count ∙ sym is in
+      ap (λ (es : List Entry). take n es) r.prefix ∙ take_at st.entries r.more n at
+
+  edit_is : (n : ℕ) (edit : Edit) (made : Result (List BundleParts) Broken) → n ≡ k → edited c (take n H) edit ≡ made → edited st.config st.entries edit ≡ made
+  edit_is n edit made is right =
+      ap (λ (d : Config). edited d st.entries edit) r.config
+      ∙ ap (λ (es : List Entry). edited c es edit) (sym (front n is))
+      ∙ right
+
+  answer_is : (n : ℕ) (ask : Ask) (answer : Answer) → n ≤ length st.entries → answer ≡ answer_at c H n ask → answer_at st.config st.entries n ask ≡ answer
+  answer_is n ask answer low right =
+      ap (λ (d : Config). answer_at d st.entries n ask) r.config
+      ∙ sym (answer_same c st.entries r.more n ask low)
+      ∙ ap (λ (es : List Entry). answer_at c es n ask) (sym r.prefix)
+      ∙ sym right
+
+  look_put : (v : Option Opened) → slot (put_slot st.looks l.session.0 v) l.session.0 ≡ v
+  look_put v =
+      let size : length st.looks ≡ 17 = r.looks_count in
+      let below : l.session.0 < 17 = place in
+      slot_put st.looks l.session.0 v (omega arith)
+
+  -- a look is put at the session's place, or taken away from it
+  with_looks : (v : Option Opened) → IsIn 0 st.entries v → Stands c H k (with_look st l.session.0 v)
+  with_looks v is = record {
+    config = r.config;
+    more = r.more;
+    prefix = r.prefix;
+    count = r.count;
+    looks_count = put_length st.looks l.session.0 v ∙ r.looks_count;
+    queries_count = r.queries_count;
+    looks_in = λ s. ⊎_elim (λ e. here s e) (λ ne. subst (λ (o : Option Opened). IsIn 0 st.entries o) (sym (slot_other st.looks l.session.0 s v ne)) (r.looks_in s)) (cases_eq l.session.0 s);
+  }
+    where
+      here : (s : ℕ) → l.session.0 ≡ s → IsIn 0 st.entries (slot (put_slot st.looks l.session.0 v) s)
+      here s e = subst (λ (j : ℕ). IsIn 0 st.entries (slot (put_slot st.looks l.session.0 v) j)) e
+          (subst (λ (o : Option Opened). IsIn 0 st.entries o) (sym (look_put v)) is)
+
+  -- The five requests, in turn.
+
+  abbrev edit_out : Edit → Bool → Result (List BundleParts) Broken → Reply × State
+  edit_out edit full made = replied l (edit_step st l edit full made)
+
+  edit_made_is : (edit : Edit) (full : Bool) (made : Result (List BundleParts) Broken) → is_full st.entries ≡ full → edited st.config st.entries edit ≡ made
+      → edit_out edit full made ≡ edit_out edit (is_full st.entries) (edited st.config st.entries edit)
+  edit_made_is edit full made full_is made_is =
+      sym (ap (λ (b : Bool). edit_out edit b (edited st.config st.entries edit)) full_is ∙ ap (λ (found : Result (List BundleParts) Broken). edit_out edit full found) made_is)
+
+  not_full : k < history_limit → is_full st.entries ≡ false
+  not_full room =
+      let low : k < 100000 = room in
+      let count : length st.entries ≡ k = r.count in
+      lt-leb 100000 (length st.entries) (omega arith)
+
+  -- a reply with a number, and a state
+  abbrev numbered_reply : Answer → State → ℕ → Reply × State
+  numbered_reply answer next n = (reply_to l (Some n) answer, next)
+
+  numbered_as : (answer : Answer) (n j : ℕ) (next : State) → n ≡ j → numbered_reply answer next n ≡ numbered_reply answer next j
+  numbered_as answer n j next same = ap (numbered_reply answer next) same
+
+  accepted_follows : (edit : Edit) (n : ℕ) (command : Command) → IsAcceptance c H l edit n command → n ≡ k + 1
+      → Follows c H k st l (requests.Edit edit) (Some n) (Done command) (request_turn st l (requests.Edit edit) fine)
+  accepted_follows edit n command right is =
+      let before_is : right.before ≡ k = omega (arith, right.number, is) in
+      let count : length st.entries ≡ k = r.count in
+      let room : k < history_limit = subst (λ (j : ℕ). j < history_limit) before_is right.room in
+      let at : slice_get (st.entries ++ r.more) (length st.entries) ≡ Some (entry_of l edit) =
+      ap (λ (es : List Entry). slice_get es (length st.entries)) (sym r.prefix) ∙ ap (λ (j : ℕ). slice_get H j) (count ∙ sym before_is) ∙ right.entry in
+      let next : _ = next_entry st.entries r.more (entry_of l edit) at in
+      let n_is : n ≡ present st + 1 = omega (arith, is, count) in
+      moved (requests.Edit edit) (Some n) (Done command) (reply_to l (Some n) (Done command), with_entry st (entry_of l edit)) _
+      (numbered_as (Done command) n (present st + 1) (with_entry st (entry_of l edit)) n_is
+      ∙ ap (λ (made : Command). (reply_to l (Some (present st + 1)) (Done made), with_entry st (entry_of l edit))) right.own
+      ∙ edit_made_is edit false (Ok right.bundles) (not_full room) (edit_is right.before edit (Ok right.bundles) before_is right.right))
+      (record {
+        reply = refl;
+        there = record {
+          config = r.config;
+          more = next.0;
+          prefix = r.prefix ∙ ap (λ (es : List Entry). st.entries ++ es) next.1 ∙ sym (append_assoc st.entries (entry_of l edit ∷ []) next.0);
+          count = length-append st.entries (entry_of l edit ∷ []) ∙ ap (λ (j : ℕ). j + 1) count;
+          looks_count = r.looks_count;
+          queries_count = r.queries_count;
+          looks_in = λ s. in_more 0 st.entries (entry_of l edit ∷ []) (slot st.looks s) (r.looks_in s);
+        };
+        own = refl;
+        others = λ s ne. refl;
+      })
+
+  refused_edit : (edit : Edit) (n : ℕ) (refusal : Refusal) → IsRightAt c H false l (requests.Edit edit) n (Refused refusal) → n ≡ k
+      → Follows c H k st l (requests.Edit edit) (Some n) (Refused refusal) (request_turn st l (requests.Edit edit) (outage_in (Refused refusal)))
+  refused_edit edit n (refusals.Rule rule) right is =
+      moved (requests.Edit edit) (Some n) (Refused (refusals.Rule rule)) (reply_to l (Some n) (Refused (refusals.Rule rule)), st) _
+      (numbered_as (Refused (refusals.Rule rule)) n (present st) st (is ∙ sym r.count)
+      ∙ edit_made_is edit false (Err rule) (not_full (subst (λ (j : ℕ). j < history_limit) is right.0)) (edit_is n edit (Err rule) is right.1))
+      (stays (requests.Edit edit) (Some n) (Refused (refusals.Rule rule)) refl refl)
+  refused_edit edit n refusals.HistoryFull right is =
+      let full : is_full st.entries ≡ true = le-leb 100000 (length st.entries) (omega (arith, right, is, r.count)) in
+      moved (requests.Edit edit) (Some n) (Refused refusals.HistoryFull) (reply_to l (Some n) (Refused refusals.HistoryFull), st) _
+      (numbered_as (Refused refusals.HistoryFull) n (present st) st (is ∙ sym r.count)
+      ∙ edit_made_is edit true (edited st.config st.entries edit) full refl)
+      (stays (requests.Edit edit) (Some n) (Refused refusals.HistoryFull) refl refl)
+  refused_edit edit n refusals.StoreFull right is = absurd (false≢true right.stored)
+  refused_edit edit n (refusals.Resolve fault) right is = absurd right
+  refused_edit edit n refusals.NoLook right is = absurd right
+  refused_edit edit n refusals.LookOpen right is = absurd right
+  refused_edit edit n refusals.Disk right is = absurd right
+  refused_edit edit n refusals.Memory right is = absurd right
+
+  edit_alone : (edit : Edit) (answer : Answer) → IsRightAlone false (requests.Edit edit) answer
+      → Follows c H k st l (requests.Edit edit) None answer (request_turn st l (requests.Edit edit) (outage_in answer))
+  edit_alone edit (Refused refusals.Memory) right = stays (requests.Edit edit) None memory refl refl
+  edit_alone edit (Refused refusals.Disk) right = absurd (false≢true right)
+  edit_alone edit (Refused refusals.LookOpen) right = absurd right
+  edit_alone edit (Refused refusals.NoLook) right = absurd right
+  edit_alone edit (Refused (refusals.Rule rule)) right = absurd right
+  edit_alone edit (Refused (refusals.Resolve fault)) right = absurd right
+  edit_alone edit (Refused refusals.HistoryFull) right = absurd right
+  edit_alone edit (Refused refusals.StoreFull) right = absurd right
+  edit_alone edit (Done command) right = absurd right
+  edit_alone edit (Segments rows) right = absurd right
+
+  edit_follows : (edit : Edit) (n : Option ℕ) (answer : Answer) → IsRightFor c m H l (requests.Edit edit) n answer
+      → IsStanding (k + length (accepting l (requests.Edit edit) n answer)) (requests.Edit edit) n
+      → Follows c H k st l (requests.Edit edit) n answer (request_turn st l (requests.Edit edit) (outage_in answer))
+  edit_follows edit None answer right stand = edit_alone edit answer right
+  edit_follows edit (Some n) (Done command) right stand = accepted_follows edit n command right.2 stand
+  edit_follows edit (Some n) (Refused refusal) right stand = refused_edit edit n refusal right.2 (let is : n ≡ k + 0 = stand in omega arith)
+  edit_follows edit (Some n) (Segments rows) right stand = absurd right.2
+
+  -- a query is put under way and answered
+  abbrev query_out : Ask → Option Opened → Reply × State
+  query_out ask under = replied l (query_step (looked st l ask) l.line l.session under)
+
+  query_answered_is : (ask : Ask) (n : ℕ) (answer : Answer) → answer ≡ answer_at c H n ask → n ≡ k
+      → (reply_to l (Some n) answer, with_query (looked st l ask) l.session.0 None) ≡ query_turn st l ask fine
+  query_answered_is ask n answer right is =
+      let n_is : n ≡ present st = is ∙ sym r.count in
+      let low : n ≤ length st.entries = omega (arith, n_is) in
+      let size : length st.queries ≡ 17 = r.queries_count in
+      let below : l.session.0 < 17 = place in
+      ap (λ (a : Answer). (reply_to l (Some n) a, with_query (looked st l ask) l.session.0 None)) (sym (answer_is n ask answer low right))
+      ∙ ap (λ (j : ℕ). (reply_to l (Some j) (answer_at st.config st.entries j ask), with_query (looked st l ask) l.session.0 None)) n_is
+      ∙ sym (ap (λ (o : Option Opened). query_out ask o) (slot_put st.queries l.session.0 (Some (opened_at st l ask)) (omega arith)))
+
+  query_done : (ask : Ask) (n : ℕ) (answer : Answer) → answer ≡ answer_at c H n ask → n ≡ k
+      → Follows c H k st l (requests.Query ask) (Some n) answer (query_turn st l ask fine)
+  query_done ask n answer right is =
+      moved (requests.Query ask) (Some n) answer (reply_to l (Some n) answer, with_query (looked st l ask) l.session.0 None) _ (query_answered_is ask n answer right is)
+      (record {
+        reply = refl;
+        there = record {
+          config = r.config;
+          more = r.more;
+          prefix = r.prefix;
+          count = let here : length st.entries ≡ k + 0 = omega (arith, r.count) in here;
+          looks_count = r.looks_count;
+          queries_count = put_length (put_slot st.queries l.session.0 (Some (opened_at st l ask))) l.session.0 None ∙ put_length st.queries l.session.0 (Some (opened_at st l ask)) ∙ r.queries_count;
+          looks_in = r.looks_in;
+        };
+        own = refl;
+        others = λ s ne. refl;
+      })
+
+  query_alone : (ask : Ask) (answer : Answer) → IsRightAlone false (requests.Query ask) answer
+      → Follows c H k st l (requests.Query ask) None answer (request_turn st l (requests.Query ask) (outage_in answer))
+  query_alone ask (Refused refusals.Memory) right = stays (requests.Query ask) None memory refl refl
+  query_alone ask (Refused refusals.Disk) right = absurd right
+  query_alone ask (Refused refusals.LookOpen) right = absurd right
+  query_alone ask (Refused refusals.NoLook) right = absurd right
+  query_alone ask (Refused (refusals.Rule rule)) right = absurd right
+  query_alone ask (Refused (refusals.Resolve fault)) right = absurd right
+  query_alone ask (Refused refusals.HistoryFull) right = absurd right
+  query_alone ask (Refused refusals.StoreFull) right = absurd right
+  query_alone ask (Done command) right = absurd right
+  query_alone ask (Segments rows) right = absurd right
+
+  -- a query's answer tells of no want of memory
+  told_fine : (n : ℕ) (ask : Ask) (answer : Answer) → answer ≡ answer_at c H n ask → fine ≡ outage_in answer
+  told_fine n ask answer right = sym (ap outage_in right ∙ query_fine (asked c (bundles_after c (take n H)) ask))
+
+  query_follows : (ask : Ask) (n : Option ℕ) (answer : Answer) → IsRightFor c m H l (requests.Query ask) n answer
+      → IsStanding (k + length (accepting l (requests.Query ask) n answer)) (requests.Query ask) n
+      → Follows c H k st l (requests.Query ask) n answer (request_turn st l (requests.Query ask) (outage_in answer))
+  query_follows ask None answer right stand = query_alone ask answer right
+  query_follows ask (Some n) answer right stand =
+      subst (λ (o : Outage). Follows c H k st l (requests.Query ask) (Some n) answer (query_turn st l ask o)) (told_fine n ask answer right.2)
+      (query_done ask n answer right.2 (let is : n ≡ k + 0 = stand in omega arith))
+
+  -- a look opens where none is open
+  abbrev look_out : Ask → Option Opened → Reply × State
+  look_out ask open_look = replied l (look_step st l ask open_look)
+
+  look_opens : (ask : Ask) (n : ℕ) (there : Option Opened) → n ≡ k → LookReplyFits (seen_look there) (Some n) (Done l.command) → held ≡ there
+      → Follows c H k st l (requests.Look ask) (Some n) (Done l.command) (look_out ask there)
+  look_opens ask n (Some other) is fits same = absurd fits
+  look_opens ask n None is fits same =
+      let opened : Option Opened = Some (opened_at st l ask) in
+      let n_is : n ≡ present st = is ∙ sym r.count in
+      moved (requests.Look ask) (Some n) (Done l.command) (reply_to l (Some n) (Done l.command), with_look st l.session.0 opened) _
+      (numbered_as (Done l.command) n (present st) (with_look st l.session.0 opened) n_is)
+      (record {
+        reply = refl;
+        there = subst (λ (j : ℕ). Stands c H j (with_look st l.session.0 opened)) (let here : k ≡ k + 0 = omega arith in here) (with_looks opened (omega arith, omega arith));
+        own =
+            ap seen_look (look_put opened)
+            ∙ ap (λ (j : ℕ). Some (record { n = j; ask = ask })) (sym n_is)
+            ∙ ap (λ (o : Option Opened). open_after (seen_look o) (requests.Look ask) (Some n)) (sym same);
+        others = λ s ne. slot_other st.looks l.session.0 s opened ne;
+      })
+
+  look_refused : (ask : Ask) (there : Option Opened) → LookReplyFits (seen_look there) None (Refused refusals.LookOpen)
+      → (reply_to l None (Refused refusals.LookOpen), st) ≡ look_out ask there
+  look_refused ask None fits = absurd (not_memory (Refused refusals.LookOpen) refl fits)
+  look_refused ask (Some other) fits = refl
+
+  look_alone : (ask : Ask) (answer : Answer) → IsRightAlone false (requests.Look ask) answer → LookReplyFits (seen_look held) None answer
+      → Follows c H k st l (requests.Look ask) None answer (request_turn st l (requests.Look ask) (outage_in answer))
+  look_alone ask (Refused refusals.Memory) right fits = stays (requests.Look ask) None memory refl refl
+  look_alone ask (Refused refusals.LookOpen) right fits =
+      moved (requests.Look ask) None (Refused refusals.LookOpen) (reply_to l None (Refused refusals.LookOpen), st) _ (look_refused ask held fits)
+      (stays (requests.Look ask) None (Refused refusals.LookOpen) refl refl)
+  look_alone ask (Refused refusals.Disk) right fits = absurd right
+  look_alone ask (Refused refusals.NoLook) right fits = absurd right
+  look_alone ask (Refused (refusals.Rule rule)) right fits = absurd right
+  look_alone ask (Refused (refusals.Resolve fault)) right fits = absurd right
+  look_alone ask (Refused refusals.HistoryFull) right fits = absurd right
+  look_alone ask (Refused refusals.StoreFull) right fits = absurd right
+  look_alone ask (Done command) right fits = absurd right
+  look_alone ask (Segments rows) right fits = absurd right
+
+  look_follows : (ask : Ask) (n : Option ℕ) (answer : Answer) → IsRightFor c m H l (requests.Look ask) n answer
+      → IsStanding (k + length (accepting l (requests.Look ask) n answer)) (requests.Look ask) n
+      → ReplyFits c H (seen_look held) (requests.Look ask) n answer
+      → Follows c H k st l (requests.Look ask) n answer (request_turn st l (requests.Look ask) (outage_in answer))
+  look_follows ask None answer right stand fits = look_alone ask answer right fits
+  look_follows ask (Some n) answer right stand fits =
+      subst (λ (a : Answer). Follows c H k st l (requests.Look ask) (Some n) a (request_turn st l (requests.Look ask) (outage_in a))) (sym right.2)
+      (look_opens ask n held (let is : n ≡ k + 0 = stand in omega arith) (subst (λ (a : Answer). LookReplyFits (seen_look held) (Some n) a) right.2 fits) refl)
+
+  -- a look is answered and closed
+  abbrev finish_out : Option Opened → Reply × State
+  finish_out there = replied l (finish_step st l.line l.session there)
+
+  finish_done : (n : ℕ) (answer : Answer) (there : Option Opened) → FinishReplyFits c H (seen_look there) (Some n) answer → IsIn 0 st.entries there → held ≡ there
+      → Follows c H k st l requests.Finish (Some n) answer (unless_outage st l (outage_in answer) (finish_step st l.line l.session there))
+  finish_done n answer None fits is same = absurd fits
+  finish_done n answer (Some other) fits is same =
+      let told : _ = answer_is other.n other.ask answer is.1 fits.1 in
+      subst (λ (o : Outage). Follows c H k st l requests.Finish (Some n) answer (unless_outage st l o (finish_step st l.line l.session (Some other)))) (told_fine other.n other.ask answer fits.1)
+      (moved requests.Finish (Some n) answer (reply_to l (Some n) answer, with_look st l.session.0 None) (finish_out (Some other))
+      (ap (λ (j : ℕ). (reply_to l (Some j) answer, with_look st l.session.0 None)) fits.0
+      ∙ ap (λ (a : Answer). (reply_to l (Some other.n) a, with_look st l.session.0 None)) (sym told))
+      (record {
+        reply = refl;
+        there = subst (λ (j : ℕ). Stands c H j (with_look st l.session.0 None)) (let here : k ≡ k + 0 = omega arith in here) (with_looks None tt);
+        own =
+            ap seen_look (look_put None)
+            ∙ ap (λ (o : Option Opened). open_after (seen_look o) requests.Finish (Some n)) (sym same);
+        others = λ s ne. slot_other st.looks l.session.0 s None ne;
+      }))
+
+  finish_refused : (there : Option Opened) → FinishReplyFits c H (seen_look there) None (Refused refusals.NoLook)
+      → (reply_to l None (Refused refusals.NoLook), st) ≡ finish_out there
+  finish_refused None fits = refl
+  finish_refused (Some other) fits = absurd (not_memory (Refused refusals.NoLook) refl fits)
+
+  finish_alone : (answer : Answer) → IsRightAlone false requests.Finish answer → FinishReplyFits c H (seen_look held) None answer
+      → Follows c H k st l requests.Finish None answer (request_turn st l requests.Finish (outage_in answer))
+  finish_alone (Refused refusals.Memory) right fits = stays requests.Finish None memory refl refl
+  finish_alone (Refused refusals.NoLook) right fits =
+      moved requests.Finish None (Refused refusals.NoLook) (reply_to l None (Refused refusals.NoLook), st) _ (finish_refused held fits)
+      (stays requests.Finish None (Refused refusals.NoLook) refl refl)
+  finish_alone (Refused refusals.LookOpen) right fits = absurd right
+  finish_alone (Refused refusals.Disk) right fits = absurd right
+  finish_alone (Refused (refusals.Rule rule)) right fits = absurd right
+  finish_alone (Refused (refusals.Resolve fault)) right fits = absurd right
+  finish_alone (Refused refusals.HistoryFull) right fits = absurd right
+  finish_alone (Refused refusals.StoreFull) right fits = absurd right
+  finish_alone (Done command) right fits = absurd right
+  finish_alone (Segments rows) right fits = absurd right
+
+  finish_follows : (n : Option ℕ) (answer : Answer) → IsRightFor c m H l requests.Finish n answer
+      → ReplyFits c H (seen_look held) requests.Finish n answer
+      → Follows c H k st l requests.Finish n answer (request_turn st l requests.Finish (outage_in answer))
+  finish_follows None answer right fits = finish_alone answer right fits
+  finish_follows (Some n) answer right fits = finish_done n answer held fits (r.looks_in l.session.0) refl
+
+  after_alone : (earlier : ℕ) (answer : Answer) → IsRightAlone false (requests.After earlier) answer
+      → Follows c H k st l (requests.After earlier) None answer (request_turn st l (requests.After earlier) (outage_in answer))
+  after_alone earlier (Refused refusals.Memory) right = stays (requests.After earlier) None memory refl refl
+  after_alone earlier (Refused refusals.Disk) right = absurd right
+  after_alone earlier (Refused refusals.LookOpen) right = absurd right
+  after_alone earlier (Refused refusals.NoLook) right = absurd right
+  after_alone earlier (Refused (refusals.Rule rule)) right = absurd right
+  after_alone earlier (Refused (refusals.Resolve fault)) right = absurd right
+  after_alone earlier (Refused refusals.HistoryFull) right = absurd right
+  after_alone earlier (Refused refusals.StoreFull) right = absurd right
+  after_alone earlier (Done command) right = absurd right
+  after_alone earlier (Segments rows) right = absurd right
+
+  after_follows : (earlier : ℕ) (n : Option ℕ) (answer : Answer) → IsRightFor c m H l (requests.After earlier) n answer
+      → IsStanding (k + length (accepting l (requests.After earlier) n answer)) (requests.After earlier) n
+      → Follows c H k st l (requests.After earlier) n answer (request_turn st l (requests.After earlier) (outage_in answer))
+  after_follows earlier None answer right stand = after_alone earlier answer right
+  after_follows earlier (Some n) answer right stand =
+      let is : n ≡ k + 0 = stand in
+      let count : length st.entries ≡ k = r.count in
+      let n_is : n ≡ present st = omega arith in
+      subst (λ (a : Answer). Follows c H k st l (requests.After earlier) (Some n) a (request_turn st l (requests.After earlier) (outage_in a))) (sym right.2)
+      (moved (requests.After earlier) (Some n) (Done l.command) (reply_to l (Some n) (Done l.command), st) _ (numbered_as (Done l.command) n (present st) st n_is)
+      (stays (requests.After earlier) (Some n) (Done l.command) refl refl))
+
+  pub follows : (request : Request) (n : Option ℕ) (answer : Answer) → IsRightFor c m H l request n answer
+      → IsStanding (k + length (accepting l request n answer)) request n → ReplyFits c H (seen_look (slot st.looks l.session.0)) request n answer
+      → Follows c H k st l request n answer (request_turn st l request (outage_in answer))
+  follows (requests.Edit edit) n answer right stand fits = edit_follows edit n answer right stand
+  follows (requests.Query ask) n answer right stand fits = query_follows ask n answer right stand
+  follows (requests.Look ask) n answer right stand fits = look_follows ask n answer right stand fits
+  follows requests.Finish n answer right stand fits = finish_follows n answer right fits
+  follows (requests.After earlier) n answer right stand fits = after_follows earlier n answer right stand
