@@ -12,8 +12,7 @@ use Rattle.session_core.specs.declared.annot.AnnotItem.{AnnotItem}
 use Rattle.session_core.specs.declared.annot.AnnotLevel.{AnnotLevel}
 use Rattle.session_core.specs.declared.config.AttributeDef.{AttributeDef}
 use Rattle.session_core.specs.declared.config.LevelDef.{LevelDef}
-use Rattle.session_core.specs.Build.{or_else, labels_fault, item_fault, items_fault, level_fault, found_level_fault, known_level_fault, levels_fault, ids_of, same_kind, annot_items}
-use Rattle.session_core.specs.Times.{fits_kind, is_in_time}
+use Rattle.session_core.specs.Build.{or_else, labels_fault, item_fault, items_fault, level_fault, found_level_fault, levels_fault, ids_of}
 use Rattle.session_core.specs.Configs.{same_text, has_attribute, level_named}
 
 -- a whole that begins with a part: the part's fault comes first

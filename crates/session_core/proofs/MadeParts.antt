@@ -1,5 +1,5 @@
 -- The bundle of an annotation that breaks no rule is within the limits that its type keeps.
-use Rattle.std.proofs.Common.{◌≡◌, ◌≢◌, ℕ, ◌+◌, ◌≤◌, Bool, true, false, ◌&&◌, not, IsTrue, List, [], ◌∷◌, ◌++◌, length, map, nat_lt, nat_le, nat_eq, refl, sym, ap, ◌∙◌, Option, Some, None, if◌then◌else◌, arith, cond}
+use Rattle.std.proofs.Common.{◌≡◌, ℕ, ◌+◌, ◌≤◌, Bool, true, false, ◌&&◌, not, IsTrue, List, [], ◌∷◌, ◌++◌, length, map, nat_lt, nat_le, nat_eq, refl, Option, Some, None, if◌then◌else◌, arith}
 use Rattle.std.proofs.lemmas.Bool.{leb-true, ltb-false, le-leb}
 use Rattle.std.proofs.lemmas.List.Folds.{list_all-map}
 use Rattle.std.proofs.lemmas.List.{length-map}
@@ -12,10 +12,9 @@ use Rattle.emu_names.specs.declared.rules.What.TheVariants as counted
 use Rattle.session_core.specs.declared.annot.AnnotItem.{AnnotItem}
 use Rattle.session_core.specs.declared.annot.AnnotLevel.{AnnotLevel}
 use Rattle.session_core.specs.declared.annot.Annot.{Annot}
-use Rattle.session_core.specs.declared.config.AttributeDef.{AttributeDef}
 use Rattle.session_core.specs.declared.config.LevelDef.{LevelDef}
 use Rattle.session_core.specs.declared.config.Config.{Config}
-use Rattle.session_core.specs.Build.{or_else, labels_fault, neighbour_fault, item_fault, items_fault, found_level_fault, known_level_fault, level_fault, levels_fault, annot_items, build_fault, made_item, items_named, made_level, made_bundle, ids_of, same_kind}
+use Rattle.session_core.specs.Build.{or_else, labels_fault, neighbour_fault, item_fault, items_fault, found_level_fault, level_fault, levels_fault, annot_items, build_fault, made_item, items_named, made_level, made_bundle, ids_of, same_kind}
 use Rattle.session_core.specs.Times.{fits_kind, is_in_time, is_rate, is_item_in_time, is_list_within, is_within_limits}
 use Rattle.session_core.specs.Configs.{same_text, level_named}
 

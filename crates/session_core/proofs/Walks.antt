@@ -1,5 +1,5 @@
 -- Steps of a loop along a list, and answers that a fault ends.
-use Rattle.std.proofs.Common.{◌≡◌, ℕ, suc, ◌+◌, ◌<◌, Bool, true, false, ◌||◌, List, [], ◌∷◌, ◌++◌, length, map, get_or, take, drop, drop-cons, refl, sym, ap, ◌∙◌, add-one, cond, nat_eq, Option, Some, None, Result, Ok, Err}
+use Rattle.std.proofs.Common.{◌≡◌, ℕ, suc, ◌+◌, ◌<◌, Bool, true, false, ◌||◌, List, [], ◌∷◌, ◌++◌, length, get_or, take, drop, drop-cons, refl, sym, ap, ◌∙◌, add-one, cond, nat_eq, Option, Some, Err}
 use Rattle.std.proofs.lemmas.List.{take_more}
 use Rattle.std.specs.List.{list_any}
 use Rattle.std.specs.Ordering.{nat_cmp, is_eq}
@@ -9,7 +9,7 @@ use Rattle.std.proofs.Common.{arith}
 use Rattle.emu_names.specs.declared.rules.Broken.{Broken}
 use Rattle.emu_names.specs.declared.rules.Fault.{Fault}
 use Rattle.emu_names.specs.declared.rules.Fault.TheVariants as faults
-use Rattle.session_core.specs.Gives.{GivesOrBroken, FindsFault}
+use Rattle.session_core.specs.Gives.{FindsFault}
 
 -- the rest of a list at a place
 pub drop_at : {A : Type 0} (xs : List A) (i : ℕ) (x : A) → i < length xs → x ≡ get_or xs i x → drop i xs ≡ x ∷ drop (i + 1) xs

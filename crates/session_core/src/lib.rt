@@ -19,8 +19,6 @@ mod queries;
 mod row;
 mod rows;
 mod slots;
-#[cfg(test)]
-mod state_tests;
 mod taken;
 
 pub use annot::{

@@ -1,6 +1,3 @@
-use Rattle.session_core.specs.Times.{is_within_limits}
-use Rattle.std.specs.Bool.{IsTrue}
-use Rattle.std.proofs.Common.{subst, sym, ap}
 use Rattle.session_core.proofs.MadeParts.{made_within}
 use Rattle.session_core.proofs.building.build.Goals as goal
 

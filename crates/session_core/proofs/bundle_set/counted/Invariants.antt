@@ -1,5 +1,5 @@
-use Rattle.std.proofs.Common.{◌≡◌, ◌+◌, ◌++◌, ◌≤◌, map, take, drop, min, length}
-use Rattle.std.specs.Prelude.{List, ℕ, sum_by}
+use Rattle.std.proofs.Common.{◌≡◌, ◌+◌, ◌≤◌, drop, min, length}
+use Rattle.std.specs.Prelude.{List, sum_by}
 use Rattle.session_core.specs.declared.bundle.Item.{Item}
 use Rattle.session_core.specs.Effects.{item_count}
 use Rattle.session_core.proofs.bundle_set.counted.Given as goal

@@ -1,8 +1,5 @@
-use Rattle.std.proofs.Common.{◌≡◌, ◌∙◌, ◌∷◌, ◌++◌, [], ap, sym, take, drop, map, length, ◌<◌, ◌+◌, arith}
-use Rattle.std.specs.Prelude.{List, ℕ}
-use Rattle.session_core.specs.declared.annot.AnnotLevel.{AnnotLevel}
-use Rattle.session_core.specs.Build.{levels_fault}
-use Rattle.session_core.proofs.BuildFaults.{SameIds, levels_walk}
+use Rattle.std.proofs.Common.{◌∙◌, arith}
+use Rattle.session_core.proofs.BuildFaults.{levels_walk}
 use Rattle.session_core.proofs.check.levels_pass.Goals as goal
 
 pub loop-place-preserved : goal.loop-place-preserved

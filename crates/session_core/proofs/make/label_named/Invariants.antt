@@ -1,4 +1,4 @@
-use Rattle.std.proofs.Common.{◌≡◌, ◌+◌, ◌++◌, ◌≤◌, map, take, drop, min, length}
+use Rattle.std.proofs.Common.{◌≡◌, drop}
 use Rattle.session_core.specs.Build.{label_named}
 use Rattle.session_core.proofs.make.label_named.Given as goal
 

@@ -1,4 +1,4 @@
-use Rattle.std.proofs.Common.{◌≡◌, ◌+◌, ◌++◌, ◌≤◌, map, take, drop, min, length}
+use Rattle.std.proofs.Common.{◌≡◌, map, take}
 use Rattle.session_core.specs.Build.{label_named}
 use Rattle.session_core.specs.declared.config.AttributeDef.{AttributeDef}
 use Rattle.session_core.proofs.make.made_labels.Given as goal

@@ -1,4 +1,4 @@
-use Rattle.std.proofs.Common.{◌≡◌, ◌+◌, ◌++◌, ◌≤◌, map, take, drop, min, length}
+use Rattle.std.proofs.Common.{◌≡◌, drop}
 use Rattle.session_core.specs.Build.{items_named}
 use Rattle.session_core.proofs.make.made_level.Given as goal
 

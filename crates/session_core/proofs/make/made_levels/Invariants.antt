@@ -1,4 +1,4 @@
-use Rattle.std.proofs.Common.{◌≡◌, ◌+◌, ◌++◌, ◌≤◌, map, take, drop, min, length}
+use Rattle.std.proofs.Common.{◌≡◌, map, take}
 use Rattle.session_core.specs.Build.{made_level}
 use Rattle.session_core.proofs.make.made_levels.Given as goal
 

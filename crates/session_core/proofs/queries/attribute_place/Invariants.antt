@@ -1,4 +1,4 @@
-use Rattle.std.proofs.Common.{◌≡◌, ◌+◌, ◌++◌, ◌≤◌, map, take, drop, min, length}
+use Rattle.std.proofs.Common.{◌≡◌, drop}
 use Rattle.session_core.specs.Queries.{attribute_place}
 use Rattle.session_core.proofs.queries.attribute_place.Given as goal
 

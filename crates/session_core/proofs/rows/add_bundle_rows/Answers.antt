@@ -1,5 +1,4 @@
-use Rattle.std.proofs.Common.{◌++◌, [], ap, sym, ◌∙◌, append-nil}
-use Rattle.session_core.specs.Queries.{rows_in}
+use Rattle.std.proofs.Common.{◌++◌, ap, sym, ◌∙◌, append-nil}
 use Rattle.session_core.proofs.RowLists.{no_rows}
 use Rattle.session_core.proofs.rows.add_bundle_rows.Goals as goal
 

@@ -1,4 +1,4 @@
-use Rattle.std.proofs.Common.{◌≡◌, ◌+◌, ◌++◌, ◌≤◌, map, take, drop, min, length}
+use Rattle.std.proofs.Common.{◌≡◌, take}
 use Rattle.session_core.specs.Queries.{segment_list}
 use Rattle.session_core.proofs.rows.segment_list.Given as goal
 

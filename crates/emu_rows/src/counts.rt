@@ -1,33 +1,24 @@
 //! What no clause says: that edits of the greatest sizes succeed where memory is ample.
-use super::*;
-use emu_lists::{PlainData, Series, Shared};
+use emu_lists::Series;
 use emu_names::{Broken, BundleKey, Fault, ItemId, LevelKind, Name, Text};
+use session_core::{
+    Annot, AnnotItem, AnnotLevel, BundleSet, Config, Edit, LevelDef, Time,
+};
 use std::alloc::Global;
-use std::process::Abort;
 use std::test::Fail;
 
-/// One level of items, Word.
+/// One level of items, Word, without attributes.
 fn config(alloc: Global) -> Result<Config, Fail> {
-    let attribute = AttributeDef {
-        name: Name::new(alloc, "Word")?,
-    };
     let level = LevelDef {
         name: Name::new(alloc, "Word")?,
         kind: LevelKind::Item,
-        attributes: Series::from_vec(vec![in alloc; attribute]?),
+        attributes: Series::new(alloc),
     };
     Ok(Config {
         name: Name::new(alloc, "t")?,
         uuid: Text::new(alloc, "")?,
         extension: Text::new(alloc, "")?,
         levels: Series::from_vec(vec![in alloc; level]?),
-    })
-}
-
-fn key(alloc: Global, bundle: &str) -> Result<BundleKey, Fail> {
-    Ok(BundleKey {
-        session: Name::new(alloc, "s1")?,
-        bundle: Name::new(alloc, bundle)?,
     })
 }
 
@@ -53,37 +44,46 @@ fn words(alloc: Global, count: u32) -> Result<Annot, Fail> {
     })
 }
 
-/// So many times the one bundle of so many words.
-fn copies(alloc: Global, items: u32, count: usize) -> Result<Bundles, Fail> {
-    let annot = words(alloc, items)?;
-    let bundle = build(alloc, &config(alloc)?, &key(alloc, "b1")?, &annot)?;
-    let shared = Shared::new(alloc, bundle)?;
-    let mut bundles = Series::new(alloc);
-    for _ in 0..count {
-        bundles.push(shared.copy(alloc)?)?;
-    }
-    Ok(bundles)
+/// The edit that adds so many words as the bundle of a number.
+fn edit(alloc: Global, number: usize, words_of: u32) -> Result<Edit, Fail> {
+    let name = format!(in alloc; "b{number}")?;
+    Ok(Edit::AddBundle {
+        key: BundleKey {
+            session: Name::new(alloc, "s1")?,
+            bundle: Name::new(alloc, name.as_str())?,
+        },
+        annot: words(alloc, words_of)?,
+    })
 }
 
-/// What a bundle of so many words more is refused for; `none` where it is taken.
-fn refusal(alloc: Global, bundles: &Bundles, more: u32) -> Result<&str, Fail> {
-    let key = key(alloc, "b2")?;
-    let annot = words(alloc, more)?;
-    match effect(
-        alloc,
-        &config(alloc)?,
-        bundles,
-        &Edit::AddBundle { key, annot },
-    ) {
-        Ok(_bundles) => Ok("none"),
+/// So many bundles, each of so many words.
+fn bundles(alloc: Global, config: &Config, items: u32, count: usize) -> Result<BundleSet, Fail> {
+    let mut set = BundleSet::new(alloc)?;
+    for number in 0..count {
+        set.apply(alloc, config, &edit(alloc, number, items)?)?;
+    }
+    Ok(set)
+}
+
+/// What one bundle of so many words more is refused for; `none` where it is taken.
+fn refusal(
+    alloc: Global,
+    config: &Config,
+    set: &mut BundleSet,
+    more: &Edit,
+) -> Result<&'static str, Fail> {
+    match set.apply(alloc, config, more) {
+        Ok(()) => Ok("none"),
         Err(Fault::Broken(Broken::TooMany(what))) => Ok(what.word()),
-        Err(_) => Ok("another rule"),
+        Err(Fault::Broken(_)) => Ok("another rule"),
+        Err(Fault::Memory) => Ok("memory"),
     }
 }
 
 #[test]
 fn counts_keep_the_limits(rt: HostRuntime) -> Result<(), Fail> {
     let alloc = rt.alloc();
+    let config = config(alloc)?;
     for (items, count, more, wanted) in [
         (65536, 0, 65537, "BundleItems"),
         (65536, 30, 33920, "none"),
@@ -91,8 +91,8 @@ fn counts_keep_the_limits(rt: HostRuntime) -> Result<(), Fail> {
         (0, 9999, 1, "none"),
         (0, 10000, 1, "Bundles"),
     ] {
-        let bundles = copies(alloc, items, count)?;
-        let text = refusal(alloc, &bundles, more)?;
+        let mut set = bundles(alloc, &config, items, count)?;
+        let text = refusal(alloc, &config, &mut set, &edit(alloc, count, more)?)?;
         assert_eq!(rt; text, wanted, "{items} {count} {more}");
     }
     Ok(())
