@@ -219,23 +219,24 @@ HasTurns c opening w = (legal_run : IsLegalRun c opening w) × (legal_run.turns 
 good_legal : (opening : List Entry) (w : World) → Good opening w → HasTurns w.state.config opening w
 good_legal opening w g =
     let disks : _ = no_disks w.turns g.no_disk in (
-    record {
-      more = g.more;
-      prefix = g.prefix;
-      legal = g.legal;
-      turns = w.turns;
-      replied = refl;
-      named = g.named;
-      in_order = λ s. script_in_order opening w g s;
-      one_entry = λ n. ap (λ ms. with_number n ms) g.marks;
-      right = g.right;
-      never_falls = λ s. (g.seats s).falls;
-      looks = λ s. (g.seats s).looks;
-      seen_there = each_map (λ t. HasSeenStill (length opening) w.turns t.line.request t.reply.n) (HasSeenTurn (length opening) w.turns)
-          (λ t still. still_seen (length opening) w.turns t.line.request t.reply.n still) w.turns g.still;
-      disk = omega (arith, disks);
-    },
-    refl)
+      record {
+        more = g.more;
+        prefix = g.prefix;
+        legal = g.legal;
+        turns = w.turns;
+        replied = refl;
+        named = g.named;
+        in_order = λ s. script_in_order opening w g s;
+        one_entry = λ n. ap (λ ms. with_number n ms) g.marks;
+        right = g.right;
+        never_falls = λ s. (g.seats s).falls;
+        looks = λ s. (g.seats s).looks;
+        seen_there = each_map (λ t. HasSeenStill (length opening) w.turns t.line.request t.reply.n) (HasSeenTurn (length opening) w.turns)
+            (λ t still. still_seen (length opening) w.turns t.line.request t.reply.n still) w.turns g.still;
+        disk = omega (arith, disks);
+      },
+      refl,
+    )
 
 pub run_legal_turns : (c : Config) (opening : List Entry) (ms : List Moment) → IsLegal c opening → length opening ≤ history_limit → AllFit (opening_world c opening) ms
     → HasTurns c opening (run (opening_world c opening) ms)

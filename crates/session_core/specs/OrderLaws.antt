@@ -1,5 +1,5 @@
 -- The law of runs in order: the replies to lines that are answered one after another are legal.
-use Rattle.std.specs.Prelude.{◌≡◌, ℕ, false, List, [], length}
+use Rattle.std.specs.Prelude.{◌≡◌, false, List, [], length}
 use Rattle.session_core.specs.declared.config.Config.{Config}
 use Rattle.session_core.specs.declared.line.Line.{Line}
 use Rattle.session_core.specs.Steps.{start}

@@ -78,8 +78,9 @@ OneReading = (c : Config) (opening : List Entry) (lines : List Line)
     → map outage_of replies ≡ map outage_of replies'
     → (replies ≡ replies') × (H ≡ H')
 
--- the replies in turn are themselves those of a legal run in order, whatever the configuration and
--- the lines, and wherever memory runs out: so no others are, and all of these are
+-- the other way round: the replies in turn are themselves those of a legal run in order, whatever the
+-- configuration and the lines, and wherever memory runs out, from no history. So the legal replies in
+-- order are exactly these.
 abbrev pub InTurnIsInOrder : Type 0
 InTurnIsInOrder = (c : Config) (lines : List Line) (outages : List Outage)
     → ComeInOrder [] lines → length outages ≡ length lines

@@ -73,9 +73,9 @@ pub fn in_order_is_legal()
 /// A legal run in order has one reading: where the lines are answered in their order, with no store,
 /// and each number but a `finish`'s is the number of entries that stand when its line is done, the
 /// replies and the history follow from the lines, the history before them and the places where
-/// memory ran out. So two such runs in which memory ran out at the same lines are the same. And the
-/// replies in turn are such a run, from no history, wherever memory runs out: no others are legal in
-/// order, and all of these are.
+/// memory ran out. So two such runs in which memory ran out at the same lines are the same. The other
+/// way round, from no history, the replies in turn are such a run, wherever memory runs out: exactly
+/// these are the legal replies in order.
 pub fn a_run_in_order_has_one_reading()
     ensures follows { RepliesFollow }
     ensures once { OneReading }
