@@ -10,6 +10,7 @@ pub mod Builds
 pub mod Kept
 pub mod KeyPlaces
 pub mod Alone
+pub mod Standing
 pub mod Ordered
 pub mod Refusals
 pub mod Walks

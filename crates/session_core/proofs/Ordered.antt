@@ -8,6 +8,7 @@ use Rattle.emu_names.specs.declared.rules.Broken.{Broken}
 use Rattle.session_core.specs.declared.config.Config.{Config}
 use Rattle.session_core.specs.declared.bundle.BundleParts.{BundleParts}
 use Rattle.session_core.specs.declared.edit.Edit.{Edit}
+use Rattle.session_core.specs.declared.edit.Entry.{Entry}
 use Rattle.session_core.specs.declared.event.Event.{Event}
 use Rattle.session_core.specs.declared.event.Event.TheVariants as events
 use Rattle.session_core.specs.declared.line.Ask.{Ask}
@@ -22,9 +23,11 @@ use Rattle.session_core.specs.Steps.{Opened, State, slot, put_slot, session_plac
 use Rattle.session_core.specs.Worlds.{Turn, Moment, World, query_line, query_answered, turns_of, happens, run, opening_world, Each, IsBehind, IsNext, RequestFits, same_command, AllFit, Fits, is_waiting, is_done, script_of}
 use Rattle.session_core.specs.Legal.{lines_in, replies_in, Legal}
 use Rattle.session_core.specs.InOrder.{Outage, fine, at_first, at_last, given, looked, request_turn, one_turn, in_turn, NamesEarlier, IsBelow, ComesNext, ComeInOrder}
-use Rattle.session_core.proofs.Turns.{each_map, lines_push, replies_more}
+use Rattle.session_core.specs.Readings.{IsInOrder}
+use Rattle.session_core.proofs.Turns.{each_map, lines_push}
 use Rattle.session_core.proofs.Places.{slot_put, slot_other, put_length, slot_none}
-use Rattle.session_core.proofs.Runs.{filter_all, run_legal}
+use Rattle.session_core.proofs.Runs.{filter_all, HasTurns, run_legal_turns}
+use Rattle.session_core.proofs.Standing.{turn_to, turns_in_turn, replies_told, lines_told, numbers_told}
 
 -- The events of a line.
 
@@ -72,9 +75,6 @@ record Between (before : List Line) (w : World) : Type 0 where
   idle : (s : ℕ) → slot w.state.queries s ≡ None
 
 -- What a line's events make of a world.
-
-abbrev turn_to : Line → Reply → Turn
-turn_to l reply = record { line = l; reply = reply }
 
 record Answers (w : World) (l : Line) (ms : List Moment) (out : Reply × State) : Type 0 where
   fits : AllFit w ms
@@ -422,48 +422,49 @@ module _ (before : List Line) (w : World) (b : Between before w) where
 
 -- Line after line.
 
-record InTurn (before : List Line) (w : World) (ls : List Line) (ms : List Moment) (out : List Reply × State) : Type 0 where
+record InTurn (before : List Line) (w : World) (ls : List Line) (ms : List Moment) (told : List Turn) (last : State) : Type 0 where
   fits : AllFit w ms
-  state : (run w ms).state ≡ out.1
+  state : (run w ms).state ≡ last
   lines : (run w ms).lines ≡ before ++ ls
-  replies : replies_in (run w ms).turns ≡ replies_in w.turns ++ out.0
+  turns : (run w ms).turns ≡ w.turns ++ told
   idle : (s : ℕ) → slot (run w ms).state.queries s ≡ None
 
-nothing_left : (before : List Line) (w : World) → Between before w → InTurn before w [] [] ([], w.state)
+nothing_left : (before : List Line) (w : World) → Between before w → InTurn before w [] [] [] w.state
 nothing_left before w b = record {
   fits = tt;
   state = refl;
   lines = b.came ∙ sym (append-nil before);
-  replies = sym (append-nil (replies_in w.turns));
+  turns = sym (append-nil w.turns);
   idle = b.idle;
 }
 
-module _ (before : List Line) (w : World) (l : Line) (ls : List Line) (ms ns : List Moment) (out : Reply × State) (outs : List Reply × State) where
-  one_more : Answers w l ms out → InTurn (before ++ l ∷ []) (run w ms) ls ns outs → InTurn before w (l ∷ ls) (ms ++ ns) (out.0 ∷ outs.0, outs.1)
+module _ (before : List Line) (w : World) (l : Line) (ls : List Line) (ms ns : List Moment) (out : Reply × State) (told : List Turn) (last : State) where
+  one_more : Answers w l ms out → InTurn (before ++ l ∷ []) (run w ms) ls ns told last → InTurn before w (l ∷ ls) (ms ++ ns) (turn_to l out.0 ∷ told) last
   one_more a rest = record {
     fits = fit_more w ms ns a.fits rest.fits;
     state = ap (λ (v : World). v.state) (run_more w ms ns) ∙ rest.state;
     lines = ap (λ (v : World). v.lines) (run_more w ms ns) ∙ rest.lines ∙ append_assoc before (l ∷ []) ls;
-    replies =
-        ap (λ (v : World). replies_in v.turns) (run_more w ms ns)
-        ∙ rest.replies
-        ∙ ap (λ (ts : List Turn). replies_in ts ++ outs.0) a.turns
-        ∙ ap (λ (rs : List Reply). rs ++ outs.0) (replies_more w.turns (turn_to l out.0 ∷ []))
-        ∙ append_assoc (replies_in w.turns) (out.0 ∷ []) outs.0;
+    turns =
+        ap (λ (v : World). v.turns) (run_more w ms ns)
+        ∙ rest.turns
+        ∙ ap (λ (ts : List Turn). ts ++ told) a.turns
+        ∙ append_assoc w.turns (turn_to l out.0 ∷ []) told;
     idle = λ s. ap (λ (v : World). slot v.state.queries s) (run_more w ms ns) ∙ rest.idle s;
   }
 
 all_in_turn : (before : List Line) (w : World) (ls : List Line) (outages : List Outage) → Between before w → ComeInOrder before ls → length outages ≡ length ls
-    → InTurn before w ls (moments_in_turn ls outages) (in_turn w.state ls outages)
+    → InTurn before w ls (moments_in_turn ls outages) (turns_in_turn w.state ls outages) (in_turn w.state ls outages).1
 all_in_turn before w [] outages b comes long = nothing_left before w b
 all_in_turn before w (l ∷ ls) [] b comes long = absurd (let size : 0 ≡ suc (length ls) = long in omega arith)
 all_in_turn before w (l ∷ ls) (outage ∷ outages) b comes long =
     let a : Answers w l (request_moments l l.request outage) (one_turn w.state l outage) = request_answers before w b l.line l.session l.command l.request outage comes.0 in
-    let rest : InTurn (before ++ l ∷ []) (run w (request_moments l l.request outage)) ls (moments_in_turn ls outages) (in_turn (run w (request_moments l l.request outage)).state ls outages) =
-    all_in_turn (before ++ l ∷ []) (run w (request_moments l l.request outage)) ls outages
+    let behind : World = run w (request_moments l l.request outage) in
+    let rest : InTurn (before ++ l ∷ []) behind ls (moments_in_turn ls outages) (turns_in_turn behind.state ls outages) (in_turn behind.state ls outages).1 =
+    all_in_turn (before ++ l ∷ []) behind ls outages
     (between before w b l (request_moments l l.request outage) (one_turn w.state l outage) a) comes.1 (omega (arith, long)) in
-    one_more before w l ls (request_moments l l.request outage) (moments_in_turn ls outages) (one_turn w.state l outage) (in_turn (one_turn w.state l outage).1 ls outages) a
-    (subst (λ (st : State). InTurn (before ++ l ∷ []) (run w (request_moments l l.request outage)) ls (moments_in_turn ls outages) (in_turn st ls outages)) a.state rest)
+    one_more before w l ls (request_moments l l.request outage) (moments_in_turn ls outages) (one_turn w.state l outage)
+    (turns_in_turn (one_turn w.state l outage).1 ls outages) (in_turn (one_turn w.state l outage).1 ls outages).1 a
+    (subst (λ (st : State). InTurn (before ++ l ∷ []) behind ls (moments_in_turn ls outages) (turns_in_turn st ls outages) (in_turn st ls outages).1) a.state rest)
 
 -- The script of a run in which no query is under way is the lines that came.
 
@@ -480,12 +481,45 @@ whole_script w idle = filter_all (is_done w.state) w.lines (all_done w.state idl
 at_start : (c : Config) → Between [] (opening_world c [])
 at_start c = record { came = refl; told = refl; count = refl; idle = λ s. slot_none session_places s }
 
-pub in_order_is_legal : (c : Config) (lines : List Line) (outages : List Outage) → ComeInOrder [] lines → length outages ≡ length lines
-    → Legal c [] lines (in_turn (start c []) lines outages).0 (in_turn (start c []) lines outages).1.entries false 0
-in_order_is_legal c lines outages comes long =
-    let went : InTurn [] (opening_world c []) lines (moments_in_turn lines outages) (in_turn (start c []) lines outages) = all_in_turn [] (opening_world c []) lines outages (at_start c) comes long in
-    let script : script_of (run (opening_world c []) (moments_in_turn lines outages)) ≡ lines = whole_script (run (opening_world c []) (moments_in_turn lines outages)) went.idle ∙ went.lines in
-    subst (λ (ls : List Line). Legal c [] ls (in_turn (start c []) lines outages).0 (in_turn (start c []) lines outages).1.entries false 0) script
-    (subst (λ (rs : List Reply). Legal c [] (script_of (run (opening_world c []) (moments_in_turn lines outages))) rs (in_turn (start c []) lines outages).1.entries false 0) went.replies
-    (subst (λ (st : State). Legal c [] (script_of (run (opening_world c []) (moments_in_turn lines outages))) (replies_in (run (opening_world c []) (moments_in_turn lines outages)).turns) st.entries false 0) went.state
-    (run_legal c [] (moments_in_turn lines outages) ([], refl) (omega arith) went.fits)))
+-- a legal run whose turns stand in the order of the lines, with the numbers of the moment
+abbrev IsRunInOrder : Config → List Line → List Line → List Reply → List Entry → Type 0
+IsRunInOrder c lines script replies H = (legal_run : Legal c [] script replies H false 0) × IsInOrder [] lines legal_run.turns
+
+module _ (c : Config) (lines : List Line) (outages : List Outage) (comes : ComeInOrder [] lines) (long : length outages ≡ length lines) where
+  abbrev last : World
+  last = run (opening_world c []) (moments_in_turn lines outages)
+
+  abbrev told : List Turn
+  told = turns_in_turn (start c []) lines outages
+
+  went : InTurn [] (opening_world c []) lines (moments_in_turn lines outages) told (in_turn (start c []) lines outages).1
+  went = all_in_turn [] (opening_world c []) lines outages (at_start c) comes long
+
+  script_is : script_of last ≡ lines
+  script_is = whole_script last went.idle ∙ went.lines
+
+  replies_are : replies_in last.turns ≡ (in_turn (start c []) lines outages).0
+  replies_are = ap (λ (ts : List Turn). replies_in ts) went.turns ∙ replies_told (start c []) lines outages
+
+  entries_are : last.state.entries ≡ (in_turn (start c []) lines outages).1.entries
+  entries_are = ap (λ (st : State). st.entries) went.state
+
+  told_in_order : IsInOrder [] lines told
+  told_in_order = record {
+    order = lines_told (start c []) lines outages long;
+    numbers = numbers_told (start c []) lines outages;
+  }
+
+  run_in_order : IsRunInOrder c lines (script_of last) (replies_in last.turns) last.state.entries
+  run_in_order =
+      let legal_turns : HasTurns c [] last = run_legal_turns c [] (moments_in_turn lines outages) ([], refl) (omega arith) went.fits in
+      (legal_turns.0, subst (λ (ts : List Turn). IsInOrder [] lines ts) (sym (legal_turns.1 ∙ went.turns)) told_in_order)
+
+  pub in_turn_is_in_order : IsRunInOrder c lines lines (in_turn (start c []) lines outages).0 (in_turn (start c []) lines outages).1.entries
+  in_turn_is_in_order =
+      subst (λ (ls : List Line). IsRunInOrder c lines ls (in_turn (start c []) lines outages).0 (in_turn (start c []) lines outages).1.entries) script_is
+      (subst (λ (rs : List Reply). IsRunInOrder c lines (script_of last) rs (in_turn (start c []) lines outages).1.entries) replies_are
+      (subst (λ (H : List Entry). IsRunInOrder c lines (script_of last) (replies_in last.turns) H) entries_are run_in_order))
+
+  pub in_order_is_legal : Legal c [] lines (in_turn (start c []) lines outages).0 (in_turn (start c []) lines outages).1.entries false 0
+  in_order_is_legal = in_turn_is_in_order.0

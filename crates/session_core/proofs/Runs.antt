@@ -212,31 +212,41 @@ module _ (opening : List Entry) (w : World) (g : Good opening w) (s : ℕ) where
 
 -- What is kept makes a run legal.
 
-good_legal : (opening : List Entry) (w : World) → Good opening w → IsLegalRun w.state.config opening w
+-- a legal run whose turns are those of the world
+abbrev pub HasTurns : Config → List Entry → World → Type 0
+HasTurns c opening w = (legal_run : IsLegalRun c opening w) × (legal_run.turns ≡ w.turns)
+
+good_legal : (opening : List Entry) (w : World) → Good opening w → HasTurns w.state.config opening w
 good_legal opening w g =
-    let disks : _ = no_disks w.turns g.no_disk in
-    record {
-      more = g.more;
-      prefix = g.prefix;
-      legal = g.legal;
-      turns = w.turns;
-      replied = refl;
-      named = g.named;
-      in_order = λ s. script_in_order opening w g s;
-      one_entry = λ n. ap (λ ms. with_number n ms) g.marks;
-      right = g.right;
-      never_falls = λ s. (g.seats s).falls;
-      looks = λ s. (g.seats s).looks;
-      seen_there = each_map (λ t. HasSeenStill (length opening) w.turns t.line.request t.reply.n) (HasSeenTurn (length opening) w.turns)
-          (λ t still. still_seen (length opening) w.turns t.line.request t.reply.n still) w.turns g.still;
-      disk = omega (arith, disks);
-    }
+    let disks : _ = no_disks w.turns g.no_disk in (
+      record {
+        more = g.more;
+        prefix = g.prefix;
+        legal = g.legal;
+        turns = w.turns;
+        replied = refl;
+        named = g.named;
+        in_order = λ s. script_in_order opening w g s;
+        one_entry = λ n. ap (λ ms. with_number n ms) g.marks;
+        right = g.right;
+        never_falls = λ s. (g.seats s).falls;
+        looks = λ s. (g.seats s).looks;
+        seen_there = each_map (λ t. HasSeenStill (length opening) w.turns t.line.request t.reply.n) (HasSeenTurn (length opening) w.turns)
+            (λ t still. still_seen (length opening) w.turns t.line.request t.reply.n still) w.turns g.still;
+        disk = omega (arith, disks);
+      },
+      refl,
+    )
+
+pub run_legal_turns : (c : Config) (opening : List Entry) (ms : List Moment) → IsLegal c opening → length opening ≤ history_limit → AllFit (opening_world c opening) ms
+    → HasTurns c opening (run (opening_world c opening) ms)
+run_legal_turns c opening ms legal most fits =
+    subst (λ (k : Config). HasTurns k opening (run (opening_world c opening) ms)) (run_config (opening_world c opening) ms)
+    (good_legal opening (run (opening_world c opening) ms) (run_good opening (opening_world c opening) ms (start_good c opening legal most) fits))
 
 pub run_legal : (c : Config) (opening : List Entry) (ms : List Moment) → IsLegal c opening → length opening ≤ history_limit → AllFit (opening_world c opening) ms
     → IsLegalRun c opening (run (opening_world c opening) ms)
-run_legal c opening ms legal most fits =
-    subst (λ (k : Config). IsLegalRun k opening (run (opening_world c opening) ms)) (run_config (opening_world c opening) ms)
-    (good_legal opening (run (opening_world c opening) ms) (run_good opening (opening_world c opening) ms (start_good c opening legal most) fits))
+run_legal c opening ms legal most fits = (run_legal_turns c opening ms legal most fits).0
 
 -- Runs in which memory does not run out are those of the core.
 

@@ -77,3 +77,12 @@ OneReading = (c : Config) (opening : List Entry) (lines : List Line)
     → (run' : Legal c opening lines replies' H' false faults') → IsInOrder opening lines run'.turns
     → map outage_of replies ≡ map outage_of replies'
     → (replies ≡ replies') × (H ≡ H')
+
+-- the other way round: the replies in turn are themselves those of a legal run in order, whatever the
+-- configuration and the lines, and wherever memory runs out, from no history. So the legal replies in
+-- order are exactly these.
+abbrev pub InTurnIsInOrder : Type 0
+InTurnIsInOrder = (c : Config) (lines : List Line) (outages : List Outage)
+    → ComeInOrder [] lines → length outages ≡ length lines
+    → (run : Legal c [] lines (in_turn (start c []) lines outages).0 (in_turn (start c []) lines outages).1.entries false 0)
+    × IsInOrder [] lines run.turns

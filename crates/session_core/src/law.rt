@@ -4,7 +4,7 @@ ghost use Rattle.session_core.specs.Laws.{EveryCoreRunIsLegal, EveryRunIsLegal};
 ghost use Rattle.session_core.specs.Laws.{ExampleFits, ExampleHistory, ExampleIsLegal, ExampleReplies};
 ghost use Rattle.session_core.specs.Laws.{AcceptedIsRecorded, AnswerIsExact, RecordedIsAccepted, StaleIsNotLegal};
 ghost use Rattle.session_core.specs.OrderLaws.{InOrderIsLegal};
-ghost use Rattle.session_core.specs.Readings.{OneReading, RepliesFollow};
+ghost use Rattle.session_core.specs.Readings.{InTurnIsInOrder, OneReading, RepliesFollow};
 ghost use Rattle.session_core.specs.Rules.{BuildingRefusesExactly};
 
 /// One more entry changes the state after a history as its edit does.
@@ -73,8 +73,11 @@ pub fn in_order_is_legal()
 /// A legal run in order has one reading: where the lines are answered in their order, with no store,
 /// and each number but a `finish`'s is the number of entries that stand when its line is done, the
 /// replies and the history follow from the lines, the history before them and the places where
-/// memory ran out. So two such runs in which memory ran out at the same lines are the same.
+/// memory ran out. So two such runs in which memory ran out at the same lines are the same. The other
+/// way round, from no history, the replies in turn are such a run, wherever memory runs out: exactly
+/// these are the legal replies in order.
 pub fn a_run_in_order_has_one_reading()
     ensures follows { RepliesFollow }
     ensures once { OneReading }
+    ensures in_turn { InTurnIsInOrder }
 {}
