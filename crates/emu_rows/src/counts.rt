@@ -1,9 +1,7 @@
 //! What no clause says: that edits of the greatest sizes succeed where memory is ample.
 use emu_lists::Series;
 use emu_names::{Broken, BundleKey, Fault, ItemId, LevelKind, Name, Text};
-use session_core::{
-    Annot, AnnotItem, AnnotLevel, BundleSet, Config, Edit, LevelDef, Time,
-};
+use session_core::{Annot, AnnotItem, AnnotLevel, BundleSet, Config, Edit, LevelDef, Time};
 use std::alloc::Global;
 use std::test::Fail;
 

@@ -136,7 +136,7 @@ pub refused_change : (c : Config) (head : Head) (edit : Edit) (H H2 H3 : List En
     → (reply, H3, bs2) ≡ change c head edit H bs
 refused_change c head edit H H2 H3 bs bs2 found rule reply n full counted room count pushed there broken same cut told =
     let place : slice_get (H ++ head_entry head edit ∷ []) (length H) ≡ Some found =
-        subst (λ (k : ℕ). slice_get (H ++ head_entry head edit ∷ []) k ≡ Some found) count (subst (λ (xs : List Entry). slice_get xs n ≡ Some found) pushed there) in
+    subst (λ (k : ℕ). slice_get (H ++ head_entry head edit ∷ []) k ≡ Some found) count (subst (λ (xs : List Entry). slice_get xs n ≡ Some found) pushed there) in
     let own : found ≡ head_entry head edit = last_entry H (head_entry head edit) found place in
     let refused : effect c bs edit ≡ Err rule = subst (λ (e : Entry). effect c bs e.edit ≡ Err rule) own broken in
     let back : take n H2 ≡ H = ap (λ (k : ℕ). take k H2) count ∙ ap (λ (xs : List Entry). take (length H) xs) pushed ∙ take-append_seam H (head_entry head edit ∷ []) in

@@ -153,9 +153,9 @@ free_at key bs place up le split is = record {
   absent = absent_at key bs place up le split.0 split.1 is;
   within = le;
   put = λ new same. put_at new bs place le
-    (subst (λ (k : BundleKey). Low k bs place) (sym same) split.0)
-    (subst (λ (k : BundleKey). High k bs place) (sym same) split.1)
-    (subst (λ (k : BundleKey). has_key_at k bs place ≡ false) (sym same) is);
+      (subst (λ (k : BundleKey). Low k bs place) (sym same) split.0)
+      (subst (λ (k : BundleKey). High k bs place) (sym same) split.1)
+      (subst (λ (k : BundleKey). has_key_at k bs place ≡ false) (sym same) is);
 }
 
 -- The same list by another name.

@@ -98,13 +98,7 @@ pub fn try_edit(
 }
 
 /// A query that holds the present state, which it shares.
-fn hold(
-    alloc: Global,
-    bundles: &BundleSet,
-    n: u64,
-    head: Head,
-    ask: Ask,
-) -> Result<Held, Memory>
+fn hold(alloc: Global, bundles: &BundleSet, n: u64, head: Head, ask: Ask) -> Result<Held, Memory>
     ensures { IfOk result (λ held. held ≡ held_at head ask n bundles.now) }
 {
     let bundles = bundles.share(alloc)?;
