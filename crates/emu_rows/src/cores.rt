@@ -1,9 +1,9 @@
-//! The core takes a list of events where memory is ample.
-use emu_lists::Series;
-use emu_names::{LevelKind, Name, SessionNo, Text};
+//! The core takes a list of events, and begins with a history, where memory is ample.
+use emu_lists::{PlainData, Series};
+use emu_names::{Broken, BundleKey, Fault, LevelKind, Name, SessionNo, Text};
 use session_core::{
-    Answer, Ask, AttributeDef, Command, Config, Core, Entries, Event, Events, LevelDef, Line,
-    Request,
+    Annot, Answer, Ask, AttributeDef, Command, Config, Core, Edit, Entries, Entry, Event, Events,
+    LevelDef, Line, Request,
 };
 use std::alloc::Global;
 use std::test::Fail;
@@ -58,5 +58,37 @@ fn a_query_is_run(rt: HostRuntime) -> Result<(), Fail> {
         _ => 1,
     };
     assert_eq!(rt; found, 0);
+    Ok(())
+}
+
+/// The entry that adds a bundle without items.
+fn entry(alloc: Global) -> Result<Entry, Fail> {
+    let key = BundleKey {
+        session: Name::new(alloc, "s1")?,
+        bundle: Name::new(alloc, "b1")?,
+    };
+    let annot = Annot {
+        annotates: Text::new(alloc, "b1.wav")?,
+        rate: 20000,
+        levels: Series::new(alloc),
+    };
+    Ok(Entry {
+        session: SessionNo(1),
+        line: 2,
+        edit: Edit::AddBundle { key, annot },
+    })
+}
+
+#[test]
+fn a_history_is_replayed(rt: HostRuntime) -> Result<(), Fail> {
+    let alloc = rt.alloc();
+    let mut history = Entries::new(alloc);
+    history.push(entry(alloc)?)?;
+    let core = Core::new(alloc, config(alloc)?, history.copy(alloc)?)?;
+    assert_eq!(rt; core.number(), 1);
+    assert_eq!(rt; core.history().len(), 1);
+    history.push(entry(alloc)?)?;
+    let refused = Core::new(alloc, config(alloc)?, history).err();
+    assert_eq!(rt; refused, Some(Fault::Broken(Broken::BundleTaken)));
     Ok(())
 }
