@@ -2,7 +2,12 @@ mod Accepts
 mod Behind
 mod Cuts
 mod Exact
+mod Limits
 mod Numbers
+mod Printed
+mod PrintTokens
 mod Public
 mod Residual
+mod Respells
+mod Shapes
 mod Stack
