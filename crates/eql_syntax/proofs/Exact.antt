@@ -20,11 +20,11 @@ pub record Reached (done : List Token) (r : Reading) : Type 0 where
   pub depth : r.depth ≡ open_from 0 done
   pub marked : r.marked ≡ marked_from false done
 
-open-append : (n : ℕ) (xs : List Token) (t : Token) → open_from n (xs ++ t ∷ []) ≡ depth_step (open_from n xs) t
+pub open-append : (n : ℕ) (xs : List Token) (t : Token) → open_from n (xs ++ t ∷ []) ≡ depth_step (open_from n xs) t
 open-append n [] t = refl
 open-append n (x ∷ xs) t = open-append (depth_step n x) xs t
 
-marked-append : (m : Bool) (xs : List Token) (t : Token) → marked_from m (xs ++ t ∷ []) ≡ mark_step (marked_from m xs) t
+pub marked-append : (m : Bool) (xs : List Token) (t : Token) → marked_from m (xs ++ t ∷ []) ≡ mark_step (marked_from m xs) t
 marked-append m [] t = refl
 marked-append m (x ∷ xs) t = marked-append (mark_step m x) xs t
 

@@ -2,6 +2,7 @@ mod Accepts
 mod Behind
 mod Cuts
 mod Exact
+mod Faults
 mod Limits
 mod Numbers
 mod Printed

@@ -1,5 +1,5 @@
 //! Queries as they are spelled, and why a text spells none.
-ghost use Rattle.std.specs.Prelude.{◌≡◌, ◌<◌, ◌++◌, ◌∷◌, [], length, slice_get, Some, IfOk};
+ghost use Rattle.std.specs.Prelude.{◌≡◌, ◌<◌, ◌++◌, ◌∷◌, [], length, slice_get, Some, IfOk, OnOk, OnErr};
 ghost use Rattle.eql_syntax.specs.Tree.{tree_of};
 
 use emu_names::{Memory, Text};
@@ -114,9 +114,10 @@ impl Words {
         &self.list[place]
     }
 
-    /// Puts a word last. The only refusal is want of memory.
+    /// Puts a word last. The only refusal is want of memory, which changes nothing.
     pub fn push(&mut self, word: Text) -> Result<(), Memory>
-        ensures { IfOk result (λ _. self.new ≡ self.old ++ word ∷ []) }
+        ensures ok { OnOk result (self.new ≡ self.old ++ word ∷ []) }
+        ensures err { OnErr result (self.new ≡ self.old) }
     {
         self.list.push(word)?;
         Ok(())
@@ -273,9 +274,10 @@ impl Terms {
         &self.list[place]
     }
 
-    /// Puts a condition last. The only refusal is want of memory.
+    /// Puts a condition last. The only refusal is want of memory, which changes nothing.
     pub fn push(&mut self, term: Term) -> Result<(), Memory>
-        ensures { IfOk result (λ _. self.new ≡ self.old ++ term ∷ []) }
+        ensures ok { OnOk result (self.new ≡ self.old ++ term ∷ []) }
+        ensures err { OnErr result (self.new ≡ self.old) }
     {
         self.list.push(term)?;
         Ok(())

@@ -22,7 +22,7 @@ returns-then-is_space-clause-cut c =
 pub returns-clause-next : goal.returns-clause-next
 returns-clause-next c =
     let word = space_is c.args.text.now c.as_bytes.result.now c.front.result c.is_space.result false c.as_bytes.ensures.value c.front.ensures c.is_space.ensures c.if-is_space.false in
-    token_next c.args.tokens.now c.push.new.self c.args.text.now c.args.at c.in_ok-token.token c.in_ok-token.len c.requires word c.in_ok-token.ensures.value c.in_ok-token.ensures.cut.0 c.in_ok-push.ensures
+    token_next c.args.tokens.now c.push.new.self c.args.text.now c.args.at c.in_ok-token.token c.in_ok-token.len c.requires word c.in_ok-token.ensures.value c.in_ok-token.ensures.cut.0 c.in_ok-push.ensures.ok
 
 pub returns-clause-some : goal.returns-clause-some
 returns-clause-some c =
