@@ -1,5 +1,5 @@
 -- A text has one first fault at most, and a text that is a query has none.
-use Rattle.std.proofs.Common.{◌≡◌, ◌≢◌, ℕ, ◌+◌, ◌<◌, ◌≤◌, ◌⊎◌, inl, inr, Bool, true, false, ltb, not, ◌&&◌, List, [], ◌∷◌, ◌++◌, length, Result, Ok, Err, refl, sym, ap, ◌∙◌, subst, append_assoc, arith}
+use Rattle.std.proofs.Common.{◌≡◌, ◌≢◌, ℕ, ◌≤◌, inl, inr, Bool, true, false, ltb, not, List, [], ◌∷◌, ◌++◌, length, Result, Ok, Err, refl, sym, ap, ◌∙◌, subst, append_assoc, arith}
 use Rattle.std.proofs.lemmas.List.{append-nil}
 use Rattle.std.proofs.lemmas.Bool.{ltb-true, and_parts}
 use Rattle.eql_syntax.specs.declared.query.Query.{Query}
@@ -10,7 +10,7 @@ use Rattle.eql_syntax.specs.declared.token.Token.{Token}
 use Rattle.eql_syntax.specs.declared.token.Token.TheVariants.{Open, Hash}
 use Rattle.eql_syntax.specs.Tree.{Tree, tree_of}
 use Rattle.eql_syntax.specs.Tokens.{tokens_of}
-use Rattle.eql_syntax.specs.Grammar.{Spells, Begins}
+use Rattle.eql_syntax.specs.Grammar.{Spells}
 use Rattle.eql_syntax.specs.Fault.{kinds, depth_step, open_from, mark_step, marked_from, fits, is_within, FaultHere, no_query, too_deep, two_marks, FirstFault}
 use Rattle.eql_syntax.specs.View.{Gives}
 use Rattle.eql_syntax.specs.Answer.{IsQuery, IsFault}

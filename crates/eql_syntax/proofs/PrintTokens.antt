@@ -1,6 +1,6 @@
 -- The tokens of a printed query.
-use Rattle.std.proofs.Common.{◌≡◌, ℕ, zero, suc, ◌+◌, ◌-◌, ◌<◌, ◌≤◌, ◌^◌, Bool, true, false, cond, eqb, ltb, not, ◌&&◌, List, [], ◌∷◌, ◌++◌, length, take, Option, Some, None, refl, sym, ap, ◌∙◌, subst, arith, append_assoc, codes}
-use Rattle.std.specs.List.{list_all, join_by, flat_map}
+use Rattle.std.proofs.Common.{◌≡◌, ℕ, zero, suc, ◌+◌, ◌-◌, ◌<◌, ◌≤◌, ◌^◌, Bool, true, false, cond, eqb, ltb, List, [], ◌∷◌, ◌++◌, length, take, Option, None, refl, sym, ap, ◌∙◌, subst, arith, append_assoc, codes}
+use Rattle.std.specs.List.{list_all, flat_map}
 use Rattle.std.specs.Str.{all_ascii_digits}
 use Rattle.std.specs.Char.{is_ascii_digit}
 use Rattle.std.specs.Fmt.{decimal}
@@ -26,7 +26,7 @@ use Rattle.eql_syntax.specs.Tokens.{front, symbol, symbol_or_word, quoted, quote
 use Rattle.eql_syntax.specs.Fault.{kinds}
 use Rattle.eql_syntax.specs.Print.{op_text, compare_text, place_text, mark_text, bit_text, quoted_text, labels_text, names_text, term_text, query_text}
 use Rattle.eql_syntax.proofs.Numbers.{own}
-use Rattle.eql_syntax.proofs.Shapes.{IsWord, AreWords, SomeWords, IsTerm, AreTerms, SomeTerms, IsTree}
+use Rattle.eql_syntax.proofs.Shapes.{IsWord, AreWords, SomeWords, IsTerm, AreTerms, IsTree}
 
 -- the tokens that a query is printed as, in front of others
 abbrev pub mark_then : Bool → List Token → List Token

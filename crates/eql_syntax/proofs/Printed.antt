@@ -1,5 +1,5 @@
 -- The print of a query that some text spells within the limits is a text of that query.
-use Rattle.std.proofs.Common.{◌≡◌, ℕ, ◌≤◌, Bool, true, false, List, [], length, Result, Ok, Err, IfOk, refl, sym, subst}
+use Rattle.std.proofs.Common.{◌≡◌, ℕ, ◌≤◌, true, false, List, [], length, Result, Ok, Err, IfOk, refl, sym, subst}
 use Rattle.eql_syntax.specs.declared.token.Token.{Token}
 use Rattle.eql_syntax.specs.Tree.{Tree}
 use Rattle.eql_syntax.specs.Tokens.{tokens_of}
@@ -8,7 +8,7 @@ use Rattle.eql_syntax.specs.Fault.{kinds, is_within}
 use Rattle.eql_syntax.specs.Answer.{IsQuery}
 use Rattle.eql_syntax.specs.Print.{query_text}
 use Rattle.eql_syntax.proofs.Shapes.{read_shape}
-use Rattle.eql_syntax.proofs.PrintTokens.{query_tokens, print_kinds}
+use Rattle.eql_syntax.proofs.PrintTokens.{print_kinds}
 use Rattle.eql_syntax.proofs.Respells.{query_again}
 use Rattle.eql_syntax.proofs.Limits.{query_within, query_prints}
 

@@ -1,5 +1,5 @@
 -- The tokens of a printed query spell it.
-use Rattle.std.proofs.Common.{◌≡◌, ℕ, ◌+◌, ◌<◌, ◌≤◌, ◌^◌, Bool, true, false, cond, leb, ◌&&◌, List, [], ◌∷◌, length, Option, Some, None, refl, sym, ap, ◌∙◌, arith, codes}
+use Rattle.std.proofs.Common.{◌≡◌, ℕ, ◌<◌, ◌≤◌, ◌^◌, Bool, true, false, cond, leb, ◌&&◌, List, [], ◌∷◌, length, Some, None, refl, ap, arith}
 use Rattle.std.specs.Str.{all_ascii_digits}
 use Rattle.std.specs.Str.Parse.{digits_value}
 use Rattle.std.specs.Fmt.{decimal}
@@ -13,16 +13,15 @@ use Rattle.eql_syntax.specs.declared.query.Place.{Place}
 use Rattle.eql_syntax.specs.declared.query.Place.TheVariants as places
 use Rattle.eql_syntax.specs.declared.query.Term.{Term}
 use Rattle.eql_syntax.specs.declared.query.Term.TheVariants as terms
-use Rattle.eql_syntax.specs.declared.token.Sign.TheVariants as signs
 use Rattle.eql_syntax.specs.declared.token.Token.{Token}
-use Rattle.eql_syntax.specs.declared.token.Token.TheVariants.{Open, Close, LeftParen, RightParen, Comma, And, Or, Above, Arrow, Hash, Sign as Between, Word}
+use Rattle.eql_syntax.specs.declared.token.Token.TheVariants.{Close, And, Above, Arrow, Sign as Between, Word}
 use Rattle.eql_syntax.specs.Tree.{Tree, Conjunction, Sequence, Dominance}
-use Rattle.eql_syntax.specs.Words.{op_of, compare_of, place_of, is_count, bit_of, number_of}
-use Rattle.eql_syntax.specs.Grammar.{SpellsLabels, last_label, label_or, SpellsBody, test, place, count, SpellsTerm, plain, marked, SpellsTerms, last_term, term_and, SpellsThen, conjunction, brackets, sequence, dominance, Spells}
+use Rattle.eql_syntax.specs.Words.{op_of, compare_of, place_of, bit_of, number_of}
+use Rattle.eql_syntax.specs.Grammar.{SpellsLabels, last_label, label_or, SpellsBody, test, place, count, SpellsTerm, plain, marked, SpellsTerms, last_term, term_and, SpellsThen, conjunction, sequence, dominance}
 use Rattle.eql_syntax.specs.Print.{place_text, bit_text}
 use Rattle.eql_syntax.proofs.Numbers.{own}
-use Rattle.eql_syntax.proofs.Shapes.{IsWord, AreWords, SomeWords, IsTerm, AreTerms, SomeTerms, IsTree}
-use Rattle.eql_syntax.proofs.PrintTokens.{mark_then, sign_of, compare_sign, other_labels, label_tokens, call_tokens, term_tokens, other_terms, terms_tokens, query_tokens}
+use Rattle.eql_syntax.proofs.Shapes.{SomeWords, IsTerm, AreTerms, IsTree}
+use Rattle.eql_syntax.proofs.PrintTokens.{mark_then, sign_of, compare_sign, other_labels, label_tokens, term_tokens, other_terms, query_tokens}
 
 op_back : (op : Op) → op_of (sign_of op) ≡ Some op
 op_back ops.Is = refl

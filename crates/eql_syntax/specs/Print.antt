@@ -1,7 +1,7 @@
 -- The text of a query, as the program writes it: every name and label stands in quotes, single spaces
 -- stand round operators, `&`, `->` and `^` and behind commas, and a sequence or a dominance stands in
 -- brackets. (EMU-SDMS Manual, "The EMU Query Language version 2".)
-use Rattle.std.specs.Prelude.{ℕ, Bool, true, false, List, [], ◌∷◌, ◌++◌, codes}
+use Rattle.std.specs.Prelude.{ℕ, Bool, true, false, List, [], ◌++◌, codes}
 use Rattle.std.specs.List.{join_by}
 use Rattle.std.specs.Fmt.{decimal}
 use Rattle.eql_syntax.specs.declared.query.Op.{Op}

@@ -1,5 +1,5 @@
-use Rattle.std.proofs.Common.{◌≡◌, ◌<◌, ◌+◌, ◌++◌, ℕ, Bool, List, length, drop, true, false, arith, ap, ◌∙◌, sym}
-use Rattle.eql_syntax.specs.Tokens.{front, is_space, token_at, tokens_from}
+use Rattle.std.proofs.Common.{◌≡◌, ◌++◌, ℕ, Bool, List, drop, true, false, arith, ap, ◌∙◌, sym}
+use Rattle.eql_syntax.specs.Tokens.{front, is_space}
 use Rattle.eql_syntax.proofs.Cuts.{space_cut}
 use Rattle.eql_syntax.proofs.Behind.{token_len, token_next, space_step}
 use Rattle.eql_syntax.proofs.lexer.take_front.Goals as goal

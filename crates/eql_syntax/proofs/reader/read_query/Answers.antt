@@ -1,4 +1,4 @@
-use Rattle.std.proofs.Common.{◌≡◌, ◌<◌, ◌≤◌, ◌⊎◌, inl, length, arith, refl}
+use Rattle.std.proofs.Common.{arith}
 use Rattle.eql_syntax.proofs.Public.{query_found, query_only, fault_found}
 use Rattle.eql_syntax.proofs.Faults.{short_told}
 use Rattle.eql_syntax.proofs.reader.read_query.Goals as goal
