@@ -1,7 +1,8 @@
 //! Faults and their places, and the prints of queries, worked by hand from the grammar and the rules of printing.
 
 use crate::QueryFault::{Syntax, TextTooLong, TooDeep, TwoMarks};
-use crate::{QueryFault, print_query, read_query};
+use crate::{Op, Query, QueryFault, Term, Terms, Words, print_query, read_query};
+use emu_names::Text;
 use std::test::Fail;
 
 static FAULTS: [(&str, QueryFault); 81] = [
@@ -186,6 +187,25 @@ fn texts_and_their_prints(rt: HostRuntime) -> Result<(), Fail> {
         let printed_again = print_query(rt.alloc(), &again)?;
         assert_eq!(rt; printed_again.as_str(), *print, "{text}");
     }
+    Ok(())
+}
+
+#[test]
+fn a_query_made_by_hand(rt: HostRuntime) -> Result<(), Fail> {
+    let mut labels = Words::new(rt.alloc());
+    labels.push(Text::new(rt.alloc(), "a")?)?;
+    assert_eq!(rt; labels.len(), 1);
+    assert_eq!(rt; labels.get(0).as_str(), "a");
+    let mut terms = Terms::new(rt.alloc());
+    terms.push(Term::Test {
+        marked: true,
+        name: Text::new(rt.alloc(), "B")?,
+        op: Op::IsNot.copy(),
+        labels: labels.copy(rt.alloc())?,
+    })?;
+    assert_eq!(rt; terms.len(), 1);
+    let query = Query::Terms(terms.copy(rt.alloc())?);
+    assert_eq!(rt; print_query(rt.alloc(), &query)?.as_str(), "#'B' != 'a'");
     Ok(())
 }
 
