@@ -1,5 +1,5 @@
 -- The reader of tokens takes each query, and stops only where no query goes on.
-use Rattle.std.proofs.Common.{◌≡◌, ℕ, ◌⊎◌, inl, inr, Bool, true, false, cond, List, [], ◌∷◌, ◌++◌, Option, Some, None, refl, sym, ap, ◌∙◌, subst, append_assoc, codes}
+use Rattle.std.proofs.Common.{◌≡◌, ℕ, inl, Bool, true, false, List, [], ◌∷◌, ◌++◌, Option, Some, None, refl, sym, ap, ◌∙◌, subst, append_assoc, codes}
 use Rattle.std.proofs.lemmas.List.{append-nil}
 use Rattle.std.specs.Cmp.Lexicographic.{pointwise, bytes_decides}
 use Rattle.std.specs.Prelude.{nat_eq}
@@ -10,15 +10,14 @@ use Rattle.eql_syntax.specs.declared.query.Compare.TheVariants as compares
 use Rattle.eql_syntax.specs.declared.query.Place.{Place}
 use Rattle.eql_syntax.specs.declared.query.Term.{Term}
 use Rattle.eql_syntax.specs.declared.query.Term.TheVariants as terms
-use Rattle.eql_syntax.specs.declared.token.Sign.{Sign}
 use Rattle.eql_syntax.specs.declared.token.Sign.TheVariants as signs
 use Rattle.eql_syntax.specs.declared.token.Token.{Token}
-use Rattle.eql_syntax.specs.declared.token.Token.TheVariants.{Open, Close, LeftParen, RightParen, Comma, And, Or, Above, Arrow, Hash, Sign as Between, Word}
+use Rattle.eql_syntax.specs.declared.token.Token.TheVariants.{Close, LeftParen, RightParen, Comma, And, Above, Arrow, Sign as Between, Word}
 use Rattle.eql_syntax.specs.Tree.{Tree, Conjunction, Sequence, Dominance}
-use Rattle.eql_syntax.specs.Words.{op_of, compare_of, place_of, is_count, bit_of, number_of}
+use Rattle.eql_syntax.specs.Words.{place_of, is_count}
 use Rattle.eql_syntax.specs.Grammar.{SpellsLabels, last_label, label_or, SpellsBody, test, place, count, SpellsTerm, plain, marked, SpellsTerms, last_term, term_and, SpellsThen, conjunction, brackets, sequence, dominance, Spells, Begins}
-use Rattle.eql_syntax.specs.Machine.{Bracket, Opened, Before, Over, Function, Placing, Counting, placing_or, function_of, Spot, Beginning, Another, Marked, Named, Tested, Labelled, Parted, Called, Upper, Split, Lower, Sided, Asked, Counted, Ended, Closed, State, at, after, after_terms, first_of, tested, called, placed, compared, counted, step, step_on, steps, ended_at}
-use Rattle.eql_syntax.proofs.Residual.{Completes, done, closed, followed, above, sequel, below, Goes, TermEnds, LabelGoes, Finishes, FinishesFrom, mark_then, body_goes, step_back}
+use Rattle.eql_syntax.specs.Machine.{Bracket, Opened, Before, Over, Function, Placing, Counting, placing_or, function_of, Spot, Beginning, Another, Marked, Named, Tested, Labelled, Parted, Called, Upper, Split, Lower, Sided, Asked, Counted, Ended, Closed, State, at, after, tested, called, placed, compared, counted, step, step_on, steps, ended_at}
+use Rattle.eql_syntax.proofs.Residual.{Completes, done, closed, sequel, below, Finishes, FinishesFrom, step_back}
 
 texts_same : (a b : List ℕ) → pointwise nat_eq a b ≡ true → a ≡ b
 texts_same a b is = (bytes_decides a b).0 is

@@ -3,7 +3,7 @@ use Rattle.std.proofs.Common.{◌≡◌, ℕ, zero, suc, ◌+◌, ◌-◌, ◌<�
 use Rattle.eql_syntax.specs.declared.token.Token.{Token}
 use Rattle.eql_syntax.specs.declared.token.Token.TheVariants.{Word, Wrong}
 use Rattle.eql_syntax.specs.declared.token.Placed.{Placed}
-use Rattle.eql_syntax.specs.Tokens.{front, symbol, symbol_or_word, quoted, quoted_len, bare, word_len, token_at, is_space, tokens_from, tokens_of}
+use Rattle.eql_syntax.specs.Tokens.{front, symbol, symbol_or_word, quoted, quoted_len, bare, token_at, is_space, tokens_from}
 
 -- a symbol has a byte or two
 abbrev IsLong : Option (Token × ℕ) → Type 0

@@ -1,17 +1,17 @@
 -- The reader answers the query that the tokens spell within the limits, or the first fault.
-use Rattle.std.proofs.Common.{◌≡◌, ◌≢◌, ℕ, ◌+◌, ◌<◌, ◌≤◌, ◌⊎◌, inl, inr, Bool, true, false, cond, ltb, ◌&&◌, List, [], ◌∷◌, ◌++◌, Option, Some, None, Result, Ok, Err, refl, sym, ap, ◌∙◌, subst, append_assoc, arith}
+use Rattle.std.proofs.Common.{◌≡◌, ℕ, inl, inr, Bool, true, false, cond, ltb, ◌&&◌, List, [], ◌∷◌, ◌++◌, Option, Some, None, Result, Ok, Err, refl, sym, ap, ◌∙◌, subst, append_assoc, arith}
 use Rattle.std.proofs.lemmas.List.{append-nil}
 use Rattle.std.proofs.lemmas.Bool.{ltb-true, ltb-false}
 use Rattle.eql_syntax.specs.declared.query.QueryFault.{QueryFault}
-use Rattle.eql_syntax.specs.declared.query.QueryFault.TheVariants.{Syntax, TooDeep, TwoMarks}
+use Rattle.eql_syntax.specs.declared.query.QueryFault.TheVariants.{Syntax}
 use Rattle.eql_syntax.specs.declared.token.Placed.{Placed}
 use Rattle.eql_syntax.specs.declared.token.Token.{Token}
-use Rattle.eql_syntax.specs.declared.token.Token.TheVariants.{Open, Close, LeftParen, RightParen, Comma, And, Or, Above, Arrow, Hash, Sign as Between, Word, Wrong}
+use Rattle.eql_syntax.specs.declared.token.Token.TheVariants.{Open, Hash}
 use Rattle.eql_syntax.specs.Tree.{Tree}
 use Rattle.eql_syntax.specs.Grammar.{Spells, Begins}
 use Rattle.eql_syntax.specs.Fault.{kinds, depth_step, open_from, mark_step, marked_from, fits, is_within, FaultHere, no_query, too_deep, two_marks, FirstFault}
-use Rattle.eql_syntax.specs.Machine.{Bracket, Spot, State, at, step, step_on, steps, ended_at}
-use Rattle.eql_syntax.specs.Reading.{Reading, at_start, limit_at, moved, taken, query_or, closed_at, finished, finish, take_on, reads, read}
+use Rattle.eql_syntax.specs.Machine.{Bracket, Spot, State, at, step, step_on, steps}
+use Rattle.eql_syntax.specs.Reading.{Reading, at_start, limit_at, moved, taken, query_or, closed_at, finished, reads, read}
 use Rattle.eql_syntax.proofs.Accepts.{start, steps-append, no_state, begins_from_state, spelled_from_state, state_from_spelled}
 
 -- the reading behind the tokens `done`
@@ -20,11 +20,11 @@ pub record Reached (done : List Token) (r : Reading) : Type 0 where
   pub depth : r.depth ≡ open_from 0 done
   pub marked : r.marked ≡ marked_from false done
 
-open-append : (n : ℕ) (xs : List Token) (t : Token) → open_from n (xs ++ t ∷ []) ≡ depth_step (open_from n xs) t
+pub open-append : (n : ℕ) (xs : List Token) (t : Token) → open_from n (xs ++ t ∷ []) ≡ depth_step (open_from n xs) t
 open-append n [] t = refl
 open-append n (x ∷ xs) t = open-append (depth_step n x) xs t
 
-marked-append : (m : Bool) (xs : List Token) (t : Token) → marked_from m (xs ++ t ∷ []) ≡ mark_step (marked_from m xs) t
+pub marked-append : (m : Bool) (xs : List Token) (t : Token) → marked_from m (xs ++ t ∷ []) ≡ mark_step (marked_from m xs) t
 marked-append m [] t = refl
 marked-append m (x ∷ xs) t = marked-append (mark_step m x) xs t
 

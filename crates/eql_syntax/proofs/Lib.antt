@@ -2,7 +2,13 @@ mod Accepts
 mod Behind
 mod Cuts
 mod Exact
+mod Faults
+mod Limits
 mod Numbers
+mod Printed
+mod PrintTokens
 mod Public
 mod Residual
+mod Respells
+mod Shapes
 mod Stack

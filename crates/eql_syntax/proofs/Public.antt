@@ -1,5 +1,5 @@
 -- What the reader answers of a short text is what the grammar says of it.
-use Rattle.std.proofs.Common.{◌≡◌, ◌≢◌, ℕ, suc, ◌+◌, ◌≤◌, ◌⊎◌, inl, inr, Bool, true, false, List, [], ◌∷◌, length, drop, get_or, Result, Ok, Err, IfOk, IfErr, refl, sym, ap, ◌∙◌, subst}
+use Rattle.std.proofs.Common.{◌≡◌, ◌≢◌, ℕ, suc, ◌+◌, ◌≤◌, inr, List, [], ◌∷◌, length, drop, get_or, Result, Ok, Err, IfOk, IfErr, refl, ap, ◌∙◌, subst}
 use Rattle.std.proofs.lemmas.List.{at_drop_more}
 use Rattle.eql_syntax.specs.declared.query.Query.{Query}
 use Rattle.eql_syntax.specs.declared.query.QueryFault.{QueryFault}
@@ -7,7 +7,7 @@ use Rattle.eql_syntax.specs.declared.query.QueryFault.TheVariants as faults
 use Rattle.eql_syntax.specs.declared.token.Placed.{Placed}
 use Rattle.eql_syntax.specs.Tree.{Tree, tree_of}
 use Rattle.eql_syntax.specs.Tokens.{tokens_of}
-use Rattle.eql_syntax.specs.Reading.{Reading, read, reads, take_on, taken, at_start}
+use Rattle.eql_syntax.specs.Reading.{Reading, read, reads, taken, at_start}
 use Rattle.eql_syntax.specs.View.{Gives}
 use Rattle.eql_syntax.specs.Answer.{IsQuery, IsFault}
 use Rattle.eql_syntax.proofs.Exact.{Says, read_says, read_finds}

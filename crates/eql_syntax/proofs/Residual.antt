@@ -1,9 +1,7 @@
 -- What the reader of tokens still wants: at each state, the tokens that complete the whole query.
-use Rattle.std.proofs.Common.{◌≡◌, ℕ, ◌⊎◌, inl, inr, Bool, true, false, cond, List, [], ◌∷◌, ◌++◌, Option, Some, None, refl, sym, ap, ◌∙◌, subst, append_assoc, codes}
+use Rattle.std.proofs.Common.{◌≡◌, ℕ, ◌⊎◌, inl, inr, Bool, true, false, List, [], ◌∷◌, ◌++◌, Option, Some, None, refl, sym, subst, append_assoc}
 use Rattle.eql_syntax.specs.declared.query.Op.{Op}
-use Rattle.eql_syntax.specs.declared.query.Op.TheVariants as ops
 use Rattle.eql_syntax.specs.declared.query.Compare.{Compare}
-use Rattle.eql_syntax.specs.declared.query.Compare.TheVariants as compares
 use Rattle.eql_syntax.specs.declared.query.Place.{Place}
 use Rattle.eql_syntax.specs.declared.query.Term.{Term}
 use Rattle.eql_syntax.specs.declared.query.Term.TheVariants as terms
@@ -13,8 +11,8 @@ use Rattle.eql_syntax.specs.declared.token.Token.{Token}
 use Rattle.eql_syntax.specs.declared.token.Token.TheVariants.{Open, Close, LeftParen, RightParen, Comma, And, Or, Above, Arrow, Hash, Sign as Between, Word}
 use Rattle.eql_syntax.specs.Tree.{Tree, Conjunction, Sequence, Dominance}
 use Rattle.eql_syntax.specs.Words.{op_of, compare_of, place_of, is_count, bit_of, number_of}
-use Rattle.eql_syntax.specs.Grammar.{SpellsLabels, last_label, label_or, SpellsBody, test, place, count, SpellsTerm, plain, marked, SpellsTerms, last_term, term_and, SpellsThen, conjunction, brackets, sequence, dominance, Spells, Begins}
-use Rattle.eql_syntax.specs.Machine.{Bracket, Opened, Before, Over, Function, Placing, Counting, placing_or, function_of, Spot, Beginning, Another, Marked, Named, Tested, Labelled, Parted, Called, Upper, Split, Lower, Sided, Asked, Counted, Ended, Closed, State, at, after, after_terms, first_of, tested, called, placed, compared, counted, step, step_on, steps, ended_at}
+use Rattle.eql_syntax.specs.Grammar.{SpellsLabels, last_label, label_or, SpellsBody, test, place, count, SpellsTerm, plain, marked, SpellsTerms, last_term, term_and, SpellsThen, conjunction, brackets, sequence, dominance}
+use Rattle.eql_syntax.specs.Machine.{Bracket, Opened, Before, Over, Function, Placing, Counting, placing_or, function_of, Spot, Beginning, Another, Marked, Named, Tested, Labelled, Parted, Called, Upper, Split, Lower, Sided, Asked, Counted, Ended, Closed, State, at, after, after_terms, first_of, tested, called, placed, compared, counted, step}
 
 -- behind a query in the brackets, the tokens complete the whole query
 pub data Completes : List Bracket → Tree → List Token → Tree → Type 0 where

@@ -1,5 +1,5 @@
 -- The first fault of a text that is no query.
-use Rattle.std.specs.Prelude.{◌≡◌, ℕ, suc, ◌+◌, ◌-◌, ◌≤◌, ◌⊎◌, Bool, true, false, ◌&&◌, nat_lt, not, List, [], ◌∷◌, ◌++◌, map}
+use Rattle.std.specs.Prelude.{◌≡◌, ℕ, ◌+◌, ◌-◌, ◌≤◌, ◌⊎◌, Bool, true, false, ◌&&◌, nat_lt, not, List, [], ◌∷◌, ◌++◌}
 use Rattle.eql_syntax.specs.declared.query.QueryFault.{QueryFault}
 use Rattle.eql_syntax.specs.declared.query.QueryFault.TheVariants.{Syntax, TooDeep, TwoMarks}
 use Rattle.eql_syntax.specs.declared.token.Placed.{Placed}

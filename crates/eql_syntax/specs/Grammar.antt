@@ -5,7 +5,7 @@
 --     term   = '#'? (name op labels | place '(' name ',' name ')' '==' bit
 --              | 'Num' '(' name ',' name ')' compare digits)
 --     labels = word ('|' word)*
-use Rattle.std.specs.Prelude.{◌≡◌, ℕ, Bool, true, false, IsTrue, List, [], ◌∷◌, ◌++◌, Some}
+use Rattle.std.specs.Prelude.{◌≡◌, ℕ, Bool, true, false, List, [], ◌∷◌, ◌++◌, Some}
 use Rattle.eql_syntax.specs.declared.query.Op.{Op}
 use Rattle.eql_syntax.specs.declared.query.Compare.{Compare}
 use Rattle.eql_syntax.specs.declared.query.Place.{Place}

@@ -7,3 +7,4 @@ pub mod Machine
 pub mod Reading
 pub mod View
 pub mod Answer
+pub mod Print

@@ -1,6 +1,6 @@
 -- The reader of tokens with its limits: it answers at the first fault. What it answers is said by
 -- `Grammar` and `Fault`.
-use Rattle.std.specs.Prelude.{ℕ, Bool, true, false, if◌then◌else◌, List, [], ◌∷◌, Option, Some, None, Result, Ok, Err}
+use Rattle.std.specs.Prelude.{ℕ, Bool, false, if◌then◌else◌, List, [], ◌∷◌, Option, Some, None, Result, Ok, Err}
 use Rattle.eql_syntax.specs.declared.query.QueryFault.{QueryFault}
 use Rattle.eql_syntax.specs.declared.query.QueryFault.TheVariants.{Syntax, TooDeep, TwoMarks}
 use Rattle.eql_syntax.specs.declared.token.Placed.{Placed}

@@ -2,7 +2,6 @@
 -- Query Language version 2".)
 use Rattle.std.specs.Prelude.{ℕ, zero, suc, ◌+◌, ◌-◌, ◌==◌, nat_lt, ◌||◌, ◌&&◌, not, Bool, true, false, List, [], ◌∷◌, length, take, if◌then◌else◌, Option, Some, None}
 use Rattle.std.specs.List.{prefix_len}
-use Rattle.eql_syntax.specs.declared.token.Sign.{Sign}
 use Rattle.eql_syntax.specs.declared.token.Sign.TheVariants as signs
 use Rattle.eql_syntax.specs.declared.token.Placed.{Placed}
 use Rattle.eql_syntax.specs.declared.token.Token.{Token}

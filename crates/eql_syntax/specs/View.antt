@@ -1,5 +1,5 @@
 -- What the reader of tokens in the program's memory stands for.
-use Rattle.std.specs.Prelude.{◌≡◌, ◌≢◌, ℕ, List, [], ◌∷◌, Option, Some, None, Result, Ok, Err}
+use Rattle.std.specs.Prelude.{◌≡◌, ◌≢◌, List, [], ◌∷◌, Option, Some, None, Result, Ok, Err}
 use Rattle.emu_names.specs.declared.shortage.Memory.{Memory}
 use Rattle.eql_syntax.specs.declared.machine.Function.{Function as CodeFunction}
 use Rattle.eql_syntax.specs.declared.machine.Function.TheVariants as functions

@@ -4,6 +4,7 @@
 
 mod lexer;
 mod machine;
+mod print;
 mod query;
 mod reader;
 #[cfg(test)]
@@ -12,6 +13,7 @@ mod token;
 mod words;
 
 pub use lexer::read_tokens;
+pub use print::print_query;
 pub use query::{Compare, Op, Place, Query, QueryFault, Term, Terms, Words};
 pub use reader::read_query;
 pub use token::{Placed, Sign, Token, Tokens};

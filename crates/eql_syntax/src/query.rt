@@ -1,5 +1,6 @@
 //! Queries as they are spelled, and why a text spells none.
-ghost use Rattle.std.specs.Prelude.{◌≡◌, ◌++◌, ◌∷◌, [], IfOk};
+ghost use Rattle.std.specs.Prelude.{◌≡◌, ◌<◌, ◌++◌, ◌∷◌, [], length, slice_get, Some, IfOk, OnOk, OnErr};
+ghost use Rattle.eql_syntax.specs.Tree.{tree_of};
 
 use emu_names::{Memory, Text};
 use std::alloc::Global;
@@ -19,6 +20,15 @@ pub enum Op {
     NotLike,
 }
 
+impl Op {
+    /// The same operator again.
+    pub fn copy(&self) -> Op
+        ensures { result ≡ self.now }
+    {
+        *self
+    }
+}
+
 /// How a count compares with a number.
 #[derive(Clone, Copy, Debug, PartialEq, Eq)]
 pub enum Compare {
@@ -36,6 +46,15 @@ pub enum Compare {
     Ge,
 }
 
+impl Compare {
+    /// The same comparison again.
+    pub fn copy(&self) -> Compare
+        ensures { result ≡ self.now }
+    {
+        *self
+    }
+}
+
 /// Where an item stands among those of its level below an item of another.
 #[derive(Clone, Copy, Debug, PartialEq, Eq)]
 pub enum Place {
@@ -45,6 +64,15 @@ pub enum Place {
     Medial,
     /// It is the last.
     End,
+}
+
+impl Place {
+    /// The same place again.
+    pub fn copy(&self) -> Place
+        ensures { result ≡ self.now }
+    {
+        *self
+    }
 }
 
 /// A list of words, which contracts see as the list of their bytes.
@@ -71,6 +99,30 @@ impl Words {
         }
     }
 
+    /// How many words there are.
+    pub fn len(&self) -> usize
+        ensures { result ≡ length self.now }
+    {
+        self.list.len()
+    }
+
+    /// The word at a place, counted from 0.
+    pub fn get(&self, place: usize) -> &Text
+        requires { place < length self.now }
+        ensures { slice_get self.now place ≡ Some result.now }
+    {
+        &self.list[place]
+    }
+
+    /// Puts a word last. The only refusal is want of memory, which changes nothing.
+    pub fn push(&mut self, word: Text) -> Result<(), Memory>
+        ensures ok { OnOk result (self.new ≡ self.old ++ word ∷ []) }
+        ensures err { OnErr result (self.new ≡ self.old) }
+    {
+        self.list.push(word)?;
+        Ok(())
+    }
+
     /// The words and one more.
     pub fn with(self, word: Text) -> Result<Words, Memory>
         ensures { IfOk result (λ words. words ≡ self ++ word ∷ []) }
@@ -86,6 +138,25 @@ impl Words {
     {
         self.list.as_slice()
     }
+
+    /// The same words again. The only refusal is want of memory.
+    pub fn copy(&self, alloc: Global) -> Result<Words, Memory>
+        ensures { IfOk result (λ made. made ≡ self.now) }
+    {
+        let list = copied_words(alloc, self.list.as_slice())?;
+        Ok(Words { list })
+    }
+}
+
+/// The same words again.
+fn copied_words(alloc: Global, words: &[Text]) -> Result<Vec<Text>, Memory>
+    ensures { IfOk result (λ made. made.items ≡ words.now) }
+{
+    let mut made = Vec::new(alloc);
+    for word in words {
+        made.push(word.copy(alloc)?)?;
+    }
+    Ok(made)
 }
 
 /// One condition of a conjunction. `marked` says that a `#` stands before it.
@@ -116,6 +187,53 @@ pub enum Term {
     },
 }
 
+impl Term {
+    /// The same condition again. The only refusal is want of memory.
+    pub fn copy(&self, alloc: Global) -> Result<Term, Memory>
+        ensures { IfOk result (λ made. made ≡ self.now) }
+    {
+        match self {
+            Term::Test {
+                marked,
+                name,
+                op,
+                labels,
+            } => Ok(Term::Test {
+                marked: *marked,
+                name: name.copy(alloc)?,
+                op: *op,
+                labels: labels.copy(alloc)?,
+            }),
+            Term::Place {
+                marked,
+                place,
+                upper,
+                lower,
+                wanted,
+            } => Ok(Term::Place {
+                marked: *marked,
+                place: *place,
+                upper: upper.copy(alloc)?,
+                lower: lower.copy(alloc)?,
+                wanted: *wanted,
+            }),
+            Term::Num {
+                marked,
+                upper,
+                lower,
+                compare,
+                number,
+            } => Ok(Term::Num {
+                marked: *marked,
+                upper: upper.copy(alloc)?,
+                lower: lower.copy(alloc)?,
+                compare: *compare,
+                number: *number,
+            }),
+        }
+    }
+}
+
 /// A list of conditions, which contracts see as that list.
 #[derive(Debug, Drop)]
 pub struct Terms {
@@ -141,6 +259,30 @@ impl Terms {
         }
     }
 
+    /// How many conditions there are.
+    pub fn len(&self) -> usize
+        ensures { result ≡ length self.now }
+    {
+        self.list.len()
+    }
+
+    /// The condition at a place, counted from 0.
+    pub fn get(&self, place: usize) -> &Term
+        requires { place < length self.now }
+        ensures { slice_get self.now place ≡ Some result.now }
+    {
+        &self.list[place]
+    }
+
+    /// Puts a condition last. The only refusal is want of memory, which changes nothing.
+    pub fn push(&mut self, term: Term) -> Result<(), Memory>
+        ensures ok { OnOk result (self.new ≡ self.old ++ term ∷ []) }
+        ensures err { OnErr result (self.new ≡ self.old) }
+    {
+        self.list.push(term)?;
+        Ok(())
+    }
+
     /// The conditions and one more.
     pub fn with(self, term: Term) -> Result<Terms, Memory>
         ensures { IfOk result (λ terms. terms ≡ self ++ term ∷ []) }
@@ -156,6 +298,25 @@ impl Terms {
     {
         self.list.as_slice()
     }
+
+    /// The same conditions again. The only refusal is want of memory.
+    pub fn copy(&self, alloc: Global) -> Result<Terms, Memory>
+        ensures { IfOk result (λ made. made ≡ self.now) }
+    {
+        let list = copied_terms(alloc, self.list.as_slice())?;
+        Ok(Terms { list })
+    }
+}
+
+/// The same conditions again.
+fn copied_terms(alloc: Global, terms: &[Term]) -> Result<Vec<Term>, Memory>
+    ensures { IfOk result (λ made. made.items ≡ terms.now) }
+{
+    let mut made = Vec::new(alloc);
+    for term in terms {
+        made.push(term.copy(alloc)?)?;
+    }
+    Ok(made)
 }
 
 /// A query.
@@ -167,6 +328,27 @@ pub enum Query {
     Sequence(Box<Query>, Box<Query>),
     /// One of the two dominates the other.
     Dominance(Box<Query>, Box<Query>),
+}
+
+impl Query {
+    /// The same query again. The only refusal is want of memory.
+    pub fn copy(&self, alloc: Global) -> Result<Query, Memory>
+        ensures { IfOk result (λ made. tree_of made ≡ tree_of self.now) }
+    {
+        match self {
+            Query::Terms(terms) => Ok(Query::Terms(terms.copy(alloc)?)),
+            Query::Sequence(left, right) => {
+                let left = Box::new(alloc, left.copy(alloc)?)?;
+                let right = Box::new(alloc, right.copy(alloc)?)?;
+                Ok(Query::Sequence(left, right))
+            }
+            Query::Dominance(left, right) => {
+                let left = Box::new(alloc, left.copy(alloc)?)?;
+                let right = Box::new(alloc, right.copy(alloc)?)?;
+                Ok(Query::Dominance(left, right))
+            }
+        }
+    }
 }
 
 /// Why a text is no query. Places count the bytes of the text from 0.
@@ -187,6 +369,15 @@ pub enum QueryFault {
     /// Memory ran out.
     #[error("out of memory")]
     Memory,
+}
+
+impl QueryFault {
+    /// The same fault again.
+    pub fn copy(&self) -> QueryFault
+        ensures { result ≡ self.now }
+    {
+        *self
+    }
 }
 
 impl From<Memory> for QueryFault {

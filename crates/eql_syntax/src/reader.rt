@@ -1,5 +1,5 @@
 //! The query of a text, or its first fault.
-ghost use Rattle.std.specs.Prelude.{◌≡◌, ◌≢◌, ℕ, ◌+◌, ◌<◌, ◌≤◌, ◌^◌, true, length, IfOk, IfErr, Ok};
+ghost use Rattle.std.specs.Prelude.{◌≡◌, ◌≢◌, ℕ, ◌+◌, ◌<◌, ◌≤◌, ◌^◌, true, length, IfOk, IfErr, Ok, Err};
 ghost use Rattle.eql_syntax.specs.Fault.{fits, depth_step, mark_step};
 ghost use Rattle.eql_syntax.specs.Tree.{Tree, tree_of};
 ghost use Rattle.eql_syntax.specs.Tokens.{tokens_of};
@@ -186,6 +186,7 @@ pub fn read_query(alloc: Global, text: &str) -> Result<Query, QueryFault>
     ensures found { IfOk result (λ q. IsQuery text.now (tree_of q)) }
     ensures only { (q : Tree) → IsQuery text.now q → Gives result (Ok q) }
     ensures fault { IfErr result (λ e. e ≢ QueryFault.Memory → IsFault text.now e) }
+    ensures told { (e : QueryFault) → IsFault text.now e → Gives result (Err e) }
 {
     if text.len() > MOST_BYTES {
         return Err(QueryFault::TextTooLong);

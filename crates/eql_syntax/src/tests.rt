@@ -1,10 +1,11 @@
-//! Faults and their places, worked by hand from the grammar.
+//! Faults and their places, and the prints of queries, worked by hand from the grammar and the rules of printing.
 
 use crate::QueryFault::{Syntax, TextTooLong, TooDeep, TwoMarks};
-use crate::{QueryFault, read_query};
+use crate::{Op, Query, QueryFault, Term, Terms, Words, print_query, read_query};
+use emu_names::Text;
 use std::test::Fail;
 
-static FAULTS: [(&str, QueryFault); 36] = [
+static FAULTS: [(&str, QueryFault); 81] = [
     ("", Syntax(0)),
     ("   ", Syntax(3)),
     ("[Phonetic == ]", Syntax(13)),
@@ -41,33 +42,129 @@ static FAULTS: [(&str, QueryFault); 36] = [
     ("A == (", Syntax(5)),
     ("[A == a,]", Syntax(7)),
     ("[[A == a] ^ [B == b] -> [C == c]]", Syntax(21)),
+    ("]", Syntax(0)),
+    (")", Syntax(0)),
+    ("(A == a)", Syntax(0)),
+    ("== a", Syntax(0)),
+    ("| A == a", Syntax(0)),
+    (", A == a", Syntax(0)),
+    ("[-> A == a]", Syntax(1)),
+    ("[^ A == a]", Syntax(1)),
+    ("[#[A == a]]", Syntax(2)),
+    ("A [", Syntax(2)),
+    ("A # B", Syntax(2)),
+    ("A | B", Syntax(2)),
+    ("A == [", Syntax(5)),
+    ("A == #", Syntax(5)),
+    ("A == a b", Syntax(7)),
+    ("A == a 'b'", Syntax(7)),
+    ("A == a == b", Syntax(7)),
+    ("A == a (", Syntax(7)),
+    ("A == a !", Syntax(7)),
+    ("A == a !~", Syntax(7)),
+    ("[A == a] & B == b", Syntax(9)),
+    ("[A == a] #", Syntax(9)),
+    ("[A == a -> B == b ^ C == c]", Syntax(18)),
+    ("[A == a -> B == b", Syntax(17)),
+    ("Start A", Syntax(6)),
+    ("Start(, B)", Syntax(6)),
+    ("Start(A)", Syntax(7)),
+    ("Start(A B)", Syntax(8)),
+    ("Start(A, B", Syntax(10)),
+    ("Start(A, B) 1", Syntax(12)),
+    ("Start(A, B) < 1", Syntax(12)),
+    ("Start(A, B) == true", Syntax(15)),
+    ("Start(A, B) == 10", Syntax(15)),
+    ("Begin(A, B) == 1", Syntax(5)),
+    ("'Num'(A, B) == 1", Syntax(5)),
+    ("Num(A, B) !~ 1", Syntax(10)),
+    ("Num(A, B) == x", Syntax(13)),
+    ("Num(A, B) == 12a", Syntax(13)),
+    ("Num(A, B) == 1|2", Syntax(14)),
+    ("#A == a #", Syntax(8)),
+    ("#A == a & ##", TwoMarks(10)),
+    ("A == a \r\n\t]", Syntax(10)),
+    ("ä == ö ü", Syntax(9)),
+    ("ä == ö |", Syntax(10)),
+    ("'ä' == 'ö' 'ü", Syntax(13)),
 ];
 
-static QUERIES: [&str; 24] = [
-    "Phonetic == m",
-    "[Phonetic = V]",
-    "[[Phonetic = V] -> #Phonetic =~ 'm|n']",
-    "[Start(A,B) = TRUE & #C != 'x'|y]",
-    "Start == a",
-    "Num == a",
-    "A == ''",
-    "A == 'a->b'",
-    "A == a-b",
-    "[A == a->B == b]",
-    "[Word == w ^ Phoneme == p]",
-    "[[[#Phoneme == t] -> [Phoneme == r]] ^ [Syllable == S]]",
-    "[Utterance =~ .*]",
-    "A !~ a|b|c",
-    "[Medial(A, B) == 0]",
-    "[End(A, B) == F]",
-    "Num(A, B) >= 007",
-    "Num(A, B) < 123456789",
-    "Num(A, B) <= 1 & Num(A, B) != 2 & Num(A, B) > 3",
-    "\t[\r\nA == a ]\n",
-    "Wörd == 'ä ö'",
-    "'a b' == c",
-    "[[[A == a]]]",
-    "A == a & B == b & #C == c",
+/// Texts that are read, with the text that their query is printed as.
+static PRINTS: [(&str, &str); 44] = [
+    ("Phonetic == m", "'Phonetic' == 'm'"),
+    ("[Phonetic = V]", "'Phonetic' == 'V'"),
+    (
+        "[[Phonetic = V] -> #Phonetic =~ 'm|n']",
+        "['Phonetic' == 'V' -> #'Phonetic' =~ 'm|n']",
+    ),
+    (
+        "[Start(A,B) = TRUE & #C != 'x'|y]",
+        "Start('A', 'B') == 1 & #'C' != 'x'|'y'",
+    ),
+    ("Start == a", "'Start' == 'a'"),
+    ("Num == a", "'Num' == 'a'"),
+    ("T == TRUE", "'T' == 'TRUE'"),
+    ("1 == 1", "'1' == '1'"),
+    ("A == ''", "'A' == ''"),
+    ("'' == ''", "'' == ''"),
+    ("A == 'a->b'", "'A' == 'a->b'"),
+    ("A == '\t->\n'", "'A' == '\t->\n'"),
+    ("A == a-b", "'A' == 'a-b'"),
+    ("[A == a->B == b]", "['A' == 'a' -> 'B' == 'b']"),
+    ("[A == a--> B == b]", "['A' == 'a-' -> 'B' == 'b']"),
+    ("[A==a^B==b]", "['A' == 'a' ^ 'B' == 'b']"),
+    (
+        "[Word == w ^ Phoneme == p]",
+        "['Word' == 'w' ^ 'Phoneme' == 'p']",
+    ),
+    (
+        "[[[#Phoneme == t] -> [Phoneme == r]] ^ [Syllable == S]]",
+        "[[#'Phoneme' == 't' -> 'Phoneme' == 'r'] ^ 'Syllable' == 'S']",
+    ),
+    (
+        "[[A == a & B == b] -> [[C == c ^ D == d]]]",
+        "['A' == 'a' & 'B' == 'b' -> ['C' == 'c' ^ 'D' == 'd']]",
+    ),
+    (
+        "[A == a ^ [B == b ^ C == c]]",
+        "['A' == 'a' ^ ['B' == 'b' ^ 'C' == 'c']]",
+    ),
+    (
+        "[[A == a -> B == b] -> C == c]",
+        "[['A' == 'a' -> 'B' == 'b'] -> 'C' == 'c']",
+    ),
+    ("[Utterance =~ .*]", "'Utterance' =~ '.*'"),
+    ("A ==~b", "'A' == '~b'"),
+    ("A =~b", "'A' =~ 'b'"),
+    ("A !~ a|b|c", "'A' !~ 'a'|'b'|'c'"),
+    ("A!=a", "'A' != 'a'"),
+    ("A==a|'b c'|''", "'A' == 'a'|'b c'|''"),
+    ("Start(A, B) == T", "Start('A', 'B') == 1"),
+    ("Start('A b', '') == 1", "Start('A b', '') == 1"),
+    ("[Medial(A, B) == 0]", "Medial('A', 'B') == 0"),
+    ("#Medial(A, B) == 1", "#Medial('A', 'B') == 1"),
+    ("[End(A, B) == F]", "End('A', 'B') == 0"),
+    ("End(A, B) = FALSE", "End('A', 'B') == 0"),
+    ("Num(A,B)=0", "Num('A', 'B') == 0"),
+    ("Num(A, B) >= 007", "Num('A', 'B') >= 7"),
+    ("Num(A, B) < 123456789", "Num('A', 'B') < 123456789"),
+    ("Num(A, B) = 000000000", "Num('A', 'B') == 0"),
+    (
+        "Num(A, B) <= 1 & Num(A, B) != 2 & Num(A, B) > 3",
+        "Num('A', 'B') <= 1 & Num('A', 'B') != 2 & Num('A', 'B') > 3",
+    ),
+    (
+        "#Num(Start, End) == 10 & A != b",
+        "#Num('Start', 'End') == 10 & 'A' != 'b'",
+    ),
+    ("\t[\r\nA == a ]\n", "'A' == 'a'"),
+    ("Wörd == 'ä ö'", "'Wörd' == 'ä ö'"),
+    ("'a b' == c", "'a b' == 'c'"),
+    ("[[[A == a]]]", "'A' == 'a'"),
+    (
+        "A == a & B == b & #C == c",
+        "'A' == 'a' & 'B' == 'b' & #'C' == 'c'",
+    ),
 ];
 
 #[test]
@@ -81,10 +178,34 @@ fn faults_and_places(rt: HostRuntime) {
 }
 
 #[test]
-fn texts_that_are_read(rt: HostRuntime) -> Result<(), Fail> {
-    for text in &QUERIES {
-        let _query = read_query(rt.alloc(), text)?;
+fn texts_and_their_prints(rt: HostRuntime) -> Result<(), Fail> {
+    for (text, print) in &PRINTS {
+        let query = read_query(rt.alloc(), text)?.copy(rt.alloc())?;
+        let printed = print_query(rt.alloc(), &query)?;
+        assert_eq!(rt; printed.as_str(), *print, "{text}");
+        let again = read_query(rt.alloc(), print)?;
+        let printed_again = print_query(rt.alloc(), &again)?;
+        assert_eq!(rt; printed_again.as_str(), *print, "{text}");
     }
+    Ok(())
+}
+
+#[test]
+fn a_query_made_by_hand(rt: HostRuntime) -> Result<(), Fail> {
+    let mut labels = Words::new(rt.alloc());
+    labels.push(Text::new(rt.alloc(), "a")?)?;
+    assert_eq!(rt; labels.len(), 1);
+    assert_eq!(rt; labels.get(0).as_str(), "a");
+    let mut terms = Terms::new(rt.alloc());
+    terms.push(Term::Test {
+        marked: true,
+        name: Text::new(rt.alloc(), "B")?,
+        op: Op::IsNot.copy(),
+        labels: labels.copy(rt.alloc())?,
+    })?;
+    assert_eq!(rt; terms.len(), 1);
+    let query = Query::Terms(terms.copy(rt.alloc())?);
+    assert_eq!(rt; print_query(rt.alloc(), &query)?.as_str(), "#'B' != 'a'");
     Ok(())
 }
 

@@ -1,5 +1,5 @@
 //! The tokens of an EQL text.
-ghost use Rattle.std.specs.Prelude.{◌≡◌, ◌++◌, ◌∷◌, [], IfOk};
+ghost use Rattle.std.specs.Prelude.{◌≡◌, ◌++◌, ◌∷◌, [], OnOk, OnErr};
 
 use emu_names::{Memory, Text};
 use std::alloc::Global;
@@ -89,9 +89,10 @@ impl Tokens {
         }
     }
 
-    /// One token more at the end.
+    /// One token more at the end. The only refusal is want of memory, which changes nothing.
     pub fn push(&mut self, placed: Placed) -> Result<(), Memory>
-        ensures { IfOk result (λ _. self.new ≡ self.old ++ placed ∷ []) }
+        ensures ok { OnOk result (self.new ≡ self.old ++ placed ∷ []) }
+        ensures err { OnErr result (self.new ≡ self.old) }
     {
         self.list.push(placed)?;
         Ok(())

@@ -1,5 +1,5 @@
-use Rattle.std.proofs.Common.{◌≡◌, ◌<◌, ◌+◌, ◌++◌, ℕ, Bool, List, length, drop, true, false, arith, ap, ◌∙◌, sym}
-use Rattle.eql_syntax.specs.Tokens.{front, is_space, token_at, tokens_from}
+use Rattle.std.proofs.Common.{◌≡◌, ◌++◌, ℕ, Bool, List, drop, true, false, arith, ap, ◌∙◌, sym}
+use Rattle.eql_syntax.specs.Tokens.{front, is_space}
 use Rattle.eql_syntax.proofs.Cuts.{space_cut}
 use Rattle.eql_syntax.proofs.Behind.{token_len, token_next, space_step}
 use Rattle.eql_syntax.proofs.lexer.take_front.Goals as goal
@@ -22,7 +22,7 @@ returns-then-is_space-clause-cut c =
 pub returns-clause-next : goal.returns-clause-next
 returns-clause-next c =
     let word = space_is c.args.text.now c.as_bytes.result.now c.front.result c.is_space.result false c.as_bytes.ensures.value c.front.ensures c.is_space.ensures c.if-is_space.false in
-    token_next c.args.tokens.now c.push.new.self c.args.text.now c.args.at c.in_ok-token.token c.in_ok-token.len c.requires word c.in_ok-token.ensures.value c.in_ok-token.ensures.cut.0 c.in_ok-push.ensures
+    token_next c.args.tokens.now c.push.new.self c.args.text.now c.args.at c.in_ok-token.token c.in_ok-token.len c.requires word c.in_ok-token.ensures.value c.in_ok-token.ensures.cut.0 c.in_ok-push.ensures.ok
 
 pub returns-clause-some : goal.returns-clause-some
 returns-clause-some c =

@@ -1,4 +1,4 @@
-use Rattle.std.proofs.Common.{◌≡◌, length, drop, arith, ap, ◌∙◌, sym, subst, ℕ, Some}
+use Rattle.std.proofs.Common.{◌≡◌, length, drop, arith, ap, ◌∙◌, subst, ℕ, Some}
 use Rattle.std.proofs.lemmas.Slice.{between_to_end}
 use Rattle.eql_syntax.specs.Tokens.{front, symbol}
 use Rattle.eql_syntax.proofs.Cuts.{symbol_cut}
