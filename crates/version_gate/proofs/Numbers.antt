@@ -1,5 +1,6 @@
 -- Numbers of entries that rise by one.
-use Rattle.std.proofs.Common.{◌≡◌, ℕ, zero, suc, ◌+◌, ◌<◌, ◌≤◌, List, [], ◌∷◌, ◌++◌, length, refl, ap, sym, ◌∙◌, subst, arith, length-append}
+use Rattle.std.proofs.Common.{◌≡◌, ℕ, zero, suc, nat_eq, IsTrue, ◌+◌, ◌<◌, ◌≤◌, List, [], ◌∷◌, ◌++◌, length, refl, ap, sym, ◌∙◌, subst, arith, length-append}
+use Rattle.std.proofs.lemmas.Bool.Decides.{nat_tests}
 use mathlib.Core.List.{IsPrefix}
 use Rattle.version_gate.specs.declared.entry.Entry.{Entry}
 use Rattle.version_gate.specs.Lists.{Rises, Numbered, EndsIn}
@@ -48,3 +49,14 @@ module _ {T : Type 0} where
       app_nil : (zs : List (Entry T)) → zs ++ [] ≡ zs
       app_nil [] = refl
       app_nil (z ∷ zs) = ap (λ w. z ∷ w) (app_nil zs)
+
+  -- of a list with the published list's number, which the published list begins: it is that list
+  pub caught_up : (k m : ℕ) (published now before : List (Entry T)) → IsTrue (nat_eq k m) → Numbered k now → Numbered m published → IsPrefix published now → IsPrefix before now
+      → (now ≡ published) × IsPrefix before published
+  caught_up k m published now before same a b p q =
+      let is : k ≡ m = grind (arith, nat_tests) in
+      let whole : published ≡ now = same_number m published now b (subst (λ (i : ℕ). Numbered i now) is a) p in
+      (sym whole, subst (IsPrefix before) (sym whole) q)
+
+  pub numbered_one : (e : Entry T) → Numbered e.number (e ∷ [])
+  numbered_one e = (e.number, (refl, tt), refl, omega arith)

@@ -75,16 +75,29 @@ fn show_first<T: Drop, R: Wait>(
     let second = opening.copy()?;
     let next = opening.copy()?;
     let mut writer: WriterOf<T> = Writer::new(alloc, opening, second, readers as usize)?;
-    if writer.append(next).is_err() {
-        let _shown = writer.take(rt);
-        return Err(Memory);
+    match writer.append(next) {
+        Ok(()) => teach(rt, writer),
+        Err(_) => {
+            let _shown = writer.take(rt);
+            Err(Memory)
+        }
     }
-    let (writer, shown) = writer.publish_as::<Teach, R>(rt);
-    if shown.is_err() {
-        let _shown = writer.take(rt);
-        return Err(Memory);
+}
+
+// Shows the opening once more, by which the writer learns its gate.
+fn teach<T: Drop, R: Wait>(rt: &R, writer: WriterOf<T>) -> Result<WriterOf<T>, Memory>
+    requires { drop writer.behind writer.log.items ≡ writer.desk.shown.value ∷ [] }
+    ensures shown { IfOk result (λ w. w.desk.shown.value ≡ writer.desk.shown.value) }
+    ensures pending { IfOk result (λ w. drop w.behind w.log.items ≡ []) }
+    ensures knows { IfOk result (λ w. Knows writer.desk.shown.value.gate (seat_view w.desk.place)) }
+{
+    match writer.publish_as::<Teach, R>(rt) {
+        (writer, Ok(())) => Ok(writer),
+        (writer, Err(_)) => {
+            let _shown = writer.take(rt);
+            Err(Memory)
+        }
     }
-    Ok(writer)
 }
 
 // As many passes as there are places and memory for.

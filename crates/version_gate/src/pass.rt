@@ -29,7 +29,7 @@ pub struct Pass<T: Drop> {
 }
 
 impl<T: Drop> Model for Pass<T> {
-    ghost use Rattle.std.specs.Prelude.{◌≡◌, [], IsSome, IfSome};
+    ghost use Rattle.std.specs.Prelude.{◌≡◌, [], IsSomeAnd};
     ghost use Rattle.left_right.specs.Sides.{view as seat_view};
     ghost use Rattle.version_gate.specs.Lists.{Front, Numbered};
     ghost use Rattle.version_gate.specs.Seats.{Knows};
@@ -38,7 +38,7 @@ impl<T: Drop> Model for Pass<T> {
 
     ghost view = { λ p. record { gate = p.seen.book; list = p.seen.log } };
 
-    ghost invariant = { λ p. IsSome p.seat × IfSome p.seat (λ r. Knows p.seen.book (seat_view r.place)) × (p.seen.names ≡ []) × Numbered p.number p.seen.log };
+    ghost invariant = { λ p. IsSomeAnd p.seat (λ r. Knows p.seen.book (seat_view r.place)) × (p.seen.names ≡ []) × Numbered p.number p.seen.log };
 }
 
 /// What a publisher told: the published list of that moment, which a pass may learn in any thread.
@@ -94,7 +94,7 @@ impl<T: Drop> Pass<T> {
         ensures number { IfOk result (λ s. Numbered s.number self.new.list) }
         ensures refused { OnErr result (self.new ≡ self.old) }
     {
-        let shown = glimpse(&mut self.seat)?;
+        let shown = self.glimpse()?;
         if shown.number() < self.number {
             return Err(LookFault::NoEntry);
         }
@@ -119,6 +119,27 @@ impl<T: Drop> Pass<T> {
         self.follow(seen, number);
     }
 
+    // Enters, copies the version that is there, and leaves.
+    fn glimpse(&mut self) -> Result<Shown<T>, LookFault>
+        ensures same { self.new ≡ self.old }
+        ensures gate { IfOk result (λ s. s.gate ≡ self.old.gate) }
+    {
+        let Some(reader) = self.seat.take() else {
+            unreachable!()
+        };
+        match reader.enter_as::<Enter>() {
+            Ok(reading) => {
+                let copied = reading.get().copy();
+                self.seat = Some(reading.leave());
+                Ok(copied?)
+            }
+            Err(reader) => {
+                self.seat = Some(reader);
+                Err(LookFault::NoEntry)
+            }
+        }
+    }
+
     // Takes in a list that is no shorter.
     fn follow(&mut self, seen: Reached<T>, number: u64)
         requires gate { seen.book ≡ self.old.gate }
@@ -139,27 +160,5 @@ impl<T: Drop> Pass<T> {
         ensures { Numbered result self.now.list }
     {
         self.number
-    }
-}
-
-// Enters, copies the version that is there, and leaves. Who knew the gate knows it afterwards, and the version is of it.
-fn glimpse<T: Drop>(seat: &mut Option<SeatOf<T>>) -> Result<Shown<T>, LookFault>
-    requires { IsSome seat.old }
-    ensures seat { IsSome seat.new }
-    ensures gate { (gate : Book) → IfSome seat.old (λ r. Knows gate (seat_view r.place)) → IfSome seat.new (λ r. Knows gate (seat_view r.place)) × IfOk result (λ s. s.gate ≡ gate) }
-{
-    let Some(reader) = seat.take() else {
-        unreachable!()
-    };
-    match reader.enter_as::<Enter>() {
-        Ok(reading) => {
-            let copied = reading.get().copy();
-            *seat = Some(reading.leave());
-            Ok(copied?)
-        }
-        Err(reader) => {
-            *seat = Some(reader);
-            Err(LookFault::NoEntry)
-        }
     }
 }
