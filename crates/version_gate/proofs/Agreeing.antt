@@ -1,5 +1,5 @@
 -- The moves of the seats at the two copies keep the rule.
-use Rattle.std.proofs.Common.{◌≡◌, ◌≢◌, ℕ, true, List, [], ◌∷◌, ◌++◌, set, refl, sym, subst, ⊎_elim}
+use Rattle.std.proofs.Common.{◌≡◌, ◌≢◌, ℕ, List, [], ◌∷◌, ◌++◌, set, refl, sym, subst, ⊎_elim}
 use mathlib.Core.Option.{some}
 use lib.ListN.{get_elem?}
 use Rattle.crossbeam_utils.specs.Register.{Admits, TurnsAt, Forks, Merges}
@@ -7,7 +7,7 @@ use Rattle.atomic_table.proofs.Lists.{at_set, at_snoc}
 use Rattle.logbook.specs.Pages.{Book}
 use Rattle.version_gate.specs.declared.rule.Known.{Known}
 use Rattle.version_gate.specs.Lists.{Front}
-use Rattle.version_gate.specs.Seats.{stranger, told_of, Knows, Fits, Agree, Enters, Shows, Teaches}
+use Rattle.version_gate.specs.Seats.{stranger, told_of, Fits, Agree, Enters, Shows, Teaches}
 
 -- a stranger fits each gate
 pub stranger_fits : (gate : Book) → Fits gate stranger

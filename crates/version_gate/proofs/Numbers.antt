@@ -1,9 +1,9 @@
 -- Numbers of entries that rise by one.
-use Rattle.std.proofs.Common.{◌≡◌, ℕ, zero, suc, nat_eq, IsTrue, ◌+◌, ◌<◌, ◌≤◌, List, [], ◌∷◌, ◌++◌, length, refl, ap, sym, ◌∙◌, subst, arith, length-append}
+use Rattle.std.proofs.Common.{◌≡◌, ℕ, suc, nat_eq, IsTrue, ◌+◌, ◌<◌, ◌≤◌, List, [], ◌∷◌, ◌++◌, length, refl, ap, sym, ◌∙◌, subst, arith, length-append}
 use Rattle.std.proofs.lemmas.Bool.Decides.{nat_tests}
 use mathlib.Core.List.{IsPrefix}
 use Rattle.version_gate.specs.declared.entry.Entry.{Entry}
-use Rattle.version_gate.specs.Lists.{Rises, Numbered, EndsIn}
+use Rattle.version_gate.specs.Lists.{Rises, Numbered}
 use Rattle.version_gate.proofs.Beginnings.{prefix_shorter, prefix_whole}
 
 module _ {T : Type 0} where

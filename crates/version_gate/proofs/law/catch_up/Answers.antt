@@ -1,5 +1,4 @@
 use Rattle.std.proofs.Common.{ap, ◌∙◌}
-use Rattle.version_gate.specs.Lists.{Numbered}
 use Rattle.version_gate.proofs.Numbers.{caught_up}
 use Rattle.version_gate.proofs.law.catch_up.Goals as goal
 

@@ -1,4 +1,4 @@
-use Rattle.std.proofs.Common.{List, ap, subst}
+use Rattle.std.proofs.Common.{ap}
 use mathlib.Core.List.{IsPrefix}
 use Rattle.version_gate.proofs.Numbers.{lower_begins}
 use Rattle.version_gate.proofs.published.begins.Goals as goal

@@ -1,4 +1,4 @@
-use Rattle.std.proofs.Common.{◌≡◌, sym, ap, ◌∙◌}
+use Rattle.std.proofs.Common.{sym, ap, ◌∙◌}
 use Rattle.version_gate.proofs.Agreeing.{shows}
 use Rattle.version_gate.proofs.publisher.show_in.Goals as goal
 

@@ -1,5 +1,4 @@
-use Rattle.std.proofs.Common.{ap, sym, subst}
-use Rattle.version_gate.specs.Lists.{Numbered}
+use Rattle.std.proofs.Common.{ap}
 use Rattle.version_gate.proofs.pass.Pass.follow.Goals as goal
 
 pub begins-requires-clause-order : goal.begins-requires-clause-order
