@@ -3,7 +3,7 @@ ghost use Rattle.std.specs.Prelude.{◌≡◌, IfOk};
 ghost use Rattle.version_gate.specs.Lists.{entry};
 ghost use Rattle.version_gate.specs.Snapshots.{entry_of};
 
-use std::alloc::AllocError;
+use crate::fault::Memory;
 use std::sync::Arc;
 
 /// A version with its number, as contracts see it in lists. No value of it is made.
@@ -21,7 +21,7 @@ pub struct Snapshot<T: Drop> {
 
 impl<T: Drop> Snapshot<T> {
     /// The same version once more. The version itself is shared.
-    pub fn copy(&self) -> Result<Snapshot<T>, AllocError>
+    pub fn copy(&self) -> Result<Snapshot<T>, Memory>
         ensures { IfOk result (λ s. entry_of s ≡ entry_of self.now) }
     {
         Ok(Snapshot {

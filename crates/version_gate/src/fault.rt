@@ -32,10 +32,10 @@ pub enum LookFault {
     Memory,
 }
 
-impl From<AllocError> for LookFault {
+impl From<Memory> for LookFault {
     ghost from_gives = { λ _ e. e ≡ Fault.Memory };
 
-    fn from(_: AllocError) -> Self {
+    fn from(_: Memory) -> Self {
         LookFault::Memory
     }
 }

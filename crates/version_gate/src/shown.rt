@@ -4,6 +4,7 @@ ghost use Rattle.version_gate.specs.Lists.{EndsIn, Numbered, Front};
 ghost use Rattle.version_gate.specs.Snapshots.{entry_of};
 
 use crate::entry::Snapshot;
+use crate::fault::Memory;
 use crate::published::Reached;
 use left_right::Absorb;
 use std::alloc::AllocError;
@@ -41,7 +42,7 @@ impl<T: Drop> Shown<T> {
     }
 
     /// The same version once more.
-    pub fn copy(&self) -> Result<Shown<T>, AllocError>
+    pub fn copy(&self) -> Result<Shown<T>, Memory>
         ensures { IfOk result (λ s. s ≡ self.now) }
     {
         Ok(Shown {
@@ -79,8 +80,13 @@ impl<T: Drop> Absorb<Shown<T>> for Shown<T> {
     ghost applied = { λ s t. t };
 
     fn absorb_first(&mut self, operation: &Shown<T>, _other: &Shown<T>) -> Result<(), AllocError> {
-        *self = operation.copy()?;
-        Ok(())
+        match operation.copy() {
+            Ok(next) => {
+                *self = next;
+                Ok(())
+            }
+            Err(Memory) => Err(AllocError),
+        }
     }
 
     fn absorb_second(&mut self, operation: Shown<T>, _other: &Shown<T>) -> Result<(), Shown<T>> {

@@ -2,7 +2,7 @@
 ghost use Rattle.std.specs.Prelude.{◌≡◌, IfOk};
 
 use crate::law::catch_up;
-use crate::{LookFault, Made, Memory, Pass, Publisher, new_gate};
+use crate::{LookFault, Made, Memory, Note, Pass, Publisher, new_gate};
 use std::alloc::Global;
 use std::sync::{Arc, Wait};
 use std::test::Fail;
@@ -108,15 +108,17 @@ fn a_gate_has_as_many_passes_as_readers(rt: HostRuntime) -> Result<(), Fail> {
     Ok(())
 }
 
-// Publishes versions up to a number; each version is three times its number.
-fn publish_up_to<R: Wait>(
+// Publishes so many versions; each is three times its number.
+fn publish_many<R: Wait>(
     rt: &R,
     alloc: Global,
     publisher: &mut Publisher<u64>,
-    last: u64,
+    count: u64,
 ) -> Result<(), Memory> {
-    while publisher.number() < last {
-        let number = publisher.number() + 1;
+    for _ in 0..count {
+        let Some(number) = publisher.number().checked_add(1) else {
+            return Err(Memory);
+        };
         publisher.stage(number, Arc::new(alloc, number.wrapping_mul(3))?)?;
         publisher.publish(rt);
     }
@@ -141,7 +143,16 @@ fn look_up_to<R: Wait>(rt: &R, pass: &mut Pass<u64>, last: u64) -> bool {
     unreachable!()
 }
 
+fn is_sent<T: Send>(_: &T) {}
+
 fn is_shared<T: Send + Sync>(_: &T) {}
+
+// What goes to other threads, for each type of version.
+fn all_cross<T: Drop + Send + Sync>(publisher: &Publisher<T>, pass: &Pass<T>, note: &Note<T>) {
+    is_sent(publisher);
+    is_sent(pass);
+    is_shared(note);
+}
 
 #[test]
 fn looks_beside_a_publisher_never_go_back(rt: HostRuntime) -> Result<(), Fail> {
@@ -157,7 +168,7 @@ fn looks_beside_a_publisher_never_go_back(rt: HostRuntime) -> Result<(), Fail> {
     };
     let (published, looks) = join(
         &rt,
-        || publish_up_to(&rt, alloc, &mut publisher, 107),
+        || publish_many(&rt, alloc, &mut publisher, 100),
         || {
             join(
                 &rt,
@@ -167,7 +178,7 @@ fn looks_beside_a_publisher_never_go_back(rt: HostRuntime) -> Result<(), Fail> {
         },
     );
     let note = publisher.tell();
-    is_shared(&note);
+    all_cross(&publisher, &one, &note);
     let found = one.look();
     publisher.close(&rt);
     assert_eq!(rt; published, Ok(()));
