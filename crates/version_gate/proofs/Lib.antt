@@ -1,0 +1,4 @@
+pub mod Adding
+pub mod Agreeing
+pub mod Beginnings
+pub mod Numbers

@@ -1,0 +1,11 @@
+use Rattle.version_gate.proofs.Agreeing.{admits, forks, merges}
+use Rattle.version_gate.proofs.gate.take_seat.Goals as goal
+
+pub reader-requires : goal.reader-requires
+reader-requires g c = admits
+
+pub tell-requires : goal.tell-requires
+tell-requires g c = forks _ _
+
+pub learn-requires-clause-rule : goal.learn-requires-clause-rule
+learn-requires-clause-rule g c = merges _ _ _ _
