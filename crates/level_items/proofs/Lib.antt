@@ -1,0 +1,4 @@
+pub mod Lists
+pub mod Apart
+pub mod Rules
+pub mod Found
