@@ -25,10 +25,10 @@ found items i x n different at same =
     let whole = ap ids_of (sym (around items i x at)) ∙ ids_parts (take i items) x (drop (suc i) items) in
     let apart = different_without (ids_of (take i items)) x.id.0 (ids_of (drop (suc i) items)) (sym (ap are_different whole) ∙ different) in
     let none : list_any (nat_eq x.id.0) (ids_of (take i items)) ≡ false =
-      (or_parts (list_any (nat_eq x.id.0) (ids_of (take i items))) (list_any (nat_eq x.id.0) (ids_of (drop (suc i) items)))
-        (sym (list_any-append (nat_eq x.id.0) (ids_of (take i items)) (ids_of (drop (suc i) items))) ∙ apart.1)).0 in
+    (or_parts (list_any (nat_eq x.id.0) (ids_of (take i items))) (list_any (nat_eq x.id.0) (ids_of (drop (suc i) items)))
+    (sym (list_any-append (nat_eq x.id.0) (ids_of (take i items)) (ids_of (drop (suc i) items))) ∙ apart.1)).0 in
     let before : list_any (has_id n) (take i items) ≡ false =
-      any_has n (take i items) ∙ ap (λ m. list_any (nat_eq m) (ids_of (take i items))) (sym same) ∙ none in
+    any_has n (take i items) ∙ ap (λ m. list_any (nat_eq m) (ids_of (take i items))) (sym same) ∙ none in
     sym (position_is (has_id n) items i x at (eq-eqb x.id.0 n same) before)
 
 pub absent : (items : List Item) (n : ℕ) → list_any (nat_eq n) (ids_of items) ≡ false → None ≡ position (has_id n) items

@@ -39,7 +39,7 @@ different_with (x ∷ xs) n ys apart fresh =
     let news = or_parts (nat_eq n x) (list_any (nat_eq n) (xs ++ ys)) fresh in
     let other : nat_eq x n ≡ false = flip x n news.0 in
     let away : list_any (nat_eq x) (xs ++ n ∷ ys) ≡ false =
-      any_parts (nat_eq x) xs n ys ∙ or_from _ _ other (not-true _ parts.0) in
+    any_parts (nat_eq x) xs n ys ∙ or_from _ _ other (not-true _ parts.0) in
     and_from _ _ (not_from_false _ away) (different_with xs n ys parts.1 news.1)
   where
     flip : (a b : ℕ) → nat_eq b a ≡ false → nat_eq a b ≡ false

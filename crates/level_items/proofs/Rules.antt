@@ -1,8 +1,8 @@
 -- The level rule, and the marks, after a change of a level.
-use Rattle.std.proofs.Common.{◌≡◌, ℕ, suc, ◌<◌, Bool, true, false, not, ◌&&◌, ◌||◌, cond, List, [], ◌∷◌, ◌++◌, length, map, take, drop, nat_eq, refl, sym, ap, subst, ◌∙◌, Option, Some, None, arith}
+use Rattle.std.proofs.Common.{◌≡◌, ℕ, zero, suc, ◌+◌, ◌<◌, ◌-◌, get_or, Bool, true, false, not, ◌&&◌, ◌||◌, cond, List, [], ◌∷◌, ◌++◌, length, map, take, drop, nat_eq, refl, sym, ap, subst, ◌∙◌, Option, Some, None, Result, add-one, length-drop, arith}
 use Rattle.std.specs.List.{list_any, list_all, slice_get, slice_set, insert, remove}
 use Rattle.std.proofs.lemmas.Bool.{and_parts, and_from, eqb-true, not-true, not-false}
-use Rattle.std.proofs.lemmas.List.{take-append-drop, map-append}
+use Rattle.std.proofs.lemmas.List.{take-append-drop, map-append, take_all}
 use Rattle.emu_names.specs.declared.kinds.LevelKind.{LevelKind}
 use Rattle.emu_names.specs.declared.kinds.LevelKind.TheVariants as kinds
 use Rattle.emu_names.specs.declared.kinds.ItemId.{ItemId}
@@ -12,7 +12,9 @@ use Rattle.level_items.specs.declared.times.Time.{Time}
 use Rattle.level_items.specs.declared.items.Item.{Item}
 use Rattle.level_items.specs.Times.{fits_kind, ends_in_time, is_before}
 use Rattle.level_items.specs.Levels.{level_of, KeepsLevelRule, ids_of, are_different, are_labels_for, is_short, fits_level, is_before_first, are_apart, are_in_order, first_of, last_of, change_at, retimed, relabelled}
-use Rattle.level_items.specs.Faults.{or_else, time_fault, order_rule, behind_fault, ahead_fault, neighbour_fault}
+use Rattle.emu_names.specs.declared.rules.Fault.{Fault}
+use Rattle.level_items.specs.Gives.{FindsFault}
+use Rattle.level_items.specs.Faults.{retime_fault, or_else, time_fault, order_rule, behind_fault, ahead_fault, neighbour_fault}
 use Rattle.level_items.proofs.Lists.{any_parts, all_parts, different_with, different_without, around}
 use Rattle.level_items.proofs.Apart.{IsSplit, ends_before, split, halves, join, join_with, across}
 
@@ -99,7 +101,7 @@ pub rule_with : (kind : LevelKind) (attributes : ℕ) (xs : List Item) (x : Item
 rule_with kind attributes xs x ys rule fresh fits order = record {
   distinct = ap are_different (ids_parts xs x ys)
       ∙ different_with (ids_of xs) x.id.0 (ids_of ys) (ap are_different (sym (ids_joined xs ys)) ∙ rule.distinct)
-        (ap (list_any (nat_eq x.id.0)) (sym (ids_joined xs ys)) ∙ fresh);
+      (ap (list_any (nat_eq x.id.0)) (sym (ids_joined xs ys)) ∙ fresh);
   fitting = all_parts (fits_level kind attributes) xs x ys ∙ and_from _ _ fits rule.fitting;
   ordered = order;
 }
@@ -137,10 +139,43 @@ without_id q n ns was fresh is = by_test (nat_eq q n) refl
   where
     by_test : (t : Bool) → nat_eq q n ≡ t → (not (nat_eq q n) && was) ≡ list_any (nat_eq q) ns
     by_test true e =
-      let same : q ≡ n = eqb-true q n e in
-      ap (λ b. not b && was) e ∙ sym (ap (λ m. list_any (nat_eq m) ns) same ∙ fresh)
+        let same : q ≡ n = eqb-true q n e in
+        ap (λ b. not b && was) e ∙ sym (ap (λ m. list_any (nat_eq m) ns) same ∙ fresh)
     by_test false e = ap (λ b. not b && was) e ∙ is ∙ ap (λ b. b || list_any (nat_eq q) ns) e
 
 pub again : (t rest : Bool) → (t || (t || rest)) ≡ (t || rest)
 again true rest = refl
 again false rest = refl
+
+-- ---- an item changed at its place
+
+pub set_is_change : (f : Item → Item) (items : List Item) (i : ℕ) (d y : Item) → i < length items → y ≡ f (get_or items i d) → slice_set items i y ≡ change_at f i items
+set_is_change f [] i d y within is = absurd (omega arith)
+set_is_change f (z ∷ items) zero d y within is = ap (λ u. u ∷ items) is
+set_is_change f (z ∷ items) (suc i) d y within is = ap (λ us. z ∷ us) (set_is_change f items i d y (omega arith) is)
+
+pub relabelled_is : (attribute : ℕ) (label : List ℕ) (item : Item) (labels : List (List ℕ)) → labels ≡ slice_set item.labels attribute label →
+    let changed : Item = record { id = item.id; time = item.time; labels = labels } in changed ≡ relabelled attribute label item
+relabelled_is attribute label item labels is = λ i. record { id = item.id; time = item.time; labels = is i }
+
+-- ---- a time between its neighbours
+
+pub retime_tested : (A : Type 0) (kind : LevelKind) (items : List Item) (p : ℕ) (time : Time) (r : Result A Fault) → time_fault kind time ≡ None →
+    FindsFault r (neighbour_fault kind (take p items) time (take (length items - (p + 1)) (drop (p + 1) items))) → FindsFault r (retime_fault kind items p time)
+retime_tested A kind items p time r fits h =
+    let rest : take (length items - (p + 1)) (drop (p + 1) items) ≡ drop (suc p) items =
+      take_all (length items - (p + 1)) (drop (p + 1) items) (omega (arith, length-drop (p + 1) items)) ∙ ap (λ n. drop n items) (add-one p) in
+    let sides = ap (λ zs. neighbour_fault kind (take p items) time zs) rest in
+    let whole : neighbour_fault kind (take p items) time (take (length items - (p + 1)) (drop (p + 1) items)) ≡ retime_fault kind items p time =
+      sides ∙ sym (ap (λ o. or_else o (neighbour_fault kind (take p items) time (drop (suc p) items))) fits) in
+    subst (FindsFault r) whole h
+
+-- ---- the last item before a place
+
+pub last_at : (items : List Item) → last_of items ≡ slice_get items (length items - 1)
+last_at [] = refl
+last_at (x ∷ []) = refl
+last_at (x ∷ y ∷ items) = last_at (y ∷ items) ∙ ap (slice_get (x ∷ y ∷ items)) (one_more (length items))
+  where
+    one_more : (n : ℕ) → suc (suc n - 1) ≡ suc (suc n) - 1
+    one_more n = omega arith

@@ -58,7 +58,7 @@ insert_fault kind items position item =
     if list_any (nat_eq item.id.0) (ids_of items) then Some (rules.IdTaken item.id)
     else or_else (time_fault kind item.time) (or_else (position_fault kind (length items) position)
     (let place = new_place kind items position item.time in
-     neighbour_fault kind (take place items) item.time (drop place items)))
+    neighbour_fault kind (take place items) item.time (drop place items)))
 
 -- another time for the item at this position
 abbrev pub retime_fault : LevelKind → List Item → ℕ → Time → Option Broken

@@ -150,7 +150,8 @@ impl LevelList {
         ensures kept { OnErr result (self.new ≡ self.old) }
     {
         retime_passes(self.kind, &self.items, position, time)?;
-        self.marks.put(self.items[position].id, mark_of(position, time))?;
+        self.marks
+            .put(self.items[position].id, mark_of(position, time))?;
         set_time_in(&mut self.items, position, time);
         Ok(())
     }

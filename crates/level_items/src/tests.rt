@@ -78,7 +78,13 @@ static SEGMENTS: [Row; 36] = [
         0,
     ),
     (Put(Some(0)), 5, Span { start: 9, dur: 0 }, "PositionOut", 0),
-    (Put(Some(2)), 5, Span { start: 20, dur: 0 }, "PositionOut", 0),
+    (
+        Put(Some(2)),
+        5,
+        Span { start: 20, dur: 0 },
+        "PositionOut",
+        0,
+    ),
     // over both neighbours: the previous one is named
     (Put(None), 5, Span { start: 5, dur: 10 }, "Overlap", 1),
     // up to the last sample before the next one, and not further
@@ -135,16 +141,97 @@ static SEGMENTS: [Row; 36] = [
 
 /// A boundary that is moved, a segment that is cut, and two that are joined again.
 static BOUNDARIES: [Row; 10] = [
-    (Put(None), 1, Span { start: 3749, dur: 1389 }, "at", 0),
-    (Put(None), 2, Span { start: 5138, dur: 1664 }, "Overlap", 1),
-    (Put(None), 2, Span { start: 5139, dur: 1664 }, "at", 1),
-    (Move(1), 0, Span { start: 5000, dur: 1803 }, "Overlap", 1),
-    (Move(0), 0, Span { start: 3749, dur: 1250 }, "moved", 0),
-    (Move(1), 0, Span { start: 5000, dur: 1803 }, "moved", 0),
-    (Move(1), 0, Span { start: 5000, dur: 999 }, "moved", 0),
-    (Put(None), 3, Span { start: 6000, dur: 803 }, "at", 2),
+    (
+        Put(None),
+        1,
+        Span {
+            start: 3749,
+            dur: 1389,
+        },
+        "at",
+        0,
+    ),
+    (
+        Put(None),
+        2,
+        Span {
+            start: 5138,
+            dur: 1664,
+        },
+        "Overlap",
+        1,
+    ),
+    (
+        Put(None),
+        2,
+        Span {
+            start: 5139,
+            dur: 1664,
+        },
+        "at",
+        1,
+    ),
+    (
+        Move(1),
+        0,
+        Span {
+            start: 5000,
+            dur: 1803,
+        },
+        "Overlap",
+        1,
+    ),
+    (
+        Move(0),
+        0,
+        Span {
+            start: 3749,
+            dur: 1250,
+        },
+        "moved",
+        0,
+    ),
+    (
+        Move(1),
+        0,
+        Span {
+            start: 5000,
+            dur: 1803,
+        },
+        "moved",
+        0,
+    ),
+    (
+        Move(1),
+        0,
+        Span {
+            start: 5000,
+            dur: 999,
+        },
+        "moved",
+        0,
+    ),
+    (
+        Put(None),
+        3,
+        Span {
+            start: 6000,
+            dur: 803,
+        },
+        "at",
+        2,
+    ),
     (Take(2), 0, NoTime, "taken", 3),
-    (Move(1), 0, Span { start: 5000, dur: 1803 }, "moved", 0),
+    (
+        Move(1),
+        0,
+        Span {
+            start: 5000,
+            dur: 1803,
+        },
+        "moved",
+        0,
+    ),
 ];
 
 static POINTS: [Row; 17] = [
@@ -358,7 +445,14 @@ fn annotations_are_copied(rt: HostRuntime) -> Result<(), Fail> {
     crosses_threads(&copied);
     assert_eq!(rt; copied.annotates.as_str(), "b1.wav");
     assert_eq!(rt; copied.rate, 20000);
-    assert_eq!(rt; copied.links.as_slice(), [AnnotLink { from: ItemId(2), to: ItemId(1) }].as_slice());
+    assert_eq!(rt;
+        copied.links.as_slice(),
+        [AnnotLink {
+            from: ItemId(2),
+            to: ItemId(1)
+        }]
+        .as_slice()
+    );
     assert_eq!(rt; copied.levels.len(), 1);
     let level = copied.levels.get(0);
     assert_eq!(rt; level.items.len(), 1);
