@@ -2,3 +2,4 @@ pub mod Lists
 pub mod Apart
 pub mod Rules
 pub mod Found
+pub mod Changes
