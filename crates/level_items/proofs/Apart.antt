@@ -1,12 +1,11 @@
 -- Items each of which is over before the next one begins.
-use Rattle.std.proofs.Common.{◌≡◌, ℕ, zero, suc, ◌+◌, ◌<◌, ◌≤◌, Bool, true, false, ◌&&◌, List, [], ◌∷◌, ◌++◌, length, get_or, refl, sym, ap, ◌∙◌, Option, Some, None, arith}
+use Rattle.std.proofs.Common.{◌≡◌, ℕ, zero, suc, ◌<◌, ◌≤◌, Bool, true, List, [], ◌∷◌, ◌++◌, length, get_or, refl, Option, Some, None, arith}
 use Rattle.std.proofs.lemmas.Bool.{and_parts, and_from, ltb-true, lt-ltb}
-use Rattle.std.proofs.lemmas.Bool.Decides.{nat_tests}
 use Rattle.level_items.specs.declared.times.Time.{Time}
 use Rattle.level_items.specs.declared.times.Time.TheVariants.{NoTime, Span, Point}
 use Rattle.level_items.specs.declared.items.Item.{Item}
 use Rattle.level_items.specs.Times.{first_sample, last_sample, is_before}
-use Rattle.level_items.specs.Levels.{is_before_first, are_apart, first_of, last_of}
+use Rattle.level_items.specs.Levels.{is_before_first, are_apart, last_of}
 
 pub first-le-last : (t : Time) → first_sample t ≤ last_sample t
 first-le-last NoTime = omega arith

@@ -1,5 +1,5 @@
 -- What a level list keeps, after each change.
-use Rattle.std.proofs.Common.{◌≡◌, ℕ, zero, suc, ◌+◌, ◌<◌, ◌-◌, Bool, true, false, not, ◌&&◌, ◌||◌, ◌==◌, cond, List, [], ◌∷◌, ◌++◌, length, take, drop, nat_eq, refl, sym, ap, subst, ◌∙◌, Option, Some, None, arith}
+use Rattle.std.proofs.Common.{◌≡◌, ℕ, zero, suc, ◌<◌, Bool, true, false, not, ◌&&◌, ◌||◌, ◌==◌, cond, List, [], ◌∷◌, ◌++◌, length, take, drop, nat_eq, refl, sym, ap, subst, ◌∙◌, Option, Some, None, arith}
 use Rattle.std.specs.List.{list_any, list_all, slice_get, slice_set, insert, remove}
 use Rattle.std.proofs.lemmas.Bool.{and_parts, and_from, eqb-true, eq-eqb}
 use Rattle.std.proofs.lemmas.List.{take-append-drop, length-set}
@@ -14,7 +14,7 @@ use Rattle.level_items.specs.Times.{fits_kind, ends_in_time}
 use Rattle.level_items.specs.Levels.{level_of, KeepsLevelRule, ids_of, are_labels_for, is_short, fits_level, new_place, change_at, retimed, relabelled}
 use Rattle.level_items.specs.Faults.{or_else, time_fault, position_fault, neighbour_fault, insert_fault, retime_fault}
 use Rattle.level_items.specs.Marked.{is_marked}
-use Rattle.level_items.specs.Kept.{AreMarksOf, IsKept}
+use Rattle.level_items.specs.Kept.{IsKept}
 use Rattle.level_items.proofs.Lists.{around}
 use Rattle.level_items.proofs.Rules.{or_none, order_with, order_same, rule_with, rule_without, any_id, without_id, again}
 
@@ -100,7 +100,7 @@ pub kept_insert : (kind : LevelKind) (attributes : ℕ) (items : List Item) (pos
 kept_insert kind attributes items position place x old new kept free is labels more =
     let at = new_place kind items position x.time in
     let first = id_free (list_any (nat_eq x.id.0) (ids_of items)) (rules.IdTaken x.id)
-      (or_else (time_fault kind x.time) (or_else (position_fault kind (length items) position) (neighbour_fault kind (take at items) x.time (drop at items)))) free in
+    (or_else (time_fault kind x.time) (or_else (position_fault kind (length items) position) (neighbour_fault kind (take at items) x.time (drop at items)))) free in
     let second = or_none (time_fault kind x.time) (or_else (position_fault kind (length items) position) (neighbour_fault kind (take at items) x.time (drop at items))) first.1 in
     let third = or_none (position_fault kind (length items) position) (neighbour_fault kind (take at items) x.time (drop at items)) second.1 in
     let time = time_free kind x.time second.0 in
@@ -151,11 +151,11 @@ kept_retime kind attributes items i x time old new kept at free more =
     let form = time_free kind time sides.0 in
     let labels = (and_parts (fits_kind kind x.time && ends_in_time x.time) (are_labels_for attributes x.labels) without.fits).1 in
     let rest : (q : ℕ) → list_any (nat_eq q) (ids_of (change_at (retimed time) i items)) ≡ (nat_eq q x.id.0 || list_any (nat_eq q) (ids_of (before ++ behind))) =
-      λ q. ap (λ zs. list_any (nat_eq q) (ids_of zs)) changed ∙ any_id q before (retimed time x) behind in
+    λ q. ap (λ zs. list_any (nat_eq q) (ids_of zs)) changed ∙ any_id q before (retimed time x) behind in
     record {
       rule = subst (λ zs. KeepsLevelRule (level_of kind attributes zs)) (sym changed)
           (rule_with kind attributes before (retimed time x) behind without.rule without.fresh (fit_of_parts kind attributes (retimed time x) form.0 form.1 labels)
-            (order_with kind before (retimed time x) behind without.rule.ordered sides.1));
+          (order_with kind before (retimed time x) behind without.rule.ordered sides.1));
       marked = λ q. more q ∙ ap (λ b. nat_eq q x.id.0 || b) (kept.marked q ∙ ap (λ zs. list_any (nat_eq q) (ids_of zs)) (sym whole) ∙ any_id q before x behind)
           ∙ again (nat_eq q x.id.0) (list_any (nat_eq q) (ids_of (before ++ behind))) ∙ sym (rest q);
     }
@@ -177,10 +177,10 @@ kept_label kind attributes items i x attribute label marks kept at short =
     let count : (length (slice_set x.labels attribute label) == attributes) ≡ true = eq-eqb _ _ (length-set x.labels attribute label ∙ fit.count) in
     let labels = and_from (length (slice_set x.labels attribute label) == attributes) (list_all is_short (slice_set x.labels attribute label)) count (all_set is_short x.labels attribute label short fit.short) in
     let rest : (q : ℕ) → list_any (nat_eq q) (ids_of (change_at (relabelled attribute label) i items)) ≡ (nat_eq q x.id.0 || list_any (nat_eq q) (ids_of (before ++ behind))) =
-      λ q. ap (λ zs. list_any (nat_eq q) (ids_of zs)) changed ∙ any_id q before y behind in
+    λ q. ap (λ zs. list_any (nat_eq q) (ids_of zs)) changed ∙ any_id q before y behind in
     record {
       rule = subst (λ zs. KeepsLevelRule (level_of kind attributes zs)) (sym changed)
           (rule_with kind attributes before y behind without.rule without.fresh (fit_of_parts kind attributes y fit.form fit.end labels)
-            (order_same kind before x y behind refl rule.ordered));
+          (order_same kind before x y behind refl rule.ordered));
       marked = λ q. kept.marked q ∙ ap (λ zs. list_any (nat_eq q) (ids_of zs)) (sym whole) ∙ any_id q before x behind ∙ sym (rest q);
     }

@@ -1,5 +1,5 @@
 -- Where an item of an id stands.
-use Rattle.std.proofs.Common.{◌≡◌, ℕ, suc, Bool, true, false, ◌||◌, List, [], ◌∷◌, ◌++◌, take, drop, nat_eq, refl, sym, ap, ◌∙◌, Option, Some, None, arith}
+use Rattle.std.proofs.Common.{◌≡◌, ℕ, suc, Bool, true, false, ◌||◌, List, [], ◌∷◌, take, drop, nat_eq, refl, sym, ap, ◌∙◌, Some, None, arith}
 use Rattle.std.specs.List.{list_any, slice_get, position}
 use Rattle.std.proofs.lemmas.Bool.{or_parts, eq-eqb}
 use Rattle.std.proofs.lemmas.Bool.Decides.{nat_tests}

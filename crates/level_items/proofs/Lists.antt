@@ -1,10 +1,8 @@
 -- Lists in two parts: numbers that differ, an element put in, taken out or changed, and counts.
-use Rattle.std.proofs.Common.{◌≡◌, ℕ, zero, suc, ◌+◌, ◌<◌, ◌≤◌, Bool, true, false, not, ◌&&◌, ◌||◌, cond, List, [], ◌∷◌, ◌++◌, length, map, get_or, take, drop, drop-cons, nat_eq, nat_lt, count_by, refl, sym, ap, ◌∙◌, Option, Some, None, arith}
-use Rattle.std.specs.List.{list_any, list_all, slice_get, slice_set, prefix_len, position, position_or_len, AllWithin, insert, remove}
+use Rattle.std.proofs.Common.{◌≡◌, ℕ, zero, suc, ◌+◌, ◌≤◌, Bool, true, false, not, ◌&&◌, ◌||◌, cond, List, [], ◌∷◌, ◌++◌, length, take, drop, nat_eq, nat_lt, count_by, refl, sym, ap, ◌∙◌, Some, None, arith}
+use Rattle.std.specs.List.{list_any, list_all, slice_get, slice_set, position, position_or_len, AllWithin}
 use Rattle.std.proofs.lemmas.Bool.{and_parts, and_from, or_parts, or_from, not-true, not_from_false, cond-true, cond-false, lt-ltb, le-ltb}
 use Rattle.std.proofs.lemmas.Bool.Decides.{nat_tests}
-use Rattle.std.proofs.lemmas.List.{take-append-drop}
-use Rattle.std.proofs.lemmas.List.Folds.{list_any-append, list_all-append}
 use Rattle.std.proofs.lemmas.List.Sums.{sum_by-cons}
 use Rattle.std.proofs.lemmas.Option.{slice_get_within}
 use Rattle.level_items.specs.Levels.{are_different}

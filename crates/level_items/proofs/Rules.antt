@@ -1,22 +1,21 @@
 -- The level rule, and the marks, after a change of a level.
-use Rattle.std.proofs.Common.{◌≡◌, ℕ, zero, suc, ◌+◌, ◌<◌, ◌-◌, get_or, Bool, true, false, not, ◌&&◌, ◌||◌, cond, List, [], ◌∷◌, ◌++◌, length, map, take, drop, nat_eq, refl, sym, ap, subst, ◌∙◌, Option, Some, None, Result, add-one, length-drop, arith}
-use Rattle.std.specs.List.{list_any, list_all, slice_get, slice_set, insert, remove}
-use Rattle.std.proofs.lemmas.Bool.{and_parts, and_from, eqb-true, not-true, not-false}
-use Rattle.std.proofs.lemmas.List.{take-append-drop, map-append, take_all}
+use Rattle.std.proofs.Common.{◌≡◌, ℕ, zero, suc, ◌+◌, ◌<◌, ◌-◌, get_or, Bool, true, false, not, ◌&&◌, ◌||◌, cond, List, [], ◌∷◌, ◌++◌, length, take, drop, nat_eq, refl, sym, ap, subst, ◌∙◌, Option, Some, None, Result, add-one, length-drop, arith}
+use Rattle.std.specs.List.{list_any, list_all, slice_get, slice_set}
+use Rattle.std.proofs.lemmas.Bool.{and_parts, and_from, eqb-true}
+use Rattle.std.proofs.lemmas.List.{map-append, take_all}
 use Rattle.emu_names.specs.declared.kinds.LevelKind.{LevelKind}
 use Rattle.emu_names.specs.declared.kinds.LevelKind.TheVariants as kinds
 use Rattle.emu_names.specs.declared.kinds.ItemId.{ItemId}
 use Rattle.emu_names.specs.declared.rules.Broken.{Broken}
-use Rattle.emu_names.specs.declared.rules.Broken.TheVariants as rules
 use Rattle.level_items.specs.declared.times.Time.{Time}
 use Rattle.level_items.specs.declared.items.Item.{Item}
-use Rattle.level_items.specs.Times.{fits_kind, ends_in_time, is_before}
-use Rattle.level_items.specs.Levels.{level_of, KeepsLevelRule, ids_of, are_different, are_labels_for, is_short, fits_level, is_before_first, are_apart, are_in_order, first_of, last_of, change_at, retimed, relabelled}
+use Rattle.level_items.specs.Times.{is_before}
+use Rattle.level_items.specs.Levels.{level_of, KeepsLevelRule, ids_of, are_different, fits_level, is_before_first, are_apart, are_in_order, first_of, last_of, change_at, relabelled}
 use Rattle.emu_names.specs.declared.rules.Fault.{Fault}
 use Rattle.level_items.specs.Gives.{FindsFault}
 use Rattle.level_items.specs.Faults.{retime_fault, or_else, time_fault, order_rule, behind_fault, ahead_fault, neighbour_fault}
-use Rattle.level_items.proofs.Lists.{any_parts, all_parts, different_with, different_without, around}
-use Rattle.level_items.proofs.Apart.{IsSplit, ends_before, split, halves, join, join_with, across}
+use Rattle.level_items.proofs.Lists.{any_parts, all_parts, different_with, different_without}
+use Rattle.level_items.proofs.Apart.{ends_before, split, halves, join, join_with, across}
 
 -- ---- no fault
 
@@ -164,10 +163,10 @@ pub retime_tested : (A : Type 0) (kind : LevelKind) (items : List Item) (p : ℕ
     FindsFault r (neighbour_fault kind (take p items) time (take (length items - (p + 1)) (drop (p + 1) items))) → FindsFault r (retime_fault kind items p time)
 retime_tested A kind items p time r fits h =
     let rest : take (length items - (p + 1)) (drop (p + 1) items) ≡ drop (suc p) items =
-      take_all (length items - (p + 1)) (drop (p + 1) items) (omega (arith, length-drop (p + 1) items)) ∙ ap (λ n. drop n items) (add-one p) in
+    take_all (length items - (p + 1)) (drop (p + 1) items) (omega (arith, length-drop (p + 1) items)) ∙ ap (λ n. drop n items) (add-one p) in
     let sides = ap (λ zs. neighbour_fault kind (take p items) time zs) rest in
     let whole : neighbour_fault kind (take p items) time (take (length items - (p + 1)) (drop (p + 1) items)) ≡ retime_fault kind items p time =
-      sides ∙ sym (ap (λ o. or_else o (neighbour_fault kind (take p items) time (drop (suc p) items))) fits) in
+    sides ∙ sym (ap (λ o. or_else o (neighbour_fault kind (take p items) time (drop (suc p) items))) fits) in
     subst (FindsFault r) whole h
 
 -- ---- the last item before a place

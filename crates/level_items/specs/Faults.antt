@@ -1,5 +1,5 @@
 -- The rule that a change of a level breaks first.
-use Rattle.std.specs.Prelude.{ℕ, suc, Bool, not, List, length, nat_eq, nat_le, if◌then◌else◌, Option, Some, None, take, drop}
+use Rattle.std.specs.Prelude.{ℕ, suc, not, List, length, nat_eq, nat_le, if◌then◌else◌, Option, Some, None, take, drop}
 use Rattle.std.specs.List.{list_any}
 use Rattle.emu_names.specs.declared.kinds.LevelKind.{LevelKind}
 use Rattle.emu_names.specs.declared.kinds.LevelKind.TheVariants as kinds

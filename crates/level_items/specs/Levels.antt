@@ -1,6 +1,6 @@
 -- A level of a bundle, and the rule that it keeps (EMU-SDMS Manual, "The emuDB format": levels and
 -- items of an annotation; that gaps between segments are allowed is this project's choice).
-use Rattle.std.specs.Prelude.{◌≡◌, ℕ, Bool, true, ◌&&◌, not, List, [], ◌∷◌, length, map, nat_eq, nat_le, ◌==◌, IsTrue, Option, Some, None, zero, suc, slice_set, count_by, unwrap_or}
+use Rattle.std.specs.Prelude.{ℕ, Bool, true, ◌&&◌, not, List, [], ◌∷◌, length, map, nat_eq, nat_le, ◌==◌, IsTrue, Option, Some, None, zero, suc, slice_set, count_by, unwrap_or}
 use Rattle.std.specs.List.{list_all, list_any}
 use Rattle.emu_names.specs.declared.kinds.LevelKind.{LevelKind}
 use Rattle.emu_names.specs.declared.kinds.LevelKind.TheVariants as kinds

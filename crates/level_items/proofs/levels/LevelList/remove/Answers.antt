@@ -1,4 +1,4 @@
-use Rattle.std.proofs.Common.{length, refl, sym, ◌∙◌, subst, arith}
+use Rattle.std.proofs.Common.{length, refl, sym, subst}
 use Rattle.std.proofs.lemmas.Option.{slice_get_read}
 use Rattle.level_items.specs.Levels.{level_of}
 use Rattle.level_items.specs.Kept.{IsKept}
@@ -12,7 +12,7 @@ invariant_of-self c =
     let at = slice_get_read inside.items.items (length inside.items.items) c.args.position c.remove-item.result refl within c.remove-item.ensures.value in
     subst (λ zs. IsKept (level_of inside.kind inside.attributes zs) c.take_away.new.self) (sym c.remove-item.ensures.items)
     (kept_remove inside.kind inside.attributes inside.items.items c.args.position c.remove-item.result inside.marks c.take_away.new.self
-      c.self.invariant at c.take_away.ensures)
+    c.self.invariant at c.take_away.ensures)
 
 pub returns-clause-item : goal.returns-clause-item
 returns-clause-item c =

@@ -14,7 +14,7 @@ invariant_of-self-2 c =
     let within = rw (← c.self.view_is) at c.requires in
     let here = slice_get_read items (length items) c.args.position c.index.result.now refl within c.index.ensures in
     let new : c.set_time_in.new.items ≡ change_at change c.args.position items =
-      c.set_time_in.ensures ∙ ap (change_at change c.args.position) c.deref_mut.ensures.value in
+    c.set_time_in.ensures ∙ ap (change_at change c.args.position) c.deref_mut.ensures.value in
     let size = ap length new ∙ length-change_at change c.args.position items in
     let free = ap (λ zs. retime_fault inside.kind zs c.args.position c.args.time) (sym c.deref.ensures.value) ∙ c.in_ok-retime_passes.ensures in
     subst (λ zs. IsKept (level_of inside.kind inside.attributes zs) c.put.new.self) (sym (written items c.set_time_in.new.items inside.items.len inside.items.ok.0 size ∙ new))

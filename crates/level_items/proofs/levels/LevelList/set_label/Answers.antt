@@ -1,4 +1,4 @@
-use Rattle.std.proofs.Common.{◌≡◌, [], get_or, length, refl, sym, ◌∙◌, ap, subst}
+use Rattle.std.proofs.Common.{◌≡◌, [], get_or, length, sym, ◌∙◌, ap, subst}
 use Rattle.std.specs.List.{slice_get}
 use Rattle.std.proofs.lemmas.Option.{slice_get-get_or}
 use Rattle.level_items.specs.declared.items.Item.{Item}
@@ -26,8 +26,8 @@ invariant_of-self c =
     let within = rw (← c.self.view_is) at c.requires.position in
     let item = get_or items c.args.position some_item in
     let new : c.set_label_in.new.items ≡ change_at change c.args.position items =
-      c.set_label_in.ensures ∙ ap (change_at change c.args.position) c.deref_mut.ensures.value in
+    c.set_label_in.ensures ∙ ap (change_at change c.args.position) c.deref_mut.ensures.value in
     let size = ap length new ∙ length-change_at change c.args.position items in
     subst (λ zs. IsKept (level_of inside.kind inside.attributes zs) inside.marks) (sym (written items c.set_label_in.new.items inside.items.len inside.items.ok.0 size ∙ new))
     (kept_label inside.kind inside.attributes items c.args.position item c.args.attribute c.args.label inside.marks c.self.invariant
-      (slice_get-get_or items c.args.position some_item within) c.requires.label)
+    (slice_get-get_or items c.args.position some_item within) c.requires.label)
