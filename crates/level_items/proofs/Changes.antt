@@ -51,7 +51,7 @@ pub record IsFit (kind : LevelKind) (attributes : ℕ) (item : Item) : Type 0 wh
   pub count : length item.labels ≡ attributes
   pub short : list_all is_short item.labels ≡ true
 
-parts_of_fit : (kind : LevelKind) (attributes : ℕ) (item : Item) → fits_level kind attributes item ≡ true → IsFit kind attributes item
+pub parts_of_fit : (kind : LevelKind) (attributes : ℕ) (item : Item) → fits_level kind attributes item ≡ true → IsFit kind attributes item
 parts_of_fit kind attributes item fits =
     let whole = and_parts (fits_kind kind item.time && ends_in_time item.time) (are_labels_for attributes item.labels) fits in
     let time = and_parts (fits_kind kind item.time) (ends_in_time item.time) whole.0 in
@@ -90,14 +90,13 @@ id_free false rule rest h = (refl, h)
 
 -- ---- an item put in
 
-pub kept_insert : (kind : LevelKind) (attributes : ℕ) (items : List Item) (position : Option ℕ) (place : ℕ) (x : Item) (old new : Marks) →
-    IsKept (level_of kind attributes items) old →
+pub insert_rule : (kind : LevelKind) (attributes : ℕ) (items : List Item) (position : Option ℕ) (place : ℕ) (x : Item) →
+    KeepsLevelRule (level_of kind attributes items) →
     insert_fault kind items position x ≡ None →
     place ≡ new_place kind items position x.time →
     are_labels_for attributes x.labels ≡ true →
-    ((q : ℕ) → is_marked new q ≡ (nat_eq q x.id.0 || is_marked old q)) →
-    IsKept (level_of kind attributes (insert items place x)) new
-kept_insert kind attributes items position place x old new kept free is labels more =
+    (position_fault kind (length items) position ≡ None) × KeepsLevelRule (level_of kind attributes (insert items place x))
+insert_rule kind attributes items position place x keeps free is labels =
     let at = new_place kind items position x.time in
     let first = id_free (list_any (nat_eq x.id.0) (ids_of items)) (rules.IdTaken x.id)
     (or_else (time_fault kind x.time) (or_else (position_fault kind (length items) position) (neighbour_fault kind (take at items) x.time (drop at items)))) free in
@@ -106,14 +105,25 @@ kept_insert kind attributes items position place x old new kept free is labels m
     let time = time_free kind x.time second.0 in
     let sides = ap (λ p. neighbour_fault kind (take p items) x.time (drop p items)) is ∙ third.1 in
     let whole = take-append-drop place items in
-    let rule = subst (λ zs. KeepsLevelRule (level_of kind attributes zs)) (sym whole) kept.rule in
-    record {
-      rule = rule_with kind attributes (take place items) x (drop place items) rule (ap (λ zs. list_any (nat_eq x.id.0) (ids_of zs)) whole ∙ first.0)
+    let rule = subst (λ zs. KeepsLevelRule (level_of kind attributes zs)) (sym whole) keeps in (
+      third.0,
+      rule_with kind attributes (take place items) x (drop place items) rule (ap (λ zs. list_any (nat_eq x.id.0) (ids_of zs)) whole ∙ first.0)
           (fit_of_parts kind attributes x time.0 time.1 labels)
-          (order_with kind (take place items) x (drop place items) rule.ordered sides);
-      marked = λ q. more q ∙ ap (λ b. nat_eq q x.id.0 || b) (kept.marked q ∙ ap (λ zs. list_any (nat_eq q) (ids_of zs)) (sym whole))
-          ∙ sym (any_id q (take place items) x (drop place items));
-    }
+          (order_with kind (take place items) x (drop place items) rule.ordered sides),
+    )
+
+pub kept_insert : (kind : LevelKind) (attributes : ℕ) (items : List Item) (position : Option ℕ) (place : ℕ) (x : Item) (old new : Marks) →
+    IsKept (level_of kind attributes items) old →
+    insert_fault kind items position x ≡ None →
+    place ≡ new_place kind items position x.time →
+    are_labels_for attributes x.labels ≡ true →
+    ((q : ℕ) → is_marked new q ≡ (nat_eq q x.id.0 || is_marked old q)) →
+    IsKept (level_of kind attributes (insert items place x)) new
+kept_insert kind attributes items position place x old new kept free is labels more = record {
+  rule = (insert_rule kind attributes items position place x kept.rule free is labels).1;
+  marked = λ q. more q ∙ ap (λ b. nat_eq q x.id.0 || b) (kept.marked q ∙ ap (λ zs. list_any (nat_eq q) (ids_of zs)) (sym (take-append-drop place items)))
+      ∙ sym (any_id q (take place items) x (drop place items));
+}
 
 -- ---- an item taken out
 
@@ -134,6 +144,23 @@ kept_remove kind attributes items i x old new kept at less =
 
 -- ---- an item changed
 
+pub retime_rule : (kind : LevelKind) (attributes : ℕ) (items : List Item) (i : ℕ) (x : Item) (time : Time) →
+    KeepsLevelRule (level_of kind attributes items) →
+    slice_get items i ≡ Some x →
+    retime_fault kind items i time ≡ None →
+    KeepsLevelRule (level_of kind attributes (change_at (retimed time) i items))
+retime_rule kind attributes items i x time keeps at free =
+    let before = take i items in
+    let behind = drop (suc i) items in
+    let rule = subst (λ zs. KeepsLevelRule (level_of kind attributes zs)) (sym (around items i x at)) keeps in
+    let without = rule_without kind attributes before x behind rule in
+    let sides = or_none (time_fault kind time) (neighbour_fault kind before time behind) free in
+    let form = time_free kind time sides.0 in
+    let labels = (and_parts (fits_kind kind x.time && ends_in_time x.time) (are_labels_for attributes x.labels) without.fits).1 in
+    subst (λ zs. KeepsLevelRule (level_of kind attributes zs)) (sym (change_around (retimed time) i items x at))
+    (rule_with kind attributes before (retimed time x) behind without.rule without.fresh (fit_of_parts kind attributes (retimed time x) form.0 form.1 labels)
+    (order_with kind before (retimed time x) behind without.rule.ordered sides.1))
+
 pub kept_retime : (kind : LevelKind) (attributes : ℕ) (items : List Item) (i : ℕ) (x : Item) (time : Time) (old new : Marks) →
     IsKept (level_of kind attributes items) old →
     slice_get items i ≡ Some x →
@@ -143,20 +170,12 @@ pub kept_retime : (kind : LevelKind) (attributes : ℕ) (items : List Item) (i :
 kept_retime kind attributes items i x time old new kept at free more =
     let before = take i items in
     let behind = drop (suc i) items in
-    let whole = around items i x at in
-    let changed = change_around (retimed time) i items x at in
-    let rule = subst (λ zs. KeepsLevelRule (level_of kind attributes zs)) (sym whole) kept.rule in
-    let without = rule_without kind attributes before x behind rule in
-    let sides = or_none (time_fault kind time) (neighbour_fault kind before time behind) free in
-    let form = time_free kind time sides.0 in
-    let labels = (and_parts (fits_kind kind x.time && ends_in_time x.time) (are_labels_for attributes x.labels) without.fits).1 in
     let rest : (q : ℕ) → list_any (nat_eq q) (ids_of (change_at (retimed time) i items)) ≡ (nat_eq q x.id.0 || list_any (nat_eq q) (ids_of (before ++ behind))) =
-    λ q. ap (λ zs. list_any (nat_eq q) (ids_of zs)) changed ∙ any_id q before (retimed time x) behind in
+    λ q. ap (λ zs. list_any (nat_eq q) (ids_of zs)) (change_around (retimed time) i items x at) ∙ any_id q before (retimed time x) behind in
     record {
-      rule = subst (λ zs. KeepsLevelRule (level_of kind attributes zs)) (sym changed)
-          (rule_with kind attributes before (retimed time x) behind without.rule without.fresh (fit_of_parts kind attributes (retimed time x) form.0 form.1 labels)
-          (order_with kind before (retimed time x) behind without.rule.ordered sides.1));
-      marked = λ q. more q ∙ ap (λ b. nat_eq q x.id.0 || b) (kept.marked q ∙ ap (λ zs. list_any (nat_eq q) (ids_of zs)) (sym whole) ∙ any_id q before x behind)
+      rule = retime_rule kind attributes items i x time kept.rule at free;
+      marked = λ q. more q
+          ∙ ap (λ b. nat_eq q x.id.0 || b) (kept.marked q ∙ ap (λ zs. list_any (nat_eq q) (ids_of zs)) (sym (around items i x at)) ∙ any_id q before x behind)
           ∙ again (nat_eq q x.id.0) (list_any (nat_eq q) (ids_of (before ++ behind))) ∙ sym (rest q);
     }
 

@@ -3,3 +3,4 @@ pub mod Apart
 pub mod Rules
 pub mod Found
 pub mod Changes
+pub mod Exact

@@ -4,3 +4,4 @@ pub mod Faults
 pub mod Gives
 pub mod Marked
 pub mod Kept
+pub mod Laws

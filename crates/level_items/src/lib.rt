@@ -5,6 +5,7 @@
 mod annot;
 mod items;
 mod labels;
+mod law;
 mod levels;
 mod marks;
 mod moves;
@@ -19,5 +20,6 @@ pub use annot::{
 };
 pub use items::Item;
 pub use labels::Labels;
+pub use law::{insert_refuses_exactly, place_splits_items, retime_refuses_exactly};
 pub use levels::LevelList;
 pub use times::Time;
