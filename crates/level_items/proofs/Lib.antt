@@ -1,0 +1,6 @@
+pub mod Lists
+pub mod Apart
+pub mod Rules
+pub mod Found
+pub mod Changes
+pub mod Exact

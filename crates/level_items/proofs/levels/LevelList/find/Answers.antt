@@ -1,0 +1,8 @@
+use Rattle.std.proofs.Common.{sym, ◌∙◌}
+use Rattle.level_items.proofs.Found.{absent}
+use Rattle.level_items.proofs.levels.LevelList.find.Goals as goal
+
+pub returns-in_err-mark : goal.returns-in_err-mark
+returns-in_err-mark c =
+    let none = sym (c.self.invariant.marked c.args.id.0) ∙ sym c.in_err-mark.ensures in
+    rw (← c.self.view_is) (c.from_residual.ensures ∙ absent c.self.inside.items.items c.args.id.0 none)

@@ -1,0 +1,91 @@
+-- A level of a bundle, and the rule that it keeps (EMU-SDMS Manual, "The emuDB format": levels and
+-- items of an annotation; that gaps between segments are allowed is this project's choice).
+use Rattle.std.specs.Prelude.{ℕ, Bool, true, ◌&&◌, not, List, [], ◌∷◌, length, map, nat_eq, nat_le, ◌==◌, IsTrue, Option, Some, None, zero, suc, slice_set, count_by, unwrap_or}
+use Rattle.std.specs.List.{list_all, list_any}
+use Rattle.emu_names.specs.declared.kinds.LevelKind.{LevelKind}
+use Rattle.emu_names.specs.declared.kinds.LevelKind.TheVariants as kinds
+use Rattle.level_items.specs.declared.times.Time.{Time}
+use Rattle.level_items.specs.declared.items.Item.{Item}
+use Rattle.level_items.specs.Times.{fits_kind, ends_in_time, is_before, starts_before}
+
+-- the kind of a level, how many attributes it has, and its items in order
+pub record Level : Type 0 where
+  pub kind : LevelKind
+  pub attributes : ℕ
+  pub items : List Item
+
+abbrev pub level_of : LevelKind → ℕ → List Item → Level
+level_of kind attributes items = record { kind = kind; attributes = attributes; items = items }
+
+abbrev pub with_items : Level → List Item → Level
+with_items level items = level_of level.kind level.attributes items
+
+abbrev pub ids_of : List Item → List ℕ
+ids_of items = map (λ i. i.id.0) items
+
+-- no number stands twice
+abbrev pub are_different : List ℕ → Bool
+are_different [] = true
+are_different (n ∷ ns) = not (list_any (nat_eq n) ns) && are_different ns
+
+abbrev pub is_short : List ℕ → Bool
+is_short label = nat_le (length label) 4096
+
+-- one label for each attribute, each of at most 4,096 bytes
+abbrev pub are_labels_for : ℕ → List (List ℕ) → Bool
+are_labels_for attributes labels = (length labels == attributes) && list_all is_short labels
+
+-- the time has the form of the level's kind and ends below sample 2^40; the labels are whole
+abbrev pub fits_level : LevelKind → ℕ → Item → Bool
+fits_level kind attributes item =
+    fits_kind kind item.time && ends_in_time item.time && are_labels_for attributes item.labels
+
+-- the time is over before that of the first of these items begins
+abbrev pub is_before_first : Time → List Item → Bool
+is_before_first time [] = true
+is_before_first time (next ∷ items) = is_before time next.time
+
+-- each item is over before the next one begins
+abbrev pub are_apart : List Item → Bool
+are_apart [] = true
+are_apart (item ∷ items) = is_before_first item.time items && are_apart items
+
+-- segments and points stand in the order of their times, items without time in any
+abbrev pub are_in_order : LevelKind → List Item → Bool
+are_in_order kinds.Item items = true
+are_in_order kinds.Segment items = are_apart items
+are_in_order kinds.Event items = are_apart items
+
+-- the level rule
+pub record KeepsLevelRule (level : Level) : Type 0 where
+  pub distinct : IsTrue (are_different (ids_of level.items))
+  pub fitting : IsTrue (list_all (fits_level level.kind level.attributes) level.items)
+  pub ordered : IsTrue (are_in_order level.kind level.items)
+
+abbrev pub first_of : List Item → Option Item
+first_of [] = None
+first_of (item ∷ items) = Some item
+
+abbrev pub last_of : List Item → Option Item
+last_of [] = None
+last_of (item ∷ []) = Some item
+last_of (item ∷ next ∷ items) = last_of (next ∷ items)
+
+-- where a new item goes: without time at the place that is asked for, else last; with a time behind
+-- all items that begin before it
+abbrev pub new_place : LevelKind → List Item → Option ℕ → Time → ℕ
+new_place kinds.Item items position time = unwrap_or position (length items)
+new_place kinds.Segment items position time = count_by (λ i. starts_before i.time time) items
+new_place kinds.Event items position time = count_by (λ i. starts_before i.time time) items
+
+abbrev pub retimed : Time → Item → Item
+retimed time item = record { id = item.id; time = time; labels = item.labels }
+
+abbrev pub relabelled : ℕ → List ℕ → Item → Item
+relabelled attribute label item = record { id = item.id; time = item.time; labels = slice_set item.labels attribute label }
+
+-- the item at this position changed, and all others as they are
+abbrev pub change_at : (Item → Item) → ℕ → List Item → List Item
+change_at change position [] = []
+change_at change zero (item ∷ items) = change item ∷ items
+change_at change (suc position) (item ∷ items) = item ∷ change_at change position items

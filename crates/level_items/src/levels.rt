@@ -1,0 +1,172 @@
+//! A level list: the items of one level of a bundle, which keep the level rule.
+//!
+//! Beside its items, which stand in one vector, a list has an ordered map from ids to marks. A new id is
+//! looked up in that map. The place of a new segment or point is found by halving the list, since the
+//! items stand in the order of their first samples. An item is found by its mark: that of a segment or
+//! point is its first sample, by which the list is halved, and that of an item without time the place at
+//! which it was put in. Only where an item without time has moved since is the list walked.
+ghost use Rattle.std.specs.Prelude.{◌≡◌, ℕ, ◌<◌, ◌≤◌, [], length, nat_eq, insert, remove, position, slice_get, Some, IsTrue, ◌↔◌, IfOk, OnOk, OnErr};
+ghost use Rattle.level_items.specs.Levels.{Level, KeepsLevelRule, are_labels_for, change_at, is_short, level_of, new_place, relabelled, retimed, with_items};
+ghost use Rattle.level_items.specs.Faults.{insert_fault, retime_fault};
+ghost use Rattle.level_items.specs.Gives.{FindsFault};
+
+use crate::items::Item;
+use crate::marks::Marks;
+use crate::moves::{
+    copied, mark_of, place_of_mark, position_near, put_in, retime_passes, set_label_in, set_time_in,
+};
+use crate::places::place_for;
+use crate::times::Time;
+use emu_names::{Fault, ItemId, LevelKind, Memory, Text};
+use std::alloc::Global;
+use std::marker::Model;
+
+/// The items of a level, which contracts see as the level's kind, its number of attributes and the list
+/// of its items (EMU-SDMS Manual, "The emuDB format": `levels` in `_annot.json`).
+///
+/// It always keeps the level rule: ids are distinct; each time has the form of the level's kind and ends
+/// below sample 2^40; each segment starts past the last sample of the one before it, and points rise
+/// strictly; each item has one label for each attribute, of at most 4,096 bytes. There may be gaps
+/// between segments.
+#[derive(Drop)]
+pub struct LevelList {
+    kind: LevelKind,
+    attributes: usize,
+    items: Vec<Item>,
+    marks: Marks,
+}
+
+impl Model for LevelList {
+    ghost use Rattle.level_items.specs.Levels.{Level};
+
+    ghost Value = { Level };
+
+    ghost use Rattle.level_items.specs.Levels.{level_of};
+    ghost use Rattle.level_items.specs.Kept.{IsKept};
+
+    ghost view = { λ l. level_of l.kind l.attributes l.items.items };
+
+    ghost invariant = { λ l. IsKept (level_of l.kind l.attributes l.items.items) l.marks };
+}
+
+impl LevelList {
+    /// The list of no item, on a level of this kind with so many attributes. It grows by `alloc`.
+    pub fn new(alloc: Global, kind: LevelKind, attributes: usize) -> LevelList
+        ensures { result ≡ level_of kind attributes [] }
+    {
+        LevelList {
+            kind,
+            attributes,
+            items: Vec::new(alloc),
+            marks: Marks::new(alloc),
+        }
+    }
+
+    /// How many items there are. Whoever asks may rely on the level rule.
+    pub fn len(&self) -> usize
+        ensures length { result ≡ length self.now.items }
+        ensures rule { KeepsLevelRule self.now }
+    {
+        self.items.len()
+    }
+
+    /// Whether there is no item.
+    pub fn is_empty(&self) -> bool
+        ensures { IsTrue result ↔ (self.now.items ≡ []) }
+    {
+        self.items.is_empty()
+    }
+
+    /// The item at a position, counted from 0.
+    pub fn get(&self, position: usize) -> &Item
+        requires { position < length self.now.items }
+        ensures { slice_get self.now.items position ≡ Some result.now }
+    {
+        &self.items[position]
+    }
+
+    /// The position of the item with this id, where there is one.
+    pub fn find(&self, id: ItemId) -> Option<usize>
+        ensures { result ≡ position (λ i. nat_eq i.id.0 id.0) self.now.items }
+    {
+        let mark = self.marks.get(id)?;
+        let guess = place_of_mark(self.kind, &self.items, mark);
+        position_near(&self.items, guess, id)
+    }
+
+    /// Puts an item in, and answers its place. On an ITEM level this is `position`, or the end where none
+    /// is given; on the other kinds it lies behind all items that begin before it.
+    ///
+    /// Refused are, in this order: an id that is there (`IdTaken`), a time of another form than the
+    /// level's (`TimeKind`), one that ends past sample 2^40 - 1 (`TimeOut`), a position past the end of an
+    /// ITEM level or any position on another kind (`PositionOut`), and a time that does not lie between
+    /// those of its neighbours (`Overlap` on a SEGMENT level, `NotRising` on an EVENT level), with the id
+    /// of the previous item before that of the next. A refusal, or want of memory, changes nothing.
+    pub fn insert(&mut self, position: Option<u32>, item: Item) -> Result<usize, Fault>
+        requires { IsTrue (are_labels_for self.old.attributes item.labels) }
+        ensures fault { FindsFault result (insert_fault self.old.kind self.old.items position item) }
+        ensures place { IfOk result (λ place. place ≡ new_place self.old.kind self.old.items position item.time) }
+        ensures inserted { IfOk result (λ place. self.new ≡ with_items self.old (insert self.old.items place item)) }
+        ensures kept { OnErr result (self.new ≡ self.old) }
+    {
+        let place = place_for(self.kind, &self.items, &self.marks, position, &item)?;
+        self.items.reserve(1)?;
+        self.marks.put(item.id, mark_of(place, item.time))?;
+        put_in(&mut self.items, place, item);
+        Ok(place)
+    }
+
+    /// Takes the item at a position out, and closes up.
+    pub fn remove(&mut self, position: usize) -> Item
+        requires { position < length self.old.items }
+        ensures item { slice_get self.old.items position ≡ Some result }
+        ensures removed { self.new ≡ with_items self.old (remove self.old.items position) }
+    {
+        let item = self.items.remove(position);
+        self.marks.take_away(item.id);
+        item
+    }
+
+    /// Sets one label of the item at a position. All else stays.
+    pub fn set_label(&mut self, position: usize, attribute: usize, label: Text)
+        requires position { position < length self.old.items }
+        requires attribute { attribute < self.old.attributes }
+        requires label { IsTrue (is_short label) }
+        ensures { self.new ≡ with_items self.old (change_at (relabelled attribute label) position self.old.items) }
+    {
+        set_label_in(&mut self.items, position, attribute, label);
+    }
+
+    /// Sets the time of the item at a position, which it keeps.
+    ///
+    /// Refused are, in this order: a time of another form than the level's (`TimeKind`), one that ends
+    /// past sample 2^40 - 1 (`TimeOut`), and one that does not lie between those of the item's neighbours
+    /// (`Overlap` on a SEGMENT level, `NotRising` on an EVENT level), with the id of the previous item
+    /// before that of the next. A refusal, or want of memory, changes nothing.
+    pub fn retime(&mut self, position: usize, time: Time) -> Result<(), Fault>
+        requires { position < length self.old.items }
+        ensures fault { FindsFault result (retime_fault self.old.kind self.old.items position time) }
+        ensures retimed { OnOk result (self.new ≡ with_items self.old (change_at (retimed time) position self.old.items)) }
+        ensures kept { OnErr result (self.new ≡ self.old) }
+    {
+        retime_passes(self.kind, &self.items, position, time)?;
+        self.marks
+            .put(self.items[position].id, mark_of(position, time))?;
+        set_time_in(&mut self.items, position, time);
+        Ok(())
+    }
+
+    /// The same list again. The only refusal is want of memory.
+    pub fn copy(&self, alloc: Global) -> Result<LevelList, Memory>
+        ensures { IfOk result (λ made. made ≡ self.now) }
+    {
+        let items = copied(alloc, self.items.as_slice())?;
+        let marks = self.marks.copy()?;
+        Ok(LevelList {
+            kind: self.kind,
+            attributes: self.attributes,
+            items,
+            marks,
+        })
+    }
+}

@@ -1,0 +1,55 @@
+//! The ids of a level list, each with a mark by which its item is found.
+ghost use Rattle.std.specs.Prelude.{◌≡◌, ℕ, false, not, ◌&&◌, ◌||◌, nat_eq, is_some, IfOk, OnOk, OnErr};
+ghost use Rattle.level_items.specs.Marked.{is_marked};
+
+use emu_names::{ItemId, Memory};
+use std::alloc::Global;
+use std::collections::BTreeMap;
+
+/// A map from ids to marks. Of a mark nothing is promised: it tells where to look first.
+#[derive(Drop)]
+pub(crate) struct Marks {
+    marks: BTreeMap<u32, u64>,
+}
+
+impl Marks {
+    /// No mark, in a map that grows by `alloc`.
+    pub(crate) fn new(alloc: Global) -> Marks
+        ensures { (q : ℕ) → is_marked result q ≡ false }
+    {
+        Marks {
+            marks: BTreeMap::new(alloc),
+        }
+    }
+
+    /// The mark of an id, where it has one.
+    pub(crate) fn get(&self, id: ItemId) -> Option<u64>
+        ensures { is_some result ≡ is_marked self.now id.0 }
+    {
+        self.marks.get(&id.0).copied()
+    }
+
+    /// Marks an id anew. The only refusal is want of memory, which changes nothing.
+    pub(crate) fn put(&mut self, id: ItemId, mark: u64) -> Result<(), Memory>
+        ensures ok { OnOk result ((q : ℕ) → is_marked self.new q ≡ (nat_eq q id.0 || is_marked self.old q)) }
+        ensures err { OnErr result ((q : ℕ) → is_marked self.new q ≡ is_marked self.old q) }
+    {
+        self.marks.insert(id.0, mark)?;
+        Ok(())
+    }
+
+    /// Takes the mark of an id away.
+    pub(crate) fn take_away(&mut self, id: ItemId)
+        ensures { (q : ℕ) → is_marked self.new q ≡ (not (nat_eq q id.0) && is_marked self.old q) }
+    {
+        self.marks.remove(&id.0);
+    }
+
+    /// The same marks again. The only refusal is want of memory.
+    pub(crate) fn copy(&self) -> Result<Marks, Memory>
+        ensures { IfOk result (λ made. (q : ℕ) → is_marked made q ≡ is_marked self.now q) }
+    {
+        let marks = self.marks.clone()?;
+        Ok(Marks { marks })
+    }
+}

@@ -1,0 +1,94 @@
+//! Work on the items of a level list, and the marks by which they are found.
+ghost use Rattle.std.specs.Prelude.{◌≡◌, ◌+◌, ◌<◌, ◌≤◌, length, nat_eq, insert, position, slice_get, Some, vec_len, vec_capacity, IfOk, IsTrue};
+ghost use Rattle.level_items.specs.Levels.{change_at, relabelled, retimed, are_different, ids_of};
+ghost use Rattle.level_items.specs.Faults.{retime_fault};
+ghost use Rattle.level_items.specs.Gives.{FindsFault};
+ghost use Rattle.level_items.specs.declared.items.Item.{Item};
+
+use crate::items::Item;
+use crate::places::{neighbours_pass, time_passes};
+use crate::times::Time;
+use emu_names::{Fault, ItemId, LevelKind, Memory, Text};
+use std::alloc::Global;
+
+/// The mark of an item that is put at this place: its first sample, or the place where it has no time.
+pub(crate) fn mark_of(place: usize, time: Time) -> u64 {
+    match time {
+        Time::NoTime => place as u64,
+        Time::Span { start, .. } => start,
+        Time::Point { at } => at,
+    }
+}
+
+/// Where an item with this mark is, if no item without time was put in or taken out before it.
+pub(crate) fn place_of_mark(kind: LevelKind, items: &[Item], mark: u64) -> usize {
+    match kind {
+        LevelKind::Item => mark as usize,
+        LevelKind::Segment | LevelKind::Event => {
+            items.partition_point(|item| item.time.first_sample() < mark)
+        }
+    }
+}
+
+/// The position of an item, for which `guess` is tried first.
+pub(crate) fn position_near(items: &[Item], guess: usize, id: ItemId) -> Option<usize>
+    requires { IsTrue (are_different (ids_of items.now)) }
+    ensures { result ≡ position (λ i. nat_eq i.id.0 id.0) items.now }
+{
+    match items.get(guess) {
+        Some(item) if item.id == id => Some(guess),
+        _ => items.iter().position(|item| item.id == id),
+    }
+}
+
+/// Puts an item in at a place, where there is room.
+pub(crate) fn put_in(items: &mut Vec<Item>, place: usize, item: Item)
+    requires within { place ≤ vec_len items.old }
+    requires room { vec_len items.old < vec_capacity items.old }
+    ensures { items.new.items ≡ insert items.old.items place item }
+{
+    items.insert(place, item).unwrap();
+}
+
+/// Tests another time for the item at a position.
+pub(crate) fn retime_passes(
+    kind: LevelKind,
+    items: &[Item],
+    position: usize,
+    time: Time,
+) -> Result<(), Fault>
+    requires { position < length items.now }
+    ensures { FindsFault result (retime_fault kind items.now position time) }
+{
+    time_passes(kind, time)?;
+    neighbours_pass(kind, &items[..position], time, &items[position + 1..])
+}
+
+/// Sets the time of the item at a position.
+pub(crate) fn set_time_in(items: &mut [Item], position: usize, time: Time)
+    requires { position < length items.old }
+    ensures { items.new ≡ change_at (retimed time) position items.old }
+{
+    items[position].time = time;
+}
+
+/// Sets one label of the item at a position.
+pub(crate) fn set_label_in(items: &mut [Item], position: usize, attribute: usize, label: Text)
+    requires position { position < length items.old }
+    requires attribute { (item : Item) → slice_get items.old position ≡ Some item → attribute < length item.labels }
+    ensures { items.new ≡ change_at (relabelled attribute label) position items.old }
+{
+    let item = &mut items[position];
+    item.labels.set(attribute, label);
+}
+
+/// The same items again. The only refusal is want of memory.
+pub(crate) fn copied(alloc: Global, items: &[Item]) -> Result<Vec<Item>, Memory>
+    ensures { IfOk result (λ made. made.items ≡ items.now) }
+{
+    let mut made = Vec::with_capacity(alloc, items.len())?;
+    for item in items {
+        made.push(item.copy(alloc)?)?;
+    }
+    Ok(made)
+}

@@ -1,0 +1,462 @@
+//! Lists worked by hand from the level rule, and each call that allocates on its happy path.
+ghost use Rattle.std.specs.Prelude.{◌≡◌};
+
+use crate::Time::{NoTime, Point, Span};
+use crate::{
+    Annot, AnnotItem, AnnotItems, AnnotLabel, AnnotLabels, AnnotLevel, AnnotLevels, AnnotLink,
+    AnnotLinks, Item, Labels, LevelList, Time,
+};
+use emu_names::{Broken, Fault, ItemId, LevelKind, Text};
+use std::alloc::Global;
+use std::process::Abort;
+use std::test::Fail;
+
+/// What is asked of a list.
+#[derive(Clone, Copy)]
+enum Step {
+    /// To put an item in, at a position or where it belongs.
+    Put(Option<u32>),
+    /// To set the time of the item at a position.
+    Move(usize),
+    /// To take the item at a position out.
+    Take(usize),
+}
+
+use Step::{Move, Put, Take};
+
+/// A step, the id and the time that it has, and the word and the number that it is answered.
+type Row = (Step, u32, Time, &'static str, u64);
+
+static SEGMENTS: [Row; 36] = [
+    (Put(None), 1, Span { start: 0, dur: 9 }, "at", 0),
+    (Put(None), 2, Span { start: 10, dur: 0 }, "at", 1),
+    (Put(None), 3, Span { start: 10, dur: 4 }, "Overlap", 2),
+    (Put(None), 3, Span { start: 9, dur: 0 }, "Overlap", 1),
+    (
+        Put(None),
+        4,
+        Span {
+            start: 1099511627775,
+            dur: 0,
+        },
+        "at",
+        2,
+    ),
+    (
+        Put(None),
+        5,
+        Span {
+            start: 1099511627776,
+            dur: 0,
+        },
+        "TimeOut",
+        0,
+    ),
+    (Put(None), 1, Span { start: 100, dur: 0 }, "IdTaken", 1),
+    // of two causes the earlier one
+    (Put(Some(0)), 1, NoTime, "IdTaken", 1),
+    (Put(Some(0)), 5, NoTime, "TimeKind", 0),
+    (Put(Some(0)), 5, Point { at: 100 }, "TimeKind", 0),
+    (
+        Put(Some(0)),
+        5,
+        Span {
+            start: 0,
+            dur: 1099511627776,
+        },
+        "TimeOut",
+        0,
+    ),
+    (
+        Put(None),
+        5,
+        Span {
+            start: 18446744073709551615,
+            dur: 18446744073709551615,
+        },
+        "TimeOut",
+        0,
+    ),
+    (Put(Some(0)), 5, Span { start: 9, dur: 0 }, "PositionOut", 0),
+    (
+        Put(Some(2)),
+        5,
+        Span { start: 20, dur: 0 },
+        "PositionOut",
+        0,
+    ),
+    // over both neighbours: the previous one is named
+    (Put(None), 5, Span { start: 5, dur: 10 }, "Overlap", 1),
+    // up to the last sample before the next one, and not further
+    (
+        Put(None),
+        5,
+        Span {
+            start: 11,
+            dur: 1099511627764,
+        },
+        "Overlap",
+        4,
+    ),
+    (
+        Put(None),
+        5,
+        Span {
+            start: 11,
+            dur: 1099511627763,
+        },
+        "at",
+        2,
+    ),
+    (Take(2), 5, NoTime, "taken", 5),
+    (Put(None), 5, Span { start: 20, dur: 4 }, "at", 2),
+    // now 1 (0, 9), 2 (10, 0), 5 (20, 4), 4 (2^40 - 1, 0)
+    (Move(1), 0, NoTime, "TimeKind", 0),
+    (Move(1), 0, Point { at: 12 }, "TimeKind", 0),
+    (
+        Move(1),
+        0,
+        Span {
+            start: 12,
+            dur: 1099511627764,
+        },
+        "TimeOut",
+        0,
+    ),
+    (Move(1), 0, Span { start: 9, dur: 11 }, "Overlap", 1),
+    (Move(1), 0, Span { start: 10, dur: 10 }, "Overlap", 5),
+    (Move(1), 0, Span { start: 30, dur: 0 }, "Overlap", 5),
+    (Move(1), 0, Span { start: 10, dur: 9 }, "moved", 0),
+    (Move(1), 0, Span { start: 19, dur: 0 }, "moved", 0),
+    (Move(0), 0, Span { start: 18, dur: 0 }, "moved", 0),
+    (Move(0), 0, Span { start: 18, dur: 1 }, "Overlap", 2),
+    (Move(2), 0, Span { start: 0, dur: 0 }, "Overlap", 2),
+    (Take(0), 0, NoTime, "taken", 1),
+    (Take(2), 0, NoTime, "taken", 4),
+    (Take(0), 0, NoTime, "taken", 2),
+    (Put(None), 2, Span { start: 0, dur: 19 }, "at", 0),
+    (Put(None), 1, Span { start: 25, dur: 0 }, "at", 2),
+    (Put(None), 4, Span { start: 30, dur: 0 }, "at", 3),
+];
+
+/// A boundary that is moved, a segment that is cut, and two that are joined again.
+static BOUNDARIES: [Row; 10] = [
+    (
+        Put(None),
+        1,
+        Span {
+            start: 3749,
+            dur: 1389,
+        },
+        "at",
+        0,
+    ),
+    (
+        Put(None),
+        2,
+        Span {
+            start: 5138,
+            dur: 1664,
+        },
+        "Overlap",
+        1,
+    ),
+    (
+        Put(None),
+        2,
+        Span {
+            start: 5139,
+            dur: 1664,
+        },
+        "at",
+        1,
+    ),
+    (
+        Move(1),
+        0,
+        Span {
+            start: 5000,
+            dur: 1803,
+        },
+        "Overlap",
+        1,
+    ),
+    (
+        Move(0),
+        0,
+        Span {
+            start: 3749,
+            dur: 1250,
+        },
+        "moved",
+        0,
+    ),
+    (
+        Move(1),
+        0,
+        Span {
+            start: 5000,
+            dur: 1803,
+        },
+        "moved",
+        0,
+    ),
+    (
+        Move(1),
+        0,
+        Span {
+            start: 5000,
+            dur: 999,
+        },
+        "moved",
+        0,
+    ),
+    (
+        Put(None),
+        3,
+        Span {
+            start: 6000,
+            dur: 803,
+        },
+        "at",
+        2,
+    ),
+    (Take(2), 0, NoTime, "taken", 3),
+    (
+        Move(1),
+        0,
+        Span {
+            start: 5000,
+            dur: 1803,
+        },
+        "moved",
+        0,
+    ),
+];
+
+static POINTS: [Row; 17] = [
+    (Put(None), 1, Point { at: 10 }, "at", 0),
+    (Put(None), 2, Point { at: 30 }, "at", 1),
+    (Put(None), 3, Point { at: 20 }, "at", 1),
+    (Put(None), 4, Point { at: 20 }, "NotRising", 3),
+    (Put(None), 4, Point { at: 1099511627776 }, "TimeOut", 0),
+    (Put(None), 4, Point { at: 1099511627775 }, "at", 3),
+    (Put(Some(0)), 5, Point { at: 0 }, "PositionOut", 0),
+    (Put(None), 5, Span { start: 0, dur: 0 }, "TimeKind", 0),
+    (Put(None), 5, NoTime, "TimeKind", 0),
+    (Put(None), 5, Point { at: 0 }, "at", 0),
+    // now 5 (0), 1 (10), 3 (20), 2 (30), 4 (2^40 - 1)
+    (Move(2), 0, Point { at: 10 }, "NotRising", 1),
+    (Move(2), 0, Point { at: 30 }, "NotRising", 2),
+    (Move(2), 0, Point { at: 40 }, "NotRising", 2),
+    (Move(2), 0, Point { at: 5 }, "NotRising", 1),
+    (Move(2), 0, Point { at: 29 }, "moved", 0),
+    (Move(2), 0, Span { start: 20, dur: 0 }, "TimeKind", 0),
+    (Take(4), 0, NoTime, "taken", 4),
+];
+
+static WORDS: [Row; 12] = [
+    (Put(Some(1)), 1, NoTime, "PositionOut", 0),
+    (Put(Some(0)), 1, NoTime, "at", 0),
+    (Put(Some(1)), 2, NoTime, "at", 1),
+    (Put(Some(0)), 3, NoTime, "at", 0),
+    (Put(None), 4, NoTime, "at", 3),
+    (Put(Some(5)), 5, NoTime, "PositionOut", 0),
+    (Put(Some(5)), 4, NoTime, "IdTaken", 4),
+    (Put(Some(5)), 5, Point { at: 0 }, "TimeKind", 0),
+    (Put(Some(4)), 5, NoTime, "at", 4),
+    (Move(0), 0, NoTime, "moved", 0),
+    (Move(0), 0, Span { start: 0, dur: 0 }, "TimeKind", 0),
+    (Take(1), 0, NoTime, "taken", 1),
+];
+
+/// The word and the number of a rule, with 0 where no id broke it.
+fn told(rule: &Broken) -> (&'static str, u64) {
+    match rule {
+        Broken::IdTaken(id) | Broken::Overlap(id) | Broken::NotRising(id) => {
+            (rule.word(), u64::from(id.0))
+        }
+        _ => (rule.word(), 0),
+    }
+}
+
+/// What one step is answered on a level without attributes.
+fn answered(alloc: Global, list: &mut LevelList, row: &Row) -> (&'static str, u64)
+    requires { list.old.attributes ≡ 0 }
+    ensures { list.new.attributes ≡ 0 }
+{
+    let (step, id, time, _, _) = *row;
+    match step {
+        Put(position) => {
+            let labels = Labels::new(alloc);
+            let id = ItemId(id);
+            match list.insert(position, Item { id, time, labels }) {
+                Ok(place) => ("at", place as u64),
+                Err(Fault::Broken(rule)) => told(&rule),
+                Err(Fault::Memory) => ("Memory", 0),
+            }
+        }
+        Move(position) if position < list.len() => match list.retime(position, time) {
+            Ok(()) => ("moved", 0),
+            Err(Fault::Broken(rule)) => told(&rule),
+            Err(Fault::Memory) => ("Memory", 0),
+        },
+        Take(position) if position < list.len() => ("taken", u64::from(list.remove(position).id.0)),
+        _ => ("no such position", 0),
+    }
+}
+
+/// The list after these steps, of which each is answered as its row says.
+fn after(rt: &impl Abort, alloc: Global, kind: LevelKind, rows: &[Row]) -> LevelList
+    ensures { result.attributes ≡ 0 }
+{
+    let mut list = LevelList::new(alloc, kind, 0);
+    for row in rows {
+        let (word, number) = answered(alloc, &mut list, row);
+        assert_eq!(rt; word, row.3, "{number} at the id {}", row.1);
+        assert_eq!(rt; number, row.4, "{word} at the id {}", row.1);
+    }
+    list
+}
+
+/// Asserts that these ids stand on the list in this order, each where it is found.
+fn stand(rt: &impl Abort, list: &LevelList, ids: &[u32]) {
+    assert_eq!(rt; list.len(), ids.len());
+    for place in 0..ids.len() {
+        assert_eq!(rt; list.get(place).id, ItemId(ids[place]));
+        assert_eq!(rt; list.find(ItemId(ids[place])), Some(place));
+    }
+    assert_eq!(rt; list.find(ItemId(99)), None);
+}
+
+#[test]
+fn lists_keep_the_level_rule(rt: HostRuntime) -> Result<(), Fail> {
+    let alloc = rt.alloc();
+    let segments = after(&rt, alloc, LevelKind::Segment, &SEGMENTS);
+    stand(&rt, &segments, &[2, 5, 1, 4]);
+    stand(&rt, &segments.copy(alloc)?, &[2, 5, 1, 4]);
+    let cut = after(&rt, alloc, LevelKind::Segment, &BOUNDARIES);
+    stand(&rt, &cut, &[1, 2]);
+    let points = after(&rt, alloc, LevelKind::Event, &POINTS);
+    stand(&rt, &points, &[5, 1, 3, 2]);
+    let words = after(&rt, alloc, LevelKind::Item, &WORDS);
+    stand(&rt, &words, &[3, 2, 4, 5]);
+    stand(&rt, &words.copy(alloc)?, &[3, 2, 4, 5]);
+    Ok(())
+}
+
+/// A list of so many items, put in one after the other.
+fn row_of(rt: &impl Abort, alloc: Global, kind: LevelKind, count: u32) -> Result<LevelList, Fail> {
+    let mut list = LevelList::new(alloc, kind, 0);
+    for number in 0..count {
+        let start = u64::from(number) * 2;
+        let time = match kind {
+            LevelKind::Item => NoTime,
+            LevelKind::Segment => Span { start, dur: 1 },
+            LevelKind::Event => Point { at: start },
+        };
+        let labels = Labels::new(alloc);
+        let id = ItemId(count - number);
+        list.insert(None, Item { id, time, labels })?;
+    }
+    assert_eq!(rt; list.len(), count as usize);
+    Ok(list)
+}
+
+/// Whether this many items are built and found in far less time than the square of their number takes.
+#[test]
+fn many_items_are_built_and_found(rt: HostRuntime) -> Result<(), Fail> {
+    let alloc = rt.alloc();
+    let count = 65_536;
+    for kind in [LevelKind::Item, LevelKind::Segment, LevelKind::Event] {
+        let list = row_of(&rt, alloc, kind, count)?;
+        for number in 0..count {
+            let place = list.find(ItemId(count - number));
+            assert_eq!(rt; place, Some(number as usize));
+        }
+    }
+    Ok(())
+}
+
+/// Values that go to other threads and are shared among them.
+fn crosses_threads<T: Send + Sync>(_value: &T) {}
+
+#[test]
+fn labels_are_set_and_copied(rt: HostRuntime) -> Result<(), Fail> {
+    let alloc = rt.alloc();
+    let mut labels = Labels::new(alloc);
+    labels.push(Text::new(alloc, "V")?)?;
+    labels.push(Text::new(alloc, "")?)?;
+    assert_eq!(rt; labels.len(), 2);
+    let mut list = LevelList::new(alloc, LevelKind::Item, 2);
+    let item = Item {
+        id: ItemId(7),
+        time: NoTime,
+        labels,
+    };
+    let second = item.copy(alloc)?;
+    assert_eq!(rt; list.insert(None, item)?, 0);
+    list.set_label(0, 1, Text::new(alloc, "m")?);
+    let copied = list.copy(alloc)?;
+    crosses_threads(&copied);
+    assert_eq!(rt; copied.len(), 1);
+    let labels = &copied.get(0).labels;
+    assert_eq!(rt; labels.len(), 2);
+    assert_eq!(rt; labels.get(0).as_str(), "V");
+    assert_eq!(rt; labels.get(1).as_str(), "m");
+    assert_eq!(rt; second.labels.get(1).as_str(), "");
+    Ok(())
+}
+
+#[test]
+fn annotations_are_copied(rt: HostRuntime) -> Result<(), Fail> {
+    let alloc = rt.alloc();
+    let name = Text::new(alloc, "Phonetic")?;
+    let value = Text::new(alloc, "V")?;
+    let mut labels = AnnotLabels::new(alloc);
+    labels.push(AnnotLabel { name, value })?;
+    let mut items = AnnotItems::new(alloc);
+    items.push(AnnotItem {
+        id: ItemId(1),
+        time: Span {
+            start: 3749,
+            dur: 1389,
+        },
+        labels,
+    })?;
+    let mut levels = AnnotLevels::new(alloc);
+    levels.push(AnnotLevel {
+        name: Text::new(alloc, "Phonetic")?,
+        kind: LevelKind::Segment,
+        items,
+    })?;
+    let mut links = AnnotLinks::new(alloc);
+    links.push(AnnotLink {
+        from: ItemId(2),
+        to: ItemId(1),
+    })?;
+    let annot = Annot {
+        annotates: Text::new(alloc, "b1.wav")?,
+        rate: 20000,
+        levels,
+        links,
+    };
+    let copied = annot.copy(alloc)?;
+    crosses_threads(&copied);
+    assert_eq!(rt; copied.annotates.as_str(), "b1.wav");
+    assert_eq!(rt; copied.rate, 20000);
+    assert_eq!(rt;
+        copied.links.as_slice(),
+        [AnnotLink {
+            from: ItemId(2),
+            to: ItemId(1)
+        }]
+        .as_slice()
+    );
+    assert_eq!(rt; copied.levels.len(), 1);
+    let level = copied.levels.get(0);
+    assert_eq!(rt; level.items.len(), 1);
+    assert_eq!(rt; level.items.get(0).labels.len(), 1);
+    assert_eq!(rt; level.items.get(0).labels.get(0).value.as_str(), "V");
+    Ok(())
+}
