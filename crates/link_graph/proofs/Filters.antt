@@ -90,3 +90,14 @@ module _ {X : Type 0} (p q r : X → Bool) (both : (x : X) → p x ≡ true → 
   pub none_found : (xs : List X) → find r xs ≡ None → list_any q (filter p xs) ≡ false
   none_found [] k = refl
   none_found (x ∷ xs) k = lost_at x xs (p x) (q x) (r x) refl refl refl k (none_found xs)
+
+-- where nothing passes, the filter of the others keeps all
+module _ {X : Type 0} (q : X → Bool) where
+  all_at : (x : X) (xs : List X) (a : Bool) → q x ≡ a → list_any q (x ∷ xs) ≡ false → (list_any q xs ≡ false → filter (λ y. not (q y)) xs ≡ xs) →
+      filter (λ y. not (q y)) (x ∷ xs) ≡ x ∷ xs
+  all_at x xs true e k h = let passes : true ≡ false = rw e at k in cc
+  all_at x xs false e k h = rw e (ap (λ ys. x ∷ ys) (h (rw e at k)))
+
+  pub filter_all : (xs : List X) → list_any q xs ≡ false → filter (λ x. not (q x)) xs ≡ xs
+  filter_all [] k = refl
+  filter_all (x ∷ xs) k = all_at x xs (q x) refl k (filter_all xs)
