@@ -1,5 +1,5 @@
 -- Links that are added under a kind, and links that are taken out, keep it.
-use Rattle.std.proofs.Common.{◌≡◌, ◌≢◌, ℕ, Bool, true, false, List, [], ◌∷◌, ◌++◌, Option, None, Some, refl, ap, sym, ◌∙◌, cond, ◌&&◌, arith, option_map}
+use Rattle.std.proofs.Common.{◌≡◌, ◌≢◌, ℕ, Bool, true, false, List, [], ◌∷◌, ◌++◌, Option, None, Some, refl, ap, sym, ◌∙◌, cond, ◌&&◌, arith, option_map, eqb, leb, length}
 use Rattle.std.specs.List.{filter, find, list_any, IsDistinct, AllByRecursion}
 use Rattle.std.specs.Option.{option_or}
 use Rattle.std.specs.Cmp.{IsEquivalence}
@@ -12,10 +12,11 @@ use Rattle.emu_names.specs.declared.kinds.ItemId.{ItemId}
 use Rattle.emu_names.specs.declared.kinds.LinkKind.{LinkKind}
 use Rattle.emu_names.specs.declared.kinds.LinkKind.TheVariants.{OneToOne, OneToMany, ManyToMany}
 use Rattle.emu_names.specs.declared.rules.Broken.{Broken}
-use Rattle.emu_names.specs.declared.rules.Broken.TheVariants.{OneParent, OneChild}
+use Rattle.emu_names.specs.declared.rules.Broken.TheVariants.{LinkExists, TooMany, OneParent, OneChild}
+use Rattle.emu_names.specs.declared.rules.What.TheVariants.{BundleLinks}
 use Rattle.link_graph.specs.declared.link.Link.{Link}
 use Rattle.link_graph.specs.Kind.{KeepKind, HaveOneParent, HaveOneChild, of_definition}
-use Rattle.link_graph.specs.Link.{add_fault, kind_fault, parent_fault, child_fault}
+use Rattle.link_graph.specs.Link.{joins, add_fault, kind_fault, parent_fault, child_fault}
 use Rattle.link_graph.proofs.Filters.{filter_push, filter_swap, none_found}
 
 all_filter : {X : Type 0} (P : X → Type 0) (p : X → Bool) (xs : List X) → AllByRecursion P xs → AllByRecursion P (filter p xs)
@@ -67,23 +68,24 @@ both_none : (o q : Option Broken) → option_or o q ≡ None → (o ≡ None) ×
 both_none None q h = (refl, h)
 both_none (Some x) q h = cc
 
+of_push : (link : Link) (links : List Link) → of_definition link.definition (links ++ link ∷ []) ≡ of_definition link.definition links ++ link ∷ []
+of_push link links =
+    filter_push _ links link
+    ∙ cond-true (eqb link.definition link.definition) (of_definition link.definition links ++ link ∷ []) (of_definition link.definition links) (eq-eqb link.definition link.definition refl)
+
 one_parent : (link : Link) (links : List Link) → parent_fault link.definition link.to links ≡ None →
     HaveOneParent (of_definition link.definition links) → HaveOneParent (of_definition link.definition (links ++ link ∷ []))
 one_parent link links h k =
-    let last : of_definition link.definition (links ++ link ∷ []) ≡ of_definition link.definition links ++ link ∷ [] =
-    filter_push _ links link ∙ cond-true _ _ _ (eq-eqb _ _ refl) in
-    rw last
+    rw (of_push link links)
     (IsDistinct-push (on_equiv (λ (l : Link). l.to.0) nat_eq_equiv) _ link k
-    (none_found _ _ _ (λ x e f. grind (arith, nat_tests)) links (unmapped _ _ h)))
+    (none_found (λ l. eqb l.definition link.definition) (λ l. eqb link.to.0 l.to.0) _ (λ x e f. grind (arith, nat_tests)) links (unmapped _ _ h)))
 
 one_child : (link : Link) (links : List Link) → child_fault link.definition link.from links ≡ None →
     HaveOneChild (of_definition link.definition links) → HaveOneChild (of_definition link.definition (links ++ link ∷ []))
 one_child link links h k =
-    let last : of_definition link.definition (links ++ link ∷ []) ≡ of_definition link.definition links ++ link ∷ [] =
-    filter_push _ links link ∙ cond-true _ _ _ (eq-eqb _ _ refl) in
-    rw last
+    rw (of_push link links)
     (IsDistinct-push (on_equiv (λ (l : Link). l.from.0) nat_eq_equiv) _ link k
-    (none_found _ _ _ (λ x e f. grind (arith, nat_tests)) links (unmapped _ _ h)))
+    (none_found (λ l. eqb l.definition link.definition) (λ l. eqb link.from.0 l.from.0) _ (λ x e f. grind (arith, nat_tests)) links (unmapped _ _ h)))
 
 keep_same : (kind : LinkKind) (link : Link) (links : List Link) → kind_fault kind link.definition link.from link.to links ≡ None →
     KeepKind kind link.definition links → KeepKind kind link.definition (links ++ link ∷ [])
@@ -94,7 +96,9 @@ keep_same ManyToMany link links h k = k
 
 pub keep_added : (kind : LinkKind) (link : Link) (links : List Link) → add_fault kind link.definition link.from link.to links ≡ None →
     KeepKind kind link.definition links → KeepKind kind link.definition (links ++ link ∷ [])
-keep_added kind link links h = keep_same kind link links (later _ _ _ (later _ _ _ h))
+keep_added kind link links h =
+    keep_same kind link links
+    (later (leb 262144 (length links)) (TooMany BundleLinks) _ (later (list_any (joins link.from link.to) links) LinkExists _ h))
 
 pub keep_none : (kind : LinkKind) (definition : ℕ) → KeepKind kind definition []
 unfolding IsDistinct
