@@ -139,13 +139,7 @@ impl Links {
     }
 
     /// The first rule that a new link breaks.
-    fn fault(
-        &self,
-        definition: u32,
-        kind: LinkKind,
-        from: ItemId,
-        to: ItemId,
-    ) -> Option<Broken>
+    fn fault(&self, definition: u32, kind: LinkKind, from: ItemId, to: ItemId) -> Option<Broken>
         ensures { result ≡ add_fault kind definition from to self.now }
     {
         if self.index.pairs.has(from, to) {

@@ -8,7 +8,9 @@ use std::process::Abort;
 use std::test::Fail;
 
 const ONE: LinkKind = LinkKind::OneToOne;
+
 const FEW: LinkKind = LinkKind::OneToMany;
+
 const MANY: LinkKind = LinkKind::ManyToMany;
 
 /// Links to be added: the definition, its kind, the two ids, and the rule that is broken with its id.
@@ -50,13 +52,19 @@ fn some_links(rt: &impl Abort, alloc: Global) -> Links {
     links
 }
 
-fn check_pairs(rt: &impl Abort, links: &Links, pairs: &[(u32, u32)]) {
-    assert_eq!(rt; links.len(), pairs.len());
-    for place in 0..links.len() {
-        let link = links.get(place);
-        assert_eq!(rt; (link.from.0, link.to.0), pairs[place]);
-    }
-}
+/// What a list of links has: its pairs of ids in order, and the parents and the children of an item.
+type State = (&'static [(u32, u32)], u32, &'static [u32], &'static [u32]);
+
+static ADDED: State = (
+    &[(1, 2), (1, 3), (4, 2), (1, 5), (8, 5), (8, 6)],
+    1,
+    &[],
+    &[2, 3, 5],
+);
+
+static REMOVED: State = (&[(1, 2), (4, 2), (1, 5), (8, 5), (8, 6)], 5, &[1, 8], &[]);
+
+static WITHOUT_ITEM: State = (&[(1, 2), (4, 2), (8, 6)], 2, &[1, 4], &[]);
 
 fn check_ends(rt: &impl Abort, ends: Ends<'_>, ids: &[u32]) {
     let mut place = 0;
@@ -67,28 +75,32 @@ fn check_ends(rt: &impl Abort, ends: Ends<'_>, ids: &[u32]) {
     assert_eq!(rt; place, ids.len());
 }
 
+fn check(rt: &impl Abort, links: &Links, state: &State) {
+    let (pairs, id, parents, children) = *state;
+    assert_eq!(rt; links.len(), pairs.len());
+    for place in 0..links.len() {
+        let link = links.get(place).copy();
+        assert_eq!(rt; (link.from.0, link.to.0), pairs[place]);
+    }
+    check_ends(rt, links.parents(ItemId(id)), parents);
+    check_ends(rt, links.children(ItemId(id)), children);
+}
+
+fn remove(links: &mut Links, from: u32, to: u32) -> u8 {
+    number_of(&links.remove(ItemId(from), ItemId(to))).0
+}
+
 #[test]
 fn links_are_added_and_taken_out(rt: HostRuntime) -> Result<(), Fail> {
     let mut links = some_links(&rt, rt.alloc());
-    check_pairs(
-        &rt,
-        &links,
-        &[(1, 2), (1, 3), (4, 2), (1, 5), (8, 5), (8, 6)],
-    );
-    check_ends(&rt, links.parents(ItemId(2)), &[1, 4]);
-    check_ends(&rt, links.parents(ItemId(5)), &[1, 8]);
-    check_ends(&rt, links.children(ItemId(1)), &[2, 3, 5]);
-    check_ends(&rt, links.children(ItemId(2)), &[]);
-    assert_eq!(rt; number_of(&links.remove(ItemId(3), ItemId(1))), (23, 0));
-    assert_eq!(rt; number_of(&links.remove(ItemId(1), ItemId(3))), (0, 0));
-    assert_eq!(rt; number_of(&links.remove(ItemId(1), ItemId(3))), (23, 0));
+    check(&rt, &links, &ADDED);
+    for (from, to, rule) in [(3, 1, 23), (1, 3, 0), (1, 3, 23)] {
+        assert_eq!(rt; remove(&mut links, from, to), rule);
+    }
     let copied = links.copy(rt.alloc())?;
+    check(&rt, &copied, &REMOVED);
     links.remove_item(ItemId(5));
-    check_pairs(&rt, &links, &[(1, 2), (4, 2), (8, 6)]);
-    check_ends(&rt, links.children(ItemId(1)), &[2]);
-    check_ends(&rt, links.parents(ItemId(5)), &[]);
-    check_pairs(&rt, &copied, &[(1, 2), (4, 2), (1, 5), (8, 5), (8, 6)]);
-    check_ends(&rt, copied.parents(ItemId(5)), &[1, 8]);
+    check(&rt, &links, &WITHOUT_ITEM);
     Ok(())
 }
 
@@ -115,7 +127,10 @@ fn many_links_are_soon_there(rt: HostRuntime) -> Result<(), Fail> {
             assert_eq!(rt; links.children(ItemId(id)).count(), lower as usize);
         }
         for id in 0..lower {
-            assert_eq!(rt; links.parents(ItemId(1_000_000 + id)).count(), upper as usize);
+            assert_eq!(rt;
+                links.parents(ItemId(1_000_000 + id)).count(),
+                upper as usize
+            );
         }
         links.remove_item(ItemId(0));
         assert_eq!(rt; links.len(), 262_144 - lower as usize);
