@@ -1,12 +1,11 @@
 -- What the list of links and its index keep through each change, and the first rule that a link breaks.
-use Rattle.std.proofs.Common.{◌≡◌, ◌<◌, ◌≤◌, ℕ, Bool, true, false, List, [], ◌∷◌, ◌++◌, Option, length, refl, ap, sym, ◌∙◌, cond, not, ◌&&◌, eqb, arith, option_map, length-append, get_or, take, zero, suc}
+use Rattle.std.proofs.Common.{◌≡◌, ◌<◌, ℕ, Bool, true, false, List, [], ◌∷◌, ◌++◌, Option, length, refl, ◌∙◌, cond, not, ◌&&◌, arith, length-append, get_or, take, zero, suc}
 use Rattle.std.specs.List.{filter, find, list_any, IsDistinct, AllByRecursion}
 use Rattle.std.specs.Cmp.{IsEquivalence}
 use Rattle.std.proofs.lemmas.Bool.{or_from}
 use Rattle.std.proofs.lemmas.Bool.Decides.{nat_tests}
 use Rattle.std.proofs.lemmas.List.Filters.{length-filter_both}
 use Rattle.std.proofs.lemmas.Map.Keys.{IsDistinct-push}
-use Rattle.emu_names.specs.declared.rules.Broken.{Broken}
 use Rattle.link_graph.specs.declared.index.Index.{Index}
 use Rattle.link_graph.specs.declared.link.Link.{Link}
 use Rattle.link_graph.specs.Index.{Indexes}

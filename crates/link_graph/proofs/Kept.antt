@@ -1,18 +1,15 @@
 -- Links that are added under a kind, and links that are taken out, keep it.
-use Rattle.std.proofs.Common.{◌≡◌, ◌≢◌, ℕ, Bool, true, false, List, [], ◌∷◌, ◌++◌, Option, None, Some, refl, ap, sym, ◌∙◌, cond, ◌&&◌, arith, option_map, eqb, leb, length}
-use Rattle.std.specs.List.{filter, find, list_any, IsDistinct, AllByRecursion}
+use Rattle.std.proofs.Common.{◌≡◌, ◌≢◌, ℕ, Bool, true, false, List, [], ◌∷◌, ◌++◌, Option, None, Some, refl, ◌∙◌, cond, arith, option_map, eqb, leb, length}
+use Rattle.std.specs.List.{filter, list_any, IsDistinct, AllByRecursion}
 use Rattle.std.specs.Option.{option_or}
-use Rattle.std.specs.Cmp.{IsEquivalence}
-use Rattle.std.specs.Ordering.{on}
 use Rattle.std.proofs.lemmas.Bool.{cond_both, eq-eqb, ne_eqb, cond-true, cond-false}
 use Rattle.std.proofs.lemmas.Bool.Decides.{nat_tests}
 use Rattle.std.proofs.lemmas.Cmp.{nat_eq_equiv, on_equiv}
 use Rattle.std.proofs.lemmas.Map.Keys.{IsDistinct-push}
-use Rattle.emu_names.specs.declared.kinds.ItemId.{ItemId}
 use Rattle.emu_names.specs.declared.kinds.LinkKind.{LinkKind}
 use Rattle.emu_names.specs.declared.kinds.LinkKind.TheVariants.{OneToOne, OneToMany, ManyToMany}
 use Rattle.emu_names.specs.declared.rules.Broken.{Broken}
-use Rattle.emu_names.specs.declared.rules.Broken.TheVariants.{LinkExists, TooMany, OneParent, OneChild}
+use Rattle.emu_names.specs.declared.rules.Broken.TheVariants.{LinkExists, TooMany}
 use Rattle.emu_names.specs.declared.rules.What.TheVariants.{BundleLinks}
 use Rattle.link_graph.specs.declared.link.Link.{Link}
 use Rattle.link_graph.specs.Kind.{KeepKind, HaveOneParent, HaveOneChild, of_definition}

@@ -1,5 +1,5 @@
 -- What each change does to an index.
-use Rattle.std.proofs.Common.{◌≡◌, ℕ, Bool, true, false, List, [], ◌∷◌, ◌++◌, refl, ap, sym, ◌∙◌, cond, not, ◌&&◌, ◌||◌, arith, eqb, ◌⊎◌, ⊎_elim, Result, Ok, Err, is_err, OnOk, OnErr, take, get_or, length, ◌<◌, ◌+◌}
+use Rattle.std.proofs.Common.{◌≡◌, ℕ, Bool, true, false, List, [], ◌∷◌, ◌++◌, refl, ap, sym, ◌∙◌, cond, not, ◌&&◌, ◌||◌, arith, eqb, ⊎_elim, Result, Ok, Err, is_err, OnOk, OnErr, take, get_or, length, ◌<◌, ◌+◌}
 use Rattle.std.specs.List.{filter, list_any}
 use Rattle.std.proofs.lemmas.Bool.{cases_Bool, and_parts, eqb-true}
 use Rattle.std.proofs.lemmas.Bool.Decides.{nat_tests}

@@ -1,5 +1,5 @@
 -- Which links a list has of two items or of one, and the first rule that a new link breaks.
-use Rattle.std.specs.Prelude.{ℕ, Bool, List, map, Option, None, Some, ◌==◌, ◌&&◌, ◌||◌, not, nat_le, length, if◌then◌else◌, option_map}
+use Rattle.std.specs.Prelude.{ℕ, Bool, List, map, Option, None, Some, ◌==◌, ◌&&◌, ◌||◌, nat_le, length, if◌then◌else◌, option_map}
 use Rattle.std.specs.List.{filter, find, list_any, IsDistinct}
 use Rattle.std.specs.Option.{option_or}
 use Rattle.emu_names.specs.declared.kinds.ItemId.{ItemId}

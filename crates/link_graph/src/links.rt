@@ -1,5 +1,5 @@
 //! The links of a bundle: a list in the order of adding, in which no pair of ids stands twice.
-ghost use Rattle.std.specs.Prelude.{◌≡◌, ◌<◌, ◌≤◌, ◌↔◌, ◌==◌, ◌++◌, ◌∷◌, [], length, slice_get, Some, None, not, true, false, IfOk, OnOk, OnErr, IsOk, IsErrOf};
+ghost use Rattle.std.specs.Prelude.{◌≡◌, ◌<◌, ◌≤◌, ◌↔◌, ◌==◌, ◌++◌, ◌∷◌, [], length, slice_get, Some, None, not, true, false, IfOk, OnOk, OnErr, IsOk, IsErrOf, ◌+◌, vec_len, vec_capacity};
 ghost use Rattle.std.specs.List.{filter, find, list_any};
 ghost use Rattle.emu_names.specs.declared.rules.Broken.{Broken as Rule};
 ghost use Rattle.link_graph.specs.Link.{ArePairsApart, joins, names_item, parents_of, children_of, parent_fault, child_fault, add_fault};
@@ -184,9 +184,17 @@ impl Links {
     {
         self.links.reserve(1)?;
         self.index.add(self.links.as_slice(), link)?;
-        self.links.push(link).unwrap();
+        push_last(&mut self.links, link);
         Ok(())
     }
+}
+
+/// Puts a link last, where there is room for it.
+fn push_last(links: &mut Vec<Link>, link: Link)
+    requires { vec_len links.old + 1 ≤ vec_capacity links.old }
+    ensures { links.new.items ≡ links.old.items ++ link ∷ [] }
+{
+    links.push(link).unwrap();
 }
 
 /// The first link of a definition.
