@@ -33,6 +33,8 @@ static ROWS: [(u32, LinkKind, u32, u32, u8, u32); 12] = [
     (3, MANY, 8, 6, 0, 0),
 ];
 
+fn is_shared_by_threads<T: Send + Sync>(_: &T) {}
+
 fn number_of(added: &Result<(), Fault>) -> (u8, u32) {
     match added {
         Ok(()) => (0, 0),
@@ -93,6 +95,7 @@ fn remove(links: &mut Links, from: u32, to: u32) -> u8 {
 #[test]
 fn links_are_added_and_taken_out(rt: HostRuntime) -> Result<(), Fail> {
     let mut links = some_links(&rt, rt.alloc());
+    is_shared_by_threads(&links);
     check(&rt, &links, &ADDED);
     for (from, to, rule) in [(3, 1, 23), (1, 3, 0), (1, 3, 23)] {
         assert_eq!(rt; remove(&mut links, from, to), rule);
