@@ -1,0 +1,5 @@
+pub mod Filters
+pub mod Keeping
+pub mod Kept
+pub mod Steps
+pub mod Ties

@@ -1,0 +1,5 @@
+pub mod Ends
+pub mod Index
+pub mod Kind
+pub mod Link
+pub mod Links

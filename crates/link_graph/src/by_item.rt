@@ -1,0 +1,82 @@
+//! The links of each item, by the item's id, each list in the order in which it grew.
+ghost use Rattle.std.specs.Prelude.{◌≡◌, ◌==◌, ◌++◌, ◌∷◌, ℕ, [], OnOk, OnErr, not, if◌then◌else◌};
+ghost use Rattle.std.specs.List.{filter};
+ghost use Rattle.link_graph.specs.Index.{links_at};
+ghost use Rattle.link_graph.specs.Link.{joins, names_item};
+
+use crate::link::Link;
+use crate::taken::{take_item, take_pair};
+use emu_names::{ItemId, Memory};
+use std::alloc::Global;
+use std::collections::BTreeMap;
+
+/// A list of links for each item that has some. An item without an entry has none.
+#[derive(Drop)]
+pub(crate) struct ByItem {
+    alloc: Global,
+    lists: BTreeMap<u32, Vec<Link>>,
+}
+
+impl ByItem {
+    /// No links at any item.
+    pub(crate) fn new(alloc: Global) -> ByItem
+        ensures { (id : ℕ) → links_at result id ≡ [] }
+    {
+        ByItem {
+            alloc,
+            lists: BTreeMap::new(alloc),
+        }
+    }
+
+    /// The links at an item.
+    pub(crate) fn at(&self, id: ItemId) -> &[Link]
+        ensures { result.now ≡ links_at self.now id.0 }
+    {
+        match self.lists.get(&id.0) {
+            Some(links) => links.as_slice(),
+            None => &[],
+        }
+    }
+
+    /// Puts a link last at an item. The only refusal is want of memory, which changes nothing.
+    pub(crate) fn push(&mut self, at: ItemId, link: Link) -> Result<(), Memory>
+        ensures ok { OnOk result ((id : ℕ) → links_at self.new id
+            ≡ (if at.0 == id then links_at self.old id ++ link ∷ [] else links_at self.old id)) }
+        ensures err { OnErr result ((id : ℕ) → links_at self.new id ≡ links_at self.old id) }
+    {
+        let links = self.lists.entry(at.0)?.or_insert(Vec::new(self.alloc));
+        links.push(link)?;
+        Ok(())
+    }
+
+    /// Takes the links at an item out that lead from `from` to `to`.
+    pub(crate) fn remove(&mut self, at: ItemId, from: ItemId, to: ItemId)
+        ensures { (id : ℕ) → links_at self.new id
+            ≡ (if at.0 == id then filter (λ link. not (joins from to link)) (links_at self.old id) else links_at self.old id) }
+    {
+        if let Some(links) = self.lists.get_mut(&at.0) {
+            take_pair(links, from, to);
+        }
+    }
+
+    /// Takes all links at an item out, and gives them.
+    pub(crate) fn take(&mut self, at: ItemId) -> Vec<Link>
+        ensures taken { result.items ≡ links_at self.old at.0 }
+        ensures rest { (id : ℕ) → links_at self.new id ≡ (if at.0 == id then [] else links_at self.old id) }
+    {
+        match self.lists.remove(&at.0) {
+            Some(links) => links,
+            None => Vec::new(self.alloc),
+        }
+    }
+
+    /// Takes the links at an item out that name `id`.
+    pub(crate) fn forget(&mut self, at: ItemId, id: ItemId)
+        ensures { (key : ℕ) → links_at self.new key
+            ≡ (if at.0 == key then filter (λ link. not (names_item id link)) (links_at self.old key) else links_at self.old key) }
+    {
+        if let Some(links) = self.lists.get_mut(&at.0) {
+            take_item(links, id);
+        }
+    }
+}

@@ -1,0 +1,94 @@
+//! What a list of links is asked for, found without a walk over the list.
+ghost use Rattle.std.specs.Prelude.{◌≡◌, ◌==◌, ◌++◌, ◌∷◌, ℕ, List, [], OnOk, OnErr, not, false, length};
+ghost use Rattle.std.specs.List.{filter, list_any};
+ghost use Rattle.link_graph.specs.declared.link.Link.{Link};
+ghost use Rattle.link_graph.specs.Index.{Indexes, links_at, forgotten};
+ghost use Rattle.link_graph.specs.Link.{joins, names_item};
+
+use crate::by_item::ByItem;
+use crate::link::Link;
+use crate::pairs::Pairs;
+use emu_names::{ItemId, Memory};
+use std::alloc::Global;
+
+/// The links of each item, at either end, and the pairs of ids.
+#[derive(Drop)]
+pub(crate) struct Index {
+    pub(crate) down: ByItem,
+    pub(crate) up: ByItem,
+    pub(crate) pairs: Pairs,
+}
+
+impl Index {
+    /// The index of the list of no link.
+    pub(crate) fn new(alloc: Global) -> Index
+        ensures { Indexes result [] }
+    {
+        Index {
+            down: ByItem::new(alloc),
+            up: ByItem::new(alloc),
+            pairs: Pairs::new(alloc),
+        }
+    }
+
+    /// Adds a link whose pair of ids is not there. The only refusal is want of memory, after which
+    /// the index is that of the same list.
+    pub(crate) fn add(&mut self, links: &[Link], link: Link) -> Result<(), Memory>
+        requires indexed { Indexes self.old links.now }
+        requires apart { list_any (joins link.from link.to) links.now ≡ false }
+        ensures ok { OnOk result (Indexes self.new (links.now ++ link ∷ [])) }
+        ensures err { OnErr result (Indexes self.new links.now) }
+    {
+        self.pairs.insert(link.from, link.to)?;
+        if self.down.push(link.from, link).is_err() {
+            self.pairs.remove(link.from, link.to);
+            return Err(Memory);
+        }
+        if self.up.push(link.to, link).is_err() {
+            self.pairs.remove(link.from, link.to);
+            self.down.remove(link.from, link.from, link.to);
+            return Err(Memory);
+        }
+        Ok(())
+    }
+
+    /// Takes the links out that lead from `from` to `to`.
+    pub(crate) fn remove(&mut self, from: ItemId, to: ItemId)
+        ensures { (links : List Link) → Indexes self.old links
+            → Indexes self.new (filter (λ link. not (joins from to link)) links) }
+    {
+        self.pairs.remove(from, to);
+        self.down.remove(from, from, to);
+        self.up.remove(to, from, to);
+    }
+
+    /// Takes the links out that name an item.
+    pub(crate) fn remove_item(&mut self, id: ItemId)
+        ensures { (links : List Link) → Indexes self.old links
+            → Indexes self.new (filter (λ link. not (names_item id link)) links) }
+    {
+        let children = self.down.take(id);
+        let parents = self.up.take(id);
+        self.pairs.forget(id);
+        forget_lower(&mut self.up, id, children.as_slice());
+        forget_upper(&mut self.down, id, parents.as_slice());
+    }
+}
+
+/// Takes the links that name `id` out at the lower end of each of its links.
+fn forget_lower(up: &mut ByItem, id: ItemId, children: &[Link])
+    ensures { (key : ℕ) → links_at up.new key ≡ forgotten (list_any (λ link. link.to.0 == key) children.now) id (links_at up.old key) }
+{
+    for link in children {
+        up.forget(link.to, id);
+    }
+}
+
+/// Takes the links that name `id` out at the upper end of each of its links.
+fn forget_upper(down: &mut ByItem, id: ItemId, parents: &[Link])
+    ensures { (key : ℕ) → links_at down.new key ≡ forgotten (list_any (λ link. link.from.0 == key) parents.now) id (links_at down.old key) }
+{
+    for link in parents {
+        down.forget(link.from, id);
+    }
+}

@@ -1,0 +1,30 @@
+//! Laws with nothing to run: links that are added by `Links::add`, each definition with the kind
+//! that it has, keep that kind, also where some of them are taken out.
+ghost use Rattle.std.specs.Prelude.{◌≡◌, ◌≢◌, ◌++◌, ◌∷◌, ℕ, Bool, List, [], None};
+ghost use Rattle.std.specs.List.{filter};
+ghost use Rattle.emu_names.specs.declared.kinds.ItemId.{ItemId};
+ghost use Rattle.emu_names.specs.declared.kinds.LinkKind.{LinkKind};
+ghost use Rattle.link_graph.specs.declared.link.Link.{Link};
+ghost use Rattle.link_graph.specs.Kind.{KeepKind};
+ghost use Rattle.link_graph.specs.Link.{add_fault};
+
+/// No links keep every kind.
+pub fn no_links_keep_kinds()
+    ensures { (kind : LinkKind) (definition : ℕ) → KeepKind kind definition [] }
+{}
+
+/// A link that breaks no rule of its definition's kind keeps that kind, and leaves the links of
+/// other definitions as they were.
+pub fn added_links_keep_kinds()
+    ensures same { (kind : LinkKind) (link : Link) (links : List Link)
+        → add_fault kind link.definition link.from link.to links ≡ None
+        → KeepKind kind link.definition links → KeepKind kind link.definition (links ++ link ∷ []) }
+    ensures others { (kind : LinkKind) (definition : ℕ) (link : Link) (links : List Link)
+        → link.definition ≢ definition → KeepKind kind definition links → KeepKind kind definition (links ++ link ∷ []) }
+{}
+
+/// Links of which some are taken out keep each kind that they kept.
+pub fn kept_links_keep_kinds()
+    ensures { (kind : LinkKind) (definition : ℕ) (test : Link → Bool) (links : List Link)
+        → KeepKind kind definition links → KeepKind kind definition (filter test links) }
+{}

@@ -1,0 +1,18 @@
+//! The links between the items of one bundle, in the order in which they were added.
+#![tactic(auto)]
+
+mod by_item;
+mod ends;
+mod index;
+mod laws;
+mod link;
+mod links;
+mod pairs;
+mod taken;
+#[cfg(test)]
+mod tests;
+
+pub use ends::Ends;
+pub use laws::{added_links_keep_kinds, kept_links_keep_kinds, no_links_keep_kinds};
+pub use link::Link;
+pub use links::Links;

@@ -1,0 +1,142 @@
+//! What no clause says: that calls succeed where memory is ample, and are soon done.
+ghost use Rattle.std.specs.Prelude.{◌<◌};
+
+use crate::{Ends, Links};
+use emu_names::{Broken, Fault, ItemId, LinkKind, What};
+use std::alloc::Global;
+use std::process::Abort;
+use std::test::Fail;
+
+const ONE: LinkKind = LinkKind::OneToOne;
+
+const FEW: LinkKind = LinkKind::OneToMany;
+
+const MANY: LinkKind = LinkKind::ManyToMany;
+
+/// Links to be added: the definition, its kind, the two ids, and the rule that is broken with its id.
+static ROWS: [(u32, LinkKind, u32, u32, u8, u32); 12] = [
+    (0, FEW, 1, 2, 0, 0),
+    (0, FEW, 1, 3, 0, 0),
+    // a pair that is there, whatever the definition
+    (0, FEW, 1, 2, 22, 0),
+    (1, MANY, 1, 2, 22, 0),
+    // a second parent, and one by another definition
+    (0, FEW, 4, 2, 24, 1),
+    (1, FEW, 4, 2, 0, 0),
+    // a second child, a second parent, and both
+    (2, ONE, 1, 5, 0, 0),
+    (2, ONE, 1, 6, 25, 5),
+    (2, ONE, 7, 5, 24, 1),
+    (2, ONE, 1, 5, 22, 0),
+    // any links
+    (3, MANY, 8, 5, 0, 0),
+    (3, MANY, 8, 6, 0, 0),
+];
+
+fn is_shared_by_threads<T: Send + Sync>(_: &T) {}
+
+fn number_of(added: &Result<(), Fault>) -> (u8, u32) {
+    match added {
+        Ok(()) => (0, 0),
+        Err(Fault::Broken(Broken::OneParent(id))) => (24, id.0),
+        Err(Fault::Broken(Broken::OneChild(id))) => (25, id.0),
+        Err(Fault::Broken(rule)) => (rule.number(), 0),
+        Err(Fault::Memory) => (255, 0),
+    }
+}
+
+fn some_links(rt: &impl Abort, alloc: Global) -> Links {
+    let mut links = Links::new(alloc);
+    for &(definition, kind, from, to, rule, id) in &ROWS {
+        let added = links.add(definition, kind, ItemId(from), ItemId(to));
+        assert_eq!(rt; number_of(&added), (rule, id), "{from} {to}");
+    }
+    links
+}
+
+/// What a list of links has: its pairs of ids in order, and the parents and the children of an item.
+type State = (&'static [(u32, u32)], u32, &'static [u32], &'static [u32]);
+
+static ADDED: State = (
+    &[(1, 2), (1, 3), (4, 2), (1, 5), (8, 5), (8, 6)],
+    1,
+    &[],
+    &[2, 3, 5],
+);
+
+static REMOVED: State = (&[(1, 2), (4, 2), (1, 5), (8, 5), (8, 6)], 5, &[1, 8], &[]);
+
+static WITHOUT_ITEM: State = (&[(1, 2), (4, 2), (8, 6)], 2, &[1, 4], &[]);
+
+fn check_ends(rt: &impl Abort, ends: Ends<'_>, ids: &[u32]) {
+    let mut place = 0;
+    for id in ends {
+        assert!(rt; place < ids.len() && id.0 == ids[place]);
+        place += 1;
+    }
+    assert_eq!(rt; place, ids.len());
+}
+
+fn check(rt: &impl Abort, links: &Links, state: &State) {
+    let (pairs, id, parents, children) = *state;
+    assert_eq!(rt; links.len(), pairs.len());
+    for place in 0..links.len() {
+        let link = links.get(place).copy();
+        assert_eq!(rt; (link.from.0, link.to.0), pairs[place]);
+    }
+    check_ends(rt, links.parents(ItemId(id)), parents);
+    check_ends(rt, links.children(ItemId(id)), children);
+}
+
+fn remove(links: &mut Links, from: u32, to: u32) -> u8 {
+    number_of(&links.remove(ItemId(from), ItemId(to))).0
+}
+
+#[test]
+fn links_are_added_and_taken_out(rt: HostRuntime) -> Result<(), Fail> {
+    let mut links = some_links(&rt, rt.alloc());
+    is_shared_by_threads(&links);
+    check(&rt, &links, &ADDED);
+    for (from, to, rule) in [(3, 1, 23), (1, 3, 0), (1, 3, 23)] {
+        assert_eq!(rt; remove(&mut links, from, to), rule);
+    }
+    let copied = links.copy(rt.alloc())?;
+    check(&rt, &copied, &REMOVED);
+    links.remove_item(ItemId(5));
+    check(&rt, &links, &WITHOUT_ITEM);
+    Ok(())
+}
+
+/// 262,144 links from each of some items to each of some others.
+fn full(alloc: Global, lower: u32) -> Result<Links, Fault>
+    requires { 0 < lower }
+{
+    let mut links = Links::new(alloc);
+    for number in 0..262_144 {
+        let from = number / lower;
+        let to = 1_000_000 + number % lower;
+        links.add(0, MANY, ItemId(from), ItemId(to))?;
+    }
+    Ok(links)
+}
+
+#[test]
+fn many_links_are_soon_there(rt: HostRuntime) -> Result<(), Fail> {
+    for (upper, lower) in [(1, 262_144), (512, 512), (262_144, 1)] {
+        let mut links = full(rt.alloc(), lower)?;
+        let more = links.add(0, MANY, ItemId(1_000_000), ItemId(0));
+        assert!(rt; more == Err(Fault::Broken(Broken::TooMany(What::BundleLinks))));
+        for id in 0..upper {
+            assert_eq!(rt; links.children(ItemId(id)).count(), lower as usize);
+        }
+        for id in 0..lower {
+            assert_eq!(rt;
+                links.parents(ItemId(1_000_000 + id)).count(),
+                upper as usize
+            );
+        }
+        links.remove_item(ItemId(0));
+        assert_eq!(rt; links.len(), 262_144 - lower as usize);
+    }
+    Ok(())
+}
