@@ -1,0 +1,16 @@
+//! Patterns that match whole labels: the regular expressions behind `=~` and `!~` of EQL.
+#![tactic(auto)]
+
+mod faults;
+mod list_maker;
+mod maker;
+mod pattern;
+mod regex_maker;
+#[cfg(test)]
+mod tests;
+
+pub use faults::{Memory, PatternFault};
+pub use list_maker::ListMaker;
+pub use maker::PatternMaker;
+pub use pattern::Pattern;
+pub use regex_maker::RegexMaker;
