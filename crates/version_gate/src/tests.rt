@@ -8,13 +8,14 @@ use std::sync::{Arc, Wait};
 use std::test::Fail;
 use std::thread::join;
 
-// A gate with one pass.
-struct One {
+// A gate with two passes, of which one will learn.
+struct Two {
     publisher: Publisher<u64>,
     pass: Pass<u64>,
+    other: Pass<u64>,
 }
 
-fn one_pass<R: Wait>(rt: &R, alloc: Global, number: u64, version: u64) -> Result<One, Memory>
+fn two_passes<R: Wait>(rt: &R, alloc: Global, number: u64, version: u64) -> Result<Two, Memory>
     ensures number { IfOk result (λ m. m.publisher.number ≡ number) }
     ensures gate { IfOk result (λ m. m.pass.gate ≡ m.publisher.gate) }
 {
@@ -22,10 +23,15 @@ fn one_pass<R: Wait>(rt: &R, alloc: Global, number: u64, version: u64) -> Result
     let Made {
         publisher,
         mut passes,
-    } = new_gate(rt, alloc, number, opening, 1)?;
-    match passes.pop() {
-        Some(pass) => Ok(One { publisher, pass }),
-        None => {
+    } = new_gate(rt, alloc, number, opening, 2)?;
+    let last = passes.pop();
+    match (last, passes.pop()) {
+        (Some(pass), Some(other)) => Ok(Two {
+            publisher,
+            pass,
+            other,
+        }),
+        _ => {
             publisher.close(rt);
             Err(Memory)
         }
@@ -43,17 +49,22 @@ fn look(pass: &mut Pass<u64>) -> Option<(u64, u64, u64)>
 }
 
 // What the looks give at the opening, after two stages of one number, and after the publish and what was learnt of it;
-// and whether the pass has then caught up.
+// what the other pass then sees; and whether the first has caught up.
 fn looks_around_a_publish<R: Wait>(
     rt: &R,
     alloc: Global,
-    one: &mut One,
-) -> Result<([Option<(u64, u64, u64)>; 4], bool), Memory>
-    requires number { one.old.publisher.number ≡ 7 }
-    requires gate { one.old.pass.gate ≡ one.old.publisher.gate }
+    two: &mut Two,
+) -> Result<([Option<(u64, u64, u64)>; 6], bool), Memory>
+    requires number { two.old.publisher.number ≡ 7 }
+    requires gate { two.old.pass.gate ≡ two.old.publisher.gate }
 {
-    let One { publisher, pass } = one;
+    let Two {
+        publisher,
+        pass,
+        other,
+    } = two;
     let opening = look(pass);
+    let others = look(other);
     publisher.stage(8, Arc::new(alloc, 79)?)?;
     publisher.stage(8, Arc::new(alloc, 80)?)?;
     let staged = look(pass);
@@ -62,22 +73,26 @@ fn looks_around_a_publish<R: Wait>(
     let learnt = Some((pass.seen(), 0, 0));
     let published = look(pass);
     let caught = catch_up(publisher, pass);
-    Ok(([opening, staged, learnt, published], caught))
+    let last = look(other);
+    Ok(([opening, others, staged, learnt, published, last], caught))
 }
 
 #[test]
 fn a_version_is_seen_once_it_is_published(rt: HostRuntime) -> Result<(), Fail> {
-    let mut one = one_pass(&rt, rt.alloc(), 7, 70)?;
-    let found = looks_around_a_publish(&rt, rt.alloc(), &mut one);
-    let One {
+    let mut two = two_passes(&rt, rt.alloc(), 7, 70)?;
+    let found = looks_around_a_publish(&rt, rt.alloc(), &mut two);
+    let Two {
         publisher,
         mut pass,
-    } = one;
+        other: _other,
+    } = two;
     publisher.close(&rt);
     let wanted = [
         Some((7, 70, 7)),
         Some((7, 70, 7)),
+        Some((7, 70, 7)),
         Some((8, 0, 0)),
+        Some((8, 80, 8)),
         Some((8, 80, 8)),
     ];
     assert_eq!(rt; found, Ok((wanted, true)));
