@@ -1,8 +1,7 @@
 -- What the list of links and its index keep through each change, and the first rule that a link breaks.
-use Rattle.std.proofs.Common.{◌≡◌, ◌<◌, ℕ, Bool, true, false, List, [], ◌∷◌, ◌++◌, Option, length, refl, ◌∙◌, cond, not, ◌&&◌, arith, length-append, get_or, take, zero, suc}
-use Rattle.std.specs.List.{filter, find, list_any, IsDistinct, AllByRecursion}
+use Rattle.std.proofs.Common.{◌≡◌, ◌<◌, Bool, true, false, List, [], ◌∷◌, ◌++◌, Option, length, refl, ◌∙◌, cond, not, ◌&&◌, arith, length-append}
+use Rattle.std.specs.List.{filter, find, list_any, IsDistinct}
 use Rattle.std.specs.Cmp.{IsEquivalence}
-use Rattle.std.proofs.lemmas.Bool.{or_from}
 use Rattle.std.proofs.lemmas.Bool.Decides.{nat_tests}
 use Rattle.std.proofs.lemmas.List.Filters.{length-filter_both}
 use Rattle.std.proofs.lemmas.Map.Keys.{IsDistinct-push}
@@ -55,20 +54,3 @@ and_cond false false = refl
 pub first_is : (p q : Link → Bool) (links found : List Link) (o : Option Link) → found ≡ filter p links → o ≡ find q found →
     o ≡ find (λ link. q link && p link) links
 first_is p q links found o is first = rw is at first ∙ find_both p q _ (λ x. and_cond (p x) (q x)) links
-
-all_at : {X : Type 0} (P : X → Type 0) (xs : List X) (i : ℕ) (d : X) → AllByRecursion P xs → i < length xs → P (get_or xs i d)
-all_at P [] i d h within = absurd (omega arith)
-all_at P (x ∷ xs) zero d h within = h.0
-all_at P (x ∷ xs) (suc i) d h within = all_at P xs i d h.1 (omega arith)
-
--- each link is apart from those before it
-pub apart_before : (links : List Link) (i : ℕ) (d : Link) → IsDistinct (λ a b. joins a.from a.to b) links → i < length links →
-    list_any (joins (get_or links i d).from (get_or links i d).to) (take i links) ≡ false
-unfolding IsDistinct
-apart_before [] i d h within = absurd (omega arith)
-apart_before (x ∷ links) zero d h within = refl
-apart_before (x ∷ links) (suc i) d h within =
-    let link = get_or links i d in
-    or_from (joins link.from link.to x) (list_any (joins link.from link.to) (take i links))
-    (joins_like.symm link x ∙ all_at (λ y. joins x.from x.to y ≡ false) links i d h.0 (omega arith))
-    (apart_before links i d h.1 (omega arith))

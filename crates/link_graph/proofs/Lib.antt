@@ -1,3 +1,4 @@
+pub mod Clones
 pub mod Filters
 pub mod Keeping
 pub mod Kept

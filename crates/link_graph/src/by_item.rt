@@ -1,5 +1,5 @@
 //! The links of each item, by the item's id, each list in the order in which it grew.
-ghost use Rattle.std.specs.Prelude.{◌≡◌, ◌==◌, ◌++◌, ◌∷◌, ℕ, [], OnOk, OnErr, not, if◌then◌else◌};
+ghost use Rattle.std.specs.Prelude.{◌≡◌, ◌==◌, ◌++◌, ◌∷◌, ℕ, [], IfOk, OnOk, OnErr, not, if◌then◌else◌};
 ghost use Rattle.std.specs.List.{filter};
 ghost use Rattle.link_graph.specs.Index.{links_at};
 ghost use Rattle.link_graph.specs.Link.{joins, names_item};
@@ -36,6 +36,17 @@ impl ByItem {
             Some(links) => links.as_slice(),
             None => &[],
         }
+    }
+
+    /// The same links again. The only refusal is want of memory.
+    pub(crate) fn copy(&self) -> Result<ByItem, Memory>
+        ensures { IfOk result (λ made. (id : ℕ) → links_at made id ≡ links_at self.now id) }
+    {
+        let lists = self.lists.clone()?;
+        Ok(ByItem {
+            alloc: self.alloc,
+            lists,
+        })
     }
 
     /// Puts a link last at an item. The only refusal is want of memory, which changes nothing.

@@ -1,5 +1,5 @@
 //! What a list of links is asked for, found without a walk over the list.
-ghost use Rattle.std.specs.Prelude.{◌≡◌, ◌==◌, ◌++◌, ◌∷◌, ℕ, List, [], OnOk, OnErr, not, false, length};
+ghost use Rattle.std.specs.Prelude.{◌≡◌, ◌==◌, ◌++◌, ◌∷◌, ℕ, List, [], IfOk, OnOk, OnErr, not, false, length};
 ghost use Rattle.std.specs.List.{filter, list_any};
 ghost use Rattle.link_graph.specs.declared.link.Link.{Link};
 ghost use Rattle.link_graph.specs.Index.{Indexes, links_at, forgotten};
@@ -29,6 +29,16 @@ impl Index {
             up: ByItem::new(alloc),
             pairs: Pairs::new(alloc),
         }
+    }
+
+    /// The same index again. The only refusal is want of memory.
+    pub(crate) fn copy(&self) -> Result<Index, Memory>
+        ensures { IfOk result (λ made. (links : List Link) → Indexes self.now links → Indexes made links) }
+    {
+        let down = self.down.copy()?;
+        let up = self.up.copy()?;
+        let pairs = self.pairs.copy()?;
+        Ok(Index { down, up, pairs })
     }
 
     /// Adds a link whose pair of ids is not there. The only refusal is want of memory, after which

@@ -131,11 +131,9 @@ impl Links {
     pub fn copy(&self, alloc: Global) -> Result<Links, Memory>
         ensures { IfOk result (λ made. made ≡ self.now) }
     {
-        let mut made = Links::new(alloc);
-        for link in &self.links {
-            made.put(*link)?;
-        }
-        Ok(made)
+        let links = Vec::from_slice(alloc, self.links.as_slice())?;
+        let index = self.index.copy()?;
+        Ok(Links { links, index })
     }
 
     /// The first rule that a new link breaks.

@@ -1,5 +1,5 @@
 //! The pairs of ids that are linked.
-ghost use Rattle.std.specs.Prelude.{◌≡◌, ◌==◌, ◌&&◌, ◌||◌, ℕ, OnOk, OnErr, false, true, not};
+ghost use Rattle.std.specs.Prelude.{◌≡◌, ◌==◌, ◌&&◌, ◌||◌, ℕ, IfOk, OnOk, OnErr, false, true, not};
 ghost use Rattle.link_graph.specs.Index.{has_pair};
 
 use emu_names::{ItemId, Memory};
@@ -27,6 +27,14 @@ impl Pairs {
         ensures { result ≡ has_pair self.now from.0 to.0 }
     {
         self.pairs.contains(&(from.0, to.0))
+    }
+
+    /// The same pairs again. The only refusal is want of memory.
+    pub(crate) fn copy(&self) -> Result<Pairs, Memory>
+        ensures { IfOk result (λ made. (from to : ℕ) → has_pair made from to ≡ has_pair self.now from to) }
+    {
+        let pairs = self.pairs.clone()?;
+        Ok(Pairs { pairs })
     }
 
     /// Puts a pair in. The only refusal is want of memory, which changes nothing.
