@@ -4,6 +4,8 @@ ghost use Rattle.std.specs.Prelude.{◌≡◌, IfOk};
 use crate::law::catch_up;
 use crate::{LookFault, Made, Memory, Note, Pass, Publisher, new_gate};
 use std::alloc::Global;
+use std::sync::atomic::AtomicBool;
+use std::sync::atomic::Ordering::SeqCst;
 use std::sync::{Arc, Wait};
 use std::test::Fail;
 use std::thread::join;
@@ -140,18 +142,21 @@ fn publish_many<R: Wait>(
     Ok(())
 }
 
-// Looks until it finds a number, or gives up. Whether it found it, no look went back, and each gave the version of its number.
-fn look_up_to(pass: &mut Pass<u64>, last: u64) -> bool {
+// Looks until it finds a number, or an older one once the publisher has ended. Whether it found it, no look went back, and
+// each gave the version of its number.
+fn look_up_to(pass: &mut Pass<u64>, last: u64, ended: &AtomicBool) -> bool {
     let mut before = 0;
-    for _ in 0..100_000_000 {
-        if let Ok(found) = pass.look() {
-            if found.number < before || *found.version != found.number.wrapping_mul(3) {
-                return false;
-            }
-            before = found.number;
+    for _ in 0..u64::MAX {
+        let over = ended.load(SeqCst);
+        let Ok(found) = pass.look() else {
+            continue;
+        };
+        if found.number < before || *found.version != found.number.wrapping_mul(3) {
+            return false;
         }
-        if before >= last {
-            return pass.seen() == before;
+        before = found.number;
+        if over || before >= last {
+            return before >= last && pass.seen() == before;
         }
     }
     false
@@ -180,14 +185,19 @@ fn looks_beside_a_publisher_never_go_back(rt: HostRuntime) -> Result<(), Fail> {
         publisher.close(&rt);
         return Err(Memory.into());
     };
+    let ended = AtomicBool::new(false);
     let (published, looks) = join(
         &rt,
-        || publish_many(&rt, alloc, &mut publisher, 100),
+        || {
+            let published = publish_many(&rt, alloc, &mut publisher, 100);
+            ended.store(true, SeqCst);
+            published
+        },
         || {
             join(
                 &rt,
-                || look_up_to(&mut one, 107),
-                || look_up_to(&mut other, 107),
+                || look_up_to(&mut one, 107, &ended),
+                || look_up_to(&mut other, 107, &ended),
             )
         },
     );
