@@ -3,7 +3,7 @@ ghost use Rattle.std.specs.Prelude.{IfOk};
 ghost use Rattle.emu_disk.specs.Planned.{images_of};
 ghost use Rattle.edit_journal.specs.Held.{IsHeld};
 
-use crate::{Bodies, Body, BodyBytes, Frame, Journal, JournalFault, Recovered};
+use crate::{Bodies, Body, BodyBytes, Frame, Journal, JournalFault, Memory, Recovered};
 use emu_disk::{Call, Fate, MemoryDisk};
 use std::alloc::Global;
 use std::test::Fail;
@@ -180,22 +180,41 @@ fn places_of_damage(rt: HostRuntime) -> Result<(), Fail> {
 }
 
 #[test]
-fn lists_and_copies(rt: HostRuntime) -> Result<(), Fail> {
-    let alloc = rt.alloc();
+fn bytes_are_a_list(rt: HostRuntime) -> Result<(), Fail> {
+    let mut bytes = BodyBytes::new(rt.alloc());
+    bytes.push(b'x')?;
+    let ends = (bytes.len(), bytes.get(0), bytes.get(1));
+    assert_eq!(rt; ends, (1, Some(b'x'), None));
+    Ok(())
+}
+
+/// The body x, whose gate is at 8.
+fn one_body(alloc: Global) -> Result<Bodies, Memory> {
     let mut bytes = BodyBytes::new(alloc);
     bytes.push(b'x')?;
-    assert_eq!(rt;
-        (bytes.len(), bytes.get(0), bytes.get(1)),
-        (1, Some(b'x'), None)
-    );
     let mut bodies = Bodies::new(alloc);
     bodies.push(Body { at: 8, bytes })?;
-    let copied = bodies.copy(alloc)?;
+    Ok(bodies)
+}
+
+#[test]
+fn bodies_are_copied(rt: HostRuntime) -> Result<(), Fail> {
+    let copied = one_body(rt.alloc())?.copy(rt.alloc())?;
     assert!(rt; are(&copied, &[b"x"]));
     assert_eq!(rt; copied.get(0).map(|body| body.at), Some(8));
-    let frame = Frame::new(alloc, b"AB")?.copy(alloc)?;
+    Ok(())
+}
+
+#[test]
+fn frames_are_copied(rt: HostRuntime) -> Result<(), Fail> {
+    let frame = Frame::new(rt.alloc(), b"AB")?.copy(rt.alloc())?;
     assert_eq!(rt; frame.len(), 2);
     is_sendable(&frame);
-    is_sendable(&opened(alloc, MemoryDisk::new(alloc, b"")?)?.journal);
+    Ok(())
+}
+
+#[test]
+fn journals_may_be_sent(rt: HostRuntime) -> Result<(), Fail> {
+    is_sendable(&opened(rt.alloc(), MemoryDisk::new(rt.alloc(), b"")?)?.journal);
     Ok(())
 }

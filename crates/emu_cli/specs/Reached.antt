@@ -27,6 +27,12 @@ pub record IsAt (running : Running) (config : Config) (p : Parsed) (outages : Li
   pub number : running.number ≡ p.number
   pub each : length outages ≡ length p.requests
 
+-- the run stands behind the line of its configuration
+pub record IsBegun (config : Config) (running : Running) : Type 0 where
+  pub core : running.core ≡ start config []
+  pub earlier : running.earlier ≡ []
+  pub number : running.number ≡ 1
+
 -- the lines so far were run, and their replies written
 pub record Reached (config : Config) (lines : List (List ℕ)) (running : Running) (before now : Option (List ℕ)) : Type 0 where
   pub parsed : Parsed

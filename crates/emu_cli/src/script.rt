@@ -2,7 +2,7 @@
 ghost use Rattle.std.specs.Prelude.{◌≡◌, ◌≤◌, ℕ, List, [], ◌∷◌, ◌++◌, All, Option, IfErr, OnOk, if◌then◌else◌};
 ghost use Rattle.session_core.specs.declared.config.Config.{Config as Configuration};
 ghost use Rattle.emu_cli.specs.Cuts.{cut};
-ghost use Rattle.emu_cli.specs.Reached.{EndHasCause, Reached, RunsLine, RunsLines, RunsScript, WritesText};
+ghost use Rattle.emu_cli.specs.Reached.{EndHasCause, IsBegun, Reached, RunsLine, RunsLines, RunsScript, WritesText};
 ghost use Rattle.script_lines.specs.Texts.{reply_text};
 ghost use Rattle.emu_cli.specs.Runs.{config_reply};
 ghost use Rattle.emu_cli.specs.Scripts.{nothing_read, parse_line, with_read};
@@ -128,15 +128,33 @@ fn run_configured<K: Sink>(
     ensures cause { IfErr result (λ end. EndHasCause end (K.faults out.old) (K.faults out.new)) }
     ensures later { K.faults out.old ≤ K.faults out.new }
 {
-    let mut running = match begin(alloc, config) {
-        Ok(running) => running,
-        Err(_) => return Err(Ended::Memory),
-    };
+    match begin(alloc, config) {
+        Ok(mut running) => run_begun(alloc, &mut running, past, rest, out),
+        Err(_) => Err(Ended::Memory),
+    }
+}
+
+/// Replies to the line of the configuration, and runs the lines behind it.
+fn run_begun<K: Sink>(
+    alloc: Global,
+    running: &mut Running,
+    past: bool,
+    rest: &[u8],
+    out: &mut K,
+) -> Result<(), Ended>
+    requires { All (λ n. n ≤ running.old.number) running.old.earlier }
+    ensures ran { (config : Configuration) (line : List ℕ) →
+        parse_line nothing_read line ≡ Ok (with_read nothing_read (ReadLine.Config config)) →
+        IsBegun config running.old →
+        RunsScript result past (line ∷ cut past rest.now) (K.written out.old) (K.written out.new) }
+    ensures cause { IfErr result (λ end. EndHasCause end (K.faults out.old) (K.faults out.new)) }
+    ensures later { K.faults out.old ≤ K.faults out.new }
+{
     match write_config(alloc, out) {
         Ok(()) => {}
         Err(end) => return Err(end),
     }
-    match run_rest(alloc, &mut running, past, rest, out) {
+    match run_rest(alloc, running, past, rest, out) {
         Ok(()) => {}
         Err(end) => return Err(end),
     }

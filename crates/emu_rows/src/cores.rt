@@ -1,41 +1,26 @@
 //! The core takes a list of events, and begins with a history, where memory is ample.
-use emu_lists::{PlainData, Series};
-use emu_names::{Broken, BundleKey, Fault, LevelKind, Name, SessionNo, Text};
+ghost use Rattle.std.specs.Prelude.{◌<◌, All, IfOk};
+ghost use Rattle.session_core.specs.Steps.{place_of, session_places};
+
+use crate::annots::{annot, config, key};
+use emu_names::{Broken, Fault, Memory, SessionNo, Text};
+use script_lines::print_reply;
 use session_core::{
-    Annot, Answer, Ask, AttributeDef, Command, Config, Core, Edit, Entries, Entry, Event, Events,
-    LevelDef, Line, Request,
+    Ask, Command, Config, Core, Edit, Entries, Entry, Event, Events, Line, Replies, Request,
 };
 use std::alloc::Global;
 use std::test::Fail;
 
-/// The SEGMENT level Phonetic, which has one attribute of its name.
-fn config(alloc: Global) -> Result<Config, Fail> {
-    let attribute = AttributeDef {
-        name: Name::new(alloc, "Phonetic")?,
-    };
-    let level = LevelDef {
-        name: Name::new(alloc, "Phonetic")?,
-        kind: LevelKind::Segment,
-        attributes: Series::from_vec(vec![in alloc; attribute]?),
-    };
-    Ok(Config {
-        name: Name::new(alloc, "t")?,
-        uuid: Text::new(alloc, "")?,
-        extension: Text::new(alloc, "")?,
-        levels: Series::from_vec(vec![in alloc; level]?),
-    })
+fn query(alloc: Global) -> Result<Request, Memory> {
+    let name = Text::new(alloc, "Phonetic")?;
+    let label = Text::new(alloc, "m")?;
+    Ok(Request::Query(Ask { name, label }))
 }
 
-fn query(alloc: Global) -> Result<Request, Fail> {
-    Ok(Request::Query(Ask {
-        name: Text::new(alloc, "Phonetic")?,
-        label: Text::new(alloc, "m")?,
-    }))
-}
-
-#[test]
-fn a_query_is_run(rt: HostRuntime) -> Result<(), Fail> {
-    let alloc = rt.alloc();
+/// The look and the end of a query, of session 1 at line 2.
+fn events(alloc: Global) -> Result<Events, Memory>
+    ensures { IfOk result (λ events. All (λ event. place_of event < session_places) events.items) }
+{
     let request = query(alloc)?;
     let line = Line {
         line: 2,
@@ -50,28 +35,40 @@ fn a_query_is_run(rt: HostRuntime) -> Result<(), Fail> {
         session: SessionNo(1),
         command: Command::Query,
     })?;
-    let mut core = Core::new(alloc, config(alloc)?, Entries::new(alloc))?;
-    let replies = core.run(events)?;
+    Ok(events)
+}
+
+/// The core over a history that is not too long.
+fn core(alloc: Global, config: Config, history: Entries) -> Result<Core, Fault> {
+    if history.len() > 100_000 {
+        return Err(Fault::Memory);
+    }
+    Core::new(alloc, config, history)
+}
+
+/// The replies of a core to events.
+fn replies(mut core: Core, events: Events) -> Result<Replies, Memory>
+    requires { All (λ event. place_of event < session_places) events.items }
+{
+    core.run(events)
+}
+
+#[test]
+fn a_query_is_run(rt: HostRuntime) -> Result<(), Fail> {
+    let events = events(rt.alloc())?;
+    let config = config(rt.alloc())?;
+    let core = core(rt.alloc(), config, Entries::new(rt.alloc()))?;
+    let replies = replies(core, events)?;
     assert_eq!(rt; replies.len(), 1);
-    let found = match &replies.get(0).answer {
-        Answer::Segments(rows) => rows.len(),
-        _ => 1,
-    };
-    assert_eq!(rt; found, 0);
+    let text = print_reply(rt.alloc(), replies.get(0))?;
+    assert_eq!(rt; text.as_str(), "{\"line\":2,\"n\":0,\"segments\":[]}\n");
     Ok(())
 }
 
-/// The entry that adds a bundle without items.
+/// The entry that adds a bundle without levels.
 fn entry(alloc: Global) -> Result<Entry, Fail> {
-    let key = BundleKey {
-        session: Name::new(alloc, "s1")?,
-        bundle: Name::new(alloc, "b1")?,
-    };
-    let annot = Annot {
-        annotates: Text::new(alloc, "b1.wav")?,
-        rate: 20000,
-        levels: Series::new(alloc),
-    };
+    let key = key(alloc, "s1", "b1")?;
+    let annot = annot(alloc, 20000, Vec::new(alloc))?;
     Ok(Entry {
         session: SessionNo(1),
         line: 2,
@@ -79,16 +76,32 @@ fn entry(alloc: Global) -> Result<Entry, Fail> {
     })
 }
 
+/// So many entries, each of which adds the same bundle.
+fn entries(alloc: Global, count: usize) -> Result<Entries, Fail> {
+    let mut entries = Entries::new(alloc);
+    for _ in 0..count {
+        entries.push(entry(alloc)?)?;
+    }
+    Ok(entries)
+}
+
+/// The number of the present state and of the entries of a core behind so many entries.
+fn replayed(alloc: Global, count: usize) -> Result<(u64, usize), Fail> {
+    let history = entries(alloc, count)?;
+    let core = core(alloc, config(alloc)?, history)?;
+    Ok((core.number(), core.history().len()))
+}
+
 #[test]
 fn a_history_is_replayed(rt: HostRuntime) -> Result<(), Fail> {
-    let alloc = rt.alloc();
-    let mut history = Entries::new(alloc);
-    history.push(entry(alloc)?)?;
-    let core = Core::new(alloc, config(alloc)?, history.copy(alloc)?)?;
-    assert_eq!(rt; core.number(), 1);
-    assert_eq!(rt; core.history().len(), 1);
-    history.push(entry(alloc)?)?;
-    let refused = Core::new(alloc, config(alloc)?, history).err();
+    assert_eq!(rt; replayed(rt.alloc(), 1)?, (1, 1));
+    Ok(())
+}
+
+#[test]
+fn a_history_that_breaks_a_rule_is_refused(rt: HostRuntime) -> Result<(), Fail> {
+    let history = entries(rt.alloc(), 2)?;
+    let refused = core(rt.alloc(), config(rt.alloc())?, history).err();
     assert_eq!(rt; refused, Some(Fault::Broken(Broken::BundleTaken)));
     Ok(())
 }

@@ -58,30 +58,32 @@ fn edit(alloc: Global, number: usize, words_of: u32) -> Result<Edit, Fail> {
 fn bundles(alloc: Global, config: &Config, items: u32, count: usize) -> Result<BundleSet, Fail> {
     let mut set = BundleSet::new(alloc)?;
     for number in 0..count {
-        set.apply(alloc, config, &edit(alloc, number, items)?)?;
+        let edit = edit(alloc, number, items)?;
+        set.apply(alloc, config, &edit)?;
     }
     Ok(set)
 }
 
-/// What one bundle of so many words more is refused for; `none` where it is taken.
-fn refusal(
-    alloc: Global,
-    config: &Config,
-    set: &mut BundleSet,
-    more: &Edit,
-) -> Result<&'static str, Fail> {
-    match set.apply(alloc, config, more) {
-        Ok(()) => Ok("none"),
-        Err(Fault::Broken(Broken::TooMany(what))) => Ok(what.word()),
-        Err(Fault::Broken(_)) => Ok("another rule"),
-        Err(Fault::Memory) => Ok("memory"),
+/// What ends an edit, in a word; `none` where it is taken.
+fn word(ended: Result<(), Fault>) -> &'static str {
+    match ended {
+        Ok(()) => "none",
+        Err(Fault::Broken(Broken::TooMany(what))) => what.word(),
+        Err(Fault::Broken(_)) => "another rule",
+        Err(Fault::Memory) => "memory",
     }
+}
+
+/// Adds one bundle of so many words to so many bundles.
+fn added(alloc: Global, items: u32, count: usize, more: u32) -> Result<&'static str, Fail> {
+    let config = config(alloc)?;
+    let edit = edit(alloc, count, more)?;
+    let mut set = bundles(alloc, &config, items, count)?;
+    Ok(word(set.apply(alloc, &config, &edit)))
 }
 
 #[test]
 fn counts_keep_the_limits(rt: HostRuntime) -> Result<(), Fail> {
-    let alloc = rt.alloc();
-    let config = config(alloc)?;
     for (items, count, more, wanted) in [
         (65536, 0, 65537, "BundleItems"),
         (65536, 30, 33920, "none"),
@@ -89,8 +91,7 @@ fn counts_keep_the_limits(rt: HostRuntime) -> Result<(), Fail> {
         (0, 9999, 1, "none"),
         (0, 10000, 1, "Bundles"),
     ] {
-        let mut set = bundles(alloc, &config, items, count)?;
-        let text = refusal(alloc, &config, &mut set, &edit(alloc, count, more)?)?;
+        let text = added(rt.alloc(), items, count, more)?;
         assert_eq!(rt; text, wanted, "{items} {count} {more}");
     }
     Ok(())

@@ -2,13 +2,21 @@
 #![tactic(auto)]
 
 #[cfg(test)]
+mod annots;
+#[cfg(test)]
 mod cores;
 #[cfg(test)]
 mod counts;
 #[cfg(test)]
 mod limits;
 #[cfg(test)]
+mod lines;
+#[cfg(test)]
 mod outside;
+#[cfg(test)]
+mod replies;
+#[cfg(test)]
+mod rules;
 #[cfg(test)]
 mod scripts;
 #[cfg(test)]

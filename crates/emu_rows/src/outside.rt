@@ -1,8 +1,10 @@
 //! Sources and sinks that fail, words that are no command, and other ends of lines.
-use crate::scripts::{BUNDLE, CONFIG, joined, run};
+use crate::scripts::{BUNDLE, CONFIG, expect_run, joined, run};
 use std::test::Fail;
 
 const QUERY: &str = "{\"s\":1,\"do\":\"query\",\"eql\":\"Phonetic == m\"}";
+
+const SCRIPT: [&str; 3] = [CONFIG, BUNDLE, QUERY];
 
 const REPLIES: [&str; 3] = [
     "{\"line\":1,\"n\":0,\"ok\":\"config\"}",
@@ -12,50 +14,32 @@ const REPLIES: [&str; 3] = [
 
 #[test]
 fn other_ends_of_lines(rt: HostRuntime) -> Result<(), Fail> {
-    let want = joined(rt.alloc(), &REPLIES, "\n")?;
-    let lines = [CONFIG, BUNDLE, QUERY];
-    let script = joined(rt.alloc(), &lines, "\r\n")?;
-    let ran = run(&rt, rt.alloc(), &["run"], script, &[], &[])?;
-    assert_eq!(rt; ran.output.as_slice(), want.as_slice());
-    let mut script = joined(rt.alloc(), &lines, "\n")?;
+    let script = joined(rt.alloc(), &SCRIPT, "\r\n")?;
+    expect_run(&rt, rt.alloc(), script, &[], &[], 0, &REPLIES)
+}
+
+#[test]
+fn a_last_line_without_an_end(rt: HostRuntime) -> Result<(), Fail> {
+    let mut script = joined(rt.alloc(), &SCRIPT, "\n")?;
     let _ = script.pop();
-    let ran = run(&rt, rt.alloc(), &["run"], script, &[], &[])?;
-    assert_eq!(rt; ran.status, 0);
-    assert_eq!(rt; ran.output.as_slice(), want.as_slice());
-    Ok(())
+    expect_run(&rt, rt.alloc(), script, &[], &[], 0, &REPLIES)
 }
 
 #[test]
 fn failing_reads(rt: HostRuntime) -> Result<(), Fail> {
     for call in 1..=2 {
-        let script = joined(rt.alloc(), &[CONFIG, BUNDLE, QUERY], "\n")?;
-        let ran = run(&rt, rt.alloc(), &["run"], script, &[call], &[])?;
-        assert_eq!(rt; ran.status, 4);
-        assert_eq!(rt; ran.output.len(), 0);
+        let script = joined(rt.alloc(), &SCRIPT, "\n")?;
+        expect_run(&rt, rt.alloc(), script, &[call], &[], 4, &[])?;
     }
     Ok(())
 }
 
 #[test]
 fn failing_writes(rt: HostRuntime) -> Result<(), Fail> {
-    let lines = [CONFIG, BUNDLE, QUERY];
     for (call, whole) in [(1, 0), (2, 1), (3, 2)] {
-        let script = joined(rt.alloc(), &lines, "\n")?;
-        let ran = run(&rt, rt.alloc(), &["run"], script, &[], &[call])?;
-        let want = joined(rt.alloc(), &REPLIES[..whole], "\n")?;
-        assert_eq!(rt; ran.status, 5);
-        assert_eq!(rt; ran.output.as_slice(), want.as_slice());
+        let script = joined(rt.alloc(), &SCRIPT, "\n")?;
+        expect_run(&rt, rt.alloc(), script, &[], &[call], 5, &REPLIES[..whole])?;
     }
-    let ran = run(
-        &rt,
-        rt.alloc(),
-        &["fly"],
-        joined(rt.alloc(), &lines, "\n")?,
-        &[],
-        &[1],
-    )?;
-    assert_eq!(rt; ran.status, 5);
-    assert_eq!(rt; ran.output.len(), 0);
     Ok(())
 }
 
@@ -77,5 +61,14 @@ fn words_that_are_no_command(rt: HostRuntime) -> Result<(), Fail> {
             b"{\"cause\":\"Usage\",\"status\":2}\n".as_slice()
         );
     }
+    Ok(())
+}
+
+#[test]
+fn a_usage_that_cannot_be_written(rt: HostRuntime) -> Result<(), Fail> {
+    let script = joined(rt.alloc(), &SCRIPT, "\n")?;
+    let ran = run(&rt, rt.alloc(), &["fly"], script, &[], &[1])?;
+    assert_eq!(rt; ran.status, 5);
+    assert_eq!(rt; ran.output.len(), 0);
     Ok(())
 }

@@ -2,7 +2,9 @@
 use emu_cli::emu;
 use emu_io::{ListSink, ListSource};
 use std::alloc::{AllocError, Global};
+use std::process::Abort;
 use std::sync::Wait;
+use std::test::Fail;
 use std::thread::Threads;
 
 /// A configuration with the SEGMENT level Phonetic, which has one attribute of its name.
@@ -52,4 +54,33 @@ pub fn run<R: Threads + Wait + Sync>(
     let status = emu(rt, alloc, all.as_slice(), &mut source, &mut sink);
     let output = Vec::from_slice(alloc, sink.bytes())?;
     Ok(Ran { status, output })
+}
+
+/// Runs a script, and compares how the run ends and the lines that it writes.
+pub fn expect<R: Abort + Threads + Wait + Sync>(
+    rt: &R,
+    alloc: Global,
+    lines: &[&str],
+    status: u8,
+    wanted: &[&str],
+) -> Result<(), Fail> {
+    let script = joined(alloc, lines, "\n")?;
+    expect_run(rt, alloc, script, &[], &[], status, wanted)
+}
+
+/// As `expect`, of bytes, with a source and a sink that fail on these calls.
+pub fn expect_run<R: Abort + Threads + Wait + Sync>(
+    rt: &R,
+    alloc: Global,
+    script: Vec<u8>,
+    bad_reads: &[u64],
+    bad_writes: &[u64],
+    status: u8,
+    wanted: &[&str],
+) -> Result<(), Fail> {
+    let ran = run(rt, alloc, &["run"], script, bad_reads, bad_writes)?;
+    let wanted = joined(alloc, wanted, "\n")?;
+    assert_eq!(rt; ran.output.as_slice(), wanted.as_slice());
+    assert_eq!(rt; ran.status, status);
+    Ok(())
 }

@@ -1,117 +1,78 @@
 //! Edits and queries of levels of each kind, on rows known from outside, where memory is ample.
-use emu_lists::Series;
-use emu_names::{Broken, BundleKey, Fault, ItemId, LevelKind, Memory, Name, NameFault, Text};
+use crate::annots::{annot, config, item, key, level, one_level, point, segment};
+use emu_names::{BundleKey, Fault, LevelKind, Memory, SessionNo, Text};
+use script_lines::print_reply;
 use session_core::{
-    Annot, AnnotItem, AnnotLabel, AnnotLevel, Answer, Ask, AskFault, AttributeDef, BundleSet,
-    Bundles, Config, Edit, LevelDef, Refusal, Row, SegmentList, Time, answer, build,
+    Annot, Answer, Ask, BundleSet, Bundles, Command, Config, Edit, Refusal, Reply, Time, answer,
 };
-use std::alloc::{AllocError, Global};
+use std::alloc::Global;
 use std::process::Abort;
 use std::test::Fail;
 
-fn attribute(alloc: Global, name: &str) -> Result<AttributeDef, NameFault> {
-    let name = Name::new(alloc, name)?;
-    Ok(AttributeDef { name })
-}
+/// The reply to an edit that is accepted.
+pub const DONE: &str = r#"{"line":1,"ok":"add_bundle"}"#;
 
-fn level_def(
-    alloc: Global,
-    name: &str,
-    kind: LevelKind,
-    first: &str,
-    second: &str,
-) -> Result<LevelDef, NameFault> {
-    let first = attribute(alloc, first)?;
-    let second = attribute(alloc, second)?;
-    let name = Name::new(alloc, name)?;
-    let attributes = Series::from_vec(vec![in alloc; first, second]?);
-    Ok(LevelDef {
-        name,
-        kind,
-        attributes,
-    })
-}
+/// Queries of the segments V and m, with their replies.
+static OF_SEGMENTS: [(&str, &str, &str); 5] = [
+    (
+        "Phonetic",
+        "m",
+        r#"{"line":1,"segments":[{"attribute":"Phonetic","bundle":"b1","end":340175,"endItem":2,"endPos":1,"labels":"m","level":"Phonetic","sampleEnd":6803,"sampleRate":20000,"sampleStart":5139,"session":"s1","start":256925,"startItem":2,"startPos":1}]}"#,
+    ),
+    (
+        "Phonetic",
+        "V",
+        r#"{"line":1,"segments":[{"attribute":"Phonetic","bundle":"b1","end":256925,"endItem":1,"endPos":0,"labels":"V","level":"Phonetic","sampleEnd":5138,"sampleRate":20000,"sampleStart":3749,"session":"s1","start":187425,"startItem":1,"startPos":0}]}"#,
+    ),
+    ("Phonetic", "x", r#"{"line":1,"segments":[]}"#),
+    ("Height", "H", r#"{"line":1,"segments":[]}"#),
+    (
+        "Foot",
+        "m",
+        r#"{"line":1,"refused":{"name":"Foot","rule":"UnknownName"}}"#,
+    ),
+];
 
-/// Segments Phonetic, points Tone (whose first attribute is Height) and items Word.
-fn config(alloc: Global) -> Result<Config, NameFault> {
-    let phonetic = level_def(alloc, "Phonetic", LevelKind::Segment, "Phonetic", "Quality")?;
-    let tone = level_def(alloc, "Tone", LevelKind::Event, "Height", "Source")?;
-    let word = level_def(alloc, "Word", LevelKind::Item, "Word", "Accent")?;
-    let levels = Series::from_vec(vec![in alloc; phonetic, tone, word]?);
-    let name = Name::new(alloc, "t")?;
-    let uuid = Text::new(alloc, "")?;
-    let extension = Text::new(alloc, "")?;
-    Ok(Config {
-        name,
-        uuid,
-        extension,
-        levels,
-    })
-}
+/// Queries of a point of Tone and an item of Word, with their replies.
+static OF_POINT_AND_ITEM: [(&str, &str, &str); 4] = [
+    (
+        "Height",
+        "H",
+        r#"{"line":1,"segments":[{"attribute":"Height","bundle":"b1","end":187450,"endItem":7,"endPos":0,"labels":"H","level":"Tone","sampleEnd":3749,"sampleRate":20000,"sampleStart":3749,"session":"s1","start":187450,"startItem":7,"startPos":0}]}"#,
+    ),
+    (
+        "Tone",
+        "H",
+        r#"{"line":1,"segments":[{"attribute":"Height","bundle":"b1","end":187450,"endItem":7,"endPos":0,"labels":"H","level":"Tone","sampleEnd":3749,"sampleRate":20000,"sampleStart":3749,"session":"s1","start":187450,"startItem":7,"startPos":0}]}"#,
+    ),
+    (
+        "Accent",
+        "S",
+        r#"{"line":1,"segments":[{"attribute":"Accent","bundle":"b1","end":null,"endItem":8,"endPos":0,"labels":"S","level":"Word","sampleEnd":null,"sampleRate":20000,"sampleStart":null,"session":"s1","start":null,"startItem":8,"startPos":0}]}"#,
+    ),
+    (
+        "Word",
+        "",
+        r#"{"line":1,"segments":[{"attribute":"Word","bundle":"b1","end":null,"endItem":8,"endPos":0,"labels":"","level":"Word","sampleEnd":null,"sampleRate":20000,"sampleStart":null,"session":"s1","start":null,"startItem":8,"startPos":0}]}"#,
+    ),
+];
 
-fn key(alloc: Global, session: &str, bundle: &str) -> Result<BundleKey, NameFault> {
-    let session = Name::new(alloc, session)?;
-    let bundle = Name::new(alloc, bundle)?;
-    Ok(BundleKey { session, bundle })
-}
+/// The reply to a query of all late segments.
+const LATE: &str =
+    r#"{"line":1,"segments":[{"attribute":"Phonetic","bundle":"b1","end":475,"endItem":1,"endPos":0,"labels":"","level":"Phonetic","sampleEnd":9,"sampleRate":20000,"sampleStart":0,"session":"s1","start":0,"startItem":1,"startPos":0},{"attribute":"Phonetic","bundle":"b1","end":525,"endItem":2,"endPos":1,"labels":"","level":"Phonetic","sampleEnd":10,"sampleRate":20000,"sampleStart":10,"session":"s1","start":475,"startItem":2,"startPos":1},{"attribute":"Phonetic","bundle":"b1","end":54975581388775,"endItem":4,"endPos":2,"labels":"","level":"Phonetic","sampleEnd":1099511627775,"sampleRate":20000,"sampleStart":1099511627775,"session":"s1","start":54975581388725,"startItem":4,"startPos":2}]}"#;
 
-fn label(alloc: Global, name: &str, value: &str) -> Result<AnnotLabel, Memory> {
-    let name = Text::new(alloc, name)?;
-    let value = Text::new(alloc, value)?;
-    Ok(AnnotLabel { name, value })
-}
+/// Session and bundle of each edit, with its reply.
+static KEYS: [(&str, &str, &str); 5] = [
+    ("s1", "b2", DONE),
+    ("s1", "b1", DONE),
+    ("s0", "b3", DONE),
+    ("s2", "b0", DONE),
+    ("s1", "b1", r#"{"line":1,"refused":{"rule":"BundleTaken"}}"#),
+];
 
-fn item(alloc: Global, id: u32, time: Time, name: &str, value: &str) -> Result<AnnotItem, Memory> {
-    let label = label(alloc, name, value)?;
-    let labels = Series::from_vec(vec![in alloc; label]?);
-    Ok(AnnotItem {
-        id: ItemId(id),
-        time,
-        labels,
-    })
-}
-
-fn segment(alloc: Global, id: u32, start: u64, dur: u64, label: &str) -> Result<AnnotItem, Memory> {
-    item(alloc, id, Time::Span { start, dur }, "Phonetic", label)
-}
-
-fn point(alloc: Global, id: u32, at: u64) -> Result<AnnotItem, Memory> {
-    item(alloc, id, Time::Point { at }, "Height", "H")
-}
-
-fn level(
-    alloc: Global,
-    name: &str,
-    kind: LevelKind,
-    items: Vec<AnnotItem>,
-) -> Result<AnnotLevel, Memory> {
-    let name = Text::new(alloc, name)?;
-    Ok(AnnotLevel {
-        name,
-        kind,
-        items: Series::from_vec(items),
-    })
-}
-
-fn annot(alloc: Global, rate: u64, levels: Vec<AnnotLevel>) -> Result<Annot, Memory> {
-    let annotates = Text::new(alloc, "b1.wav")?;
-    Ok(Annot {
-        annotates,
-        rate,
-        levels: Series::from_vec(levels),
-    })
-}
-
-/// One level, at 20,000 samples a second.
-fn one_level(
-    alloc: Global,
-    name: &str,
-    kind: LevelKind,
-    items: Vec<AnnotItem>,
-) -> Result<Annot, Memory> {
-    let level = level(alloc, name, kind, items)?;
-    annot(alloc, 20000, vec![in alloc; level]?)
-}
+/// The reply to a query of V in four bundles.
+const IN_ORDER: &str =
+    r#"{"line":1,"segments":[{"attribute":"Phonetic","bundle":"b3","end":256925,"endItem":1,"endPos":0,"labels":"V","level":"Phonetic","sampleEnd":5138,"sampleRate":20000,"sampleStart":3749,"session":"s0","start":187425,"startItem":1,"startPos":0},{"attribute":"Phonetic","bundle":"b1","end":256925,"endItem":1,"endPos":0,"labels":"V","level":"Phonetic","sampleEnd":5138,"sampleRate":20000,"sampleStart":3749,"session":"s1","start":187425,"startItem":1,"startPos":0},{"attribute":"Phonetic","bundle":"b2","end":256925,"endItem":1,"endPos":0,"labels":"V","level":"Phonetic","sampleEnd":5138,"sampleRate":20000,"sampleStart":3749,"session":"s1","start":187425,"startItem":1,"startPos":0},{"attribute":"Phonetic","bundle":"b0","end":256925,"endItem":1,"endPos":0,"labels":"V","level":"Phonetic","sampleEnd":5138,"sampleRate":20000,"sampleStart":3749,"session":"s2","start":187425,"startItem":1,"startPos":0}]}"#;
 
 /// The segments V and m.
 fn two_segments(alloc: Global) -> Result<Annot, Memory> {
@@ -139,300 +100,130 @@ fn point_and_item(alloc: Global) -> Result<Annot, Memory> {
     annot(alloc, 20000, vec![in alloc; word, tone]?)
 }
 
-fn rule_text(alloc: Global, rule: &Broken) -> Result<String, AllocError> {
-    let word = rule.word();
-    match rule {
-        Broken::NoLevel(name) => format!(in alloc; "{word} {name}"),
-        Broken::TwoLevels(name) => format!(in alloc; "{word} {name}"),
-        Broken::LevelKind(name) => format!(in alloc; "{word} {name}"),
-        Broken::NoAttribute(name) => format!(in alloc; "{word} {name}"),
-        Broken::TwoLabels(name) => format!(in alloc; "{word} {name}"),
-        Broken::IdTaken(id) => format!(in alloc; "{word} {}", id.0),
-        Broken::Overlap(id) => format!(in alloc; "{word} {}", id.0),
-        Broken::NotRising(id) => format!(in alloc; "{word} {}", id.0),
-        Broken::TooMany(what) => format!(in alloc; "{word} {}", what.word()),
-        _ => String::from_str(alloc, word),
+/// The reply of line 1 with this answer, without its line feed.
+pub fn told(alloc: Global, answer: Answer) -> Result<String, Memory> {
+    let reply = Reply {
+        line: 1,
+        session: SessionNo(1),
+        n: None,
+        answer,
+    };
+    let text = print_reply(alloc, &reply)?;
+    Ok(String::from_str(alloc, text.as_str().trim_end())?)
+}
+
+/// The answer to an edit that ended so.
+pub fn outcome(ended: Result<(), Fault>) -> Answer {
+    match ended {
+        Ok(()) => Answer::Done(Command::AddBundle),
+        Err(Fault::Broken(rule)) => Answer::Refused(Refusal::Rule(rule)),
+        Err(Fault::Memory) => Answer::Refused(Refusal::Memory),
     }
 }
 
-/// The rule that is broken, and what breaks it.
-fn fault_text(alloc: Global, fault: &Fault) -> Result<String, AllocError> {
-    match fault {
-        Fault::Broken(rule) => rule_text(alloc, rule),
-        Fault::Memory => String::from_str(alloc, "out of memory"),
-    }
+fn ask(alloc: Global, name: &str, label: &str) -> Result<Ask, Memory> {
+    let name = Text::new(alloc, name)?;
+    let label = Text::new(alloc, label)?;
+    Ok(Ask { name, label })
 }
 
-fn number(alloc: Global, number: Option<u64>) -> Result<String, AllocError> {
-    match number {
-        Some(number) => format!(in alloc; "{number}"),
-        None => String::from_str(alloc, "-"),
-    }
-}
-
-/// What a row shows, and where.
-fn shown(alloc: Global, row: &Row) -> Result<String, AllocError> {
-    format!(in alloc;
-        "{} {} {}.{} {}",
-        row.session, row.bundle, row.level, row.attribute, row.labels
-    )
-}
-
-/// The items of a row, their positions, and the rate.
-fn places(alloc: Global, row: &Row) -> Result<String, AllocError> {
-    format!(in alloc;
-        "{}-{} {}-{} {}",
-        row.start_item.0, row.end_item.0, row.start_pos, row.end_pos, row.rate
-    )
-}
-
-/// Adds a row to a text: what it shows and where, microseconds, samples, items and positions, rate.
-fn push_row(alloc: Global, text: &mut String, row: &Row) -> Result<(), AllocError> {
-    text.push_str(shown(alloc, row)?.as_str())?;
-    for time in [row.start, row.end, row.sample_start, row.sample_end] {
-        text.push(' ')?;
-        text.push_str(number(alloc, time)?.as_str())?;
-    }
-    text.push(' ')?;
-    text.push_str(places(alloc, row)?.as_str())?;
-    text.push(';')
-}
-
-fn push_rows(alloc: Global, text: &mut String, rows: &SegmentList) -> Result<(), AllocError> {
-    for row in rows.as_slice() {
-        push_row(alloc, text, row)?;
+/// Asks queries, and compares their replies.
+fn expect_replies(
+    rt: &impl Abort,
+    alloc: Global,
+    config: &Config,
+    bundles: &Bundles,
+    rows: &[(&str, &str, &str)],
+) -> Result<(), Fail> {
+    for (name, label, wanted) in rows {
+        let ask = ask(alloc, name, label)?;
+        let answer = answer(alloc, config, bundles, &ask)?;
+        let text = told(alloc, answer)?;
+        assert_eq!(rt; text.as_str(), *wanted, "{name} {label}");
     }
     Ok(())
 }
 
-/// The answer to a query, its rows one behind another.
-fn answer_text(alloc: Global, bundles: &Bundles, name: &str, label: &str) -> Result<String, Fail> {
-    let config = config(alloc)?;
-    let name = Text::new(alloc, name)?;
-    let label = Text::new(alloc, label)?;
-    let given = answer(alloc, &config, bundles, &Ask { name, label })?;
-    let mut text = String::new(alloc);
-    match &given {
-        Answer::Segments(rows) => push_rows(alloc, &mut text, rows)?,
-        Answer::Refused(Refusal::Resolve(AskFault::UnknownName(name))) => {
-            text.push_str(name.as_str())?;
-        }
-        _ => text.push_str("another answer")?,
-    }
-    Ok(text)
-}
-
-/// Adds an annotation as a bundle.
-fn add(
+/// Adds an annotation as a bundle, and tells the reply.
+fn added(
     alloc: Global,
+    config: &Config,
     set: &mut BundleSet,
-    session: &str,
-    bundle: &str,
+    key: BundleKey,
     annot: Annot,
-) -> Result<Result<(), Fault>, NameFault> {
-    let config = config(alloc)?;
-    let key = key(alloc, session, bundle)?;
-    Ok(set.apply(alloc, &config, &Edit::AddBundle { key, annot }))
+) -> Result<String, Memory> {
+    let edit = Edit::AddBundle { key, annot };
+    let ended = set.apply(alloc, config, &edit);
+    told(alloc, outcome(ended))
 }
 
-/// The rule that a bundle more breaks, or the empty text.
-fn refusal(alloc: Global, set: &mut BundleSet, bundle: &str, annot: Annot) -> Result<String, Fail> {
-    match add(alloc, set, "s1", bundle, annot)? {
-        Ok(()) => Ok(String::new(alloc)),
-        Err(fault) => Ok(fault_text(alloc, &fault)?),
-    }
-}
-
-/// Asks a query of the one bundle that an annotation makes.
-fn try_ask(
+/// Asks queries of the one bundle that an annotation makes.
+fn expect_rows(
     rt: &impl Abort,
     alloc: Global,
     annot: Annot,
-    name: &str,
-    label: &str,
-    wanted: &str,
+    rows: &[(&str, &str, &str)],
 ) -> Result<(), Fail> {
+    let key = key(alloc, "s1", "b1")?;
+    let config = config(alloc)?;
     let mut set = BundleSet::new(alloc)?;
-    add(alloc, &mut set, "s1", "b1", annot)??;
-    let text = answer_text(alloc, set.bundles(), name, label)?;
-    assert_eq!(rt; text.as_str(), wanted, "{name} {label}");
-    Ok(())
+    let _done = added(alloc, &config, &mut set, key, annot)?;
+    expect_replies(rt, alloc, &config, set.bundles(), rows)
 }
 
 #[test]
-fn rows_are_found(rt: HostRuntime) -> Result<(), Fail> {
-    let alloc = rt.alloc();
-    for (name, label, wanted) in [
-        (
-            "Phonetic",
-            "m",
-            "s1 b1 Phonetic.Phonetic m 256925 340175 5139 6803 2-2 1-1 20000;",
-        ),
-        (
-            "Phonetic",
-            "V",
-            "s1 b1 Phonetic.Phonetic V 187425 256925 3749 5138 1-1 0-0 20000;",
-        ),
-        ("Phonetic", "x", ""),
-        ("Height", "H", ""),
-        ("Foot", "m", "Foot"),
-    ] {
-        try_ask(&rt, alloc, two_segments(alloc)?, name, label, wanted)?;
-    }
-    let point = "s1 b1 Tone.Height H 187450 187450 3749 3749 7-7 0-0 20000;";
-    for (name, label, wanted) in [
-        ("Height", "H", point),
-        ("Tone", "H", point),
-        ("Accent", "S", "s1 b1 Word.Accent S - - - - 8-8 0-0 20000;"),
-        ("Word", "", "s1 b1 Word.Word  - - - - 8-8 0-0 20000;"),
-    ] {
-        try_ask(&rt, alloc, point_and_item(alloc)?, name, label, wanted)?;
-    }
-    let wanted = "s1 b1 Phonetic.Phonetic  0 475 0 9 1-1 0-0 20000;\
-        s1 b1 Phonetic.Phonetic  475 525 10 10 2-2 1-1 20000;\
-        s1 b1 Phonetic.Phonetic  54975581388725 54975581388775 \
-        1099511627775 1099511627775 4-4 2-2 20000;";
-    try_ask(&rt, alloc, late_segments(alloc)?, "Phonetic", "", wanted)
+fn segments_are_found(rt: HostRuntime) -> Result<(), Fail> {
+    expect_rows(&rt, rt.alloc(), two_segments(rt.alloc())?, &OF_SEGMENTS)
+}
+
+#[test]
+fn a_point_and_an_item_are_found(rt: HostRuntime) -> Result<(), Fail> {
+    expect_rows(
+        &rt,
+        rt.alloc(),
+        point_and_item(rt.alloc())?,
+        &OF_POINT_AND_ITEM,
+    )
+}
+
+#[test]
+fn late_segments_are_found(rt: HostRuntime) -> Result<(), Fail> {
+    expect_rows(
+        &rt,
+        rt.alloc(),
+        late_segments(rt.alloc())?,
+        &[("Phonetic", "", LATE)],
+    )
+}
+
+/// Adds the two segments as a bundle, and compares the reply.
+fn expect_added(
+    rt: &impl Abort,
+    alloc: Global,
+    config: &Config,
+    set: &mut BundleSet,
+    row: &(&str, &str, &str),
+) -> Result<(), Fail> {
+    let (session, bundle, wanted) = row;
+    let key = key(alloc, session, bundle)?;
+    let annot = two_segments(alloc)?;
+    let text = added(alloc, config, set, key, annot)?;
+    assert_eq!(rt; text.as_str(), *wanted, "{session} {bundle}");
+    Ok(())
 }
 
 #[test]
 fn bundles_are_in_order_of_keys(rt: HostRuntime) -> Result<(), Fail> {
-    let alloc = rt.alloc();
-    let mut set = BundleSet::new(alloc)?;
-    for (session, bundle) in [("s1", "b2"), ("s1", "b1"), ("s0", "b3"), ("s2", "b0")] {
-        add(alloc, &mut set, session, bundle, two_segments(alloc)?)??;
+    let config = config(rt.alloc())?;
+    let mut set = BundleSet::new(rt.alloc())?;
+    for row in &KEYS {
+        expect_added(&rt, rt.alloc(), &config, &mut set, row)?;
     }
-    let text = answer_text(alloc, set.bundles(), "Phonetic", "V")?;
-    let wanted = "s0 b3 Phonetic.Phonetic V 187425 256925 3749 5138 1-1 0-0 20000;\
-        s1 b1 Phonetic.Phonetic V 187425 256925 3749 5138 1-1 0-0 20000;\
-        s1 b2 Phonetic.Phonetic V 187425 256925 3749 5138 1-1 0-0 20000;\
-        s2 b0 Phonetic.Phonetic V 187425 256925 3749 5138 1-1 0-0 20000;";
-    assert_eq!(rt; text.as_str(), wanted);
-    let again = refusal(alloc, &mut set, "b1", two_segments(alloc)?)?;
-    assert_eq!(rt; again.as_str(), "BundleTaken");
-    Ok(())
-}
-
-/// The rule that an annotation breaks, or the empty text.
-fn broken(alloc: Global, annot: &Annot) -> Result<String, Fail> {
-    let config = config(alloc)?;
-    let key = key(alloc, "s1", "b1")?;
-    match build(alloc, &config, &key, annot) {
-        Ok(_bundle) => Ok(String::new(alloc)),
-        Err(fault) => Ok(fault_text(alloc, &fault)?),
-    }
-}
-
-fn broken_by_segments(alloc: Global, start: u64, dur: u64, next: u64) -> Result<String, Fail> {
-    let first = segment(alloc, 1, start, dur, "V")?;
-    let second = segment(alloc, 2, next, 0, "m")?;
-    let items = vec![in alloc; first, second]?;
-    broken(
-        alloc,
-        &one_level(alloc, "Phonetic", LevelKind::Segment, items)?,
+    expect_replies(
+        &rt,
+        rt.alloc(),
+        &config,
+        set.bundles(),
+        &[("Phonetic", "V", IN_ORDER)],
     )
-}
-
-fn broken_by_points(alloc: Global, at: u64, next: u64) -> Result<String, Fail> {
-    let first = point(alloc, 1, at)?;
-    let second = point(alloc, 2, next)?;
-    let items = vec![in alloc; first, second]?;
-    broken(alloc, &one_level(alloc, "Tone", LevelKind::Event, items)?)
-}
-
-#[test]
-fn times_keep_the_rules(rt: HostRuntime) -> Result<(), Fail> {
-    let alloc = rt.alloc();
-    let past = 1_099_511_627_776;
-    for (start, dur, next, wanted) in [
-        (0, 9, 10, ""),
-        (0, 9, 9, "Overlap 1"),
-        (10, 0, 0, "Overlap 1"),
-        (0, 0, past - 1, ""),
-        (0, 0, past, "TimeOut"),
-        (0, past, 0, "TimeOut"),
-    ] {
-        let text = broken_by_segments(alloc, start, dur, next)?;
-        assert_eq!(rt; text.as_str(), wanted, "{start} {dur} {next}");
-    }
-    for (at, next, wanted) in [(5, 6, ""), (5, 5, "NotRising 1"), (5, past, "TimeOut")] {
-        let text = broken_by_points(alloc, at, next)?;
-        assert_eq!(rt; text.as_str(), wanted, "{at} {next}");
-    }
-    Ok(())
-}
-
-fn repeated(alloc: Global, bytes: usize) -> Result<String, AllocError> {
-    let mut text = String::new(alloc);
-    for _ in 0..bytes {
-        text.push('a')?;
-    }
-    Ok(text)
-}
-
-/// The rule that two labels of a word break, of which the second has so many bytes.
-fn broken_by_labels(
-    alloc: Global,
-    first: &str,
-    second: &str,
-    bytes: usize,
-) -> Result<String, Fail> {
-    let value = repeated(alloc, bytes)?;
-    let first = label(alloc, first, "V")?;
-    let second = label(alloc, second, value.as_str())?;
-    let labels = Series::from_vec(vec![in alloc; first, second]?);
-    let item = AnnotItem {
-        id: ItemId(1),
-        time: Time::NoTime,
-        labels,
-    };
-    let items = vec![in alloc; item]?;
-    broken(alloc, &one_level(alloc, "Word", LevelKind::Item, items)?)
-}
-
-/// The rule that an item of the first level and a point of the second break, at a rate.
-fn broken_by_levels(
-    alloc: Global,
-    first: &str,
-    second: &str,
-    kind: LevelKind,
-    id: u32,
-    rate: u64,
-) -> Result<String, Fail> {
-    let item = item(alloc, 1, Time::NoTime, "Word", "w")?;
-    let first = level(alloc, first, LevelKind::Item, vec![in alloc; item]?)?;
-    let point = point(alloc, id, 5)?;
-    let second = level(alloc, second, kind, vec![in alloc; point]?)?;
-    broken(alloc, &annot(alloc, rate, vec![in alloc; first, second]?)?)
-}
-
-#[test]
-fn labels_and_levels_keep_the_rules(rt: HostRuntime) -> Result<(), Fail> {
-    let alloc = rt.alloc();
-    for (first, second, bytes, wanted) in [
-        ("Word", "Accent", 4096, ""),
-        ("Word", "Accent", 4097, "LabelTooLong"),
-        ("Word", "Height", 4097, "NoAttribute Height"),
-        ("Accent", "Accent", 4097, "TwoLabels Accent"),
-    ] {
-        let text = broken_by_labels(alloc, first, second, bytes)?;
-        assert_eq!(rt; text.as_str(), wanted, "{first} {second} {bytes}");
-    }
-    for (first, second, kind, id, rate, wanted) in [
-        ("Word", "Tone", LevelKind::Event, 2, 1_000_000, ""),
-        ("Word", "Tone", LevelKind::Event, 1, 1, "IdTaken 1"),
-        ("Foot", "Tone", LevelKind::Event, 2, 1, "NoLevel Foot"),
-        ("Word", "Word", LevelKind::Event, 2, 1, "TwoLevels Word"),
-        ("Word", "Tone", LevelKind::Segment, 2, 1, "LevelKind Tone"),
-        ("Tone", "Word", LevelKind::Item, 2, 1, "LevelKind Tone"),
-        ("Foot", "Foot", LevelKind::Event, 1, 0, "RateOut"),
-        ("Foot", "Foot", LevelKind::Event, 1, 1_000_001, "RateOut"),
-    ] {
-        let text = broken_by_levels(alloc, first, second, kind, id, rate)?;
-        assert_eq!(rt; text.as_str(), wanted, "{first} {second} {id} {rate}");
-    }
-    let item = item(alloc, 1, Time::NoTime, "Phonetic", "V")?;
-    let given = one_level(alloc, "Phonetic", LevelKind::Segment, vec![in alloc; item]?)?;
-    assert_eq!(rt; broken(alloc, &given)?.as_str(), "TimeKind");
-    Ok(())
 }

@@ -1,5 +1,5 @@
 //! Worked runs: whole scripts and the exact output of each.
-use crate::scripts::{BUNDLE, CONFIG, OTHER_BUNDLE, Ran, joined, run};
+use crate::scripts::{BUNDLE, CONFIG, OTHER_BUNDLE, expect};
 use std::test::Fail;
 
 /// A script, line by line, and how its run ends and what it writes.
@@ -218,11 +218,7 @@ static ROWS: [Row; 16] = [
 #[test]
 fn rows_are_answered(rt: HostRuntime) -> Result<(), Fail> {
     for row in &ROWS {
-        let script = joined(rt.alloc(), row.lines, "\n")?;
-        let want = joined(rt.alloc(), row.output, "\n")?;
-        let ran = run(&rt, rt.alloc(), &["run"], script, &[], &[])?;
-        assert_eq!(rt; ran.status, row.status, "{}", row.name);
-        assert_eq!(rt; ran.output.as_slice(), want.as_slice(), "{}", row.name);
+        expect(&rt, rt.alloc(), row.lines, row.status, row.output)?;
     }
     Ok(())
 }

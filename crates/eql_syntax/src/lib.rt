@@ -7,8 +7,6 @@ mod machine;
 mod print;
 mod query;
 mod reader;
-#[cfg(test)]
-mod tests;
 mod token;
 mod words;
 

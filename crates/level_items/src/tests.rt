@@ -6,8 +6,8 @@ use crate::{
     Annot, AnnotItem, AnnotItems, AnnotLabel, AnnotLabels, AnnotLevel, AnnotLevels, AnnotLink,
     AnnotLinks, Item, Labels, LevelList, Time,
 };
-use emu_names::{Broken, Fault, ItemId, LevelKind, Text};
-use std::alloc::Global;
+use emu_names::{Broken, Fault, ItemId, LevelKind, Memory, Text};
+use std::alloc::{AllocError, Global};
 use std::process::Abort;
 use std::test::Fail;
 
@@ -408,13 +408,17 @@ fn labels_are_set_and_copied(rt: HostRuntime) -> Result<(), Fail> {
     Ok(())
 }
 
-#[test]
-fn annotations_are_copied(rt: HostRuntime) -> Result<(), Fail> {
-    let alloc = rt.alloc();
-    let name = Text::new(alloc, "Phonetic")?;
-    let value = Text::new(alloc, "V")?;
+fn labels_of(alloc: Global, name: &str, value: &str) -> Result<AnnotLabels, Memory> {
+    let name = Text::new(alloc, name)?;
+    let value = Text::new(alloc, value)?;
     let mut labels = AnnotLabels::new(alloc);
     labels.push(AnnotLabel { name, value })?;
+    Ok(labels)
+}
+
+/// The segment V.
+fn items_of_annot(alloc: Global) -> Result<AnnotItems, Memory> {
+    let labels = labels_of(alloc, "Phonetic", "V")?;
     let mut items = AnnotItems::new(alloc);
     items.push(AnnotItem {
         id: ItemId(1),
@@ -424,39 +428,64 @@ fn annotations_are_copied(rt: HostRuntime) -> Result<(), Fail> {
         },
         labels,
     })?;
+    Ok(items)
+}
+
+fn levels_of_annot(alloc: Global) -> Result<AnnotLevels, Memory> {
+    let items = items_of_annot(alloc)?;
+    let name = Text::new(alloc, "Phonetic")?;
     let mut levels = AnnotLevels::new(alloc);
     levels.push(AnnotLevel {
-        name: Text::new(alloc, "Phonetic")?,
+        name,
         kind: LevelKind::Segment,
         items,
     })?;
+    Ok(levels)
+}
+
+fn links_of_annot(alloc: Global) -> Result<AnnotLinks, Memory> {
     let mut links = AnnotLinks::new(alloc);
     links.push(AnnotLink {
         from: ItemId(2),
         to: ItemId(1),
     })?;
-    let annot = Annot {
-        annotates: Text::new(alloc, "b1.wav")?,
+    Ok(links)
+}
+
+fn annot(alloc: Global) -> Result<Annot, Memory> {
+    let levels = levels_of_annot(alloc)?;
+    let links = links_of_annot(alloc)?;
+    let annotates = Text::new(alloc, "b1.wav")?;
+    Ok(Annot {
+        annotates,
         rate: 20000,
         levels,
         links,
+    })
+}
+
+/// What an annotation of one item and one link says.
+fn annot_told(alloc: Global, annot: &Annot) -> Result<String, AllocError> {
+    let ([level], [link]) = (annot.levels.as_slice(), annot.links.as_slice()) else {
+        return String::from_str(alloc, "not one level and one link");
     };
-    let copied = annot.copy(alloc)?;
+    let [item] = level.items.as_slice() else {
+        return String::from_str(alloc, "not one item");
+    };
+    let [label] = item.labels.as_slice() else {
+        return String::from_str(alloc, "not one label");
+    };
+    format!(in alloc;
+        "{} {} {}.{}={} {}-{}",
+        annot.annotates, annot.rate, level.name, item.id.0, label.value, link.from.0, link.to.0
+    )
+}
+
+#[test]
+fn annotations_are_copied(rt: HostRuntime) -> Result<(), Fail> {
+    let copied = annot(rt.alloc())?.copy(rt.alloc())?;
     crosses_threads(&copied);
-    assert_eq!(rt; copied.annotates.as_str(), "b1.wav");
-    assert_eq!(rt; copied.rate, 20000);
-    assert_eq!(rt;
-        copied.links.as_slice(),
-        [AnnotLink {
-            from: ItemId(2),
-            to: ItemId(1)
-        }]
-        .as_slice()
-    );
-    assert_eq!(rt; copied.levels.len(), 1);
-    let level = copied.levels.get(0);
-    assert_eq!(rt; level.items.len(), 1);
-    assert_eq!(rt; level.items.get(0).labels.len(), 1);
-    assert_eq!(rt; level.items.get(0).labels.get(0).value.as_str(), "V");
+    let told = annot_told(rt.alloc(), &copied)?;
+    assert_eq!(rt; told.as_str(), "b1.wav 20000 Phonetic.1=V 2-1");
     Ok(())
 }

@@ -9,8 +9,6 @@ mod forms;
 mod law;
 mod line_set;
 mod print;
-#[cfg(test)]
-mod print_tests;
 mod query;
 mod read;
 mod requests;

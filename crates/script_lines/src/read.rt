@@ -7,9 +7,6 @@ ghost use Rattle.json_view.specs.Seen.{seen, seen_at};
 ghost use Rattle.script_lines.specs.Faults.{Reads};
 ghost use Rattle.script_lines.specs.Lines.{is_space, is_blank, json_of, json_line, line_in, config_line, placed_line, word_of_line, value_line, request_of};
 
-#[cfg(test)]
-mod tests;
-
 use crate::config_forms::thin_config;
 use crate::faults::{LineFault, ReadLine};
 use crate::line_set::LineSet;

@@ -1,8 +1,9 @@
 //! Faults and their places, and the prints of queries, worked by hand from the grammar and the rules of printing.
 
-use crate::QueryFault::{Syntax, TextTooLong, TooDeep, TwoMarks};
-use crate::{Op, Query, QueryFault, Term, Terms, Words, print_query, read_query};
-use emu_names::Text;
+use emu_names::{Memory, Text};
+use eql_syntax::QueryFault::{Syntax, TextTooLong, TooDeep, TwoMarks};
+use eql_syntax::{Op, Query, QueryFault, Term, Terms, Words, print_query, read_query};
+use std::alloc::Global;
 use std::test::Fail;
 
 static FAULTS: [(&str, QueryFault); 81] = [
@@ -190,22 +191,43 @@ fn texts_and_their_prints(rt: HostRuntime) -> Result<(), Fail> {
     Ok(())
 }
 
+fn labels(alloc: Global) -> Result<Words, Memory> {
+    let mut labels = Words::new(alloc);
+    labels.push(Text::new(alloc, "a")?)?;
+    Ok(labels)
+}
+
+fn test(alloc: Global) -> Result<Term, Memory> {
+    let labels = labels(alloc)?.copy(alloc)?;
+    let name = Text::new(alloc, "B")?;
+    Ok(Term::Test {
+        marked: true,
+        name,
+        op: Op::IsNot.copy(),
+        labels,
+    })
+}
+
+fn terms(alloc: Global) -> Result<Terms, Memory> {
+    let mut terms = Terms::new(alloc);
+    terms.push(test(alloc)?)?;
+    Ok(terms)
+}
+
 #[test]
 fn a_query_made_by_hand(rt: HostRuntime) -> Result<(), Fail> {
-    let mut labels = Words::new(rt.alloc());
-    labels.push(Text::new(rt.alloc(), "a")?)?;
+    let query = Query::Terms(terms(rt.alloc())?.copy(rt.alloc())?);
+    let text = print_query(rt.alloc(), &query)?;
+    assert_eq!(rt; text.as_str(), "#'B' != 'a'");
+    Ok(())
+}
+
+#[test]
+fn lists_count(rt: HostRuntime) -> Result<(), Fail> {
+    let labels = labels(rt.alloc())?;
     assert_eq!(rt; labels.len(), 1);
     assert_eq!(rt; labels.get(0).as_str(), "a");
-    let mut terms = Terms::new(rt.alloc());
-    terms.push(Term::Test {
-        marked: true,
-        name: Text::new(rt.alloc(), "B")?,
-        op: Op::IsNot.copy(),
-        labels: labels.copy(rt.alloc())?,
-    })?;
-    assert_eq!(rt; terms.len(), 1);
-    let query = Query::Terms(terms.copy(rt.alloc())?);
-    assert_eq!(rt; print_query(rt.alloc(), &query)?.as_str(), "#'B' != 'a'");
+    assert_eq!(rt; terms(rt.alloc())?.len(), 1);
     Ok(())
 }
 

@@ -1,9 +1,7 @@
 //! What no clause says: the printed bytes, and that the calls succeed where memory is ample.
-use super::*;
 use emu_names::{Broken, ItemId, Memory, SessionNo, Text, What};
-use json_view::{View, ViewFault};
-use serde_json::Value;
-use session_core::{Answer, AskFault, Command, Refusal, Reply, Row, SegmentList};
+use script_lines::print_reply;
+use session_core::{Answer, AskFault, Refusal, Reply, Row, SegmentList};
 use std::alloc::Global;
 use std::process::Abort;
 use std::test::Fail;
@@ -46,40 +44,6 @@ fn expect_reply(rt: &impl Abort, alloc: Global, reply: Reply, wanted: &str) -> R
     let text = print_reply(alloc, &reply)?;
     assert_eq!(rt; text.as_str(), wanted);
     Ok(())
-}
-
-#[test]
-fn replies_without_rows(rt: HostRuntime) -> Result<(), Fail> {
-    for (line, n, command, wanted) in [
-        (
-            1,
-            0,
-            Command::Config,
-            "{\"line\":1,\"n\":0,\"ok\":\"config\"}\n",
-        ),
-        (
-            2,
-            1,
-            Command::AddBundle,
-            "{\"line\":2,\"n\":1,\"ok\":\"add_bundle\"}\n",
-        ),
-        (
-            3,
-            1,
-            Command::Look,
-            "{\"line\":3,\"n\":1,\"ok\":\"look\"}\n",
-        ),
-    ] {
-        expect_reply(
-            &rt,
-            rt.alloc(),
-            reply(line, Some(n), Answer::Done(command)),
-            wanted,
-        )?;
-    }
-    let none = Answer::Segments(SegmentList::new(rt.alloc()));
-    let wanted = "{\"line\":3,\"n\":1,\"segments\":[]}\n";
-    expect_reply(&rt, rt.alloc(), reply(3, Some(1), none), wanted)
 }
 
 #[test]
@@ -168,67 +132,4 @@ fn refusals(rt: HostRuntime) -> Result<(), Fail> {
         expect_reply(&rt, alloc, reply(7, n, Answer::Refused(refusal)), wanted)?;
     }
     Ok(())
-}
-
-fn expect_fault(
-    rt: &impl Abort,
-    alloc: Global,
-    fault: LineFault,
-    wanted: &str,
-) -> Result<(), Fail> {
-    if let LineFault::Memory = fault {
-        return Err(Fail::new("want of memory has no last line"));
-    }
-    let text = print_fault(alloc, 2, &fault)?;
-    assert_eq!(rt; text.as_str(), wanted);
-    Ok(())
-}
-
-#[test]
-fn last_lines(rt: HostRuntime) -> Result<(), Fail> {
-    let alloc = rt.alloc();
-    for (fault, wanted) in [
-        (
-            LineFault::NotJson,
-            "{\"cause\":\"NotJson\",\"line\":2,\"status\":3}\n",
-        ),
-        (
-            LineFault::ConfigPlace,
-            "{\"cause\":\"ConfigPlace\",\"line\":2,\"status\":3}\n",
-        ),
-        (
-            LineFault::BadAfter,
-            "{\"cause\":\"BadAfter\",\"line\":2,\"status\":3}\n",
-        ),
-        (
-            LineFault::NoSuchCommand,
-            "{\"cause\":\"NoSuchCommand\",\"line\":2,\"status\":3}\n",
-        ),
-    ] {
-        expect_fault(&rt, alloc, fault, wanted)?;
-    }
-    for (cause, status, wanted) in [
-        ("Usage", 2, "{\"cause\":\"Usage\",\"status\":2}\n"),
-        ("Limit", 9, "{\"cause\":\"Limit\",\"status\":9}\n"),
-    ] {
-        assert_eq!(rt; print_last(alloc, cause, status)?.as_str(), wanted);
-    }
-    Ok(())
-}
-
-#[test]
-fn last_line_of_a_form(rt: HostRuntime) -> Result<(), Fail> {
-    let alloc = rt.alloc();
-    let value = Value::from_str(alloc, "{\"s\":17}")?;
-    let root = View::root(alloc, &value)?;
-    let session = root.member("s", json_view::Wanted::Session)?;
-    let shape = session.refuse(json_view::Wanted::Session);
-    match shape {
-        ViewFault::Shape(shape) => {
-            let wanted =
-                "{\"cause\":\"Shape\",\"line\":2,\"path\":\"$.s\",\"status\":3,\"wanted\":\"session\"}\n";
-            expect_fault(&rt, alloc, LineFault::Shape(shape), wanted)
-        }
-        ViewFault::Memory => Err(Fail::new("memory ran out")),
-    }
 }
