@@ -15,6 +15,3 @@ pub use fault::{JournalFault, Memory, NoJournal};
 pub use frame::Frame;
 pub use journal::Journal;
 pub use recovery::Recovered;
-
-#[cfg(test)]
-mod tests;

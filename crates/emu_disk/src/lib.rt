@@ -16,6 +16,3 @@ pub use file::FileDisk;
 pub use memory::{Memory, MemoryDisk};
 pub use replay::Fate;
 pub use sure::SureDisk;
-
-#[cfg(test)]
-mod tests;

@@ -6,8 +6,6 @@ mod copying;
 mod faults;
 mod lists;
 mod sure;
-#[cfg(test)]
-mod tests;
 mod traits;
 mod whole;
 

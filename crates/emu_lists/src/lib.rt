@@ -4,8 +4,6 @@
 mod plain;
 mod series;
 mod shared;
-#[cfg(test)]
-mod tests;
 
 pub use plain::PlainData;
 pub use series::Series;

@@ -5,8 +5,6 @@ mod kinds;
 mod names;
 mod rules;
 mod shortage;
-#[cfg(test)]
-mod tests;
 mod texts;
 
 pub use kinds::{ItemId, LevelKind, LinkKind, SessionNo};

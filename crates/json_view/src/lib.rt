@@ -3,8 +3,6 @@
 
 mod faults;
 mod laws;
-#[cfg(test)]
-mod tests;
 mod text_views;
 mod views;
 mod wants;

@@ -6,8 +6,6 @@ mod list_maker;
 mod maker;
 mod pattern;
 mod regex_maker;
-#[cfg(test)]
-mod tests;
 
 pub use faults::{Memory, PatternFault};
 pub use list_maker::ListMaker;

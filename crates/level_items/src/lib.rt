@@ -10,8 +10,6 @@ mod levels;
 mod marks;
 mod moves;
 mod places;
-#[cfg(test)]
-mod tests;
 mod times;
 
 pub use annot::{

@@ -9,8 +9,6 @@ mod link;
 mod links;
 mod pairs;
 mod taken;
-#[cfg(test)]
-mod tests;
 
 pub use ends::Ends;
 pub use laws::{added_links_keep_kinds, kept_links_keep_kinds, no_links_keep_kinds};

@@ -6,8 +6,6 @@ mod micros;
 mod reading;
 mod sample;
 mod significand;
-#[cfg(test)]
-mod tests;
 
 pub use decimal::{Decimal, NumberFault, decimals_have_one_reading, read_decimal};
 pub use micros::{micros_of_end, micros_of_point, micros_of_start};

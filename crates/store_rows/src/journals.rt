@@ -3,9 +3,10 @@ ghost use Rattle.std.specs.Prelude.{IfOk};
 ghost use Rattle.emu_disk.specs.Planned.{images_of};
 ghost use Rattle.edit_journal.specs.Held.{IsHeld};
 
-use crate::{Bodies, Body, BodyBytes, Frame, Journal, JournalFault, Memory, Recovered};
+use edit_journal::{Bodies, Body, BodyBytes, Frame, Journal, JournalFault, Memory};
 use emu_disk::{Call, Fate, MemoryDisk};
 use std::alloc::Global;
+use std::process::Abort;
 use std::test::Fail;
 
 // A store with the body `x`.
@@ -19,26 +20,23 @@ const FATES: [Fate; 5] = [
     Fate::Filled(1),
 ];
 
-impl From<emu_disk::Memory> for JournalFault {
-    fn from(_: emu_disk::Memory) -> Self {
-        JournalFault::Memory
-    }
-}
-
 fn is_sendable<T: Send>(_: &T) {}
 
-fn opened(alloc: Global, disk: MemoryDisk) -> Result<Recovered<MemoryDisk>, JournalFault>
-    ensures { IfOk result (λ r. IsHeld images_of r.journal) }
+fn opened(alloc: Global, disk: MemoryDisk) -> Result<Journal<MemoryDisk>, JournalFault>
+    ensures { IfOk result (λ journal. IsHeld images_of journal) }
 {
     match Journal::recover(alloc, disk) {
-        Ok(recovered) => Ok(recovered),
+        Ok(recovered) => Ok(recovered.journal),
         Err(none) => Err(none.fault),
     }
 }
 
-fn bodies_of(alloc: Global, image: &[u8]) -> Result<Bodies, JournalFault> {
-    let recovered = opened(alloc, MemoryDisk::new(alloc, image)?)?;
-    Ok(recovered.bodies)
+fn bodies_of(alloc: Global, image: &[u8]) -> Result<Bodies, Fail> {
+    let disk = MemoryDisk::new(alloc, image)?;
+    match Journal::recover(alloc, disk) {
+        Ok(recovered) => Ok(recovered.bodies),
+        Err(none) => Err(none.fault.into()),
+    }
 }
 
 fn are(bodies: &Bodies, wanted: &[&[u8]]) -> bool {
@@ -62,7 +60,7 @@ fn is_sync(call: &Call) -> bool {
 }
 
 // Whether each image of a disk stands for `x` with `AB` or, unless it is safe, without.
-fn each_image_stands(alloc: Global, disk: &MemoryDisk, safe: bool) -> Result<bool, JournalFault> {
+fn each_image_stands(alloc: Global, disk: &MemoryDisk, safe: bool) -> Result<bool, Fail> {
     for first in FATES {
         for second in FATES {
             let image = disk.image(alloc, &[first, second])?;
@@ -78,7 +76,7 @@ fn each_image_stands(alloc: Global, disk: &MemoryDisk, safe: bool) -> Result<boo
 #[test]
 fn the_calls_of_a_first_append(rt: HostRuntime) -> Result<(), Fail> {
     let alloc = rt.alloc();
-    let mut journal = opened(alloc, MemoryDisk::new(alloc, b"")?)?.journal;
+    let mut journal = opened(alloc, MemoryDisk::new(alloc, b"")?)?;
     journal.append(&Frame::new(alloc, b"AB")?)?;
     assert_eq!(rt; journal.end(), 15);
     let disk = journal.into_disk();
@@ -94,31 +92,35 @@ fn the_calls_of_a_first_append(rt: HostRuntime) -> Result<(), Fail> {
 #[test]
 fn a_body_that_is_too_large(rt: HostRuntime) -> Result<(), Fail> {
     let alloc = rt.alloc();
-    let mut journal = opened(alloc, MemoryDisk::new(alloc, b"")?)?.journal;
+    let mut journal = opened(alloc, MemoryDisk::new(alloc, b"")?)?;
     let large = Frame::new(alloc, &vec![in alloc; 0u8; 268_435_443]?)?;
     assert_eq!(rt; journal.append(&large), Err(JournalFault::StoreFull));
     assert_eq!(rt; journal.into_disk().calls().len(), 2);
     Ok(())
 }
 
-#[test]
-fn a_gate_in_doubt_is_closed_first(rt: HostRuntime) -> Result<(), Fail> {
-    let alloc = rt.alloc();
+/// A disk behind an append whose gate came to be in doubt, one that failed to close it, and one that did.
+fn disk_behind_doubt(rt: &impl Abort, alloc: Global) -> Result<MemoryDisk, Fail> {
     let frame = Frame::new(alloc, b"AB")?;
     let mut disk = MemoryDisk::new(alloc, b"")?;
     disk.fail_at(&[7, 9])?;
-    let mut journal = opened(alloc, disk)?.journal;
+    let mut journal = opened(alloc, disk)?;
     assert_eq!(rt; journal.append(&frame), Err(JournalFault::Disk));
     assert!(rt; journal.failed_last());
     assert_eq!(rt; journal.append(&frame), Err(JournalFault::Disk));
-    journal.append(&frame)?;
+    assert_eq!(rt; journal.append(&frame), Ok(()));
     assert!(rt; !journal.failed_last());
-    let disk = journal.into_disk();
+    Ok(journal.into_disk())
+}
+
+#[test]
+fn a_gate_in_doubt_is_closed_first(rt: HostRuntime) -> Result<(), Fail> {
+    let disk = disk_behind_doubt(&rt, rt.alloc())?;
     let calls = disk.calls();
     assert_eq!(rt; calls.len(), 16);
     assert!(rt; is_write(&calls[8], 8, b"\0") && calls[9] == Call::Sync { done: false });
     assert!(rt; is_write(&calls[10], 8, b"\0") && is_sync(&calls[11]));
-    assert!(rt; are(&bodies_of(alloc, disk.bytes())?, &[b"AB"]));
+    assert!(rt; are(&bodies_of(rt.alloc(), disk.bytes())?, &[b"AB"]));
     Ok(())
 }
 
@@ -129,7 +131,7 @@ fn each_stop_with_each_image(rt: HostRuntime) -> Result<(), Fail> {
     for stop in 3..=7 {
         let mut disk = MemoryDisk::new(alloc, &STORE)?;
         disk.stop_after(stop);
-        let mut journal = opened(alloc, disk)?.journal;
+        let mut journal = opened(alloc, disk)?;
         let safe = journal.append(&frame).is_ok();
         assert_eq!(rt; safe, stop == 7);
         let disk = journal.into_disk();
@@ -148,7 +150,7 @@ fn each_failed_call(rt: HostRuntime) -> Result<(), Fail> {
     for place in 3..7 {
         let mut disk = MemoryDisk::new(alloc, &STORE)?;
         disk.fail_at(&[place])?;
-        let mut journal = opened(alloc, disk)?.journal;
+        let mut journal = opened(alloc, disk)?;
         assert_eq!(rt; journal.append(&frame), Err(JournalFault::Disk));
         journal.append(&frame)?;
         let disk = journal.into_disk();
@@ -169,13 +171,19 @@ fn places_of_damage(rt: HostRuntime) -> Result<(), Fail> {
         (b"EMUSTORE\x01\0\0\0\x01x\x01\0\0\0\x09".as_slice(), 14),
     ];
     for (store, at) in table {
-        match bodies_of(alloc, store) {
+        let disk = MemoryDisk::new(alloc, store)?;
+        match opened(alloc, disk) {
             Ok(_) => assert!(rt; false, "no damage at {at}"),
             Err(fault) => assert_eq!(rt; fault, JournalFault::Damaged(at)),
         }
     }
-    assert!(rt; are(&bodies_of(alloc, b"EMUSTORE\x01")?, &[]));
-    assert!(rt; are(&bodies_of(alloc, b"EMUSTORE\x02rest")?, &[]));
+    Ok(())
+}
+
+#[test]
+fn a_store_without_bodies(rt: HostRuntime) -> Result<(), Fail> {
+    assert!(rt; are(&bodies_of(rt.alloc(), b"EMUSTORE\x01")?, &[]));
+    assert!(rt; are(&bodies_of(rt.alloc(), b"EMUSTORE\x02rest")?, &[]));
     Ok(())
 }
 
@@ -215,6 +223,6 @@ fn frames_are_copied(rt: HostRuntime) -> Result<(), Fail> {
 
 #[test]
 fn journals_may_be_sent(rt: HostRuntime) -> Result<(), Fail> {
-    is_sendable(&opened(rt.alloc(), MemoryDisk::new(rt.alloc(), b"")?)?.journal);
+    is_sendable(&opened(rt.alloc(), MemoryDisk::new(rt.alloc(), b"")?)?);
     Ok(())
 }

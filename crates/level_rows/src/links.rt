@@ -1,8 +1,8 @@
 //! What no clause says: that calls succeed where memory is ample, and are soon done.
 ghost use Rattle.std.specs.Prelude.{◌<◌};
 
-use crate::{Ends, Links};
 use emu_names::{Broken, Fault, ItemId, LinkKind, What};
+use link_graph::{Ends, Links};
 use std::alloc::Global;
 use std::process::Abort;
 use std::test::Fail;

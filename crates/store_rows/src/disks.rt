@@ -1,5 +1,6 @@
 //! Each disk on its happy path, the failures that are asked for, the images that fates pick, and a real file.
-use crate::{Call, Disk, Failed, Fate, FileDisk, MemoryDisk, SureDisk};
+use emu_disk::{Call, Disk, Failed, Fate, FileDisk, MemoryDisk, SureDisk};
+use std::process::Abort;
 use std::test::Fail;
 use std::{env, fs, process};
 
@@ -12,28 +13,38 @@ fn read_ten<D: Disk>(disk: &mut D, at: u64) -> Result<([u8; 10], usize), Failed>
     Ok((buf, count))
 }
 
-#[test]
-fn calls_of_a_memory_disk(rt: HostRuntime) -> Result<(), Fail> {
-    let alloc = rt.alloc();
-    let mut disk = MemoryDisk::new(alloc, b"abc")?;
-    is_sendable(&disk);
-    disk.fail_at(&[4, 5, 6, 7])?;
-    disk.stop_after(9);
+/// The calls of a disk that are done.
+fn expect_done(rt: &impl Abort, disk: &mut MemoryDisk) -> Result<(), Failed> {
     disk.write_at(1, b"XYZ")?;
-    assert_eq!(rt; read_ten(&mut disk, 2)?, (*b"YZ\0\0\0\0\0\0\0\0", 2));
+    assert_eq!(rt; read_ten(disk, 2)?, (*b"YZ\0\0\0\0\0\0\0\0", 2));
     disk.sync()?;
     disk.cut(3)?;
     assert_eq!(rt; disk.bytes(), b"aXY".as_slice());
+    Ok(())
+}
+
+/// The calls of a disk that fail, and one between them that is done.
+fn expect_failed(rt: &impl Abort, disk: &mut MemoryDisk) {
     assert_eq!(rt; disk.write_at(3, b"1234"), Err(Failed));
     assert_eq!(rt; disk.bytes(), b"aXY12".as_slice());
     assert_eq!(rt; disk.cut(1), Err(Failed));
     assert_eq!(rt; disk.sync(), Err(Failed));
-    assert_eq!(rt; read_ten(&mut disk, 0), Err(Failed));
-    disk.sync()?;
+    assert_eq!(rt; read_ten(disk, 0), Err(Failed));
+    assert_eq!(rt; disk.sync(), Ok(()));
     assert_eq!(rt; disk.sync(), Err(Failed));
     assert_eq!(rt; disk.calls().len(), 10);
     assert_eq!(rt; disk.calls()[2] == Call::Sync { done: true }, true);
     assert_eq!(rt; disk.calls()[6] == Call::Sync { done: false }, true);
+}
+
+#[test]
+fn calls_of_a_memory_disk(rt: HostRuntime) -> Result<(), Fail> {
+    let mut disk = MemoryDisk::new(rt.alloc(), b"abc")?;
+    is_sendable(&disk);
+    disk.fail_at(&[4, 5, 6, 7])?;
+    disk.stop_after(9);
+    expect_done(&rt, &mut disk)?;
+    expect_failed(&rt, &mut disk);
     Ok(())
 }
 
@@ -72,6 +83,21 @@ fn room_of_a_sure_disk(rt: HostRuntime) -> Result<(), Fail> {
     Ok(())
 }
 
+/// Leaves the first nine bytes of a text.
+fn fill<D: Disk>(disk: &mut D) -> Result<(), Failed> {
+    disk.write_at(0, b"a short text")?;
+    disk.sync()?;
+    disk.cut(9)?;
+    disk.cut(20)
+}
+
+fn expect_filled<D: Disk>(rt: &impl Abort, disk: &mut D) -> Result<(), Failed> {
+    disk.sync()?;
+    assert_eq!(rt; read_ten(disk, 2)?, (*b"short t\0\0\0", 7));
+    assert_eq!(rt; read_ten(disk, 9)?.1, 0);
+    Ok(())
+}
+
 #[test]
 fn a_real_file(rt: HostRuntime) -> Result<(), Fail> {
     let alloc = rt.alloc();
@@ -84,14 +110,8 @@ fn a_real_file(rt: HostRuntime) -> Result<(), Fail> {
     assert_eq!(rt; read_ten(&mut disk, 0)?.1, 0);
     disk.sync()?;
     assert_eq!(rt; fs::exists(&rt, "emu.store")?, false);
-    disk.write_at(0, b"a short text")?;
-    disk.sync()?;
-    disk.cut(9)?;
-    disk.cut(20)?;
-    let mut again = FileDisk::new(&rt);
-    again.sync()?;
-    assert_eq!(rt; read_ten(&mut again, 2)?, (*b"short t\0\0\0", 7));
-    assert_eq!(rt; read_ten(&mut again, 9)?.1, 0);
+    fill(&mut disk)?;
+    expect_filled(&rt, &mut FileDisk::new(&rt))?;
     fs::remove_file(&rt, "emu.store")?;
     fs::remove_dir(&rt, folder.as_str())?;
     Ok(())

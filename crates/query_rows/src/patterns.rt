@@ -1,5 +1,5 @@
 //! What no clause says: which patterns match which labels, and that calls succeed with memory.
-use crate::{ListMaker, PatternFault, PatternMaker, RegexMaker};
+use label_match::{ListMaker, PatternFault, PatternMaker, RegexMaker};
 use std::alloc::Global;
 use std::process::Abort;
 use std::test::Fail;

@@ -3,7 +3,7 @@
 use emu_names::{Memory, Text};
 use eql_syntax::QueryFault::{Syntax, TextTooLong, TooDeep, TwoMarks};
 use eql_syntax::{Op, Query, QueryFault, Term, Terms, Words, print_query, read_query};
-use std::alloc::Global;
+use std::alloc::{AllocError, Global};
 use std::test::Fail;
 
 static FAULTS: [(&str, QueryFault); 81] = [
@@ -231,29 +231,32 @@ fn lists_count(rt: HostRuntime) -> Result<(), Fail> {
     Ok(())
 }
 
+/// A text, this many times.
+fn repeated(alloc: Global, text: &str, count: usize) -> Result<String, AllocError> {
+    let mut all = String::new(alloc);
+    for _ in 0..count {
+        all.push_str(text)?;
+    }
+    Ok(all)
+}
+
 #[test]
-fn limits(rt: HostRuntime) -> Result<(), Fail> {
-    let mut deep = String::new(rt.alloc());
-    for _ in 0..32 {
-        deep.push_str("[")?;
-    }
-    deep.push_str("A == a")?;
-    for _ in 0..32 {
-        deep.push_str("]")?;
-    }
+fn brackets_have_a_limit(rt: HostRuntime) -> Result<(), Fail> {
+    let open = repeated(rt.alloc(), "[", 32)?;
+    let close = repeated(rt.alloc(), "]", 32)?;
+    let deep = format!(in rt.alloc(); "{open}A == a{close}")?;
     let _query = read_query(rt.alloc(), deep.as_str())?;
-    let mut opened = String::new(rt.alloc());
-    for _ in 0..4096 {
-        opened.push_str("[")?;
-    }
-    match read_query(rt.alloc(), opened.as_str()) {
-        Ok(_query) => assert!(rt; false, "brackets are read"),
-        Err(found) => assert_eq!(rt; found, TooDeep(32)),
-    }
-    opened.push_str("[")?;
-    match read_query(rt.alloc(), opened.as_str()) {
-        Ok(_query) => assert!(rt; false, "a long text is read"),
-        Err(found) => assert_eq!(rt; found, TextTooLong),
+    Ok(())
+}
+
+#[test]
+fn texts_have_a_limit(rt: HostRuntime) -> Result<(), Fail> {
+    for (count, fault) in [(4096, TooDeep(32)), (4097, TextTooLong)] {
+        let text = repeated(rt.alloc(), "[", count)?;
+        match read_query(rt.alloc(), text.as_str()) {
+            Ok(_query) => assert!(rt; false, "{count} brackets are read"),
+            Err(found) => assert_eq!(rt; found, fault),
+        }
     }
     Ok(())
 }

@@ -1,5 +1,5 @@
 use Rattle.std.proofs.Common.{◌≡◌}
-use Rattle.level_items.proofs.tests.row_of.Given as goal
+use Rattle.level_rows.proofs.levels.row_of.Given as goal
 
 -- the level has no attributes
 abbrev pub invariant-loop-number : goal.invariant-loop-number

@@ -1,5 +1,5 @@
 //! Lists and shared values on their happy paths.
-use crate::{PlainData, Series, Shared};
+use emu_lists::{PlainData, Series, Shared};
 use emu_names::{ItemId, Text};
 use std::test::Fail;
 

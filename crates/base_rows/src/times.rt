@@ -1,9 +1,9 @@
 //! Values worked by exact fractions outside this program (Python's `fractions`), where a reader through
 //! binary floating-point numbers goes wrong.
 
-use crate::NumberFault::{NotANumber, TooManyDigits};
-use crate::TimeFault::{NegativeTime, TimeTooLarge};
-use crate::{
+use sample_time::NumberFault::{NotANumber, TooManyDigits};
+use sample_time::TimeFault::{NegativeTime, TimeTooLarge};
+use sample_time::{
     TimeFault, first_sample_from, micros_of_end, micros_of_point, micros_of_start, nearest_sample,
     read_decimal,
 };

@@ -1,12 +1,12 @@
 //! Lists worked by hand from the level rule, and each call that allocates on its happy path.
-ghost use Rattle.std.specs.Prelude.{◌≡◌};
+ghost use Rattle.std.specs.Prelude.{◌≡◌, IfOk, length};
 
-use crate::Time::{NoTime, Point, Span};
-use crate::{
+use emu_names::{Broken, Fault, ItemId, LevelKind, Memory, Text};
+use level_items::Time::{NoTime, Point, Span};
+use level_items::{
     Annot, AnnotItem, AnnotItems, AnnotLabel, AnnotLabels, AnnotLevel, AnnotLevels, AnnotLink,
     AnnotLinks, Item, Labels, LevelList, Time,
 };
-use emu_names::{Broken, Fault, ItemId, LevelKind, Memory, Text};
 use std::alloc::{AllocError, Global};
 use std::process::Abort;
 use std::test::Fail;
@@ -381,30 +381,53 @@ fn many_items_are_built_and_found(rt: HostRuntime) -> Result<(), Fail> {
 /// Values that go to other threads and are shared among them.
 fn crosses_threads<T: Send + Sync>(_value: &T) {}
 
-#[test]
-fn labels_are_set_and_copied(rt: HostRuntime) -> Result<(), Fail> {
-    let alloc = rt.alloc();
+/// The label V, and one without a text.
+fn two_labels(alloc: Global) -> Result<Labels, Memory>
+    ensures { IfOk result (λ labels. length labels ≡ 2) }
+{
+    let first = Text::new(alloc, "V")?;
+    let second = Text::new(alloc, "")?;
     let mut labels = Labels::new(alloc);
-    labels.push(Text::new(alloc, "V")?)?;
-    labels.push(Text::new(alloc, "")?)?;
+    labels.push(first)?;
+    labels.push(second)?;
+    Ok(labels)
+}
+
+fn expect_labels(rt: &impl Abort, labels: &Labels, first: &str, second: &str) {
     assert_eq!(rt; labels.len(), 2);
-    let mut list = LevelList::new(alloc, LevelKind::Item, 2);
+    assert_eq!(rt; labels.get(0).as_str(), first);
+    assert_eq!(rt; labels.get(1).as_str(), second);
+}
+
+#[test]
+fn items_are_copied(rt: HostRuntime) -> Result<(), Fail> {
+    let labels = two_labels(rt.alloc())?;
     let item = Item {
         id: ItemId(7),
         time: NoTime,
         labels,
     };
-    let second = item.copy(alloc)?;
+    let copied = item.copy(rt.alloc())?;
+    expect_labels(&rt, &copied.labels, "V", "");
+    Ok(())
+}
+
+#[test]
+fn labels_are_set_and_copied(rt: HostRuntime) -> Result<(), Fail> {
+    let label = Text::new(rt.alloc(), "m")?;
+    let labels = two_labels(rt.alloc())?;
+    let mut list = LevelList::new(rt.alloc(), LevelKind::Item, 2);
+    let item = Item {
+        id: ItemId(7),
+        time: NoTime,
+        labels,
+    };
     assert_eq!(rt; list.insert(None, item)?, 0);
-    list.set_label(0, 1, Text::new(alloc, "m")?);
-    let copied = list.copy(alloc)?;
+    list.set_label(0, 1, label);
+    let copied = list.copy(rt.alloc())?;
     crosses_threads(&copied);
     assert_eq!(rt; copied.len(), 1);
-    let labels = &copied.get(0).labels;
-    assert_eq!(rt; labels.len(), 2);
-    assert_eq!(rt; labels.get(0).as_str(), "V");
-    assert_eq!(rt; labels.get(1).as_str(), "m");
-    assert_eq!(rt; second.labels.get(1).as_str(), "");
+    expect_labels(&rt, &copied.get(0).labels, "V", "m");
     Ok(())
 }
 

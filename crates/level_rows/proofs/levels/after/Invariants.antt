@@ -1,5 +1,5 @@
 use Rattle.std.proofs.Common.{◌≡◌}
-use Rattle.level_items.proofs.tests.after.Given as goal
+use Rattle.level_rows.proofs.levels.after.Given as goal
 
 -- the level has no attributes
 abbrev pub invariant-loop-row : goal.invariant-loop-row

@@ -1,6 +1,9 @@
 //! What no clause says: that calls succeed where memory is ample, faults in turn at each call, and
 //! the adapters over readers and writers in memory.
-use super::*;
+use emu_io::{
+    Failed, InputSource, ListSink, ListSource, Memory, OutputSink, ReadFault, Sink, SureSink,
+    SureSource, read_front, write_all,
+};
 use std::alloc::Global;
 use std::io::{self, ErrorKind, Read, Write};
 use std::process::Abort;

@@ -1,5 +1,8 @@
 //! What no clause says: that calls succeed where memory is ample, and the printed words.
-use super::*;
+use emu_names::{
+    Broken, BundleKey, Fault, ItemId, LevelKind, LinkKind, Name, NameFault, SessionNo, Text, What,
+    is_name,
+};
 use std::alloc::Global;
 use std::collections::BTreeSet;
 use std::process::Abort;
@@ -99,20 +102,29 @@ fn ids_are_in_order(rt: HostRuntime) -> Result<(), Fail> {
     Ok(())
 }
 
+/// Compares a rule's number and word, and copies it as a fault.
+fn expect_rule(
+    rt: &impl Abort,
+    alloc: Global,
+    rule: Broken,
+    number: u8,
+    word: &str,
+) -> Result<(), Fail> {
+    assert_eq!(rt; rule.number(), number, "{word}");
+    assert_eq!(rt; rule.word(), word);
+    let fault = Fault::Broken(rule);
+    let copied = fault.copy(alloc)?;
+    assert_eq!(rt; copied, fault);
+    Ok(())
+}
+
 #[test]
 fn rules_have_numbers_and_words(rt: HostRuntime) -> Result<(), Fail> {
-    let alloc = rt.alloc();
-    let text = Text::new(alloc, "Phonetic")?;
-    let rules = vec![in alloc;
+    for (rule, number, word) in [
         (Broken::BundleTaken, 1, "BundleTaken"),
         (Broken::NoBundle, 2, "NoBundle"),
         (Broken::TooMany(What::AllItems), 3, "TooMany"),
         (Broken::RateOut, 4, "RateOut"),
-        (Broken::NoLevel(text.copy(alloc)?), 5, "NoLevel"),
-        (Broken::TwoLevels(text.copy(alloc)?), 6, "TwoLevels"),
-        (Broken::LevelKind(text.copy(alloc)?), 7, "LevelKind"),
-        (Broken::NoAttribute(text.copy(alloc)?), 8, "NoAttribute"),
-        (Broken::TwoLabels(text.copy(alloc)?), 9, "TwoLabels"),
         (Broken::LabelTooLong, 10, "LabelTooLong"),
         (Broken::IllegalLabel, 11, "IllegalLabel"),
         (Broken::IdTaken(ItemId(7)), 12, "IdTaken"),
@@ -129,13 +141,40 @@ fn rules_have_numbers_and_words(rt: HostRuntime) -> Result<(), Fail> {
         (Broken::NoLink, 23, "NoLink"),
         (Broken::OneParent(ItemId(7)), 24, "OneParent"),
         (Broken::OneChild(ItemId(7)), 25, "OneChild"),
-    ]?;
-    for (rule, number, word) in rules {
-        assert_eq!(rt; rule.number(), number, "{word}");
-        assert_eq!(rt; rule.word(), word);
-        let fault = Fault::Broken(rule);
-        assert_eq!(rt; fault.copy(alloc)?, fault);
+    ] {
+        expect_rule(&rt, rt.alloc(), rule, number, word)?;
     }
+    Ok(())
+}
+
+/// The rule with a name, of this number.
+fn named(number: u8, name: Text) -> Broken {
+    match number {
+        5 => Broken::NoLevel(name),
+        6 => Broken::TwoLevels(name),
+        7 => Broken::LevelKind(name),
+        8 => Broken::NoAttribute(name),
+        _ => Broken::TwoLabels(name),
+    }
+}
+
+#[test]
+fn rules_with_names_have_numbers_and_words(rt: HostRuntime) -> Result<(), Fail> {
+    for (number, word) in [
+        (5, "NoLevel"),
+        (6, "TwoLevels"),
+        (7, "LevelKind"),
+        (8, "NoAttribute"),
+        (9, "TwoLabels"),
+    ] {
+        let name = Text::new(rt.alloc(), "Phonetic")?;
+        expect_rule(&rt, rt.alloc(), named(number, name), number, word)?;
+    }
+    Ok(())
+}
+
+#[test]
+fn counted_things_have_words(rt: HostRuntime) {
     for (what, word) in [
         (What::Bundles, "Bundles"),
         (What::BundleItems, "BundleItems"),
@@ -144,5 +183,4 @@ fn rules_have_numbers_and_words(rt: HostRuntime) -> Result<(), Fail> {
     ] {
         assert_eq!(rt; what.copy().word(), word);
     }
-    Ok(())
 }

@@ -1,0 +1,13 @@
+//! Names, streams, lists, JSON views and times, with what is known of them from outside.
+#![tactic(auto)]
+
+#[cfg(test)]
+mod lists;
+#[cfg(test)]
+mod names;
+#[cfg(test)]
+mod streams;
+#[cfg(test)]
+mod times;
+#[cfg(test)]
+mod views;
