@@ -1,5 +1,5 @@
 //! Lists worked by hand from the level rule, and each call that allocates on its happy path.
-ghost use Rattle.std.specs.Prelude.{◌≡◌, IfOk, length};
+ghost use Rattle.std.specs.Prelude.{◌≡◌};
 
 use emu_names::{Broken, Fault, ItemId, LevelKind, Memory, Text};
 use level_items::Time::{NoTime, Point, Span};
@@ -382,9 +382,7 @@ fn many_items_are_built_and_found(rt: HostRuntime) -> Result<(), Fail> {
 fn crosses_threads<T: Send + Sync>(_value: &T) {}
 
 /// The label V, and one without a text.
-fn two_labels(alloc: Global) -> Result<Labels, Memory>
-    ensures { IfOk result (λ labels. length labels ≡ 2) }
-{
+fn two_labels(alloc: Global) -> Result<Labels, Memory> {
     let first = Text::new(alloc, "V")?;
     let second = Text::new(alloc, "")?;
     let mut labels = Labels::new(alloc);
@@ -415,7 +413,9 @@ fn items_are_copied(rt: HostRuntime) -> Result<(), Fail> {
 #[test]
 fn labels_are_set_and_copied(rt: HostRuntime) -> Result<(), Fail> {
     let label = Text::new(rt.alloc(), "m")?;
-    let labels = two_labels(rt.alloc())?;
+    let mut labels = Labels::new(rt.alloc());
+    labels.push(Text::new(rt.alloc(), "V")?)?;
+    labels.push(Text::new(rt.alloc(), "")?)?;
     let mut list = LevelList::new(rt.alloc(), LevelKind::Item, 2);
     let item = Item {
         id: ItemId(7),

@@ -15,16 +15,17 @@ fn read_ten<D: Disk>(disk: &mut D, at: u64) -> Result<([u8; 10], usize), Failed>
 
 /// The calls of a disk that are done.
 fn expect_done(rt: &impl Abort, disk: &mut MemoryDisk) -> Result<(), Failed> {
+    assert_eq!(rt; disk.bytes().len(), 3);
     disk.write_at(1, b"XYZ")?;
     assert_eq!(rt; read_ten(disk, 2)?, (*b"YZ\0\0\0\0\0\0\0\0", 2));
     disk.sync()?;
-    disk.cut(3)?;
-    assert_eq!(rt; disk.bytes(), b"aXY".as_slice());
-    Ok(())
+    disk.cut(3)
 }
 
 /// The calls of a disk that fail, and one between them that is done.
 fn expect_failed(rt: &impl Abort, disk: &mut MemoryDisk) {
+    assert_eq!(rt; disk.bytes(), b"aXY".as_slice());
+    assert_eq!(rt; disk.bytes().len(), 3);
     assert_eq!(rt; disk.write_at(3, b"1234"), Err(Failed));
     assert_eq!(rt; disk.bytes(), b"aXY12".as_slice());
     assert_eq!(rt; disk.cut(1), Err(Failed));
