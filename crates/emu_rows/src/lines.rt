@@ -1,5 +1,5 @@
 //! Lines of scripts, each read or refused with its first fault.
-use crate::scripts::{BUNDLE, CONFIG, expect, expect_run, joined};
+use crate::scripts::{BUNDLE, CONFIG, expect, expect_run, joined, repeated};
 use std::alloc::{AllocError, Global};
 use std::process::Abort;
 use std::sync::Wait;
@@ -245,53 +245,52 @@ static ITEMS: [(&str, &str, &str, &str); 9] = [
     ),
 ];
 
-/// The last line of a run that ends at a line of a wrong form.
-fn shape(alloc: Global, line: u32, path: &str, wanted: &str) -> Result<String, AllocError> {
+/// The last line of a run that ends at line 3 for its form.
+fn shape(alloc: Global, path: &str, wanted: &str) -> Result<String, AllocError> {
     format!(in alloc;
-        "{{\"cause\":\"Shape\",\"line\":{line},\"path\":\"{path}\",\"status\":3,\"wanted\":\"{wanted}\"}}"
+        "{{\"cause\":\"Shape\",\"line\":3,\"path\":\"{path}\",\"status\":3,\"wanted\":\"{wanted}\"}}"
     )
 }
 
-/// The last line of a run that a line ends for another cause.
-fn cause(alloc: Global, line: u32, cause: &str) -> Result<String, AllocError> {
-    format!(in alloc; "{{\"cause\":\"{cause}\",\"line\":{line},\"status\":3}}")
+/// The last line of a run that ends at line 3 for another cause.
+fn cause(alloc: Global, cause: &str) -> Result<String, AllocError> {
+    format!(in alloc; "{{\"cause\":\"{cause}\",\"line\":3,\"status\":3}}")
+}
+
+/// Runs a line behind a configuration and a bundle.
+fn expect_line<R: Abort + Threads + Wait + Sync>(
+    rt: &R,
+    alloc: Global,
+    line: &str,
+    status: u8,
+    wanted: &str,
+) -> Result<(), Fail> {
+    let lines = [CONFIG, BUNDLE, line];
+    expect(rt, alloc, &lines, status, &[CONFIGURED, ADDED, wanted])
 }
 
 #[test]
 fn lines_are_read(rt: HostRuntime) -> Result<(), Fail> {
     for (line, wanted) in &READ {
-        expect(
-            &rt,
-            rt.alloc(),
-            &[CONFIG, BUNDLE, line],
-            0,
-            &[CONFIGURED, ADDED, wanted],
-        )?;
+        expect_line(&rt, rt.alloc(), line, 0, wanted)?;
+    }
+    Ok(())
+}
+
+#[test]
+fn lines_end_runs(rt: HostRuntime) -> Result<(), Fail> {
+    for (line, word) in &CAUSES {
+        let last = cause(rt.alloc(), word)?;
+        expect_line(&rt, rt.alloc(), line, 3, last.as_str())?;
     }
     Ok(())
 }
 
 #[test]
 fn faults_come_in_order(rt: HostRuntime) -> Result<(), Fail> {
-    for (line, word) in &CAUSES {
-        let last = cause(rt.alloc(), 3, word)?;
-        expect(
-            &rt,
-            rt.alloc(),
-            &[CONFIG, BUNDLE, line],
-            3,
-            &[CONFIGURED, ADDED, last.as_str()],
-        )?;
-    }
     for (line, path, wanted) in &SHAPES {
-        let last = shape(rt.alloc(), 3, path, wanted)?;
-        expect(
-            &rt,
-            rt.alloc(),
-            &[CONFIG, BUNDLE, line],
-            3,
-            &[CONFIGURED, ADDED, last.as_str()],
-        )?;
+        let last = shape(rt.alloc(), path, wanted)?;
+        expect_line(&rt, rt.alloc(), line, 3, last.as_str())?;
     }
     Ok(())
 }
@@ -369,15 +368,6 @@ fn items(rt: HostRuntime) -> Result<(), Fail> {
     Ok(())
 }
 
-/// A text, this many times.
-fn repeated(alloc: Global, text: &str, count: usize) -> Result<String, AllocError> {
-    let mut all = String::new(alloc);
-    for _ in 0..count {
-        all.push_str(text)?;
-    }
-    Ok(all)
-}
-
 #[test]
 fn labels_have_a_limit(rt: HostRuntime) -> Result<(), Fail> {
     for (count, wanted) in [(4096, ADDED), (4097, NO_ANNOT)] {
@@ -397,13 +387,7 @@ fn queries_have_a_limit(rt: HostRuntime) -> Result<(), Fail> {
         let line = format!(in rt.alloc();
             "{{\"do\":\"query\",\"s\":1,\"eql\":\"Phonetic == x{spaces}\"}}"
         )?;
-        expect(
-            &rt,
-            rt.alloc(),
-            &[CONFIG, BUNDLE, line.as_str()],
-            status,
-            &[CONFIGURED, ADDED, wanted],
-        )?;
+        expect_line(&rt, rt.alloc(), line.as_str(), status, wanted)?;
     }
     Ok(())
 }
@@ -414,13 +398,7 @@ fn nesting_has_a_limit(rt: HostRuntime) -> Result<(), Fail> {
         let open = repeated(rt.alloc(), "[", depth)?;
         let close = repeated(rt.alloc(), "]", depth)?;
         let line = format!(in rt.alloc(); "{{\"deep\":{open}{close}}}")?;
-        expect(
-            &rt,
-            rt.alloc(),
-            &[CONFIG, BUNDLE, line.as_str()],
-            3,
-            &[CONFIGURED, ADDED, wanted],
-        )?;
+        expect_line(&rt, rt.alloc(), line.as_str(), 3, wanted)?;
     }
     Ok(())
 }

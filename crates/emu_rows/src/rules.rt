@@ -1,10 +1,11 @@
 //! The rules of building, each broken, where memory is ample.
 use crate::annots::{annot, config, item, key, label, level, one_level, point, segment};
+use crate::scripts::repeated;
 use crate::states::{DONE, outcome, told};
 use emu_lists::Series;
 use emu_names::{ItemId, LevelKind};
 use session_core::{Annot, AnnotItem, Time, build};
-use std::alloc::{AllocError, Global};
+use std::alloc::Global;
 use std::test::Fail;
 
 /// The first sample that is no place.
@@ -136,17 +137,9 @@ fn times_keep_the_rules(rt: HostRuntime) -> Result<(), Fail> {
     Ok(())
 }
 
-fn repeated(alloc: Global, bytes: usize) -> Result<String, AllocError> {
-    let mut text = String::new(alloc);
-    for _ in 0..bytes {
-        text.push('a')?;
-    }
-    Ok(text)
-}
-
 /// The reply to an item with two labels, of which the second has so many bytes.
 fn built_of_labels(alloc: Global, first: &str, second: &str, bytes: usize) -> Result<String, Fail> {
-    let value = repeated(alloc, bytes)?;
+    let value = repeated(alloc, "a", bytes)?;
     let first = label(alloc, first, "V")?;
     let second = label(alloc, second, value.as_str())?;
     let labels = Series::from_vec(vec![in alloc; first, second]?);

@@ -36,6 +36,15 @@ pub fn joined(alloc: Global, lines: &[&str], end: &str) -> Result<Vec<u8>, Alloc
     Ok(bytes)
 }
 
+/// A text, this many times.
+pub fn repeated(alloc: Global, text: &str, count: usize) -> Result<String, AllocError> {
+    let mut all = String::new(alloc);
+    for _ in 0..count {
+        all.push_str(text)?;
+    }
+    Ok(all)
+}
+
 /// Runs the words over a script, with a source and a sink that fail on these calls, counted from 1.
 pub fn run<R: Threads + Wait + Sync>(
     rt: &R,
@@ -78,9 +87,10 @@ pub fn expect_run<R: Abort + Threads + Wait + Sync>(
     status: u8,
     wanted: &[&str],
 ) -> Result<(), Fail> {
+    let last = wanted.last().copied().unwrap_or("");
     let ran = run(rt, alloc, &["run"], script, bad_reads, bad_writes)?;
     let wanted = joined(alloc, wanted, "\n")?;
-    assert_eq!(rt; ran.output.as_slice(), wanted.as_slice());
-    assert_eq!(rt; ran.status, status);
+    assert_eq!(rt; ran.output.as_slice(), wanted.as_slice(), "{last}");
+    assert_eq!(rt; ran.status, status, "{last}");
     Ok(())
 }

@@ -167,7 +167,8 @@ fn expect_rows(
     let key = key(alloc, "s1", "b1")?;
     let config = config(alloc)?;
     let mut set = BundleSet::new(alloc)?;
-    let _done = added(alloc, &config, &mut set, key, annot)?;
+    let text = added(alloc, &config, &mut set, key, annot)?;
+    assert_eq!(rt; text.as_str(), DONE);
     expect_replies(rt, alloc, &config, set.bundles(), rows)
 }
 

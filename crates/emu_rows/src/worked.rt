@@ -4,15 +4,14 @@ use std::test::Fail;
 
 /// A script, line by line, and how its run ends and what it writes.
 struct Row {
-    name: &'static str,
     lines: &'static [&'static str],
     status: u8,
     output: &'static [&'static str],
 }
 
 static ROWS: [Row; 16] = [
+    // one segment
     Row {
-        name: "one segment",
         lines: &[
             CONFIG,
             BUNDLE,
@@ -25,8 +24,8 @@ static ROWS: [Row; 16] = [
             "{\"line\":3,\"n\":1,\"segments\":[{\"attribute\":\"Phonetic\",\"bundle\":\"b1\",\"end\":340175,\"endItem\":2,\"endPos\":1,\"labels\":\"m\",\"level\":\"Phonetic\",\"sampleEnd\":6803,\"sampleRate\":20000,\"sampleStart\":5139,\"session\":\"s1\",\"start\":256925,\"startItem\":2,\"startPos\":1}]}",
         ],
     },
+    // no segment
     Row {
-        name: "no segment",
         lines: &[
             CONFIG,
             BUNDLE,
@@ -39,8 +38,8 @@ static ROWS: [Row; 16] = [
             "{\"line\":3,\"n\":1,\"segments\":[]}",
         ],
     },
+    // no bundle
     Row {
-        name: "no bundle",
         lines: &[
             CONFIG,
             "{\"s\":1,\"do\":\"query\",\"eql\":\"Phonetic == m\"}",
@@ -51,8 +50,8 @@ static ROWS: [Row; 16] = [
             "{\"line\":2,\"n\":0,\"segments\":[]}",
         ],
     },
+    // unknown name
     Row {
-        name: "unknown name",
         lines: &[
             CONFIG,
             BUNDLE,
@@ -65,20 +64,20 @@ static ROWS: [Row; 16] = [
             "{\"line\":3,\"n\":1,\"refused\":{\"name\":\"Word\",\"rule\":\"UnknownName\"}}",
         ],
     },
+    // no line
     Row {
-        name: "no line",
         lines: &[],
         status: 3,
         output: &["{\"cause\":\"ConfigPlace\",\"line\":1,\"status\":3}"],
     },
+    // a first blank line
     Row {
-        name: "a first blank line",
         lines: &["", CONFIG],
         status: 3,
         output: &["{\"cause\":\"ConfigPlace\",\"line\":1,\"status\":3}"],
     },
+    // two configurations
     Row {
-        name: "two configurations",
         lines: &[CONFIG, CONFIG],
         status: 3,
         output: &[
@@ -86,8 +85,8 @@ static ROWS: [Row; 16] = [
             "{\"cause\":\"ConfigPlace\",\"line\":2,\"status\":3}",
         ],
     },
+    // blank lines
     Row {
-        name: "blank lines",
         lines: &[
             CONFIG,
             "",
@@ -102,8 +101,8 @@ static ROWS: [Row; 16] = [
             "{\"line\":5,\"n\":1,\"segments\":[{\"attribute\":\"Phonetic\",\"bundle\":\"b1\",\"end\":340175,\"endItem\":2,\"endPos\":1,\"labels\":\"m\",\"level\":\"Phonetic\",\"sampleEnd\":6803,\"sampleRate\":20000,\"sampleStart\":5139,\"session\":\"s1\",\"start\":256925,\"startItem\":2,\"startPos\":1}]}",
         ],
     },
+    // a bundle twice
     Row {
-        name: "a bundle twice",
         lines: &[
             CONFIG,
             BUNDLE,
@@ -118,8 +117,8 @@ static ROWS: [Row; 16] = [
             "{\"line\":4,\"n\":1,\"segments\":[{\"attribute\":\"Phonetic\",\"bundle\":\"b1\",\"end\":256925,\"endItem\":1,\"endPos\":0,\"labels\":\"V\",\"level\":\"Phonetic\",\"sampleEnd\":5138,\"sampleRate\":20000,\"sampleStart\":3749,\"session\":\"s1\",\"start\":187425,\"startItem\":1,\"startPos\":0}]}",
         ],
     },
+    // no JSON
     Row {
-        name: "no JSON",
         lines: &[
             CONFIG,
             BUNDLE,
@@ -133,8 +132,8 @@ static ROWS: [Row; 16] = [
             "{\"cause\":\"NotJson\",\"line\":3,\"status\":3}",
         ],
     },
+    // no such command
     Row {
-        name: "no such command",
         lines: &[CONFIG, BUNDLE, "{\"s\":1,\"do\":\"fly\"}"],
         status: 3,
         output: &[
@@ -143,8 +142,8 @@ static ROWS: [Row; 16] = [
             "{\"cause\":\"NoSuchCommand\",\"line\":3,\"status\":3}",
         ],
     },
+    // after no line
     Row {
-        name: "after no line",
         lines: &[CONFIG, BUNDLE, "{\"s\":1,\"do\":\"after\",\"line\":9}"],
         status: 3,
         output: &[
@@ -153,8 +152,8 @@ static ROWS: [Row; 16] = [
             "{\"cause\":\"BadAfter\",\"line\":3,\"status\":3}",
         ],
     },
+    // after a line
     Row {
-        name: "after a line",
         lines: &[
             CONFIG,
             BUNDLE,
@@ -169,8 +168,8 @@ static ROWS: [Row; 16] = [
             "{\"line\":4,\"n\":1,\"segments\":[{\"attribute\":\"Phonetic\",\"bundle\":\"b1\",\"end\":340175,\"endItem\":2,\"endPos\":1,\"labels\":\"m\",\"level\":\"Phonetic\",\"sampleEnd\":6803,\"sampleRate\":20000,\"sampleStart\":5139,\"session\":\"s1\",\"start\":256925,\"startItem\":2,\"startPos\":1}]}",
         ],
     },
+    // session 16
     Row {
-        name: "session 16",
         lines: &[CONFIG, "{\"s\":16,\"do\":\"finish\"}"],
         status: 0,
         output: &[
@@ -178,8 +177,8 @@ static ROWS: [Row; 16] = [
             "{\"line\":2,\"refused\":{\"rule\":\"NoLook\"}}",
         ],
     },
+    // session 17
     Row {
-        name: "session 17",
         lines: &[CONFIG, "{\"s\":17,\"do\":\"finish\"}"],
         status: 3,
         output: &[
@@ -187,8 +186,8 @@ static ROWS: [Row; 16] = [
             "{\"cause\":\"Shape\",\"line\":2,\"path\":\"$.s\",\"status\":3,\"wanted\":\"session\"}",
         ],
     },
+    // a look holds its state
     Row {
-        name: "a look holds its state",
         lines: &[
             CONFIG,
             BUNDLE,
