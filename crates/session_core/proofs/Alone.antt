@@ -8,7 +8,7 @@ use Rattle.session_core.specs.declared.line.Answer.TheVariants.{Done, Segments, 
 use Rattle.session_core.specs.declared.line.Line.{Line}
 use Rattle.session_core.specs.declared.line.Reply.{Reply}
 use Rattle.session_core.specs.Worlds.{Turn, Each}
-use Rattle.session_core.specs.Legal.{IsNamed, is_of, of_session, lines_of_session, lines_in, replies_in, Mark, accepted, numbered, with_number, IsRightTurn, NeverFalls, LooksFit, Legal}
+use Rattle.session_core.specs.Legal.{IsNamed, is_of, of_session, lines_of_session, lines_in, replies_in, NumberedEntry, accepted, numbered, with_number, IsRightTurn, NeverFalls, LooksFit, Legal}
 use Rattle.session_core.specs.Example.{example_config, example_history, example_lines, example_replies, replies_with, add_line, no_memory_reply}
 use Rattle.session_core.specs.Laws.{StaleIsNotLegal, AnswerIsExact, AcceptedIsRecorded, RecordedIsAccepted}
 use Rattle.session_core.proofs.Turns.{each_of_map}
@@ -29,29 +29,29 @@ all_named s [] named own = tt
 all_named s (t ∷ ts) named own =
     (eq-eqb t.line.session.0 s (sym (ap (λ k. k.0) named.0.session) ∙ own.0), all_named s ts named.1 own.1)
 
-module _ (c : Config) (opening : List Entry) (script : List Line) (replies : List Reply) (H : List Entry) (store : Bool) (faults : ℕ)
-    (run : Legal c opening script replies H store faults) (s : ℕ) (own : Each (λ (r : Reply). r.session.0 ≡ s) replies) where
+module _ (c : Config) (opening : List Entry) (script : List Line) (replies : List Reply) (H : List Entry) (store : Bool) (before now : ℕ)
+    (run : Legal c opening script replies H store before now) (s : ℕ) (own : Each (λ (r : Reply). r.session.0 ≡ s) replies) where
   alone : of_session s run.turns ≡ run.turns
-  alone = filter_all (is_of s) run.turns (all_named s run.turns run.named
+  alone = filter_all (is_of s) run.turns (all_named s run.turns run.whole.named
       (each_of_map (λ (r : Reply). r.session.0 ≡ s) (λ (t : Turn). t.reply) run.turns (subst (λ (rs : List Reply). Each (λ (r : Reply). r.session.0 ≡ s) rs) (sym run.replied) own)))
 
   pub turns_are : run.turns ≡ turns_with (lines_of_session s script) replies
   turns_are =
       sym (turns_back run.turns)
-      ∙ ap (λ (ls : List Line). turns_with ls (replies_in run.turns)) (ap (λ (ts : List Turn). lines_in ts) (sym alone) ∙ run.in_order s)
+      ∙ ap (λ (ls : List Line). turns_with ls (replies_in run.turns)) (ap (λ (ts : List Turn). lines_in ts) (sym alone) ∙ (run.sessions s).in_order)
       ∙ ap (λ (rs : List Reply). turns_with (lines_of_session s script) rs) run.replied
 
   pub falls_there : NeverFalls (length opening) (turns_with (lines_of_session s script) replies)
-  falls_there = subst (λ (ts : List Turn). NeverFalls (length opening) ts) (alone ∙ turns_are) (run.never_falls s)
+  falls_there = subst (λ (ts : List Turn). NeverFalls (length opening) ts) (alone ∙ turns_are) (run.sessions s).never_falls
 
   pub looks_there : LooksFit c H None (turns_with (lines_of_session s script) replies)
-  looks_there = subst (λ (ts : List Turn). LooksFit c H None ts) (alone ∙ turns_are) (run.looks s)
+  looks_there = subst (λ (ts : List Turn). LooksFit c H None ts) (alone ∙ turns_are) (run.sessions s).looks
 
   pub right_there : Each (IsRightTurn c (length opening) H store) (turns_with (lines_of_session s script) replies)
-  right_there = subst (λ (ts : List Turn). Each (IsRightTurn c (length opening) H store) ts) turns_are run.right
+  right_there = subst (λ (ts : List Turn). Each (IsRightTurn c (length opening) H store) ts) turns_are run.whole.right
 
   pub entries_there : (n : ℕ) → with_number n (accepted (turns_with (lines_of_session s script) replies)) ≡ with_number n (numbered (length opening + 1) run.more)
-  entries_there n = ap (λ (ts : List Turn). with_number n (accepted ts)) (sym turns_are) ∙ run.one_entry n
+  entries_there n = ap (λ (ts : List Turn). with_number n (accepted ts)) (sym turns_are) ∙ run.whole.one_entry n
 
 -- The example's wrong replies.
 
@@ -61,23 +61,23 @@ rows_of (Done command) = []
 rows_of (Refused refusal) = []
 
 pub stale : StaleIsNotLegal
-stale history rows store faults run =
-    let falls : _ = falls_there example_config [] example_lines (replies_with 0 rows) history store faults run 1 (refl, (refl, tt)) in
+stale history rows store before now run =
+    let falls : _ = falls_there example_config [] example_lines (replies_with 0 rows) history store before now run 1 (refl, (refl, tt)) in
     let low : 1 ≤ 0 = falls.1.0 in
     omega arith
 
 pub exact : AnswerIsExact
-exact rows store faults run =
-    let right : _ = right_there example_config [] example_lines (replies_with 1 rows) example_history store faults run 1 (refl, (refl, tt)) in
+exact rows store before now run =
+    let right : _ = right_there example_config [] example_lines (replies_with 1 rows) example_history store before now run 1 (refl, (refl, tt)) in
     ap rows_of right.1.0.2
 
 pub recorded : AcceptedIsRecorded
-recorded store faults run =
-    let right : _ = right_there example_config [] example_lines example_replies [] store faults run 1 (refl, (refl, tt)) in
+recorded store before now run =
+    let right : _ = right_there example_config [] example_lines example_replies [] store before now run 1 (refl, (refl, tt)) in
     let high : 1 ≤ 0 = right.0.1 in
     omega arith
 
-abbrev first_number : List Mark → ℕ
+abbrev first_number : List NumberedEntry → ℕ
 first_number [] = 0
 first_number (m ∷ ms) = m.n
 
@@ -85,7 +85,7 @@ zero_not_one : (a b : ℕ) → a ≡ 0 → b ≡ 1 → a ≡ b → ⊥
 zero_not_one a b zero_is one_is same = absurd (omega arith)
 
 pub recorded_accepted : RecordedIsAccepted
-recorded_accepted store faults run =
-    let same : with_number 1 [] ≡ with_number 1 (numbered 1 run.more) = entries_there example_config [] (add_line ∷ []) (no_memory_reply ∷ []) example_history store faults run 1 (refl, tt) 1 in
+recorded_accepted store before now run =
+    let same : with_number 1 [] ≡ with_number 1 (numbered 1 run.more) = entries_there example_config [] (add_line ∷ []) (no_memory_reply ∷ []) example_history store before now run 1 (refl, tt) 1 in
     let gone : with_number 1 [] ≡ with_number 1 (numbered 1 example_history) = same ∙ ap (λ (es : List Entry). with_number 1 (numbered 1 es)) (sym run.prefix) in
     zero_not_one (first_number []) (first_number (with_number 1 (numbered 1 example_history))) refl refl (ap first_number gone)

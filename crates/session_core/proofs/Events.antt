@@ -1,35 +1,37 @@
 -- Each event that fits keeps what a run of the core keeps true.
-use Rattle.std.proofs.Common.{◌≡◌, ◌≢◌, inl, inr, ⊎_elim, ℕ, ◌+◌, ◌<◌, ◌≤◌, Bool, true, false, List, [], ◌∷◌, ◌++◌, length, Option, Some, None, Result, Ok, Err, nat_le, option_map, refl, sym, ◌∙◌, ap, subst, arith, length-append, eq-eqb, eqb-true}
+use Rattle.std.proofs.Common.{◌≡◌, ◌≢◌, inl, inr, ⊎_elim, ℕ, ◌+◌, ◌<◌, ◌≤◌, Bool, true, false, cond, List, [], ◌∷◌, ◌++◌, length, take, Option, Some, None, Result, Ok, Err, nat_le, option_map, refl, sym, ◌∙◌, ap, subst, arith, length-append, eq-eqb, eqb-true}
 use Rattle.std.proofs.lemmas.Bool.{cases_eq, ne_eqb, false≢true, leb-true, leb-false}
 use Rattle.std.proofs.lemmas.List.{append-nil, length_push}
 use Rattle.std.proofs.Math.Seq.{take-length, take-append_seam}
 use Rattle.emu_names.specs.declared.kinds.SessionNo.{SessionNo}
+use Rattle.emu_names.specs.declared.limits.TheConstants.{HISTORY_EDITS}
 use Rattle.emu_names.specs.declared.rules.Broken.{Broken}
+use Rattle.session_core.specs.declared.config.Config.{Config}
 use Rattle.session_core.specs.declared.bundle.BundleParts.{BundleParts}
 use Rattle.session_core.specs.declared.edit.Edit.{Edit}
 use Rattle.session_core.specs.declared.edit.Entry.{Entry}
 use Rattle.session_core.specs.declared.event.Event.{Event}
 use Rattle.session_core.specs.declared.event.Event.TheVariants as events
-use Rattle.session_core.specs.declared.row.Row.{Row}
 use Rattle.session_core.specs.declared.line.Ask.{Ask}
 use Rattle.session_core.specs.declared.line.AskFault.{AskFault}
 use Rattle.session_core.specs.declared.line.Command.{Command}
 use Rattle.session_core.specs.declared.line.Command.TheVariants as commands
 use Rattle.session_core.specs.declared.line.Answer.{Answer}
 use Rattle.session_core.specs.declared.line.Answer.TheVariants.{Done, Refused}
+use Rattle.session_core.specs.declared.line.Refusal.{Refusal}
 use Rattle.session_core.specs.declared.line.Refusal.TheVariants as refusals
 use Rattle.session_core.specs.declared.line.Request.{Request}
 use Rattle.session_core.specs.declared.line.Request.TheVariants as requests
 use Rattle.session_core.specs.declared.line.Line.{Line}
 use Rattle.session_core.specs.declared.line.Reply.{Reply}
-use Rattle.session_core.specs.Effects.{IsLegal, edited}
-use Rattle.session_core.specs.Queries.{asked}
-use Rattle.session_core.specs.Answers.{query_answer, answer_at, memory, reply_to, entry_of}
-use Rattle.session_core.specs.Steps.{Opened, State, slot, put_slot, session_places, is_full, opened_at, edit_step, look_step, finish_step, query_step, query_fails}
-use Rattle.session_core.specs.Worlds.{Turn, Moment, World, outcome_of, same_command, query_line, finish_line, brought, query_answered, answered, turns_of, happens, Each, IsBehind, IsNext, is_answered, RequestFits, EditFits, LookFits, IsUnderWay, Fits}
-use Rattle.session_core.specs.Legal.{of_session, lines_of_session, is_of, is_line_of, lines_in, accepting, numbered, history_limit, IsRight, low_after, KeepsUp, Look, open_after, look_after, finish_after, LookReplyFits, FinishReplyFits, ReplyFits, session_of, is_disk}
+use Rattle.session_core.specs.Effects.{IsLegal, edited, bundles_after}
+use Rattle.session_core.specs.Queries.{Asked, resolved}
+use Rattle.session_core.specs.Answers.{rows_over, query_answer, answer_at, memory, reply_to, entry_of}
+use Rattle.session_core.specs.Steps.{Opened, State, slot, put_slot, session_places, is_full, opened_at, edit_step, look_step, finish_step, query_step, query_fails, Asker, by_look, by_query, by_none, asker_of, finish_by, finish_fails_by}
+use Rattle.session_core.specs.Worlds.{Turn, Trouble, untroubled, no_memory, store_full, disk_failed, is_disk_failed, Occurrence, World, outcome_of, same_command, query_line, finish_line, brought_by, brought, query_answered, answered_by, answered, turns_of, happens, Each, IsBehind, IsNext, is_answered, RequestFits, EditFits, LookFits, IsUnderWay, FinishFits, Fits, passes_store, IsOverStore, TroubleFits, OccurrenceFits}
+use Rattle.session_core.specs.Legal.{of_session, lines_of_session, is_of, is_line_of, lines_in, accepting, numbered, IsStoreFull, IsRight, low_behind, KeepsUp, Look, open_behind, look_behind, finish_behind, LookReplyFits, FinishReplyFits, ReplyFits, session_of, is_disk}
 use Rattle.session_core.proofs.Replay.{after_push}
-use Rattle.session_core.proofs.Turns.{each_map, each_passing, each_kept, each_of_map, filter_more, filter_same, low_of, IsPast, HasSeenStill, seen_in_to}
+use Rattle.session_core.proofs.Turns.{each_map, each_passing, each_kept, each_of_map, filter_more, filter_same, low_of, IsPast, HasSeenStill, seen_in_to, disk_of}
 use Rattle.session_core.proofs.Places.{slot_put, slot_other, put_length}
 use Rattle.session_core.proofs.Seats.{slice_get_last, rights_to, session_no, look_of, IsIn, in_more, IsWaiting, Seat, seat_told, Good, world_of, old_seat, added}
 
@@ -45,24 +47,24 @@ told w come lines out = record { state = out.1; lines = w.lines ++ come; turns =
 
 -- A reply to a line that came now.
 
-record Once (opening : List Entry) (w : World) (l : Line) (H : List Entry) (looks : List (Option Opened)) (n : Option ℕ) (answer : Answer) (new : List Entry) : Type 0 where
+record Once (opening : List Entry) (store : Bool) (faults faults' : ℕ) (w : World) (l : Line) (H : List Entry) (looks : List (Option Opened)) (n : Option ℕ) (answer : Answer) (new : List Entry) : Type 0 where
   grown : H ≡ w.state.entries ++ new
-  most : length H ≤ history_limit
+  most : length H ≤ HISTORY_EDITS
   legal : IsLegal w.state.config H
   mark : accepting l l.request n answer ≡ numbered (length w.state.entries + 1) new
-  right : IsRight w.state.config (length opening) H false l n answer
+  right : IsRight w.state.config (length opening) H store l n answer
   still : HasSeenStill (length opening) w.turns l.request n
-  no_disk : is_disk answer ≡ false
+  disks : faults + disk_of answer ≤ faults'
   looks_count : length looks ≡ session_places
   other_looks : (s : ℕ) → l.session.0 ≢ s → slot looks s ≡ slot w.state.looks s
   keeps : (low : ℕ) → low ≤ length w.state.entries → KeepsUp low l.request n
-  from : (low : ℕ) → length opening ≤ low → length opening ≤ low_after low l.request n
-  to : (low : ℕ) → low ≤ length w.state.entries → low_after low l.request n ≤ length H
+  from : (low : ℕ) → length opening ≤ low → length opening ≤ low_behind low l.request n
+  to : (low : ℕ) → low ≤ length w.state.entries → low_behind low l.request n ≤ length H
   fits : ReplyFits w.state.config H (option_map look_of (slot w.state.looks l.session.0)) l.request n answer
-  opens : open_after (option_map look_of (slot w.state.looks l.session.0)) l.request n ≡ option_map look_of (slot looks l.session.0)
+  opens : open_behind (option_map look_of (slot w.state.looks l.session.0)) l.request n ≡ option_map look_of (slot looks l.session.0)
   look_in : IsIn (length opening) H (slot looks l.session.0)
 
-module _ (opening : List Entry) (w : World) (g : Good opening w) where
+module _ (opening : List Entry) (store : Bool) (faults : ℕ) (w : World) (g : Good opening store faults w) where
   -- the opening's history is no longer than the present one
   opening_below : length opening ≤ length w.state.entries
   opening_below =
@@ -90,14 +92,14 @@ module _ (opening : List Entry) (w : World) (g : Good opening w) where
       (λ u past own. past (eq-eqb u.line.session.0 t.line.session.0 own)) w.turns
       (each_passing (λ u. u.line.line < t.line.line) (is_of t.line.session.0) w.turns below)
 
-  once_seat : (l : Line) (H : List Entry) (looks : List (Option Opened)) (n : Option ℕ) (answer : Answer) (new : List Entry) → IsNext w l.line l.session.0
-      → Once opening w l H looks n answer new
+  once_seat : (faults' : ℕ) (l : Line) (H : List Entry) (looks : List (Option Opened)) (n : Option ℕ) (answer : Answer) (new : List Entry) → IsNext w l.line l.session.0
+      → Once opening store faults faults' w l H looks n answer new
       → Seat w.state.config (length opening) H l.session.0 (of_session l.session.0 w.turns ++ turn_of l n answer ∷ []) (lines_of_session l.session.0 (w.lines ++ l ∷ [])) (slot looks l.session.0) None
-  once_seat l H looks n answer new next o =
+  once_seat faults' l H looks n answer new next o =
       let low : low_of (length opening) (of_session l.session.0 w.turns) ≤ length w.state.entries = (g.seats l.session.0).low in
       let from : length opening ≤ low_of (length opening) (of_session l.session.0 w.turns) = (g.seats l.session.0).from in
       seat_told w.state.config (length opening) H l.session.0 (of_session l.session.0 w.turns) (lines_of_session l.session.0 w.lines) (slot w.state.looks l.session.0) (slot w.state.queries l.session.0)
-      (old_seat opening w H looks w.state.queries (l ∷ []) (turn_of l n answer) new g o.grown l.session.0)
+      (old_seat opening store faults faults' w H looks w.state.queries (l ∷ []) (turn_of l n answer) new g o.grown l.session.0)
       (turn_of l n answer) (lines_of_session l.session.0 (w.lines ++ l ∷ [])) (slot looks l.session.0)
       (o.keeps (low_of (length opening) (of_session l.session.0 w.turns)) low)
       (o.from (low_of (length opening) (of_session l.session.0 w.turns)) from)
@@ -105,10 +107,10 @@ module _ (opening : List Entry) (w : World) (g : Good opening w) where
       o.fits o.opens o.look_in
       (filter_more (is_line_of l.session.0) w.lines l (eq-eqb l.session.0 l.session.0 refl) ∙ ap (λ (ls : List Line). ls ++ l ∷ []) (next_lines l.session.0 next.idle))
 
-  once : (l : Line) (H : List Entry) (looks : List (Option Opened)) (n : Option ℕ) (answer : Answer) (new : List Entry) → IsNext w l.line l.session.0
-      → Once opening w l H looks n answer new
-      → Good opening (world_of w.state.config H looks w.state.queries (w.lines ++ l ∷ []) (w.turns ++ turn_of l n answer ∷ []))
-  once l H looks n answer new next o = added opening w H looks w.state.queries (l ∷ []) (turn_of l n answer) new g (record {
+  once : (faults' : ℕ) (l : Line) (H : List Entry) (looks : List (Option Opened)) (n : Option ℕ) (answer : Answer) (new : List Entry) → IsNext w l.line l.session.0
+      → Once opening store faults faults' w l H looks n answer new
+      → Good opening store faults' (world_of w.state.config H looks w.state.queries (w.lines ++ l ∷ []) (w.turns ++ turn_of l n answer ∷ []))
+  once faults' l H looks n answer new next o = added opening store faults faults' w H looks w.state.queries (l ∷ []) (turn_of l n answer) new g (record {
     grown = o.grown;
     most = o.most;
     legal = o.legal;
@@ -117,36 +119,42 @@ module _ (opening : List Entry) (w : World) (g : Good opening w) where
     right = o.right;
     still = o.still;
     past = below_past (turn_of l n answer) (next_below l.line l.session.0 next);
-    no_disk = o.no_disk;
+    disks = o.disks;
     looks_count = o.looks_count;
     queries_count = g.queries_count;
     other_looks = o.other_looks;
     other_queries = λ s ne. refl;
     other_lines = λ s ne. filter_same (is_line_of s) w.lines l (ne_eqb l.session.0 s ne);
     own = subst (λ (q : Option Opened). Seat w.state.config (length opening) H l.session.0 (of_session l.session.0 w.turns ++ turn_of l n answer ∷ []) (lines_of_session l.session.0 (w.lines ++ l ∷ [])) (slot looks l.session.0) q)
-        (sym next.idle) (once_seat l H looks n answer new next o);
+        (sym next.idle) (once_seat faults' l H looks n answer new next o);
   })
+
+  -- no failed disk more
+  no_disk_more : (answer : Answer) → is_disk answer ≡ false → faults + disk_of answer ≤ faults
+  no_disk_more answer no_disk =
+      let none : disk_of answer ≡ 0 = ap (λ (b : Bool). cond b 1 0) no_disk in
+      omega arith
 
   -- a reply that leaves the state as it was
   same : (l : Line) (n : Option ℕ) (answer : Answer) → IsNext w l.line l.session.0
       → accepting l l.request n answer ≡ []
-      → IsRight w.state.config (length opening) w.state.entries false l n answer
+      → IsRight w.state.config (length opening) w.state.entries store l n answer
       → HasSeenStill (length opening) w.turns l.request n
       → is_disk answer ≡ false
       → ((low : ℕ) → low ≤ length w.state.entries → KeepsUp low l.request n)
-      → ((low : ℕ) → length opening ≤ low → length opening ≤ low_after low l.request n)
-      → ((low : ℕ) → low ≤ length w.state.entries → low_after low l.request n ≤ length w.state.entries)
+      → ((low : ℕ) → length opening ≤ low → length opening ≤ low_behind low l.request n)
+      → ((low : ℕ) → low ≤ length w.state.entries → low_behind low l.request n ≤ length w.state.entries)
       → ReplyFits w.state.config w.state.entries (option_map look_of (slot w.state.looks l.session.0)) l.request n answer
-      → open_after (option_map look_of (slot w.state.looks l.session.0)) l.request n ≡ option_map look_of (slot w.state.looks l.session.0)
-      → Good opening (world_of w.state.config w.state.entries w.state.looks w.state.queries (w.lines ++ l ∷ []) (w.turns ++ turn_of l n answer ∷ []))
-  same l n answer next mark right still no_disk keeps from to fits opens = once l w.state.entries w.state.looks n answer [] next (record {
+      → open_behind (option_map look_of (slot w.state.looks l.session.0)) l.request n ≡ option_map look_of (slot w.state.looks l.session.0)
+      → Good opening store faults (world_of w.state.config w.state.entries w.state.looks w.state.queries (w.lines ++ l ∷ []) (w.turns ++ turn_of l n answer ∷ []))
+  same l n answer next mark right still no_disk keeps from to fits opens = once faults l w.state.entries w.state.looks n answer [] next (record {
     grown = sym (append-nil w.state.entries);
     most = g.most;
     legal = g.legal;
     mark = mark;
     right = right;
     still = still;
-    no_disk = no_disk;
+    disks = no_disk_more answer no_disk;
     looks_count = g.looks_count;
     other_looks = λ s ne. refl;
     keeps = keeps;
@@ -188,16 +196,16 @@ module _ (opening : List Entry) (w : World) (g : Good opening w) where
   memory_fits held (requests.Query ask) = tt
   memory_fits held (requests.After earlier) = tt
 
-  open_none : (held : Option Look) (r : Request) → open_after held r None ≡ held
+  open_none : (held : Option Look) (r : Request) → open_behind held r None ≡ held
   open_none held (requests.Look ask) = refl
   open_none held requests.Finish = refl
   open_none held (requests.Edit edit) = refl
   open_none held (requests.Query ask) = refl
   open_none held (requests.After earlier) = refl
 
-  no_memory : (l : Line) → IsNext w l.line l.session.0 → RequestFits w l.request
-      → Good opening (world_of w.state.config w.state.entries w.state.looks w.state.queries (w.lines ++ l ∷ []) (w.turns ++ turn_of l None memory ∷ []))
-  no_memory l next fits =
+  no_memory_good : (l : Line) → IsNext w l.line l.session.0 → RequestFits w l.request
+      → Good opening store faults (world_of w.state.config w.state.entries w.state.looks w.state.queries (w.lines ++ l ∷ []) (w.turns ++ turn_of l None memory ∷ []))
+  no_memory_good l next fits =
       same l None memory next (mark_none l l.request memory) tt (still_none l.request fits) refl
       (λ low high. tt) (λ low above. above) (λ low high. high)
       (memory_fits (option_map look_of (slot w.state.looks l.session.0)) l.request)
@@ -209,29 +217,29 @@ module _ (opening : List Entry) (w : World) (g : Good opening w) where
     abbrev edit_line : Line
     edit_line = line_of line s command (requests.Edit edit)
 
-    edit_full : nat_le 100000 (length w.state.entries) ≡ true
-        → Good opening (world_of w.state.config w.state.entries w.state.looks w.state.queries (w.lines ++ edit_line ∷ []) (w.turns ++ turn_of edit_line (Some (length w.state.entries)) (Refused refusals.HistoryFull) ∷ []))
+    edit_full : nat_le HISTORY_EDITS (length w.state.entries) ≡ true
+        → Good opening store faults (world_of w.state.config w.state.entries w.state.looks w.state.queries (w.lines ++ edit_line ∷ []) (w.turns ++ turn_of edit_line (Some (length w.state.entries)) (Refused refusals.HistoryFull) ∷ []))
     edit_full full =
-        let low : 100000 ≤ length w.state.entries = leb-true 100000 (length w.state.entries) full in
-        let high : length w.state.entries ≤ 100000 = g.most in
-        let all : length w.state.entries ≡ 100000 = omega arith in
+        let low : HISTORY_EDITS ≤ length w.state.entries = leb-true HISTORY_EDITS (length w.state.entries) full in
+        let high : length w.state.entries ≤ HISTORY_EDITS = g.most in
+        let all : length w.state.entries ≡ HISTORY_EDITS = omega arith in
         same edit_line (Some (length w.state.entries)) (Refused refusals.HistoryFull) next refl (opening_below, omega arith, all) tt refl
         (λ low high. high) (λ low above. opening_below) (λ low high. omega arith) tt refl
 
-    edit_refused : (rule : Broken) → nat_le 100000 (length w.state.entries) ≡ false → edited w.state.config w.state.entries edit ≡ Err rule
-        → Good opening (world_of w.state.config w.state.entries w.state.looks w.state.queries (w.lines ++ edit_line ∷ []) (w.turns ++ turn_of edit_line (Some (length w.state.entries)) (Refused (refusals.Rule rule)) ∷ []))
+    edit_refused : (rule : Broken) → nat_le HISTORY_EDITS (length w.state.entries) ≡ false → edited w.state.config w.state.entries edit ≡ Err rule
+        → Good opening store faults (world_of w.state.config w.state.entries w.state.looks w.state.queries (w.lines ++ edit_line ∷ []) (w.turns ++ turn_of edit_line (Some (length w.state.entries)) (Refused (refusals.Rule rule)) ∷ []))
     edit_refused rule room broken =
         same edit_line (Some (length w.state.entries)) (Refused (refusals.Rule rule)) next refl
-        (opening_below, omega arith, (leb-false 100000 (length w.state.entries) room, ap (λ (xs : List Entry). edited w.state.config xs edit) (take-length w.state.entries) ∙ broken)) tt refl
+        (opening_below, omega arith, (leb-false HISTORY_EDITS (length w.state.entries) room, ap (λ (xs : List Entry). edited w.state.config xs edit) (take-length w.state.entries) ∙ broken)) tt refl
         (λ low high. high) (λ low above. opening_below) (λ low high. omega arith) tt refl
 
-    edit_done : (bundles : List BundleParts) → nat_le 100000 (length w.state.entries) ≡ false → edited w.state.config w.state.entries edit ≡ Ok bundles
-        → Good opening (world_of w.state.config (w.state.entries ++ entry_of edit_line edit ∷ []) w.state.looks w.state.queries (w.lines ++ edit_line ∷ []) (w.turns ++ turn_of edit_line (Some (length w.state.entries + 1)) (Done command) ∷ []))
+    edit_done : (bundles : List BundleParts) → nat_le HISTORY_EDITS (length w.state.entries) ≡ false → edited w.state.config w.state.entries edit ≡ Ok bundles
+        → Good opening store faults (world_of w.state.config (w.state.entries ++ entry_of edit_line edit ∷ []) w.state.looks w.state.queries (w.lines ++ edit_line ∷ []) (w.turns ++ turn_of edit_line (Some (length w.state.entries + 1)) (Done command) ∷ []))
     edit_done bundles room made =
-        let below : length w.state.entries < 100000 = leb-false 100000 (length w.state.entries) room in
+        let below : length w.state.entries < HISTORY_EDITS = leb-false HISTORY_EDITS (length w.state.entries) room in
         let count : length (w.state.entries ++ entry_of edit_line edit ∷ []) ≡ length w.state.entries + 1 = length_push w.state.entries (entry_of edit_line edit) in
         let opened : length opening ≤ length w.state.entries = opening_below in
-        once edit_line (w.state.entries ++ entry_of edit_line edit ∷ []) w.state.looks (Some (length w.state.entries + 1)) (Done command) (entry_of edit_line edit ∷ []) next (record {
+        once faults edit_line (w.state.entries ++ entry_of edit_line edit ∷ []) w.state.looks (Some (length w.state.entries + 1)) (Done command) (entry_of edit_line edit ∷ []) next (record {
           grown = refl;
           most = omega arith;
           legal = (bundles, after_push w.state.config w.state.entries (entry_of edit_line edit) ∙ made);
@@ -250,7 +258,7 @@ module _ (opening : List Entry) (w : World) (g : Good opening w) where
             },
           );
           still = tt;
-          no_disk = refl;
+          disks = omega arith;
           looks_count = g.looks_count;
           other_looks = λ k ne. refl;
           keeps = λ low high. omega arith;
@@ -262,7 +270,7 @@ module _ (opening : List Entry) (w : World) (g : Good opening w) where
         })
 
     edit_good : (full : Bool) (made : Result (List BundleParts) Broken) → is_full w.state.entries ≡ full → edited w.state.config w.state.entries edit ≡ made
-        → Good opening (told w (edit_line ∷ []) (edit_line ∷ []) (edit_step w.state edit_line edit full made))
+        → Good opening store faults (told w (edit_line ∷ []) (edit_line ∷ []) (edit_step w.state edit_line edit full made))
     edit_good true made full_is made_is = edit_full full_is
     edit_good false (Err rule) full_is made_is = edit_refused rule full_is made_is
     edit_good false (Ok bundles) full_is made_is = edit_done bundles full_is made_is
@@ -270,7 +278,7 @@ module _ (opening : List Entry) (w : World) (g : Good opening w) where
   -- A look, a query, an `after`.
 
   look_good : (line : ℕ) (s : SessionNo) (command : Command) (ask : Ask) → IsNext w line s.0 → (look : Option Opened) → slot w.state.looks s.0 ≡ look
-      → Good opening (told w (line_of line s command (requests.Look ask) ∷ []) (line_of line s command (requests.Look ask) ∷ []) (look_step w.state (line_of line s command (requests.Look ask)) ask look))
+      → Good opening store faults (told w (line_of line s command (requests.Look ask) ∷ []) (line_of line s command (requests.Look ask) ∷ []) (look_step w.state (line_of line s command (requests.Look ask)) ask look))
   look_good line s command ask next (Some held) is =
       same (line_of line s command (requests.Look ask)) None (Refused refusals.LookOpen) next refl tt tt refl
       (λ low high. tt) (λ low above. above) (λ low high. high)
@@ -283,38 +291,38 @@ module _ (opening : List Entry) (w : World) (g : Good opening w) where
       let count : length w.state.looks ≡ 17 = g.looks_count in
       let place : s.0 < 17 = next.place in
       let there : slot (put_slot w.state.looks s.0 new) s.0 ≡ new = slot_put w.state.looks s.0 new (omega arith) in
-      once l w.state.entries (put_slot w.state.looks s.0 new) (Some (length w.state.entries)) (Done command) [] next (record {
+      once faults l w.state.entries (put_slot w.state.looks s.0 new) (Some (length w.state.entries)) (Done command) [] next (record {
         grown = sym (append-nil w.state.entries);
         most = g.most;
         legal = g.legal;
         mark = refl;
         right = (opened, omega arith, refl);
         still = tt;
-        no_disk = refl;
+        disks = omega arith;
         looks_count = put_length w.state.looks s.0 new ∙ g.looks_count;
         other_looks = λ k ne. slot_other w.state.looks s.0 k new ne;
         keeps = λ low high. high;
         from = λ low above. opened;
         to = λ low high. omega arith;
         fits = subst (λ (o : Option Opened). LookReplyFits (option_map look_of o) (Some (length w.state.entries)) (Done command)) (sym is) tt;
-        opens = ap (λ (o : Option Opened). look_after (option_map look_of o) ask (Some (length w.state.entries))) is ∙ sym (ap (λ (o : Option Opened). option_map look_of o) there);
+        opens = ap (λ (o : Option Opened). look_behind (option_map look_of o) ask (Some (length w.state.entries))) is ∙ sym (ap (λ (o : Option Opened). option_map look_of o) there);
         look_in = subst (λ (o : Option Opened). IsIn (length opening) w.state.entries o) (sym there) (opened, omega arith);
       })
 
   after_good : (line : ℕ) (s : SessionNo) (command : Command) (earlier : ℕ) → IsNext w line s.0 → is_answered earlier w.turns ≡ true
-      → Good opening (world_of w.state.config w.state.entries w.state.looks w.state.queries (w.lines ++ line_of line s command (requests.After earlier) ∷ []) (w.turns ++ turn_of (line_of line s command (requests.After earlier)) (Some (length w.state.entries)) (Done command) ∷ []))
+      → Good opening store faults (world_of w.state.config w.state.entries w.state.looks w.state.queries (w.lines ++ line_of line s command (requests.After earlier) ∷ []) (w.turns ++ turn_of (line_of line s command (requests.After earlier)) (Some (length w.state.entries)) (Done command) ∷ []))
   after_good line s command earlier next known =
       same (line_of line s command (requests.After earlier)) (Some (length w.state.entries)) (Done command) next refl
       (opening_below, omega arith, refl)
-      (known, seen_in_to (length opening) earlier (length w.state.entries) (session_of earlier w.turns) w.turns opening_below (rights_to w.state.config (length opening) w.state.entries [] w.turns g.right))
+      (known, seen_in_to (length opening) earlier (length w.state.entries) (session_of earlier w.turns) w.turns opening_below (rights_to store w.state.config (length opening) w.state.entries [] w.turns g.right))
       refl (λ low high. high) (λ low above. opening_below) (λ low high. omega arith) tt refl
 
   -- a query is put under way
   query_good : (line : ℕ) (s : SessionNo) (command : Command) (ask : Ask) → command ≡ commands.Query → IsNext w line s.0
-      → Good opening (world_of w.state.config w.state.entries w.state.looks (put_slot w.state.queries s.0 (Some (opened_at w.state (line_of line s command (requests.Query ask)) ask)))
+      → Good opening store faults (world_of w.state.config w.state.entries w.state.looks (put_slot w.state.queries s.0 (Some (opened_at w.state (line_of line s command (requests.Query ask)) ask)))
       (w.lines ++ line_of line s command (requests.Query ask) ∷ []) (w.turns ++ []))
   query_good line s command ask is next =
-      subst (λ (ts : List Turn). Good opening (world_of w.state.config w.state.entries w.state.looks (put_slot w.state.queries s.0 new) (w.lines ++ l ∷ []) ts)) (sym (append-nil w.turns)) (record {
+      subst (λ (ts : List Turn). Good opening store faults (world_of w.state.config w.state.entries w.state.looks (put_slot w.state.queries s.0 new) (w.lines ++ l ∷ []) ts)) (sym (append-nil w.turns)) (record {
         more = g.more;
         prefix = g.prefix;
         most = g.most;
@@ -323,7 +331,7 @@ module _ (opening : List Entry) (w : World) (g : Good opening w) where
         named = g.named;
         right = g.right;
         still = g.still;
-        no_disk = g.no_disk;
+        disks = g.disks;
         looks_count = g.looks_count;
         queries_count = put_length w.state.queries s.0 new ∙ g.queries_count;
         seats = λ k. ⊎_elim (λ e. subst There e own) (λ ne. other k ne) (cases_eq s.0 k);
@@ -368,19 +376,24 @@ module _ (opening : List Entry) (w : World) (g : Good opening w) where
           (subst (λ (q : Option Opened). Seat w.state.config (length opening) w.state.entries k (of_session k w.turns) (lines_of_session k w.lines) (slot w.state.looks k) q) (sym (slot_other w.state.queries s.0 k new ne)) (g.seats k))
 
   -- nothing happens
-  piece_good : Good opening (world_of w.state.config w.state.entries w.state.looks w.state.queries (w.lines ++ []) (w.turns ++ []))
+  piece_good : Good opening store faults (world_of w.state.config w.state.entries w.state.looks w.state.queries (w.lines ++ []) (w.turns ++ []))
   piece_good =
-      subst (λ (ls : List Line). Good opening (world_of w.state.config w.state.entries w.state.looks w.state.queries ls (w.turns ++ []))) (sym (append-nil w.lines))
-      (subst (λ (ts : List Turn). Good opening (world_of w.state.config w.state.entries w.state.looks w.state.queries w.lines ts)) (sym (append-nil w.turns)) g)
+      subst (λ (ls : List Line). Good opening store faults (world_of w.state.config w.state.entries w.state.looks w.state.queries ls (w.turns ++ []))) (sym (append-nil w.lines))
+      (subst (λ (ts : List Turn). Good opening store faults (world_of w.state.config w.state.entries w.state.looks w.state.queries w.lines ts)) (sym (append-nil w.turns)) g)
 
   -- The answers of open looks and of queries under way.
 
-  not_disk : (r : Result (List Row) AskFault) → is_disk (query_answer r) ≡ false
-  not_disk (Ok rows) = refl
-  not_disk (Err fault) = refl
+  rows_not_disk : (c : Config) (bundles : List BundleParts) (found : Result Asked AskFault) → is_disk (query_answer (rows_over c bundles found)) ≡ false
+  rows_not_disk c bundles (Ok asked) = refl
+  rows_not_disk c bundles (Err fault) = refl
+
+  -- the answer to a query is no failed disk
+  not_disk : (held : Opened) → is_disk (answer_at w.state.config w.state.entries held.n held.ask) ≡ false
+  not_disk held =
+      rows_not_disk w.state.config (bundles_after w.state.config (take held.n w.state.entries)) (resolved w.state.config held.ask)
 
   finish_good : (line : ℕ) (s : SessionNo) → IsNext w line s.0 → (look : Option Opened) → slot w.state.looks s.0 ≡ look
-      → Good opening (told w (finish_line line s ∷ []) (finish_line line s ∷ []) (finish_step w.state line s look))
+      → Good opening store faults (told w (finish_line line s ∷ []) (finish_line line s ∷ []) (finish_step w.state line s look))
   finish_good line s next None is =
       same (finish_line line s) None (Refused refusals.NoLook) next refl tt tt refl
       (λ low high. tt) (λ low above. above) (λ low high. high)
@@ -391,21 +404,21 @@ module _ (opening : List Entry) (w : World) (g : Good opening w) where
       let count : length w.state.looks ≡ 17 = g.looks_count in
       let place : s.0 < 17 = next.place in
       let there : slot (put_slot w.state.looks s.0 None) s.0 ≡ None = slot_put w.state.looks s.0 None (omega arith) in
-      once (finish_line line s) w.state.entries (put_slot w.state.looks s.0 None) (Some held.n) (answer_at w.state.config w.state.entries held.n held.ask) [] next (record {
+      once faults (finish_line line s) w.state.entries (put_slot w.state.looks s.0 None) (Some held.n) (answer_at w.state.config w.state.entries held.n held.ask) [] next (record {
         grown = sym (append-nil w.state.entries);
         most = g.most;
         legal = g.legal;
         mark = refl;
         right = (within.0, within.1, tt);
         still = tt;
-        no_disk = not_disk (asked w.state.config _ held.ask);
+        disks = no_disk_more _ (not_disk held);
         looks_count = put_length w.state.looks s.0 None ∙ g.looks_count;
         other_looks = λ k ne. slot_other w.state.looks s.0 k None ne;
         keeps = λ low high. tt;
         from = λ low above. above;
         to = λ low high. high;
         fits = subst (λ (o : Option Opened). FinishReplyFits w.state.config w.state.entries (option_map look_of o) (Some held.n) (answer_at w.state.config w.state.entries held.n held.ask)) (sym is) (refl, refl);
-        opens = ap (λ (o : Option Opened). finish_after (option_map look_of o) (Some held.n)) is ∙ sym (ap (λ (o : Option Opened). option_map look_of o) there);
+        opens = ap (λ (o : Option Opened). finish_behind (option_map look_of o) (Some held.n)) is ∙ sym (ap (λ (o : Option Opened). option_map look_of o) there);
         look_in = subst (λ (o : Option Opened). IsIn (length opening) w.state.entries o) (sym there) tt;
       })
 
@@ -418,16 +431,16 @@ module _ (opening : List Entry) (w : World) (g : Good opening w) where
     waiting = subst (λ (q : Option Opened). IsWaiting (low_of (length opening) (of_session s.0 w.turns)) w.state.entries (of_session s.0 w.turns) q) is (g.seats s.0).waits
 
     query_told : (n : Option ℕ) (answer : Answer)
-        → IsRight w.state.config (length opening) w.state.entries false (query_line s held) n answer
+        → IsRight w.state.config (length opening) w.state.entries store (query_line s held) n answer
         → is_disk answer ≡ false
         → KeepsUp (low_of (length opening) (of_session s.0 w.turns)) (requests.Query held.ask) n
-        → length opening ≤ low_after (low_of (length opening) (of_session s.0 w.turns)) (requests.Query held.ask) n
-        → low_after (low_of (length opening) (of_session s.0 w.turns)) (requests.Query held.ask) n ≤ length w.state.entries
-        → Good opening (world_of w.state.config w.state.entries w.state.looks (put_slot w.state.queries s.0 None) (w.lines ++ []) (w.turns ++ query_turn n answer ∷ []))
+        → length opening ≤ low_behind (low_of (length opening) (of_session s.0 w.turns)) (requests.Query held.ask) n
+        → low_behind (low_of (length opening) (of_session s.0 w.turns)) (requests.Query held.ask) n ≤ length w.state.entries
+        → Good opening store faults (world_of w.state.config w.state.entries w.state.looks (put_slot w.state.queries s.0 None) (w.lines ++ []) (w.turns ++ query_turn n answer ∷ []))
     query_told n answer right no_disk keeps from to =
         let count : length w.state.queries ≡ 17 = g.queries_count in
         let there : slot (put_slot w.state.queries s.0 None) s.0 ≡ None = slot_put w.state.queries s.0 None (omega arith) in
-        added opening w w.state.entries w.state.looks (put_slot w.state.queries s.0 None) [] (query_turn n answer) [] g (record {
+        added opening store faults faults w w.state.entries w.state.looks (put_slot w.state.queries s.0 None) [] (query_turn n answer) [] g (record {
           grown = sym (append-nil w.state.entries);
           most = g.most;
           legal = g.legal;
@@ -436,7 +449,7 @@ module _ (opening : List Entry) (w : World) (g : Good opening w) where
           right = right;
           still = tt;
           past = below_past (query_turn n answer) waiting.2;
-          no_disk = no_disk;
+          disks = no_disk_more answer no_disk;
           looks_count = g.looks_count;
           queries_count = put_length w.state.queries s.0 None ∙ g.queries_count;
           other_looks = λ k ne. refl;
@@ -448,31 +461,85 @@ module _ (opening : List Entry) (w : World) (g : Good opening w) where
               (ap (λ (ls : List Line). lines_of_session s.0 ls) (append-nil w.lines) ∙ (g.seats s.0).lines ∙ ap (λ (q : Option Opened). lines_in (of_session s.0 w.turns) ++ query_answered s q) is));
         })
 
-    query_done : Good opening (told w [] (query_answered s (Some held)) (query_step w.state line s (Some held)))
+    query_done : Good opening store faults (told w [] (query_answered s (Some held)) (query_step w.state line s (Some held)))
     query_done =
         let from : length opening ≤ low_of (length opening) (of_session s.0 w.turns) = (g.seats s.0).from in
         let low : low_of (length opening) (of_session s.0 w.turns) ≤ held.n = waiting.0 in
         let high : held.n ≤ length w.state.entries = waiting.1 in
-        query_told (Some held.n) (answer_at w.state.config w.state.entries held.n held.ask) (omega arith, high, refl) (not_disk (asked w.state.config _ held.ask)) low (omega arith) high
+        query_told (Some held.n) (answer_at w.state.config w.state.entries held.n held.ask) (omega arith, high, refl) (not_disk held) low (omega arith) high
 
-    query_failed : Good opening (told w [] (query_answered s (Some held)) (query_fails w.state line s (Some held)))
+    query_failed : Good opening store faults (told w [] (query_answered s (Some held)) (query_fails w.state line s (Some held)))
     query_failed = query_told None memory tt refl tt (g.seats s.0).from (g.seats s.0).low
 
   query_case : (line : ℕ) (s : SessionNo) (held : Option Opened) → slot w.state.queries s.0 ≡ held → s.0 < 17 → IsUnderWay line held
-      → Good opening (told w [] (query_answered s held) (query_step w.state line s held)) × Good opening (told w [] (query_answered s held) (query_fails w.state line s held))
+      → Good opening store faults (told w [] (query_answered s held) (query_step w.state line s held)) × Good opening store faults (told w [] (query_answered s held) (query_fails w.state line s held))
   query_case line s None is place under = absurd under
   query_case line s (Some held) is place under = (query_done line s held place is under, query_failed line s held place is under)
 
+  -- What keeps an edit from its step.
+
+  module _ (line : ℕ) (s : SessionNo) (command : Command) (edit : Edit) (next : IsNext w line s.0) where
+    abbrev kept_line : Line
+    kept_line = line_of line s command (requests.Edit edit)
+
+    -- the store has no room
+    over_good : IsOverStore store w.state kept_line edit
+        → Good opening store faults (world_of w.state.config w.state.entries w.state.looks w.state.queries (w.lines ++ kept_line ∷ []) (w.turns ++ turn_of kept_line (Some (length w.state.entries)) (Refused refusals.StoreFull) ∷ []))
+    over_good over =
+        let whole : take (length w.state.entries) w.state.entries ≡ w.state.entries = take-length w.state.entries in
+        same kept_line (Some (length w.state.entries)) (Refused refusals.StoreFull) next refl
+        (opening_below, omega arith, record {
+          room = leb-false HISTORY_EDITS (length w.state.entries) over.room;
+          stored = over.stored;
+          bundles = over.bundles;
+          right = ap (λ (xs : List Entry). edited w.state.config xs edit) whole ∙ over.made;
+          passes = ap (λ (xs : List Entry). passes_store w.state.config xs (entry_of kept_line edit)) whole ∙ over.passes;
+        }) tt refl
+        (λ low high. high) (λ low above. opening_below) (λ low high. omega arith) tt refl
+
+    -- the disk failed
+    disk_good : store ≡ true
+        → Good opening store (faults + 1) (world_of w.state.config w.state.entries w.state.looks w.state.queries (w.lines ++ kept_line ∷ []) (w.turns ++ turn_of kept_line None (Refused refusals.Disk) ∷ []))
+    disk_good stored = once (faults + 1) kept_line w.state.entries w.state.looks None (Refused refusals.Disk) [] next (record {
+      grown = sym (append-nil w.state.entries);
+      most = g.most;
+      legal = g.legal;
+      mark = refl;
+      right = stored;
+      still = tt;
+      disks = omega arith;
+      looks_count = g.looks_count;
+      other_looks = λ k ne. refl;
+      keeps = λ low high. tt;
+      from = λ low above. above;
+      to = λ low high. high;
+      fits = tt;
+      opens = refl;
+      look_in = (g.seats s.0).look_in;
+    })
+
   -- Events.
 
-  edit_event_good : (line : ℕ) (s : SessionNo) (command : Command) (r : Request) (fails : Bool) → EditFits w (line_of line s command r)
-      → Good opening (told w (line_of line s command r ∷ []) (line_of line s command r ∷ []) (outcome_of w.state (events.Edit (line_of line s command r)) fails))
-  edit_event_good line s command (requests.Edit edit) true fits = no_memory (line_of line s command (requests.Edit edit)) fits.next tt
-  edit_event_good line s command (requests.Edit edit) false fits = edit_good line s command edit fits.next (is_full w.state.entries) (edited w.state.config w.state.entries edit) refl refl
-  edit_event_good line s command (requests.Query ask) fails fits = absurd (false≢true fits.kind)
-  edit_event_good line s command (requests.Look ask) fails fits = absurd (false≢true fits.kind)
-  edit_event_good line s command requests.Finish fails fits = absurd (false≢true fits.kind)
-  edit_event_good line s command (requests.After earlier) fails fits = absurd (false≢true fits.kind)
+  -- one failure more where the disk failed
+  abbrev faults_with : Trouble → ℕ
+  faults_with trouble = faults + cond (is_disk_failed trouble) 1 0
+
+  -- nothing failed more
+  no_more : {v : World} → Good opening store faults v → Good opening store (faults + 0) v
+  no_more {v = v} good = subst (λ (k : ℕ). Good opening store k v) (let none : faults ≡ faults + 0 = omega arith in none) good
+
+  edit_event_good : (line : ℕ) (s : SessionNo) (command : Command) (r : Request) (trouble : Trouble) → EditFits w (line_of line s command r)
+      → TroubleFits store w.state (events.Edit (line_of line s command r)) trouble
+      → Good opening store (faults_with trouble) (told w (line_of line s command r ∷ []) (line_of line s command r ∷ []) (outcome_of w.state (events.Edit (line_of line s command r)) trouble))
+  edit_event_good line s command (requests.Edit edit) no_memory fits may = no_more (no_memory_good (line_of line s command (requests.Edit edit)) fits.next tt)
+  edit_event_good line s command (requests.Edit edit) untroubled fits may =
+      no_more (edit_good line s command edit fits.next (is_full w.state.entries) (edited w.state.config w.state.entries edit) refl refl)
+  edit_event_good line s command (requests.Edit edit) store_full fits may = no_more (over_good line s command edit fits.next may)
+  edit_event_good line s command (requests.Edit edit) disk_failed fits may = disk_good line s command edit fits.next may
+  edit_event_good line s command (requests.Query ask) trouble fits may = absurd (false≢true fits.kind)
+  edit_event_good line s command (requests.Look ask) trouble fits may = absurd (false≢true fits.kind)
+  edit_event_good line s command requests.Finish trouble fits may = absurd (false≢true fits.kind)
+  edit_event_good line s command (requests.After earlier) trouble fits may = absurd (false≢true fits.kind)
 
   command_is : (command : Command) → same_command command commands.Query ≡ true → command ≡ commands.Query
   command_is commands.Query is = refl
@@ -482,34 +549,49 @@ module _ (opening : List Entry) (w : World) (g : Good opening w) where
   command_is commands.Finish is = absurd (false≢true is)
   command_is commands.After is = absurd (false≢true is)
 
-  look_event_good : (line : ℕ) (s : SessionNo) (command : Command) (r : Request) (fails : Bool) → LookFits w (line_of line s command r)
-      → Good opening (told w (line_of line s command r ∷ []) (line_of line s command r ∷ []) (outcome_of w.state (events.Look (line_of line s command r)) fails))
-  look_event_good line s command (requests.Query ask) true fits = no_memory (line_of line s command (requests.Query ask)) fits.next tt
-  look_event_good line s command (requests.Query ask) false fits = query_good line s command ask (command_is command fits.command) fits.next
-  look_event_good line s command (requests.Look ask) true fits = no_memory (line_of line s command (requests.Look ask)) fits.next tt
-  look_event_good line s command (requests.Look ask) false fits = look_good line s command ask fits.next (slot w.state.looks s.0) refl
-  look_event_good line s command (requests.After earlier) true fits = no_memory (line_of line s command (requests.After earlier)) fits.next fits.answered
-  look_event_good line s command (requests.After earlier) false fits = after_good line s command earlier fits.next fits.answered
-  look_event_good line s command (requests.Edit edit) fails fits = absurd (false≢true fits.kind)
-  look_event_good line s command requests.Finish fails fits = absurd (false≢true fits.kind)
+  look_event_good : (line : ℕ) (s : SessionNo) (command : Command) (r : Request) (trouble : Trouble) → LookFits w (line_of line s command r)
+      → TroubleFits store w.state (events.Look (line_of line s command r)) trouble
+      → Good opening store (faults_with trouble) (told w (line_of line s command r ∷ []) (line_of line s command r ∷ []) (outcome_of w.state (events.Look (line_of line s command r)) trouble))
+  look_event_good line s command (requests.Query ask) no_memory fits may = no_more (no_memory_good (line_of line s command (requests.Query ask)) fits.next tt)
+  look_event_good line s command (requests.Query ask) untroubled fits may = no_more (query_good line s command ask (command_is command fits.command) fits.next)
+  look_event_good line s command (requests.Look ask) no_memory fits may = no_more (no_memory_good (line_of line s command (requests.Look ask)) fits.next tt)
+  look_event_good line s command (requests.Look ask) untroubled fits may = no_more (look_good line s command ask fits.next (slot w.state.looks s.0) refl)
+  look_event_good line s command (requests.After earlier) no_memory fits may = no_more (no_memory_good (line_of line s command (requests.After earlier)) fits.next fits.answered)
+  look_event_good line s command (requests.After earlier) untroubled fits may = no_more (after_good line s command earlier fits.next fits.answered)
+  look_event_good line s command (requests.Edit edit) trouble fits may = absurd (false≢true fits.kind)
+  look_event_good line s command requests.Finish trouble fits may = absurd (false≢true fits.kind)
+  look_event_good line s command r store_full fits may = absurd may
+  look_event_good line s command r disk_failed fits may = absurd may
 
-  finish_event_good : (line : ℕ) (s : SessionNo) (command : Command) (fails : Bool) → Fits w (events.Finish line s command)
-      → Good opening (told w (brought (events.Finish line s command)) (answered w.state (events.Finish line s command)) (outcome_of w.state (events.Finish line s command) fails))
-  finish_event_good line s commands.Finish true fits = no_memory (finish_line line s) fits tt
-  finish_event_good line s commands.Finish false fits = finish_good line s fits (slot w.state.looks s.0) refl
-  finish_event_good line s commands.Query true fits = (query_case line s (slot w.state.queries s.0) refl fits.place fits.held).1
-  finish_event_good line s commands.Query false fits = (query_case line s (slot w.state.queries s.0) refl fits.place fits.held).0
-  finish_event_good line s commands.Config fails fits = absurd fits
-  finish_event_good line s commands.AddBundle fails fits = absurd fits
-  finish_event_good line s commands.Look fails fits = absurd fits
-  finish_event_good line s commands.After fails fits = absurd fits
+  -- a Finish, by what it answers
+  asker_good : (line : ℕ) (s : SessionNo) (asker : Asker) → FinishFits w line s asker
+      → Good opening store faults (told w (brought_by line s asker) (answered_by w.state line s asker) (finish_by w.state line s asker))
+      × Good opening store faults (told w (brought_by line s asker) (answered_by w.state line s asker) (finish_fails_by w.state line s asker))
+  asker_good line s by_look fits = (finish_good line s fits (slot w.state.looks s.0) refl, no_memory_good (finish_line line s) fits tt)
+  asker_good line s by_query fits = query_case line s (slot w.state.queries s.0) refl fits.place fits.held
+  asker_good line s by_none fits = absurd fits
 
-  event_good : (e : Event) (fails : Bool) → Fits w e → Good opening (told w (brought e) (answered w.state e) (outcome_of w.state e fails))
-  event_good (events.Edit l) fails fits = edit_event_good l.line l.session l.command l.request fails fits
-  event_good (events.Look l) fails fits = look_event_good l.line l.session l.command l.request fails fits
-  event_good (events.Piece s) true fits = piece_good
-  event_good (events.Piece s) false fits = piece_good
-  event_good (events.Finish line s command) fails fits = finish_event_good line s command fails fits
+  finish_event_good : (line : ℕ) (s : SessionNo) (command : Command) (trouble : Trouble) → Fits w (events.Finish line s command)
+      → TroubleFits store w.state (events.Finish line s command) trouble
+      → Good opening store (faults_with trouble) (told w (brought (events.Finish line s command)) (answered w.state (events.Finish line s command)) (outcome_of w.state (events.Finish line s command) trouble))
+  finish_event_good line s command untroubled fits may = no_more (asker_good line s (asker_of command) fits).0
+  finish_event_good line s command no_memory fits may = no_more (asker_good line s (asker_of command) fits).1
+  finish_event_good line s command store_full fits may = absurd may
+  finish_event_good line s command disk_failed fits may = absurd may
 
-  pub moment_good : (m : Moment) → Fits w m.event → Good opening (happens w m)
-  moment_good m fits = event_good m.event m.fails fits
+  piece_event_good : (s : SessionNo) (trouble : Trouble) → TroubleFits store w.state (events.Piece s) trouble
+      → Good opening store (faults_with trouble) (told w [] [] (outcome_of w.state (events.Piece s) trouble))
+  piece_event_good s untroubled may = no_more piece_good
+  piece_event_good s no_memory may = no_more piece_good
+  piece_event_good s store_full may = absurd may
+  piece_event_good s disk_failed may = absurd may
+
+  event_good : (e : Event) (trouble : Trouble) → Fits w e → TroubleFits store w.state e trouble
+      → Good opening store (faults_with trouble) (told w (brought e) (answered w.state e) (outcome_of w.state e trouble))
+  event_good (events.Edit l) trouble fits may = edit_event_good l.line l.session l.command l.request trouble fits may
+  event_good (events.Look l) trouble fits may = look_event_good l.line l.session l.command l.request trouble fits may
+  event_good (events.Piece s) trouble fits may = piece_event_good s trouble may
+  event_good (events.Finish line s command) trouble fits may = finish_event_good line s command trouble fits may
+
+  pub occurrence_good : (m : Occurrence) → OccurrenceFits store w m → Good opening store (faults_with m.trouble) (happens w m)
+  occurrence_good m fits = event_good m.event m.trouble fits.event fits.trouble

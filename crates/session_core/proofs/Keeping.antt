@@ -20,7 +20,7 @@ use Rattle.session_core.specs.declared.slots.Held.{Held}
 use Rattle.session_core.specs.declared.moves.Head.{Head}
 use Rattle.session_core.specs.Effects.{◌>>=◌, after, replayed, effect, edited}
 use Rattle.session_core.specs.Steps.{State, slot, put_slot, is_full, session_places, edit_event, look_event, edit_step, look_step, finish_step, query_step, with_query, opened_at, query_fails}
-use Rattle.session_core.specs.Kept.{head_reply, opened_by, opened_in, state_of, IsMoment, IsHeld, AreHeld, IsKept, head_entry, held_at, change, change_step, looked, look_closed, query_closed, query_dropped}
+use Rattle.session_core.specs.Kept.{head_reply, opened_by, opened_in, state_of, IsMoment, IsHeld, AreHeld, IsKept, head_entry, held_at, edit_tried, edit_tried_step, looked, look_closed, query_closed, query_dropped}
 use Rattle.session_core.proofs.SlotPlaces.{slot_put, length_put_slot, slot_map, put_slot_map}
 
 -- A history that grows.
@@ -89,7 +89,7 @@ kept_start c H bs e = record { present = e; of_looks = slots_empty c H; of_queri
 abbrev pub head_of : Line → Head
 head_of l = record { line = l.line; session = l.session; command = l.command }
 
-kept_step : (c : Config) (head : Head) (edit : Edit) (H : List Entry) (bs : List BundleParts) (ls qs : List (Option Held)) (full : Bool) (made : Result (List BundleParts) Broken) → effect c bs edit ≡ made → IsKept c H bs ls qs → IsKept c (change_step head edit H bs full made).1 (change_step head edit H bs full made).2 ls qs
+kept_step : (c : Config) (head : Head) (edit : Edit) (H : List Entry) (bs : List BundleParts) (ls qs : List (Option Held)) (full : Bool) (made : Result (List BundleParts) Broken) → effect c bs edit ≡ made → IsKept c H bs ls qs → IsKept c (edit_tried_step head edit H bs full made).1 (edit_tried_step head edit H bs full made).2 ls qs
 kept_step c head edit H bs ls qs true made e k = k
 kept_step c head edit H bs ls qs false (Err rule) e k = k
 kept_step c head edit H bs ls qs false (Ok next) e k = record {
@@ -98,17 +98,17 @@ kept_step c head edit H bs ls qs false (Ok next) e k = record {
   of_queries = slots_longer c H (head_entry head edit ∷ []) qs k.of_queries;
 }
 
-pub kept_changed : (c : Config) (head : Head) (edit : Edit) (H H2 : List Entry) (bs bs2 : List BundleParts) (ls qs : List (Option Held)) (r : Reply) → (r, H2, bs2) ≡ change c head edit H bs → IsKept c H bs ls qs → IsKept c H2 bs2 ls qs
+pub kept_changed : (c : Config) (head : Head) (edit : Edit) (H H2 : List Entry) (bs bs2 : List BundleParts) (ls qs : List (Option Held)) (r : Reply) → (r, H2, bs2) ≡ edit_tried c head edit H bs → IsKept c H bs ls qs → IsKept c H2 bs2 ls qs
 kept_changed c head edit H H2 bs bs2 ls qs r e k =
     let P : Reply × List Entry × List BundleParts → Type 0 = λ t. IsKept c t.1 t.2 ls qs in
     subst P (sym e) (kept_step c head edit H bs ls qs (is_full H) (effect c bs edit) refl k)
 
-step_cases : (c : Config) (l : Line) (edit : Edit) (H : List Entry) (bs : List BundleParts) (ls qs : List (Option Held)) (full : Bool) (made : Result (List BundleParts) Broken) → edit_step (state_of c H ls qs) l edit full made ≡ (Some (change_step (head_of l) edit H bs full made).0, state_of c (change_step (head_of l) edit H bs full made).1 ls qs)
+step_cases : (c : Config) (l : Line) (edit : Edit) (H : List Entry) (bs : List BundleParts) (ls qs : List (Option Held)) (full : Bool) (made : Result (List BundleParts) Broken) → edit_step (state_of c H ls qs) l edit full made ≡ (Some (edit_tried_step (head_of l) edit H bs full made).0, state_of c (edit_tried_step (head_of l) edit H bs full made).1 ls qs)
 step_cases c l edit H bs ls qs true made = refl
 step_cases c l edit H bs ls qs false (Ok next) = refl
 step_cases c l edit H bs ls qs false (Err rule) = refl
 
-pub changed_step : (c : Config) (l : Line) (edit : Edit) (H H2 : List Entry) (bs bs2 : List BundleParts) (ls qs : List (Option Held)) (r : Reply) → (r, H2, bs2) ≡ change c (head_of l) edit H bs → IsKept c H bs ls qs → edit_step (state_of c H ls qs) l edit (is_full H) (edited c H edit) ≡ (Some r, state_of c H2 ls qs)
+pub changed_step : (c : Config) (l : Line) (edit : Edit) (H H2 : List Entry) (bs bs2 : List BundleParts) (ls qs : List (Option Held)) (r : Reply) → (r, H2, bs2) ≡ edit_tried c (head_of l) edit H bs → IsKept c H bs ls qs → edit_step (state_of c H ls qs) l edit (is_full H) (edited c H edit) ≡ (Some r, state_of c H2 ls qs)
 changed_step c l edit H H2 bs bs2 ls qs r e k =
     let told : Reply × List Entry × List BundleParts → Option Reply × State = λ t. (Some t.0, state_of c t.1 ls qs) in
     rw k.present (step_cases c l edit H bs ls qs (is_full H) (effect c bs edit) ∙ ap told (sym e))
@@ -127,13 +127,13 @@ last_entry [] e found is = some_same found e (sym is)
 last_entry (x ∷ H) e found is = last_entry H e found is
 
 change_refused : (c : Config) (head : Head) (edit : Edit) (H : List Entry) (bs : List BundleParts) (full : Bool) (made : Result (List BundleParts) Broken) (rule : Broken)
-    → full ≡ false → made ≡ Err rule → change_step head edit H bs full made ≡ (head_reply head (Some (length H)) (Refused (refusals.Rule rule)), H, bs)
+    → full ≡ false → made ≡ Err rule → edit_tried_step head edit H bs full made ≡ (head_reply head (Some (length H)) (Refused (refusals.Rule rule)), H, bs)
 change_refused c head edit H bs full made rule room broken = rw (room, broken) refl
 
 pub refused_change : (c : Config) (head : Head) (edit : Edit) (H H2 H3 : List Entry) (bs bs2 : List BundleParts) (found : Entry) (rule : Broken) (reply : Reply) (n : ℕ) (full : Bool)
     → full ≡ is_full H → full ≡ false → n ≡ length H → H2 ≡ H ++ head_entry head edit ∷ [] → slice_get H2 n ≡ Some found
     → effect c bs found.edit ≡ Err rule → bs2 ≡ bs → H3 ≡ take n H2 → reply ≡ head_reply head (Some n) (Refused (refusals.Rule rule))
-    → (reply, H3, bs2) ≡ change c head edit H bs
+    → (reply, H3, bs2) ≡ edit_tried c head edit H bs
 refused_change c head edit H H2 H3 bs bs2 found rule reply n full counted room count pushed there broken same cut told =
     let place : slice_get (H ++ head_entry head edit ∷ []) (length H) ≡ Some found =
     subst (λ (k : ℕ). slice_get (H ++ head_entry head edit ∷ []) k ≡ Some found) count (subst (λ (xs : List Entry). slice_get xs n ≡ Some found) pushed there) in

@@ -1,7 +1,8 @@
 -- A run in order is a run of events that fit: each line's events come one after another.
-use Rattle.std.proofs.Common.{◌≡◌, ◌≢◌, ⊎_elim, ℕ, suc, ◌<◌, Bool, true, false, ◌||◌, not, List, [], ◌∷◌, ◌++◌, length, map, Option, Some, None, Result, Ok, Err, nat_eq, refl, sym, ◌∙◌, ap, subst, arith, append_assoc}
+use Rattle.std.proofs.Common.{◌≡◌, ◌≢◌, ⊎_elim, ℕ, suc, ◌+◌, ◌<◌, ◌≤◌, Bool, true, false, cond, ◌||◌, not, List, [], ◌∷◌, ◌++◌, length, map, Option, Some, None, Result, Ok, Err, nat_eq, refl, sym, ◌∙◌, ap, subst, arith, rules, append_assoc}
 use Rattle.std.proofs.lemmas.Bool.{cases_eq, false≢true}
 use Rattle.std.proofs.lemmas.List.{append-nil}
+use Rattle.std.proofs.lemmas.List.Sums.{sum_by-cons}
 use Rattle.std.specs.List.{list_any}
 use Rattle.emu_names.specs.declared.kinds.SessionNo.{SessionNo}
 use Rattle.emu_names.specs.declared.rules.Broken.{Broken}
@@ -18,11 +19,14 @@ use Rattle.session_core.specs.declared.line.Request.{Request}
 use Rattle.session_core.specs.declared.line.Request.TheVariants as requests
 use Rattle.session_core.specs.declared.line.Line.{Line}
 use Rattle.session_core.specs.declared.line.Reply.{Reply}
-use Rattle.session_core.specs.Effects.{edited}
+use Rattle.session_core.specs.Effects.{IsLegal, edited}
 use Rattle.session_core.specs.Steps.{Opened, State, slot, put_slot, session_places, start, is_full, opened_at, edit_step, look_step, finish_step, query_step, query_fails}
-use Rattle.session_core.specs.Worlds.{Turn, Moment, World, query_line, query_answered, turns_of, happens, run, opening_world, Each, IsBehind, IsNext, RequestFits, same_command, AllFit, Fits, is_waiting, is_done, script_of}
+use Rattle.session_core.specs.Worlds.{Turn, Trouble, untroubled, no_memory, store_full, disk_failed, is_disk_failed, Occurrence, World, query_line, query_answered, turns_of, happens, run, opening_world, Each, IsBehind, IsNext, RequestFits, same_command, passes_store, TroubleFits, OccurrenceFits, AllFit, disk_failures, Fits, is_waiting, is_done, lines_done}
 use Rattle.session_core.specs.Legal.{lines_in, replies_in, Legal}
-use Rattle.session_core.specs.InOrder.{Outage, fine, at_first, at_last, given, looked, request_turn, one_turn, in_turn, NamesEarlier, IsBelow, ComesNext, ComeInOrder}
+use Rattle.session_core.specs.InOrder.{Outage, fine, at_first, at_last, disk_fails, is_disk_outage, disk_outages, given, replied, query_begun, stored_trouble, accepted_trouble, made_trouble, edit_trouble, trouble_at, edit_outcome, request_turn, one_turn, in_turn, NamesEarlier, IsBelow, ComesNext, ComeInOrder}
+use Rattle.session_core.specs.Answers.{entry_of}
+use Rattle.emu_names.specs.declared.limits.TheConstants.{HISTORY_EDITS}
+use Rattle.fault_counts.specs.Count.{RoseBy}
 use Rattle.session_core.specs.Readings.{IsInOrder}
 use Rattle.session_core.proofs.Turns.{each_map, lines_push}
 use Rattle.session_core.proofs.Places.{slot_put, slot_other, put_length, slot_none}
@@ -31,40 +35,125 @@ use Rattle.session_core.proofs.Standing.{turn_to, turns_in_turn, replies_told, l
 
 -- The events of a line.
 
-abbrev is_out : Outage → Bool
-is_out fine = false
-is_out at_first = true
-is_out at_last = true
+-- want of memory, as the trouble of an event
+abbrev memory_at : Outage → Trouble
+memory_at fine = untroubled
+memory_at at_first = no_memory
+memory_at at_last = no_memory
+memory_at disk_fails = untroubled
 
-abbrev moment : Event → Bool → Moment
-moment e fails = record { event = e; fails = fails }
+abbrev moment : Event → Trouble → Occurrence
+moment e trouble = record { event = e; trouble = trouble }
 
-abbrev query_moments : Line → Outage → List Moment
-query_moments l fine = moment (events.Look l) false ∷ moment (events.Finish l.line l.session commands.Query) false ∷ []
-query_moments l at_first = moment (events.Look l) true ∷ []
-query_moments l at_last = moment (events.Look l) false ∷ moment (events.Finish l.line l.session commands.Query) true ∷ []
+abbrev query_moments : Line → Outage → List Occurrence
+query_moments l fine = moment (events.Look l) untroubled ∷ moment (events.Finish l.line l.session commands.Query) untroubled ∷ []
+query_moments l at_first = moment (events.Look l) no_memory ∷ []
+query_moments l at_last = moment (events.Look l) untroubled ∷ moment (events.Finish l.line l.session commands.Query) no_memory ∷ []
+query_moments l disk_fails = moment (events.Look l) untroubled ∷ moment (events.Finish l.line l.session commands.Query) untroubled ∷ []
 
-abbrev request_moments : Line → Request → Outage → List Moment
-request_moments l (requests.Edit edit) outage = moment (events.Edit l) (is_out outage) ∷ []
-request_moments l (requests.Query ask) outage = query_moments l outage
-request_moments l (requests.Look ask) outage = moment (events.Look l) (is_out outage) ∷ []
-request_moments l requests.Finish outage = moment (events.Finish l.line l.session commands.Finish) (is_out outage) ∷ []
-request_moments l (requests.After earlier) outage = moment (events.Look l) (is_out outage) ∷ []
+abbrev request_moments : Bool → State → Line → Request → Outage → List Occurrence
+request_moments store st l (requests.Edit edit) outage = moment (events.Edit l) (trouble_at store st l edit outage) ∷ []
+request_moments store st l (requests.Query ask) outage = query_moments l outage
+request_moments store st l (requests.Look ask) outage = moment (events.Look l) (memory_at outage) ∷ []
+request_moments store st l requests.Finish outage = moment (events.Finish l.line l.session commands.Finish) (memory_at outage) ∷ []
+request_moments store st l (requests.After earlier) outage = moment (events.Look l) (memory_at outage) ∷ []
 
-abbrev moments_in_turn : List Line → List Outage → List Moment
-moments_in_turn [] outages = []
-moments_in_turn (l ∷ ls) [] = []
-moments_in_turn (l ∷ ls) (outage ∷ outages) = request_moments l l.request outage ++ moments_in_turn ls outages
+abbrev moments_in_turn : Bool → State → List Line → List Outage → List Occurrence
+moments_in_turn store st [] outages = []
+moments_in_turn store st (l ∷ ls) [] = []
+moments_in_turn store st (l ∷ ls) (outage ∷ outages) =
+    request_moments store st l l.request outage ++ moments_in_turn store (one_turn store st l outage).1 ls outages
+
+-- The disk fails no more often than the outages say.
+
+failures_cons : (m : Occurrence) (ms : List Occurrence) → disk_failures (m ∷ ms) ≡ cond (is_disk_failed m.trouble) 1 0 + disk_failures ms
+failures_cons m ms = sum_by-cons (λ (n : Occurrence). cond (is_disk_failed n.trouble) 1 0) m ms
+
+failures_more : (ms ns : List Occurrence) → disk_failures (ms ++ ns) ≡ disk_failures ms + disk_failures ns
+failures_more [] ns = let none : disk_failures ns ≡ 0 + disk_failures ns = omega arith in none
+failures_more (m ∷ ms) ns =
+    let long : disk_failures (m ∷ (ms ++ ns)) ≡ cond (is_disk_failed m.trouble) 1 0 + disk_failures (ms ++ ns) = failures_cons m (ms ++ ns) in
+    let short : disk_failures (m ∷ ms) ≡ cond (is_disk_failed m.trouble) 1 0 + disk_failures ms = failures_cons m ms in
+    let rest : disk_failures (ms ++ ns) ≡ disk_failures ms + disk_failures ns = failures_more ms ns in
+    omega arith
+
+-- no disk fails where none is said to fail
+stored_sound : (passes : Bool) → is_disk_failed (stored_trouble passes false) ≡ false
+stored_sound true = refl
+stored_sound false = refl
+
+accepted_sound : (store passes : Bool) → is_disk_failed (accepted_trouble store passes false) ≡ false
+accepted_sound false passes = refl
+accepted_sound true passes = stored_sound passes
+
+made_sound : (store : Bool) (st : State) (l : Line) (edit : Edit) (full : Bool) (made : Result (List BundleParts) Broken) → is_disk_failed (made_trouble store st l edit false full made) ≡ false
+made_sound store st l edit true made = refl
+made_sound store st l edit false (Err rule) = refl
+made_sound store st l edit false (Ok bundles) = accepted_sound store (passes_store st.config st.entries (entry_of l edit))
+
+bit_low : (b : Bool) → cond b 1 0 ≤ 1
+bit_low true = omega arith
+bit_low false = omega arith
+
+low_false : (b : Bool) → b ≡ false → cond b 1 0 ≤ 0
+low_false b is = subst (λ (x : Bool). cond x 1 0 ≤ 0) (sym is) (omega arith)
+
+edit_failures : (store : Bool) (st : State) (l : Line) (edit : Edit) (outage : Outage) → cond (is_disk_failed (trouble_at store st l edit outage)) 1 0 ≤ cond (is_disk_outage outage) 1 0
+edit_failures store st l edit fine =
+    low_false (is_disk_failed (edit_trouble store st l edit false)) (made_sound store st l edit (is_full st.entries) (edited st.config st.entries edit))
+edit_failures store st l edit at_first = omega arith
+edit_failures store st l edit at_last = omega arith
+edit_failures store st l edit disk_fails = bit_low (is_disk_failed (edit_trouble store st l edit true))
+
+memory_failures : (outage : Outage) → cond (is_disk_failed (memory_at outage)) 1 0 ≤ cond (is_disk_outage outage) 1 0
+memory_failures fine = omega arith
+memory_failures at_first = omega arith
+memory_failures at_last = omega arith
+memory_failures disk_fails = omega arith
+
+one_failures : (m : Occurrence) (most : ℕ) → cond (is_disk_failed m.trouble) 1 0 ≤ most → disk_failures (m ∷ []) ≤ most
+one_failures m most low =
+    let one : disk_failures (m ∷ []) ≡ cond (is_disk_failed m.trouble) 1 0 + 0 = failures_cons m [] in
+    omega arith
+
+query_failures : (l : Line) (outage : Outage) → disk_failures (query_moments l outage) ≤ cond (is_disk_outage outage) 1 0
+query_failures l fine = omega arith
+query_failures l at_first = omega arith
+query_failures l at_last = omega arith
+query_failures l disk_fails = omega arith
+
+line_failures : (store : Bool) (st : State) (l : Line) (request : Request) (outage : Outage) → disk_failures (request_moments store st l request outage) ≤ cond (is_disk_outage outage) 1 0
+line_failures store st l (requests.Edit edit) outage =
+    one_failures (moment (events.Edit l) (trouble_at store st l edit outage)) (cond (is_disk_outage outage) 1 0) (edit_failures store st l edit outage)
+line_failures store st l (requests.Query ask) outage = query_failures l outage
+line_failures store st l (requests.Look ask) outage =
+    one_failures (moment (events.Look l) (memory_at outage)) (cond (is_disk_outage outage) 1 0) (memory_failures outage)
+line_failures store st l requests.Finish outage =
+    one_failures (moment (events.Finish l.line l.session commands.Finish) (memory_at outage)) (cond (is_disk_outage outage) 1 0) (memory_failures outage)
+line_failures store st l (requests.After earlier) outage =
+    one_failures (moment (events.Look l) (memory_at outage)) (cond (is_disk_outage outage) 1 0) (memory_failures outage)
+
+all_failures : (store : Bool) (st : State) (ls : List Line) (outages : List Outage) → disk_failures (moments_in_turn store st ls outages) ≤ disk_outages outages
+all_failures store st [] outages = omega arith
+all_failures store st (l ∷ ls) [] = omega arith
+all_failures store st (l ∷ ls) (outage ∷ outages) =
+    let here : disk_failures (request_moments store st l l.request outage) ≤ cond (is_disk_outage outage) 1 0 = line_failures store st l l.request outage in
+    let rest : disk_failures (moments_in_turn store (one_turn store st l outage).1 ls outages) ≤ disk_outages outages = all_failures store (one_turn store st l outage).1 ls outages in
+    let both : disk_failures (request_moments store st l l.request outage ++ moments_in_turn store (one_turn store st l outage).1 ls outages)
+        ≡ disk_failures (request_moments store st l l.request outage) + disk_failures (moments_in_turn store (one_turn store st l outage).1 ls outages) =
+    failures_more (request_moments store st l l.request outage) (moments_in_turn store (one_turn store st l outage).1 ls outages) in
+    let sum : disk_outages (outage ∷ outages) ≡ cond (is_disk_outage outage) 1 0 + disk_outages outages = sum_by-cons (λ (o : Outage). cond (is_disk_outage o) 1 0) outage outages in
+    omega arith
 
 -- Runs of one list of events after another.
 
-run_more : (w : World) (ms ns : List Moment) → run w (ms ++ ns) ≡ run (run w ms) ns
+run_more : (w : World) (ms ns : List Occurrence) → run w (ms ++ ns) ≡ run (run w ms) ns
 run_more w [] ns = refl
 run_more w (m ∷ ms) ns = run_more (happens w m) ms ns
 
-fit_more : (w : World) (ms ns : List Moment) → AllFit w ms → AllFit (run w ms) ns → AllFit w (ms ++ ns)
-fit_more w [] ns fits more = more
-fit_more w (m ∷ ms) ns fits more = (fits.0, fit_more (happens w m) ms ns fits.1 more)
+fit_more : (store : Bool) (w : World) (ms ns : List Occurrence) → AllFit store w ms → AllFit store (run w ms) ns → AllFit store w (ms ++ ns)
+fit_more store w [] ns fits more = more
+fit_more store w (m ∷ ms) ns fits more = (fits.0, fit_more store (happens w m) ms ns fits.1 more)
 
 -- Between two lines every line that came is answered, and no query is under way.
 
@@ -76,8 +165,8 @@ record Between (before : List Line) (w : World) : Type 0 where
 
 -- What a line's events make of a world.
 
-record Answers (w : World) (l : Line) (ms : List Moment) (out : Reply × State) : Type 0 where
-  fits : AllFit w ms
+record Answers (store : Bool) (w : World) (l : Line) (ms : List Occurrence) (out : Reply × State) : Type 0 where
+  fits : AllFit store w ms
   state : (run w ms).state ≡ out.1
   lines : (run w ms).lines ≡ w.lines ++ l ∷ []
   turns : (run w ms).turns ≡ w.turns ++ turn_to l out.0 ∷ []
@@ -153,7 +242,7 @@ any_map : {A B : Type 0} (test : B → Bool) (f : A → B) (xs : List A) → lis
 any_map test f [] = refl
 any_map test f (x ∷ xs) = ap (λ b. test (f x) || b) (any_map test f xs)
 
-module _ (before : List Line) (w : World) (b : Between before w) where
+module _ (store : Bool) (before : List Line) (w : World) (b : Between before w) where
   next : (l : Line) → ComesNext before l → IsNext w l.line l.session.0
   next l comes = record {
     place = comes.place;
@@ -203,53 +292,76 @@ module _ (before : List Line) (w : World) (b : Between before w) where
 
   -- The five requests, in turn.
 
-  edit_answers : (line : ℕ) (s : SessionNo) (command : Command) (edit : Edit) (outage : Outage) → ComesNext before (line_of line s command (requests.Edit edit))
-      → Answers w (line_of line s command (requests.Edit edit)) (request_moments (line_of line s command (requests.Edit edit)) (requests.Edit edit) outage)
-      (request_turn w.state (line_of line s command (requests.Edit edit)) (requests.Edit edit) outage)
-  edit_answers line s command edit fine comes =
-      let l : Line = line_of line s command (requests.Edit edit) in
-      let kept : _ = edit_queries w.state l edit (is_full w.state.entries) (edited w.state.config w.state.entries edit) in
-      record {
-        fits = (record { next = next l comes; kind = refl; command = comes.command }, tt);
-        state = refl;
-        lines = refl;
-        turns = ap (λ (ts : List Turn). w.turns ++ ts) (one_turn_of l _ (edit_some w.state l edit (is_full w.state.entries) (edited w.state.config w.state.entries edit)));
-        count = same_count _ kept;
-        idle = same_idle _ kept;
-      }
-  edit_answers line s command edit at_first comes = record {
-    fits = (record { next = next (line_of line s command (requests.Edit edit)) comes; kind = refl; command = comes.command }, tt);
-    state = refl;
-    lines = refl;
-    turns = refl;
-    count = b.count;
-    idle = b.idle;
-  }
-  edit_answers line s command edit at_last comes = record {
-    fits = (record { next = next (line_of line s command (requests.Edit edit)) comes; kind = refl; command = comes.command }, tt);
-    state = refl;
-    lines = refl;
-    turns = refl;
-    count = b.count;
-    idle = b.idle;
-  }
+  module _ (line : ℕ) (s : SessionNo) (command : Command) (edit : Edit) (comes : ComesNext before (line_of line s command (requests.Edit edit))) where
+    abbrev edit_line : Line
+    edit_line = line_of line s command (requests.Edit edit)
 
-  look_answers : (line : ℕ) (s : SessionNo) (command : Command) (ask : Ask) (outage : Outage) → ComesNext before (line_of line s command (requests.Look ask))
-      → Answers w (line_of line s command (requests.Look ask)) (request_moments (line_of line s command (requests.Look ask)) (requests.Look ask) outage)
-      (request_turn w.state (line_of line s command (requests.Look ask)) (requests.Look ask) outage)
-  look_answers line s command ask fine comes =
+    edit_may : Fits w (events.Edit edit_line)
+    edit_may = record { next = next edit_line comes; kind = refl; command = comes.command }
+
+    edit_answers_at : (trouble : Trouble) → TroubleFits store w.state (events.Edit edit_line) trouble
+        → Answers store w edit_line (moment (events.Edit edit_line) trouble ∷ []) (replied edit_line (edit_outcome w.state edit_line edit trouble))
+    edit_answers_at untroubled may =
+        let kept : _ = edit_queries w.state edit_line edit (is_full w.state.entries) (edited w.state.config w.state.entries edit) in
+        record {
+          fits = (record { event = edit_may; trouble = tt }, tt);
+          state = refl;
+          lines = refl;
+          turns = ap (λ (ts : List Turn). w.turns ++ ts) (one_turn_of edit_line _ (edit_some w.state edit_line edit (is_full w.state.entries) (edited w.state.config w.state.entries edit)));
+          count = same_count _ kept;
+          idle = same_idle _ kept;
+        }
+    edit_answers_at no_memory may = record { fits = (record { event = edit_may; trouble = tt }, tt); state = refl; lines = refl; turns = refl; count = b.count; idle = b.idle }
+    edit_answers_at store_full may = record { fits = (record { event = edit_may; trouble = may }, tt); state = refl; lines = refl; turns = refl; count = b.count; idle = b.idle }
+    edit_answers_at disk_failed may = record { fits = (record { event = edit_may; trouble = may }, tt); state = refl; lines = refl; turns = refl; count = b.count; idle = b.idle }
+
+    accepted_fits : (bundles : List BundleParts) (stored passes fails : Bool) → is_full w.state.entries ≡ false → edited w.state.config w.state.entries edit ≡ Ok bundles
+        → store ≡ stored → passes_store w.state.config w.state.entries (entry_of edit_line edit) ≡ passes
+        → TroubleFits store w.state (events.Edit edit_line) (accepted_trouble stored passes fails)
+    accepted_fits bundles false passes fails room made stored_is passes_is = tt
+    accepted_fits bundles true true fails room made stored_is passes_is =
+        record { stored = stored_is; room = room; bundles = bundles; made = made; passes = passes_is }
+    accepted_fits bundles true false true room made stored_is passes_is = stored_is
+    accepted_fits bundles true false false room made stored_is passes_is = tt
+
+    made_fits : (fails full : Bool) (made : Result (List BundleParts) Broken) → is_full w.state.entries ≡ full → edited w.state.config w.state.entries edit ≡ made
+        → TroubleFits store w.state (events.Edit edit_line) (made_trouble store w.state edit_line edit fails full made)
+    made_fits fails true made full_is made_is = tt
+    made_fits fails false (Err rule) full_is made_is = tt
+    made_fits fails false (Ok bundles) full_is made_is =
+        accepted_fits bundles store (passes_store w.state.config w.state.entries (entry_of edit_line edit)) fails full_is made_is refl refl
+
+    trouble_fits : (outage : Outage) → TroubleFits store w.state (events.Edit edit_line) (trouble_at store w.state edit_line edit outage)
+    trouble_fits fine = made_fits false (is_full w.state.entries) (edited w.state.config w.state.entries edit) refl refl
+    trouble_fits at_first = tt
+    trouble_fits at_last = tt
+    trouble_fits disk_fails = made_fits true (is_full w.state.entries) (edited w.state.config w.state.entries edit) refl refl
+
+    edit_answers : (outage : Outage) → Answers store w edit_line (request_moments store w.state edit_line (requests.Edit edit) outage) (request_turn store w.state edit_line (requests.Edit edit) outage)
+    edit_answers outage = edit_answers_at (trouble_at store w.state edit_line edit outage) (trouble_fits outage)
+
+  -- nothing fails
+  look_taken : (line : ℕ) (s : SessionNo) (command : Command) (ask : Ask) → ComesNext before (line_of line s command (requests.Look ask))
+      → Answers store w (line_of line s command (requests.Look ask)) (request_moments store w.state (line_of line s command (requests.Look ask)) (requests.Look ask) fine)
+      (request_turn store w.state (line_of line s command (requests.Look ask)) (requests.Look ask) fine)
+  look_taken line s command ask comes =
       let l : Line = line_of line s command (requests.Look ask) in
       let kept : _ = look_queries w.state l ask (slot w.state.looks s.0) in
       record {
-        fits = (record { next = next l comes; kind = refl; command = comes.command; answered = tt }, tt);
+        fits = (record { event = record { next = next l comes; kind = refl; command = comes.command; answered = tt }; trouble = tt }, tt);
         state = refl;
         lines = refl;
         turns = ap (λ (ts : List Turn). w.turns ++ ts) (one_turn_of l _ (look_some w.state l ask (slot w.state.looks s.0)));
         count = same_count _ kept;
         idle = same_idle _ kept;
       }
+  look_answers : (line : ℕ) (s : SessionNo) (command : Command) (ask : Ask) (outage : Outage) → ComesNext before (line_of line s command (requests.Look ask))
+      → Answers store w (line_of line s command (requests.Look ask)) (request_moments store w.state (line_of line s command (requests.Look ask)) (requests.Look ask) outage)
+      (request_turn store w.state (line_of line s command (requests.Look ask)) (requests.Look ask) outage)
+  look_answers line s command ask fine comes = look_taken line s command ask comes
+  look_answers line s command ask disk_fails comes = look_taken line s command ask comes
   look_answers line s command ask at_first comes = record {
-    fits = (record { next = next (line_of line s command (requests.Look ask)) comes; kind = refl; command = comes.command; answered = tt }, tt);
+    fits = (record { event = record { next = next (line_of line s command (requests.Look ask)) comes; kind = refl; command = comes.command; answered = tt }; trouble = tt }, tt);
     state = refl;
     lines = refl;
     turns = refl;
@@ -257,7 +369,7 @@ module _ (before : List Line) (w : World) (b : Between before w) where
     idle = b.idle;
   }
   look_answers line s command ask at_last comes = record {
-    fits = (record { next = next (line_of line s command (requests.Look ask)) comes; kind = refl; command = comes.command; answered = tt }, tt);
+    fits = (record { event = record { next = next (line_of line s command (requests.Look ask)) comes; kind = refl; command = comes.command; answered = tt }; trouble = tt }, tt);
     state = refl;
     lines = refl;
     turns = refl;
@@ -265,19 +377,25 @@ module _ (before : List Line) (w : World) (b : Between before w) where
     idle = b.idle;
   }
 
-  after_answers : (line : ℕ) (s : SessionNo) (command : Command) (earlier : ℕ) (outage : Outage) → ComesNext before (line_of line s command (requests.After earlier))
-      → Answers w (line_of line s command (requests.After earlier)) (request_moments (line_of line s command (requests.After earlier)) (requests.After earlier) outage)
-      (request_turn w.state (line_of line s command (requests.After earlier)) (requests.After earlier) outage)
-  after_answers line s command earlier fine comes = record {
-    fits = (record { next = next (line_of line s command (requests.After earlier)) comes; kind = refl; command = comes.command; answered = request_fits (requests.After earlier) comes.earlier }, tt);
+  -- nothing fails
+  after_taken : (line : ℕ) (s : SessionNo) (command : Command) (earlier : ℕ) → ComesNext before (line_of line s command (requests.After earlier))
+      → Answers store w (line_of line s command (requests.After earlier)) (request_moments store w.state (line_of line s command (requests.After earlier)) (requests.After earlier) fine)
+      (request_turn store w.state (line_of line s command (requests.After earlier)) (requests.After earlier) fine)
+  after_taken line s command earlier comes = record {
+    fits = (record { event = record { next = next (line_of line s command (requests.After earlier)) comes; kind = refl; command = comes.command; answered = request_fits (requests.After earlier) comes.earlier }; trouble = tt }, tt);
     state = refl;
     lines = refl;
     turns = refl;
     count = b.count;
     idle = b.idle;
   }
+  after_answers : (line : ℕ) (s : SessionNo) (command : Command) (earlier : ℕ) (outage : Outage) → ComesNext before (line_of line s command (requests.After earlier))
+      → Answers store w (line_of line s command (requests.After earlier)) (request_moments store w.state (line_of line s command (requests.After earlier)) (requests.After earlier) outage)
+      (request_turn store w.state (line_of line s command (requests.After earlier)) (requests.After earlier) outage)
+  after_answers line s command earlier fine comes = after_taken line s command earlier comes
+  after_answers line s command earlier disk_fails comes = after_taken line s command earlier comes
   after_answers line s command earlier at_first comes = record {
-    fits = (record { next = next (line_of line s command (requests.After earlier)) comes; kind = refl; command = comes.command; answered = request_fits (requests.After earlier) comes.earlier }, tt);
+    fits = (record { event = record { next = next (line_of line s command (requests.After earlier)) comes; kind = refl; command = comes.command; answered = request_fits (requests.After earlier) comes.earlier }; trouble = tt }, tt);
     state = refl;
     lines = refl;
     turns = refl;
@@ -285,7 +403,7 @@ module _ (before : List Line) (w : World) (b : Between before w) where
     idle = b.idle;
   }
   after_answers line s command earlier at_last comes = record {
-    fits = (record { next = next (line_of line s command (requests.After earlier)) comes; kind = refl; command = comes.command; answered = request_fits (requests.After earlier) comes.earlier }, tt);
+    fits = (record { event = record { next = next (line_of line s command (requests.After earlier)) comes; kind = refl; command = comes.command; answered = request_fits (requests.After earlier) comes.earlier }; trouble = tt }, tt);
     state = refl;
     lines = refl;
     turns = refl;
@@ -293,22 +411,28 @@ module _ (before : List Line) (w : World) (b : Between before w) where
     idle = b.idle;
   }
 
-  finish_answers : (line : ℕ) (s : SessionNo) (outage : Outage) → ComesNext before (line_of line s commands.Finish requests.Finish)
-      → Answers w (line_of line s commands.Finish requests.Finish) (request_moments (line_of line s commands.Finish requests.Finish) requests.Finish outage)
-      (request_turn w.state (line_of line s commands.Finish requests.Finish) requests.Finish outage)
-  finish_answers line s fine comes =
+  -- nothing fails
+  finish_taken : (line : ℕ) (s : SessionNo) → ComesNext before (line_of line s commands.Finish requests.Finish)
+      → Answers store w (line_of line s commands.Finish requests.Finish) (request_moments store w.state (line_of line s commands.Finish requests.Finish) requests.Finish fine)
+      (request_turn store w.state (line_of line s commands.Finish requests.Finish) requests.Finish fine)
+  finish_taken line s comes =
       let l : Line = line_of line s commands.Finish requests.Finish in
       let kept : _ = finish_queries w.state line s (slot w.state.looks s.0) in
       record {
-        fits = (next l comes, tt);
+        fits = (record { event = next l comes; trouble = tt }, tt);
         state = refl;
         lines = refl;
         turns = ap (λ (ts : List Turn). w.turns ++ ts) (one_turn_of l _ (finish_some w.state line s (slot w.state.looks s.0)));
         count = same_count _ kept;
         idle = same_idle _ kept;
       }
+  finish_answers : (line : ℕ) (s : SessionNo) (outage : Outage) → ComesNext before (line_of line s commands.Finish requests.Finish)
+      → Answers store w (line_of line s commands.Finish requests.Finish) (request_moments store w.state (line_of line s commands.Finish requests.Finish) requests.Finish outage)
+      (request_turn store w.state (line_of line s commands.Finish requests.Finish) requests.Finish outage)
+  finish_answers line s fine comes = finish_taken line s comes
+  finish_answers line s disk_fails comes = finish_taken line s comes
   finish_answers line s at_first comes = record {
-    fits = (next (line_of line s commands.Finish requests.Finish) comes, tt);
+    fits = (record { event = next (line_of line s commands.Finish requests.Finish) comes; trouble = tt }, tt);
     state = refl;
     lines = refl;
     turns = refl;
@@ -316,7 +440,7 @@ module _ (before : List Line) (w : World) (b : Between before w) where
     idle = b.idle;
   }
   finish_answers line s at_last comes = record {
-    fits = (next (line_of line s commands.Finish requests.Finish) comes, tt);
+    fits = (record { event = next (line_of line s commands.Finish requests.Finish) comes; trouble = tt }, tt);
     state = refl;
     lines = refl;
     turns = refl;
@@ -344,39 +468,43 @@ module _ (before : List Line) (w : World) (b : Between before w) where
     is_under : IsUnder line (slot (put_slot w.state.queries s.0 held) s.0)
     is_under = subst (λ (o : Option Opened). IsUnder line o) there refl
 
-    looks_now : Fits w (events.Look query)
-    looks_now = record { next = next query comes; kind = refl; command = refl; answered = tt }
+    looks_may : Fits w (events.Look query)
+    looks_may = record { next = next query comes; kind = refl; command = refl; answered = tt }
 
-    query_done : Answers w query (query_moments query fine) (request_turn w.state query (requests.Query ask) fine)
+    looks_now : OccurrenceFits store w (moment (events.Look query) untroubled)
+    looks_now = record { event = looks_may; trouble = tt }
+
+    query_done : Answers store w query (query_moments query fine) (request_turn store w.state query (requests.Query ask) fine)
     query_done =
-        let kept : _ = query_queries (looked w.state query ask) query (slot (put_slot w.state.queries s.0 held) s.0) is_of in
+        let kept : _ = query_queries (query_begun w.state query ask) query (slot (put_slot w.state.queries s.0 held) s.0) is_of in
         record {
-          fits = (looks_now, (record { place = comes.place; held = is_under }, tt));
+          fits = (looks_now, (record { event = record { place = comes.place; held = is_under }; trouble = tt }, tt));
           state = refl;
           lines = append-nil (w.lines ++ query ∷ []);
-          turns = ap (λ (ts : List Turn). ts ++ turns_of (query_answered s (slot (put_slot w.state.queries s.0 held) s.0)) (query_step (looked w.state query ask) line s (slot (put_slot w.state.queries s.0 held) s.0)).0) (append-nil w.turns)
-              ∙ ap (λ (ts : List Turn). w.turns ++ ts) (query_turns (looked w.state query ask) query (slot (put_slot w.state.queries s.0 held) s.0) is_of);
+          turns = ap (λ (ts : List Turn). ts ++ turns_of (query_answered s (slot (put_slot w.state.queries s.0 held) s.0)) (query_step (query_begun w.state query ask) line s (slot (put_slot w.state.queries s.0 held) s.0)).0) (append-nil w.turns)
+              ∙ ap (λ (ts : List Turn). w.turns ++ ts) (query_turns (query_begun w.state query ask) query (slot (put_slot w.state.queries s.0 held) s.0) is_of);
           count = gone_count s.0 held _ kept;
           idle = gone_idle s.0 held _ kept comes.place;
         }
 
-    query_failed : Answers w query (query_moments query at_last) (request_turn w.state query (requests.Query ask) at_last)
+    query_failed : Answers store w query (query_moments query at_last) (request_turn store w.state query (requests.Query ask) at_last)
     query_failed =
-        let kept : _ = fails_queries (looked w.state query ask) query (slot (put_slot w.state.queries s.0 held) s.0) is_of in
+        let kept : _ = fails_queries (query_begun w.state query ask) query (slot (put_slot w.state.queries s.0 held) s.0) is_of in
         record {
-          fits = (looks_now, (record { place = comes.place; held = is_under }, tt));
+          fits = (looks_now, (record { event = record { place = comes.place; held = is_under }; trouble = tt }, tt));
           state = refl;
           lines = append-nil (w.lines ++ query ∷ []);
-          turns = ap (λ (ts : List Turn). ts ++ turns_of (query_answered s (slot (put_slot w.state.queries s.0 held) s.0)) (query_fails (looked w.state query ask) line s (slot (put_slot w.state.queries s.0 held) s.0)).0) (append-nil w.turns)
-              ∙ ap (λ (ts : List Turn). w.turns ++ ts) (fails_turns (looked w.state query ask) query (slot (put_slot w.state.queries s.0 held) s.0) is_of);
+          turns = ap (λ (ts : List Turn). ts ++ turns_of (query_answered s (slot (put_slot w.state.queries s.0 held) s.0)) (query_fails (query_begun w.state query ask) line s (slot (put_slot w.state.queries s.0 held) s.0)).0) (append-nil w.turns)
+              ∙ ap (λ (ts : List Turn). w.turns ++ ts) (fails_turns (query_begun w.state query ask) query (slot (put_slot w.state.queries s.0 held) s.0) is_of);
           count = gone_count s.0 held _ kept;
           idle = gone_idle s.0 held _ kept comes.place;
         }
 
-    query_answers : (outage : Outage) → Answers w query (query_moments query outage) (request_turn w.state query (requests.Query ask) outage)
+    query_answers : (outage : Outage) → Answers store w query (query_moments query outage) (request_turn store w.state query (requests.Query ask) outage)
     query_answers fine = query_done
+    query_answers disk_fails = query_done
     query_answers at_first = record {
-      fits = (looks_now, tt);
+      fits = (record { event = looks_may; trouble = tt }, tt);
       state = refl;
       lines = refl;
       turns = refl;
@@ -386,7 +514,7 @@ module _ (before : List Line) (w : World) (b : Between before w) where
     query_answers at_last = query_failed
 
   of_query : (line : ℕ) (s : SessionNo) (command : Command) (ask : Ask) (outage : Outage) → same_command command commands.Query ≡ true → ComesNext before (line_of line s command (requests.Query ask))
-      → Answers w (line_of line s command (requests.Query ask)) (query_moments (line_of line s command (requests.Query ask)) outage) (request_turn w.state (line_of line s command (requests.Query ask)) (requests.Query ask) outage)
+      → Answers store w (line_of line s command (requests.Query ask)) (query_moments (line_of line s command (requests.Query ask)) outage) (request_turn store w.state (line_of line s command (requests.Query ask)) (requests.Query ask) outage)
   of_query line s commands.Query ask outage is comes = query_answers line s ask comes outage
   of_query line s commands.Config ask outage is comes = absurd (false≢true is)
   of_query line s commands.AddBundle ask outage is comes = absurd (false≢true is)
@@ -395,7 +523,7 @@ module _ (before : List Line) (w : World) (b : Between before w) where
   of_query line s commands.After ask outage is comes = absurd (false≢true is)
 
   of_finish : (line : ℕ) (s : SessionNo) (command : Command) (outage : Outage) → same_command command commands.Finish ≡ true → ComesNext before (line_of line s command requests.Finish)
-      → Answers w (line_of line s command requests.Finish) (request_moments (line_of line s command requests.Finish) requests.Finish outage) (request_turn w.state (line_of line s command requests.Finish) requests.Finish outage)
+      → Answers store w (line_of line s command requests.Finish) (request_moments store w.state (line_of line s command requests.Finish) requests.Finish outage) (request_turn store w.state (line_of line s command requests.Finish) requests.Finish outage)
   of_finish line s commands.Finish outage is comes = finish_answers line s outage comes
   of_finish line s commands.Config outage is comes = absurd (false≢true is)
   of_finish line s commands.AddBundle outage is comes = absurd (false≢true is)
@@ -404,15 +532,15 @@ module _ (before : List Line) (w : World) (b : Between before w) where
   of_finish line s commands.After outage is comes = absurd (false≢true is)
 
   request_answers : (line : ℕ) (s : SessionNo) (command : Command) (r : Request) (outage : Outage) → ComesNext before (line_of line s command r)
-      → Answers w (line_of line s command r) (request_moments (line_of line s command r) r outage) (request_turn w.state (line_of line s command r) r outage)
-  request_answers line s command (requests.Edit edit) outage comes = edit_answers line s command edit outage comes
+      → Answers store w (line_of line s command r) (request_moments store w.state (line_of line s command r) r outage) (request_turn store w.state (line_of line s command r) r outage)
+  request_answers line s command (requests.Edit edit) outage comes = edit_answers line s command edit comes outage
   request_answers line s command (requests.Query ask) outage comes = of_query line s command ask outage comes.command comes
   request_answers line s command (requests.Look ask) outage comes = look_answers line s command ask outage comes
   request_answers line s command requests.Finish outage comes = of_finish line s command outage comes.command comes
   request_answers line s command (requests.After earlier) outage comes = after_answers line s command earlier outage comes
 
   -- the world behind the line
-  between : (l : Line) (ms : List Moment) (out : Reply × State) → Answers w l ms out → Between (before ++ l ∷ []) (run w ms)
+  between : (l : Line) (ms : List Occurrence) (out : Reply × State) → Answers store w l ms out → Between (before ++ l ∷ []) (run w ms)
   between l ms out a = record {
     came = a.lines ∙ ap (λ (ls : List Line). ls ++ l ∷ []) b.came;
     told = ap (λ (ts : List Turn). lines_in ts) a.turns ∙ lines_push w.turns (turn_to l out.0) ∙ ap (λ (ls : List Line). ls ++ l ∷ []) b.told;
@@ -422,15 +550,15 @@ module _ (before : List Line) (w : World) (b : Between before w) where
 
 -- Line after line.
 
-record InTurn (before : List Line) (w : World) (ls : List Line) (ms : List Moment) (told : List Turn) (last : State) : Type 0 where
-  fits : AllFit w ms
+record InTurn (store : Bool) (before : List Line) (w : World) (ls : List Line) (ms : List Occurrence) (told : List Turn) (last : State) : Type 0 where
+  fits : AllFit store w ms
   state : (run w ms).state ≡ last
   lines : (run w ms).lines ≡ before ++ ls
   turns : (run w ms).turns ≡ w.turns ++ told
   idle : (s : ℕ) → slot (run w ms).state.queries s ≡ None
 
-nothing_left : (before : List Line) (w : World) → Between before w → InTurn before w [] [] [] w.state
-nothing_left before w b = record {
+nothing_left : (store : Bool) (before : List Line) (w : World) → Between before w → InTurn store before w [] [] [] w.state
+nothing_left store before w b = record {
   fits = tt;
   state = refl;
   lines = b.came ∙ sym (append-nil before);
@@ -438,10 +566,10 @@ nothing_left before w b = record {
   idle = b.idle;
 }
 
-module _ (before : List Line) (w : World) (l : Line) (ls : List Line) (ms ns : List Moment) (out : Reply × State) (told : List Turn) (last : State) where
-  one_more : Answers w l ms out → InTurn (before ++ l ∷ []) (run w ms) ls ns told last → InTurn before w (l ∷ ls) (ms ++ ns) (turn_to l out.0 ∷ told) last
+module _ (store : Bool) (before : List Line) (w : World) (l : Line) (ls : List Line) (ms ns : List Occurrence) (out : Reply × State) (told : List Turn) (last : State) where
+  one_more : Answers store w l ms out → InTurn store (before ++ l ∷ []) (run w ms) ls ns told last → InTurn store before w (l ∷ ls) (ms ++ ns) (turn_to l out.0 ∷ told) last
   one_more a rest = record {
-    fits = fit_more w ms ns a.fits rest.fits;
+    fits = fit_more store w ms ns a.fits rest.fits;
     state = ap (λ (v : World). v.state) (run_more w ms ns) ∙ rest.state;
     lines = ap (λ (v : World). v.lines) (run_more w ms ns) ∙ rest.lines ∙ append_assoc before (l ∷ []) ls;
     turns =
@@ -452,19 +580,20 @@ module _ (before : List Line) (w : World) (l : Line) (ls : List Line) (ms ns : L
     idle = λ s. ap (λ (v : World). slot v.state.queries s) (run_more w ms ns) ∙ rest.idle s;
   }
 
-all_in_turn : (before : List Line) (w : World) (ls : List Line) (outages : List Outage) → Between before w → ComeInOrder before ls → length outages ≡ length ls
-    → InTurn before w ls (moments_in_turn ls outages) (turns_in_turn w.state ls outages) (in_turn w.state ls outages).1
-all_in_turn before w [] outages b comes long = nothing_left before w b
-all_in_turn before w (l ∷ ls) [] b comes long = absurd (let size : 0 ≡ suc (length ls) = long in omega arith)
-all_in_turn before w (l ∷ ls) (outage ∷ outages) b comes long =
-    let a : Answers w l (request_moments l l.request outage) (one_turn w.state l outage) = request_answers before w b l.line l.session l.command l.request outage comes.0 in
-    let behind : World = run w (request_moments l l.request outage) in
-    let rest : InTurn (before ++ l ∷ []) behind ls (moments_in_turn ls outages) (turns_in_turn behind.state ls outages) (in_turn behind.state ls outages).1 =
-    all_in_turn (before ++ l ∷ []) behind ls outages
-    (between before w b l (request_moments l l.request outage) (one_turn w.state l outage) a) comes.1 (omega (arith, long)) in
-    one_more before w l ls (request_moments l l.request outage) (moments_in_turn ls outages) (one_turn w.state l outage)
-    (turns_in_turn (one_turn w.state l outage).1 ls outages) (in_turn (one_turn w.state l outage).1 ls outages).1 a
-    (subst (λ (st : State). InTurn (before ++ l ∷ []) behind ls (moments_in_turn ls outages) (turns_in_turn st ls outages) (in_turn st ls outages).1) a.state rest)
+all_in_turn : (store : Bool) (before : List Line) (w : World) (ls : List Line) (outages : List Outage) → Between before w → ComeInOrder before ls → length outages ≡ length ls
+    → InTurn store before w ls (moments_in_turn store w.state ls outages) (turns_in_turn store w.state ls outages) (in_turn store w.state ls outages).1
+all_in_turn store before w [] outages b comes long = nothing_left store before w b
+all_in_turn store before w (l ∷ ls) [] b comes long = absurd (let size : 0 ≡ suc (length ls) = long in omega arith)
+all_in_turn store before w (l ∷ ls) (outage ∷ outages) b comes long =
+    let ms : List Occurrence = request_moments store w.state l l.request outage in
+    let a : Answers store w l (request_moments store w.state l l.request outage) (one_turn store w.state l outage) = request_answers store before w b l.line l.session l.command l.request outage comes.0 in
+    let behind : World = run w (request_moments store w.state l l.request outage) in
+    let rest : InTurn store (before ++ l ∷ []) behind ls (moments_in_turn store behind.state ls outages) (turns_in_turn store behind.state ls outages) (in_turn store behind.state ls outages).1 =
+    all_in_turn store (before ++ l ∷ []) behind ls outages
+    (between store before w b l (request_moments store w.state l l.request outage) (one_turn store w.state l outage) a) comes.1 (omega (arith, long)) in
+    one_more store before w l ls (request_moments store w.state l l.request outage) (moments_in_turn store (one_turn store w.state l outage).1 ls outages) (one_turn store w.state l outage)
+    (turns_in_turn store (one_turn store w.state l outage).1 ls outages) (in_turn store (one_turn store w.state l outage).1 ls outages).1 a
+    (subst (λ (st : State). InTurn store (before ++ l ∷ []) behind ls (moments_in_turn store st ls outages) (turns_in_turn store st ls outages) (in_turn store st ls outages).1) a.state rest)
 
 -- The script of a run in which no query is under way is the lines that came.
 
@@ -475,51 +604,65 @@ all_done : (st : State) → ((s : ℕ) → slot st.queries s ≡ None) → (ls :
 all_done st idle [] = tt
 all_done st idle (l ∷ ls) = (line_done st idle l, all_done st idle ls)
 
-whole_script : (w : World) → ((s : ℕ) → slot w.state.queries s ≡ None) → script_of w ≡ w.lines
+whole_script : (w : World) → ((s : ℕ) → slot w.state.queries s ≡ None) → lines_done w ≡ w.lines
 whole_script w idle = filter_all (is_done w.state) w.lines (all_done w.state idle w.lines)
 
-at_start : (c : Config) → Between [] (opening_world c [])
-at_start c = record { came = refl; told = refl; count = refl; idle = λ s. slot_none session_places s }
+at_start : (c : Config) (opening : List Entry) → Between [] (opening_world c opening)
+at_start c opening = record { came = refl; told = refl; count = refl; idle = λ s. slot_none session_places s }
 
 -- a legal run whose turns stand in the order of the lines, with the numbers of the moment
-abbrev IsRunInOrder : Config → List Line → List Line → List Reply → List Entry → Type 0
-IsRunInOrder c lines script replies H = (legal_run : Legal c [] script replies H false 0) × IsInOrder [] lines legal_run.turns
+abbrev IsRunInOrder : Config → List Entry → List Line → List Line → List Reply → List Entry → Bool → ℕ → ℕ → Type 0
+IsRunInOrder c opening lines script replies H store before now =
+    (legal_run : Legal c opening script replies H store before now) × IsInOrder opening lines legal_run.turns
 
-module _ (c : Config) (lines : List Line) (outages : List Outage) (comes : ComeInOrder [] lines) (long : length outages ≡ length lines) where
+fewer_rise : (j k before now : ℕ) → j ≤ k → RoseBy k before now → RoseBy j before now
+fewer_rise j k before now fewer rose = search rules
+
+module _ (c : Config) (opening : List Entry) (lines : List Line) (outages : List Outage) (store : Bool) (before now : ℕ)
+    (legal : IsLegal c opening) (most : length opening ≤ HISTORY_EDITS) (comes : ComeInOrder [] lines) (long : length outages ≡ length lines)
+    (rose : RoseBy (disk_outages outages) before now) where
+  abbrev went_through : List Occurrence
+  went_through = moments_in_turn store (start c opening) lines outages
+
   abbrev last : World
-  last = run (opening_world c []) (moments_in_turn lines outages)
+  last = run (opening_world c opening) went_through
 
   abbrev told : List Turn
-  told = turns_in_turn (start c []) lines outages
+  told = turns_in_turn store (start c opening) lines outages
 
-  went : InTurn [] (opening_world c []) lines (moments_in_turn lines outages) told (in_turn (start c []) lines outages).1
-  went = all_in_turn [] (opening_world c []) lines outages (at_start c) comes long
+  abbrev out : List Reply × State
+  out = in_turn store (start c opening) lines outages
 
-  script_is : script_of last ≡ lines
+  went : InTurn store [] (opening_world c opening) lines went_through told out.1
+  went = all_in_turn store [] (opening_world c opening) lines outages (at_start c opening) comes long
+
+  script_is : lines_done last ≡ lines
   script_is = whole_script last went.idle ∙ went.lines
 
-  replies_are : replies_in last.turns ≡ (in_turn (start c []) lines outages).0
-  replies_are = ap (λ (ts : List Turn). replies_in ts) went.turns ∙ replies_told (start c []) lines outages
+  replies_are : replies_in last.turns ≡ out.0
+  replies_are = ap (λ (ts : List Turn). replies_in ts) went.turns ∙ replies_told store (start c opening) lines outages
 
-  entries_are : last.state.entries ≡ (in_turn (start c []) lines outages).1.entries
+  entries_are : last.state.entries ≡ out.1.entries
   entries_are = ap (λ (st : State). st.entries) went.state
 
-  told_in_order : IsInOrder [] lines told
+  told_in_order : IsInOrder opening lines told
   told_in_order = record {
-    order = lines_told (start c []) lines outages long;
-    numbers = numbers_told (start c []) lines outages;
+    order = lines_told store (start c opening) lines outages long;
+    numbers = numbers_told store (start c opening) lines outages;
   }
 
-  run_in_order : IsRunInOrder c lines (script_of last) (replies_in last.turns) last.state.entries
+  run_in_order : IsRunInOrder c opening lines (lines_done last) (replies_in last.turns) last.state.entries store before now
   run_in_order =
-      let legal_turns : HasTurns c [] last = run_legal_turns c [] (moments_in_turn lines outages) ([], refl) (omega arith) went.fits in
-      (legal_turns.0, subst (λ (ts : List Turn). IsInOrder [] lines ts) (sym (legal_turns.1 ∙ went.turns)) told_in_order)
+      let legal_turns : HasTurns c opening last store before now =
+      run_legal_turns c opening went_through store before now legal most went.fits
+      (fewer_rise (disk_failures went_through) (disk_outages outages) before now (all_failures store (start c opening) lines outages) rose) in
+      (legal_turns.0, subst (λ (ts : List Turn). IsInOrder opening lines ts) (sym (legal_turns.1 ∙ went.turns)) told_in_order)
 
-  pub in_turn_is_in_order : IsRunInOrder c lines lines (in_turn (start c []) lines outages).0 (in_turn (start c []) lines outages).1.entries
+  pub in_turn_is_in_order : IsRunInOrder c opening lines lines out.0 out.1.entries store before now
   in_turn_is_in_order =
-      subst (λ (ls : List Line). IsRunInOrder c lines ls (in_turn (start c []) lines outages).0 (in_turn (start c []) lines outages).1.entries) script_is
-      (subst (λ (rs : List Reply). IsRunInOrder c lines (script_of last) rs (in_turn (start c []) lines outages).1.entries) replies_are
-      (subst (λ (H : List Entry). IsRunInOrder c lines (script_of last) (replies_in last.turns) H) entries_are run_in_order))
+      subst (λ (ls : List Line). IsRunInOrder c opening lines ls out.0 out.1.entries store before now) script_is
+      (subst (λ (rs : List Reply). IsRunInOrder c opening lines (lines_done last) rs out.1.entries store before now) replies_are
+      (subst (λ (H : List Entry). IsRunInOrder c opening lines (lines_done last) (replies_in last.turns) H store before now) entries_are run_in_order))
 
-  pub in_order_is_legal : Legal c [] lines (in_turn (start c []) lines outages).0 (in_turn (start c []) lines outages).1.entries false 0
+  pub in_order_is_legal : Legal c opening lines out.0 out.1.entries store before now
   in_order_is_legal = in_turn_is_in_order.0

@@ -7,7 +7,6 @@ use Rattle.session_core.specs.declared.config.Config.{Config}
 use Rattle.session_core.specs.declared.bundle.BundleParts.{BundleParts}
 use Rattle.session_core.specs.declared.edit.Edit.{Edit}
 use Rattle.session_core.specs.declared.edit.Entry.{Entry}
-use Rattle.session_core.specs.declared.row.Row.{Row}
 use Rattle.session_core.specs.declared.line.Command.{Command}
 use Rattle.session_core.specs.declared.line.Ask.{Ask}
 use Rattle.session_core.specs.declared.line.AskFault.{AskFault}
@@ -20,12 +19,14 @@ use Rattle.session_core.specs.declared.line.Request.TheVariants as requests
 use Rattle.session_core.specs.declared.line.Line.{Line}
 use Rattle.session_core.specs.declared.line.Reply.{Reply}
 use Rattle.session_core.specs.Effects.{edited}
-use Rattle.session_core.specs.Queries.{asked}
+use Rattle.session_core.specs.Queries.{Asked, resolved}
 use Rattle.session_core.specs.Effects.{bundles_after}
-use Rattle.session_core.specs.Answers.{query_answer, answer_at, memory, reply_to, entry_of}
+use Rattle.session_core.specs.Answers.{rows_over, query_answer, answer_at, memory, reply_to, entry_of}
 use Rattle.session_core.specs.Steps.{Opened, State, slot, put_slot, session_places, is_full, opened_at, with_look, with_query, with_entry, present, edit_step, look_step, finish_step, query_step}
-use Rattle.session_core.specs.Legal.{accepting, history_limit, IsAcceptance, IsRightAt, IsRightAlone, IsRight, Look, open_after, LookReplyFits, FinishReplyFits, ReplyFits}
-use Rattle.session_core.specs.InOrder.{Outage, fine, replied, looked, query_turn, unless_outage, request_turn}
+use Rattle.session_core.specs.Legal.{accepting, IsAcceptance, IsRightAt, IsRightUnnumbered, IsRight, Look, open_behind, LookReplyFits, FinishReplyFits, ReplyFits}
+use Rattle.session_core.specs.InOrder.{Outage, fine, replied, query_begun, query_turn, unless_outage, made_trouble, edit_outcome, request_turn}
+use Rattle.session_core.specs.Worlds.{Trouble, untroubled}
+use Rattle.emu_names.specs.declared.limits.TheConstants.{HISTORY_EDITS}
 use Rattle.session_core.specs.Readings.{IsStanding, outage_in}
 use Rattle.session_core.proofs.Places.{slot_put, slot_other, put_length}
 use Rattle.session_core.proofs.Seats.{answer_same, look_of, IsIn, in_more}
@@ -48,9 +49,9 @@ not_memory : (answer : Answer) → is_memory answer ≡ false → answer ≡ mem
 not_memory answer other same = false≢true (sym other ∙ ap is_memory same)
 
 -- a query's answer is no want of memory
-query_fine : (found : Result (List Row) AskFault) → outage_in (query_answer found) ≡ fine
-query_fine (Ok rows) = refl
-query_fine (Err fault) = refl
+query_fine : (c : Config) (bundles : List BundleParts) (found : Result Asked AskFault) → outage_in (query_answer (rows_over c bundles found)) ≡ fine
+query_fine c bundles (Ok asked) = refl
+query_fine c bundles (Err fault) = refl
 
 some_same : {A : Type 0} (x y : A) → Some x ≡ Some y → x ≡ y
 some_same {A = A} x y e = ap (λ (o : Option A). unwrapped x o) e
@@ -88,12 +89,12 @@ seen_look held = option_map look_of held
 pub record Follows (c : Config) (H : List Entry) (k : ℕ) (st : State) (l : Line) (request : Request) (n : Option ℕ) (answer : Answer) (out : Reply × State) : Type 0 where
   pub reply : out.0 ≡ reply_to l n answer
   pub there : Stands c H (k + length (accepting l request n answer)) out.1
-  pub own : seen_look (slot out.1.looks l.session.0) ≡ open_after (seen_look (slot st.looks l.session.0)) request n
+  pub own : seen_look (slot out.1.looks l.session.0) ≡ open_behind (seen_look (slot st.looks l.session.0)) request n
   pub others : (s : ℕ) → l.session.0 ≢ s → slot out.1.looks s ≡ slot st.looks s
 
 -- what is right of an answer, with the request told
 abbrev pub IsRightFor : Config → ℕ → List Entry → Line → Request → Option ℕ → Answer → Type 0
-IsRightFor c m H l request None answer = IsRightAlone false request answer
+IsRightFor c m H l request None answer = IsRightUnnumbered false request answer
 IsRightFor c m H l request (Some n) answer = (m ≤ n) × (n ≤ length H) × IsRightAt c H false l request n answer
 
 pub right_for : (c : Config) (m : ℕ) (H : List Entry) (l : Line) (n : Option ℕ) (answer : Answer) → IsRight c m H false l n answer → IsRightFor c m H l l.request n answer
@@ -109,7 +110,7 @@ module _ (c : Config) (m : ℕ) (H : List Entry) (k : ℕ) (st : State) (r : Sta
   moved request n answer made out same follows = subst (λ (o : Reply × State). Follows c H k st l request n answer o) same follows
 
   -- the state stays as it is
-  stays : (request : Request) (n : Option ℕ) (answer : Answer) → length (accepting l request n answer) ≡ 0 → open_after (seen_look held) request n ≡ seen_look held
+  stays : (request : Request) (n : Option ℕ) (answer : Answer) → length (accepting l request n answer) ≡ 0 → open_behind (seen_look held) request n ≡ seen_look held
       → Follows c H k st l request n answer (reply_to l n answer, st)
   stays request n answer none opens = record {
     reply = refl;
@@ -164,16 +165,23 @@ module _ (c : Config) (m : ℕ) (H : List Entry) (k : ℕ) (st : State) (r : Sta
   abbrev edit_out : Edit → Bool → Result (List BundleParts) Broken → Reply × State
   edit_out edit full made = replied l (edit_step st l edit full made)
 
+  -- without a store nothing keeps an edit from its step
+  no_trouble : (edit : Edit) (fails full : Bool) (made : Result (List BundleParts) Broken) → untroubled ≡ made_trouble false st l edit fails full made
+  no_trouble edit fails true made = refl
+  no_trouble edit fails false (Ok bundles) = refl
+  no_trouble edit fails false (Err rule) = refl
+
   edit_made_is : (edit : Edit) (full : Bool) (made : Result (List BundleParts) Broken) → is_full st.entries ≡ full → edited st.config st.entries edit ≡ made
-      → edit_out edit full made ≡ edit_out edit (is_full st.entries) (edited st.config st.entries edit)
+      → edit_out edit full made ≡ request_turn false st l (requests.Edit edit) fine
   edit_made_is edit full made full_is made_is =
       sym (ap (λ (b : Bool). edit_out edit b (edited st.config st.entries edit)) full_is ∙ ap (λ (found : Result (List BundleParts) Broken). edit_out edit full found) made_is)
+      ∙ ap (λ (t : Trouble). replied l (edit_outcome st l edit t)) (no_trouble edit false (is_full st.entries) (edited st.config st.entries edit))
 
-  not_full : k < history_limit → is_full st.entries ≡ false
+  not_full : k < HISTORY_EDITS → is_full st.entries ≡ false
   not_full room =
-      let low : k < 100000 = room in
+      let low : k < HISTORY_EDITS = room in
       let count : length st.entries ≡ k = r.count in
-      lt-leb 100000 (length st.entries) (omega arith)
+      lt-leb HISTORY_EDITS (length st.entries) (omega arith)
 
   -- a reply with a number, and a state
   abbrev numbered_reply : Answer → State → ℕ → Reply × State
@@ -183,11 +191,11 @@ module _ (c : Config) (m : ℕ) (H : List Entry) (k : ℕ) (st : State) (r : Sta
   numbered_as answer n j next same = ap (numbered_reply answer next) same
 
   accepted_follows : (edit : Edit) (n : ℕ) (command : Command) → IsAcceptance c H l edit n command → n ≡ k + 1
-      → Follows c H k st l (requests.Edit edit) (Some n) (Done command) (request_turn st l (requests.Edit edit) fine)
+      → Follows c H k st l (requests.Edit edit) (Some n) (Done command) (request_turn false st l (requests.Edit edit) fine)
   accepted_follows edit n command right is =
       let before_is : right.before ≡ k = omega (arith, right.number, is) in
       let count : length st.entries ≡ k = r.count in
-      let room : k < history_limit = subst (λ (j : ℕ). j < history_limit) before_is right.room in
+      let room : k < HISTORY_EDITS = subst (λ (j : ℕ). j < HISTORY_EDITS) before_is right.room in
       let at : slice_get (st.entries ++ r.more) (length st.entries) ≡ Some (entry_of l edit) =
       ap (λ (es : List Entry). slice_get es (length st.entries)) (sym r.prefix) ∙ ap (λ (j : ℕ). slice_get H j) (count ∙ sym before_is) ∙ right.entry in
       let next : _ = next_entry st.entries r.more (entry_of l edit) at in
@@ -212,14 +220,14 @@ module _ (c : Config) (m : ℕ) (H : List Entry) (k : ℕ) (st : State) (r : Sta
       })
 
   refused_edit : (edit : Edit) (n : ℕ) (refusal : Refusal) → IsRightAt c H false l (requests.Edit edit) n (Refused refusal) → n ≡ k
-      → Follows c H k st l (requests.Edit edit) (Some n) (Refused refusal) (request_turn st l (requests.Edit edit) (outage_in (Refused refusal)))
+      → Follows c H k st l (requests.Edit edit) (Some n) (Refused refusal) (request_turn false st l (requests.Edit edit) (outage_in (Refused refusal)))
   refused_edit edit n (refusals.Rule rule) right is =
       moved (requests.Edit edit) (Some n) (Refused (refusals.Rule rule)) (reply_to l (Some n) (Refused (refusals.Rule rule)), st) _
       (numbered_as (Refused (refusals.Rule rule)) n (present st) st (is ∙ sym r.count)
-      ∙ edit_made_is edit false (Err rule) (not_full (subst (λ (j : ℕ). j < history_limit) is right.0)) (edit_is n edit (Err rule) is right.1))
+      ∙ edit_made_is edit false (Err rule) (not_full (subst (λ (j : ℕ). j < HISTORY_EDITS) is right.0)) (edit_is n edit (Err rule) is right.1))
       (stays (requests.Edit edit) (Some n) (Refused (refusals.Rule rule)) refl refl)
   refused_edit edit n refusals.HistoryFull right is =
-      let full : is_full st.entries ≡ true = le-leb 100000 (length st.entries) (omega (arith, right, is, r.count)) in
+      let full : is_full st.entries ≡ true = le-leb HISTORY_EDITS (length st.entries) (omega (arith, right, is, r.count)) in
       moved (requests.Edit edit) (Some n) (Refused refusals.HistoryFull) (reply_to l (Some n) (Refused refusals.HistoryFull), st) _
       (numbered_as (Refused refusals.HistoryFull) n (present st) st (is ∙ sym r.count)
       ∙ edit_made_is edit true (edited st.config st.entries edit) full refl)
@@ -231,8 +239,8 @@ module _ (c : Config) (m : ℕ) (H : List Entry) (k : ℕ) (st : State) (r : Sta
   refused_edit edit n refusals.Disk right is = absurd right
   refused_edit edit n refusals.Memory right is = absurd right
 
-  edit_alone : (edit : Edit) (answer : Answer) → IsRightAlone false (requests.Edit edit) answer
-      → Follows c H k st l (requests.Edit edit) None answer (request_turn st l (requests.Edit edit) (outage_in answer))
+  edit_alone : (edit : Edit) (answer : Answer) → IsRightUnnumbered false (requests.Edit edit) answer
+      → Follows c H k st l (requests.Edit edit) None answer (request_turn false st l (requests.Edit edit) (outage_in answer))
   edit_alone edit (Refused refusals.Memory) right = stays (requests.Edit edit) None memory refl refl
   edit_alone edit (Refused refusals.Disk) right = absurd (false≢true right)
   edit_alone edit (Refused refusals.LookOpen) right = absurd right
@@ -246,7 +254,7 @@ module _ (c : Config) (m : ℕ) (H : List Entry) (k : ℕ) (st : State) (r : Sta
 
   edit_follows : (edit : Edit) (n : Option ℕ) (answer : Answer) → IsRightFor c m H l (requests.Edit edit) n answer
       → IsStanding (k + length (accepting l (requests.Edit edit) n answer)) (requests.Edit edit) n
-      → Follows c H k st l (requests.Edit edit) n answer (request_turn st l (requests.Edit edit) (outage_in answer))
+      → Follows c H k st l (requests.Edit edit) n answer (request_turn false st l (requests.Edit edit) (outage_in answer))
   edit_follows edit None answer right stand = edit_alone edit answer right
   edit_follows edit (Some n) (Done command) right stand = accepted_follows edit n command right.2 stand
   edit_follows edit (Some n) (Refused refusal) right stand = refused_edit edit n refusal right.2 (let is : n ≡ k + 0 = stand in omega arith)
@@ -254,23 +262,23 @@ module _ (c : Config) (m : ℕ) (H : List Entry) (k : ℕ) (st : State) (r : Sta
 
   -- a query is put under way and answered
   abbrev query_out : Ask → Option Opened → Reply × State
-  query_out ask under = replied l (query_step (looked st l ask) l.line l.session under)
+  query_out ask under = replied l (query_step (query_begun st l ask) l.line l.session under)
 
   query_answered_is : (ask : Ask) (n : ℕ) (answer : Answer) → answer ≡ answer_at c H n ask → n ≡ k
-      → (reply_to l (Some n) answer, with_query (looked st l ask) l.session.0 None) ≡ query_turn st l ask fine
+      → (reply_to l (Some n) answer, with_query (query_begun st l ask) l.session.0 None) ≡ query_turn st l ask fine
   query_answered_is ask n answer right is =
       let n_is : n ≡ present st = is ∙ sym r.count in
       let low : n ≤ length st.entries = omega (arith, n_is) in
       let size : length st.queries ≡ 17 = r.queries_count in
       let below : l.session.0 < 17 = place in
-      ap (λ (a : Answer). (reply_to l (Some n) a, with_query (looked st l ask) l.session.0 None)) (sym (answer_is n ask answer low right))
-      ∙ ap (λ (j : ℕ). (reply_to l (Some j) (answer_at st.config st.entries j ask), with_query (looked st l ask) l.session.0 None)) n_is
+      ap (λ (a : Answer). (reply_to l (Some n) a, with_query (query_begun st l ask) l.session.0 None)) (sym (answer_is n ask answer low right))
+      ∙ ap (λ (j : ℕ). (reply_to l (Some j) (answer_at st.config st.entries j ask), with_query (query_begun st l ask) l.session.0 None)) n_is
       ∙ sym (ap (λ (o : Option Opened). query_out ask o) (slot_put st.queries l.session.0 (Some (opened_at st l ask)) (omega arith)))
 
   query_done : (ask : Ask) (n : ℕ) (answer : Answer) → answer ≡ answer_at c H n ask → n ≡ k
       → Follows c H k st l (requests.Query ask) (Some n) answer (query_turn st l ask fine)
   query_done ask n answer right is =
-      moved (requests.Query ask) (Some n) answer (reply_to l (Some n) answer, with_query (looked st l ask) l.session.0 None) _ (query_answered_is ask n answer right is)
+      moved (requests.Query ask) (Some n) answer (reply_to l (Some n) answer, with_query (query_begun st l ask) l.session.0 None) _ (query_answered_is ask n answer right is)
       (record {
         reply = refl;
         there = record {
@@ -286,8 +294,8 @@ module _ (c : Config) (m : ℕ) (H : List Entry) (k : ℕ) (st : State) (r : Sta
         others = λ s ne. refl;
       })
 
-  query_alone : (ask : Ask) (answer : Answer) → IsRightAlone false (requests.Query ask) answer
-      → Follows c H k st l (requests.Query ask) None answer (request_turn st l (requests.Query ask) (outage_in answer))
+  query_alone : (ask : Ask) (answer : Answer) → IsRightUnnumbered false (requests.Query ask) answer
+      → Follows c H k st l (requests.Query ask) None answer (request_turn false st l (requests.Query ask) (outage_in answer))
   query_alone ask (Refused refusals.Memory) right = stays (requests.Query ask) None memory refl refl
   query_alone ask (Refused refusals.Disk) right = absurd right
   query_alone ask (Refused refusals.LookOpen) right = absurd right
@@ -301,11 +309,11 @@ module _ (c : Config) (m : ℕ) (H : List Entry) (k : ℕ) (st : State) (r : Sta
 
   -- a query's answer tells of no want of memory
   told_fine : (n : ℕ) (ask : Ask) (answer : Answer) → answer ≡ answer_at c H n ask → fine ≡ outage_in answer
-  told_fine n ask answer right = sym (ap outage_in right ∙ query_fine (asked c (bundles_after c (take n H)) ask))
+  told_fine n ask answer right = sym (ap outage_in right ∙ query_fine c (bundles_after c (take n H)) (resolved c ask))
 
   query_follows : (ask : Ask) (n : Option ℕ) (answer : Answer) → IsRightFor c m H l (requests.Query ask) n answer
       → IsStanding (k + length (accepting l (requests.Query ask) n answer)) (requests.Query ask) n
-      → Follows c H k st l (requests.Query ask) n answer (request_turn st l (requests.Query ask) (outage_in answer))
+      → Follows c H k st l (requests.Query ask) n answer (request_turn false st l (requests.Query ask) (outage_in answer))
   query_follows ask None answer right stand = query_alone ask answer right
   query_follows ask (Some n) answer right stand =
       subst (λ (o : Outage). Follows c H k st l (requests.Query ask) (Some n) answer (query_turn st l ask o)) (told_fine n ask answer right.2)
@@ -329,7 +337,7 @@ module _ (c : Config) (m : ℕ) (H : List Entry) (k : ℕ) (st : State) (r : Sta
         own =
             ap seen_look (look_put opened)
             ∙ ap (λ (j : ℕ). Some (record { n = j; ask = ask })) (sym n_is)
-            ∙ ap (λ (o : Option Opened). open_after (seen_look o) (requests.Look ask) (Some n)) (sym same);
+            ∙ ap (λ (o : Option Opened). open_behind (seen_look o) (requests.Look ask) (Some n)) (sym same);
         others = λ s ne. slot_other st.looks l.session.0 s opened ne;
       })
 
@@ -338,8 +346,8 @@ module _ (c : Config) (m : ℕ) (H : List Entry) (k : ℕ) (st : State) (r : Sta
   look_refused ask None fits = absurd (not_memory (Refused refusals.LookOpen) refl fits)
   look_refused ask (Some other) fits = refl
 
-  look_alone : (ask : Ask) (answer : Answer) → IsRightAlone false (requests.Look ask) answer → LookReplyFits (seen_look held) None answer
-      → Follows c H k st l (requests.Look ask) None answer (request_turn st l (requests.Look ask) (outage_in answer))
+  look_alone : (ask : Ask) (answer : Answer) → IsRightUnnumbered false (requests.Look ask) answer → LookReplyFits (seen_look held) None answer
+      → Follows c H k st l (requests.Look ask) None answer (request_turn false st l (requests.Look ask) (outage_in answer))
   look_alone ask (Refused refusals.Memory) right fits = stays (requests.Look ask) None memory refl refl
   look_alone ask (Refused refusals.LookOpen) right fits =
       moved (requests.Look ask) None (Refused refusals.LookOpen) (reply_to l None (Refused refusals.LookOpen), st) _ (look_refused ask held fits)
@@ -356,10 +364,10 @@ module _ (c : Config) (m : ℕ) (H : List Entry) (k : ℕ) (st : State) (r : Sta
   look_follows : (ask : Ask) (n : Option ℕ) (answer : Answer) → IsRightFor c m H l (requests.Look ask) n answer
       → IsStanding (k + length (accepting l (requests.Look ask) n answer)) (requests.Look ask) n
       → ReplyFits c H (seen_look held) (requests.Look ask) n answer
-      → Follows c H k st l (requests.Look ask) n answer (request_turn st l (requests.Look ask) (outage_in answer))
+      → Follows c H k st l (requests.Look ask) n answer (request_turn false st l (requests.Look ask) (outage_in answer))
   look_follows ask None answer right stand fits = look_alone ask answer right fits
   look_follows ask (Some n) answer right stand fits =
-      subst (λ (a : Answer). Follows c H k st l (requests.Look ask) (Some n) a (request_turn st l (requests.Look ask) (outage_in a))) (sym right.2)
+      subst (λ (a : Answer). Follows c H k st l (requests.Look ask) (Some n) a (request_turn false st l (requests.Look ask) (outage_in a))) (sym right.2)
       (look_opens ask n held (let is : n ≡ k + 0 = stand in omega arith) (subst (λ (a : Answer). LookReplyFits (seen_look held) (Some n) a) right.2 fits) refl)
 
   -- a look is answered and closed
@@ -380,7 +388,7 @@ module _ (c : Config) (m : ℕ) (H : List Entry) (k : ℕ) (st : State) (r : Sta
         there = subst (λ (j : ℕ). Stands c H j (with_look st l.session.0 None)) (let here : k ≡ k + 0 = omega arith in here) (with_looks None tt);
         own =
             ap seen_look (look_put None)
-            ∙ ap (λ (o : Option Opened). open_after (seen_look o) requests.Finish (Some n)) (sym same);
+            ∙ ap (λ (o : Option Opened). open_behind (seen_look o) requests.Finish (Some n)) (sym same);
         others = λ s ne. slot_other st.looks l.session.0 s None ne;
       }))
 
@@ -389,8 +397,8 @@ module _ (c : Config) (m : ℕ) (H : List Entry) (k : ℕ) (st : State) (r : Sta
   finish_refused None fits = refl
   finish_refused (Some other) fits = absurd (not_memory (Refused refusals.NoLook) refl fits)
 
-  finish_alone : (answer : Answer) → IsRightAlone false requests.Finish answer → FinishReplyFits c H (seen_look held) None answer
-      → Follows c H k st l requests.Finish None answer (request_turn st l requests.Finish (outage_in answer))
+  finish_alone : (answer : Answer) → IsRightUnnumbered false requests.Finish answer → FinishReplyFits c H (seen_look held) None answer
+      → Follows c H k st l requests.Finish None answer (request_turn false st l requests.Finish (outage_in answer))
   finish_alone (Refused refusals.Memory) right fits = stays requests.Finish None memory refl refl
   finish_alone (Refused refusals.NoLook) right fits =
       moved requests.Finish None (Refused refusals.NoLook) (reply_to l None (Refused refusals.NoLook), st) _ (finish_refused held fits)
@@ -406,12 +414,12 @@ module _ (c : Config) (m : ℕ) (H : List Entry) (k : ℕ) (st : State) (r : Sta
 
   finish_follows : (n : Option ℕ) (answer : Answer) → IsRightFor c m H l requests.Finish n answer
       → ReplyFits c H (seen_look held) requests.Finish n answer
-      → Follows c H k st l requests.Finish n answer (request_turn st l requests.Finish (outage_in answer))
+      → Follows c H k st l requests.Finish n answer (request_turn false st l requests.Finish (outage_in answer))
   finish_follows None answer right fits = finish_alone answer right fits
   finish_follows (Some n) answer right fits = finish_done n answer held fits (r.looks_in l.session.0) refl
 
-  after_alone : (earlier : ℕ) (answer : Answer) → IsRightAlone false (requests.After earlier) answer
-      → Follows c H k st l (requests.After earlier) None answer (request_turn st l (requests.After earlier) (outage_in answer))
+  after_alone : (earlier : ℕ) (answer : Answer) → IsRightUnnumbered false (requests.After earlier) answer
+      → Follows c H k st l (requests.After earlier) None answer (request_turn false st l (requests.After earlier) (outage_in answer))
   after_alone earlier (Refused refusals.Memory) right = stays (requests.After earlier) None memory refl refl
   after_alone earlier (Refused refusals.Disk) right = absurd right
   after_alone earlier (Refused refusals.LookOpen) right = absurd right
@@ -425,19 +433,19 @@ module _ (c : Config) (m : ℕ) (H : List Entry) (k : ℕ) (st : State) (r : Sta
 
   after_follows : (earlier : ℕ) (n : Option ℕ) (answer : Answer) → IsRightFor c m H l (requests.After earlier) n answer
       → IsStanding (k + length (accepting l (requests.After earlier) n answer)) (requests.After earlier) n
-      → Follows c H k st l (requests.After earlier) n answer (request_turn st l (requests.After earlier) (outage_in answer))
+      → Follows c H k st l (requests.After earlier) n answer (request_turn false st l (requests.After earlier) (outage_in answer))
   after_follows earlier None answer right stand = after_alone earlier answer right
   after_follows earlier (Some n) answer right stand =
       let is : n ≡ k + 0 = stand in
       let count : length st.entries ≡ k = r.count in
       let n_is : n ≡ present st = omega arith in
-      subst (λ (a : Answer). Follows c H k st l (requests.After earlier) (Some n) a (request_turn st l (requests.After earlier) (outage_in a))) (sym right.2)
+      subst (λ (a : Answer). Follows c H k st l (requests.After earlier) (Some n) a (request_turn false st l (requests.After earlier) (outage_in a))) (sym right.2)
       (moved (requests.After earlier) (Some n) (Done l.command) (reply_to l (Some n) (Done l.command), st) _ (numbered_as (Done l.command) n (present st) st n_is)
       (stays (requests.After earlier) (Some n) (Done l.command) refl refl))
 
   pub follows : (request : Request) (n : Option ℕ) (answer : Answer) → IsRightFor c m H l request n answer
       → IsStanding (k + length (accepting l request n answer)) request n → ReplyFits c H (seen_look (slot st.looks l.session.0)) request n answer
-      → Follows c H k st l request n answer (request_turn st l request (outage_in answer))
+      → Follows c H k st l request n answer (request_turn false st l request (outage_in answer))
   follows (requests.Edit edit) n answer right stand fits = edit_follows edit n answer right stand
   follows (requests.Query ask) n answer right stand fits = query_follows ask n answer right stand
   follows (requests.Look ask) n answer right stand fits = look_follows ask n answer right stand fits

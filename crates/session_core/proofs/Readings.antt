@@ -13,7 +13,7 @@ use Rattle.session_core.specs.declared.line.Reply.{Reply}
 use Rattle.session_core.specs.Answers.{reply_to}
 use Rattle.session_core.specs.Steps.{Opened, State, slot, session_places, start}
 use Rattle.session_core.specs.Worlds.{Turn, Each}
-use Rattle.session_core.specs.Legal.{IsNamed, of_session, lines_in, replies_in, accepting, accepted, Mark, numbered, with_number, IsRightTurn, Look, ReplyFits, LooksFit, Legal}
+use Rattle.session_core.specs.Legal.{IsNamed, of_session, lines_in, replies_in, accepting, accepted, NumberedEntry, numbered, with_number, IsRightTurn, Look, ReplyFits, LooksFit, Legal}
 use Rattle.session_core.specs.InOrder.{Outage, one_turn, in_turn, ComeInOrder}
 use Rattle.session_core.specs.Readings.{standing, IsStanding, AreStanding, outage_of, IsInOrder, RepliesFollow, OneReading}
 use Rattle.session_core.proofs.Turns.{each_of_map}
@@ -30,8 +30,8 @@ standing_after k (t ∷ ts) = standing_after (standing k t) ts
 
 module _ (c : Config) (m : ℕ) (H : List Entry) where
   record AllFollow (k : ℕ) (st : State) (ts : List Turn) : Type 0 where
-    replies : replies_in ts ≡ (in_turn st (lines_in ts) (map outage_of (replies_in ts))).0
-    there : Stands c H (standing_after k ts) (in_turn st (lines_in ts) (map outage_of (replies_in ts))).1
+    replies : replies_in ts ≡ (in_turn false st (lines_in ts) (map outage_of (replies_in ts))).0
+    there : Stands c H (standing_after k ts) (in_turn false st (lines_in ts) (map outage_of (replies_in ts))).1
 
   -- what each turn has
   record IsSound (t : Turn) : Type 0 where
@@ -44,7 +44,7 @@ module _ (c : Config) (m : ℕ) (H : List Entry) where
 
   turn_follows : (k : ℕ) (st : State) (t : Turn) → Stands c H k st → IsSound t → IsStanding (standing k t) t.line.request t.reply.n
       → ReplyFits c H (seen_look (slot st.looks t.line.session.0)) t.line.request t.reply.n t.reply.answer
-      → Follows c H k st t.line t.line.request t.reply.n t.reply.answer (one_turn st t.line (outage_of t.reply))
+      → Follows c H k st t.line t.line.request t.reply.n t.reply.answer (one_turn false st t.line (outage_of t.reply))
   turn_follows k st t r sound stand fits =
       follows c m H k st r t.line sound.place t.line.request t.reply.n t.reply.answer (right_for c m H t.line t.reply.n t.reply.answer sound.right) stand fits
 
@@ -76,14 +76,14 @@ module _ (c : Config) (m : ℕ) (H : List Entry) where
   all_follow : (k : ℕ) (st : State) (ts : List Turn) → Stands c H k st → Each IsSound ts → AreStanding k ts → AllLooksFit st ts → AllFollow k st ts
   all_follow k st [] r sound stand looks = record { replies = refl; there = r }
   all_follow k st (t ∷ ts) r sound stand looks =
-      let f : Follows c H k st t.line t.line.request t.reply.n t.reply.answer (one_turn st t.line (outage_of t.reply)) =
+      let f : Follows c H k st t.line t.line.request t.reply.n t.reply.answer (one_turn false st t.line (outage_of t.reply)) =
       turn_follows k st t r sound.0 stand.0 (own_looks st t ts t.line.session.0 refl looks).0 in
-      let rest : AllFollow (standing k t) (one_turn st t.line (outage_of t.reply)).1 ts =
-      all_follow (standing k t) (one_turn st t.line (outage_of t.reply)).1 ts f.there sound.1 stand.1 (looks_follow k st t ts (one_turn st t.line (outage_of t.reply)) f looks) in
+      let rest : AllFollow (standing k t) (one_turn false st t.line (outage_of t.reply)).1 ts =
+      all_follow (standing k t) (one_turn false st t.line (outage_of t.reply)).1 ts f.there sound.1 stand.1 (looks_follow k st t ts (one_turn false st t.line (outage_of t.reply)) f looks) in
       record {
         replies =
             ap (λ (reply : Reply). reply ∷ replies_in ts) (sym (reply_is t sound.0.named) ∙ sym f.reply)
-            ∙ ap (λ (rs : List Reply). (one_turn st t.line (outage_of t.reply)).0 ∷ rs) rest.replies;
+            ∙ ap (λ (rs : List Reply). (one_turn false st t.line (outage_of t.reply)).0 ∷ rs) rest.replies;
         there = rest.there;
       }
 
@@ -96,7 +96,7 @@ standing_grows k (t ∷ ts) =
     let here : k ≤ k + length (accepting t.line t.line.request t.reply.n t.reply.answer) = omega arith in
     omega arith
 
-abbrev IsMarkTo : ℕ → Mark → Type 0
+abbrev IsMarkTo : ℕ → NumberedEntry → Type 0
 IsMarkTo high mark = mark.n ≤ high
 
 each_joined : {A : Type 0} (P : A → Type 0) (xs ys : List A) → Each P xs → Each P ys → Each P (xs ++ ys)
@@ -122,17 +122,17 @@ accepted_to k (t ∷ ts) stand =
     (accepting_to (standing k t) (standing_after (standing k t) ts) t.line t.line.request t.reply.n t.reply.answer stand.0 (standing_grows (standing k t) ts))
     (accepted_to (standing k t) ts stand.1)
 
-none_past : (high n : ℕ) (marks : List Mark) → high < n → Each (IsMarkTo high) marks → with_number n marks ≡ []
+none_past : (high n : ℕ) (marks : List NumberedEntry) → high < n → Each (IsMarkTo high) marks → with_number n marks ≡ []
 none_past high n [] past each = refl
 none_past high n (mark ∷ marks) past each =
     let low : mark.n ≤ high = each.0 in
     ap (λ (b : Bool). cond b (mark ∷ with_number n marks) (with_number n marks)) (ne_eqb mark.n n (omega arith)) ∙ none_past high n marks past each.1
 
-nothing_is_no_mark : (mark : Mark) (marks : List Mark) → mark ∷ marks ≡ [] → ⊥
+nothing_is_no_mark : (mark : NumberedEntry) (marks : List NumberedEntry) → mark ∷ marks ≡ [] → ⊥
 nothing_is_no_mark mark marks e = cc
 
 -- each number of a history has its entry
-has_step : (a n : ℕ) (e : Entry) (rest : List Mark) (b : Bool) → nat_eq a n ≡ b → (a ≢ n → rest ≡ [] → ⊥)
+has_step : (a n : ℕ) (e : Entry) (rest : List NumberedEntry) (b : Bool) → nat_eq a n ≡ b → (a ≢ n → rest ≡ [] → ⊥)
     → cond (nat_eq a n) (record { n = a; entry = e } ∷ rest) rest ≡ [] → ⊥
 has_step a n e rest true is more none =
     nothing_is_no_mark (record { n = a; entry = e }) rest (ap (λ (t : Bool). cond t (record { n = a; entry = e } ∷ rest) rest) (sym is) ∙ none)
@@ -157,8 +157,8 @@ sound_of c m H [] right named place = tt
 sound_of c m H (t ∷ ts) right named place =
     (record { right = right.0; named = named.0; place = place.0 }, sound_of c m H ts right.1 named.1 place.1)
 
-module _ (c : Config) (opening : List Entry) (lines : List Line) (replies : List Reply) (H : List Entry) (faults : ℕ)
-    (comes : ComeInOrder [] lines) (run : Legal c opening lines replies H false faults) (is : IsInOrder opening lines run.turns) where
+module _ (c : Config) (opening : List Entry) (lines : List Line) (replies : List Reply) (H : List Entry) (before now : ℕ)
+    (comes : ComeInOrder [] lines) (run : Legal c opening lines replies H false before now) (is : IsInOrder opening lines run.turns) where
   begins : Stands c H (length opening) (start c opening)
   begins = record {
     config = refl;
@@ -171,12 +171,12 @@ module _ (c : Config) (opening : List Entry) (lines : List Line) (replies : List
   }
 
   sound : Each (IsSound c (length opening) H) run.turns
-  sound = sound_of c (length opening) H run.turns run.right run.named
+  sound = sound_of c (length opening) H run.turns run.whole.right run.whole.named
       (each_of_map (λ (l : Line). l.session.0 < session_places) (λ (t : Turn). t.line) run.turns
       (subst (λ (ls : List Line). Each (λ (l : Line). l.session.0 < session_places) ls) (sym is.order) (places_of [] lines comes)))
 
   looks_there : (s : ℕ) → LooksFit c H (seen_look (slot (start c opening).looks s)) (of_session s run.turns)
-  looks_there s = subst (λ (o : Option Opened). LooksFit c H (seen_look o) (of_session s run.turns)) (sym (slot_none session_places s)) (run.looks s)
+  looks_there s = subst (λ (o : Option Opened). LooksFit c H (seen_look o) (of_session s run.turns)) (sym (slot_none session_places s)) (run.sessions s).looks
 
   all : AllFollow c (length opening) H (length opening) (start c opening) run.turns
   all = all_follow c (length opening) H (length opening) (start c opening) run.turns begins sound is.numbers looks_there
@@ -190,35 +190,35 @@ module _ (c : Config) (opening : List Entry) (lines : List Line) (replies : List
       let from : length opening ≤ standing_after (length opening) run.turns = standing_grows (length opening) run.turns in
       let gone : with_number (length E + 1) (accepted run.turns) ≡ [] =
       none_past (standing_after (length opening) run.turns) (length E + 1) (accepted run.turns) (omega arith) (accepted_to (length opening) run.turns is.numbers) in
-      absurd (has_entry (length opening + 1) (length E + 1) run.more (omega arith) (omega arith) (sym (run.one_entry (length E + 1)) ∙ gone))
+      absurd (has_entry (length opening + 1) (length E + 1) run.more (omega arith) (omega arith) (sym (run.whole.one_entry (length E + 1)) ∙ gone))
 
   -- in turn, from the turns and from the lines with the replies
   abbrev turns_out : List Line → List Reply → List Reply × State
-  turns_out ls rs = in_turn (start c opening) ls (map outage_of rs)
+  turns_out ls rs = in_turn false (start c opening) ls (map outage_of rs)
 
   out_is : turns_out (lines_in run.turns) (replies_in run.turns) ≡ turns_out lines replies
   out_is = ap (λ (ls : List Line). turns_out ls (replies_in run.turns)) is.order ∙ ap (λ (rs : List Reply). turns_out lines rs) run.replied
 
-  pub replies_are : replies ≡ (in_turn (start c opening) lines (map outage_of replies)).0
+  pub replies_are : replies ≡ (in_turn false (start c opening) lines (map outage_of replies)).0
   replies_are = sym run.replied ∙ all.replies ∙ ap (λ (out : List Reply × State). out.0) out_is
 
-  pub history_is : H ≡ (in_turn (start c opening) lines (map outage_of replies)).1.entries
+  pub history_is : H ≡ (in_turn false (start c opening) lines (map outage_of replies)).1.entries
   history_is =
       no_more (turns_out (lines_in run.turns) (replies_in run.turns)).1.entries all.there.more all.there.prefix all.there.count
       ∙ ap (λ (out : List Reply × State). out.1.entries) out_is
 
 pub replies_follow : RepliesFollow
-replies_follow c opening lines replies H faults comes run is =
-    (replies_are c opening lines replies H faults comes run is, history_is c opening lines replies H faults comes run is)
+replies_follow c opening lines replies H before now comes run is =
+    (replies_are c opening lines replies H before now comes run is, history_is c opening lines replies H before now comes run is)
 
 pub one_reading : OneReading
-one_reading c opening lines replies replies' H H' faults faults' comes run is run' is' same =
-    let out_same : in_turn (start c opening) lines (map outage_of replies) ≡ in_turn (start c opening) lines (map outage_of replies') =
-    ap (λ (outages : List Outage). in_turn (start c opening) lines outages) same in (
-      replies_are c opening lines replies H faults comes run is
+one_reading c opening lines replies replies' H H' before now before' now' comes run is run' is' same =
+    let out_same : in_turn false (start c opening) lines (map outage_of replies) ≡ in_turn false (start c opening) lines (map outage_of replies') =
+    ap (λ (outages : List Outage). in_turn false (start c opening) lines outages) same in (
+      replies_are c opening lines replies H before now comes run is
           ∙ ap (λ (out : List Reply × State). out.0) out_same
-          ∙ sym (replies_are c opening lines replies' H' faults' comes run' is'),
-      history_is c opening lines replies H faults comes run is
+          ∙ sym (replies_are c opening lines replies' H' before' now' comes run' is'),
+      history_is c opening lines replies H before now comes run is
           ∙ ap (λ (out : List Reply × State). out.1.entries) out_same
-          ∙ sym (history_is c opening lines replies' H' faults' comes run' is'),
+          ∙ sym (history_is c opening lines replies' H' before' now' comes run' is'),
     )

@@ -19,7 +19,7 @@ use Rattle.session_core.specs.Times.{fits_kind, is_in_time, is_rate}
 use Rattle.session_core.specs.Configs.{same_text, level_named, has_attribute, are_distinct}
 use Rattle.session_core.specs.Build.{or_else, labels_fault, order_fault, neighbour_fault, item_fault, items_fault, same_kind, found_level_fault, level_fault, ids_of, levels_fault, annot_items, build_fault}
 use Rattle.session_core.specs.Valid.{are_in_order, is_short, are_different}
-use Rattle.session_core.specs.Rules.{label_names, is_label_of, are_labels_of, is_item_of, times_of, are_times_rising, is_level_of, is_level_in, level_names, all_ids_of, keeps_rules}
+use Rattle.session_core.specs.Rules.{label_names, is_label_of, are_labels_of, is_item_of, times_in, are_times_rising, is_level_of, is_level_in, level_names, all_ids_of, keeps_rules}
 use Rattle.session_core.specs.Worlds.{Each}
 use Rattle.session_core.proofs.Turns.{each_map}
 use Rattle.session_core.proofs.Builds.{text_true, text_same, some_none, or_none, cond_none, any_append, append_any, eqb_flip, each_two, different_cons, different_append, IsFineItem, items_parts, times_in_order, IsFineAnnot, fine_annot}
@@ -189,8 +189,8 @@ order_none id (Point at) (Span start dur) rises = refl
 
 -- the times of these items rise, behind the item before them
 abbrev rise_behind : Option AnnotItem → List AnnotItem → Bool
-rise_behind None items = are_times_rising (times_of items)
-rise_behind (Some a) items = are_times_rising (a.time ∷ times_of items)
+rise_behind None items = are_times_rising (times_in items)
+rise_behind (Some a) items = are_times_rising (a.time ∷ times_in items)
 
 rise_nothing : (before : Option AnnotItem) → rise_behind before [] ≡ true
 rise_nothing None = refl
@@ -198,12 +198,12 @@ rise_nothing (Some a) = refl
 
 rise_more : (before : Option AnnotItem) (item : AnnotItem) (items : List AnnotItem) → neighbour_fault before item ≡ None → rise_behind (Some item) items ≡ true → rise_behind before (item ∷ items) ≡ true
 rise_more None item items fine rising = rising
-rise_more (Some a) item items fine rising = and_from (are_in_order a.time item.time) (are_times_rising (item.time ∷ times_of items)) (times_in_order a.id a.time item.time fine) rising
+rise_more (Some a) item items fine rising = and_from (are_in_order a.time item.time) (are_times_rising (item.time ∷ times_in items)) (times_in_order a.id a.time item.time fine) rising
 
 rise_parts : (before : Option AnnotItem) (item : AnnotItem) (items : List AnnotItem) → rise_behind before (item ∷ items) ≡ true → (neighbour_fault before item ≡ None) × (rise_behind (Some item) items ≡ true)
 rise_parts None item items rising = (refl, rising)
 rise_parts (Some a) item items rising =
-    let parts : (are_in_order a.time item.time ≡ true) × (are_times_rising (item.time ∷ times_of items) ≡ true) = and_parts (are_in_order a.time item.time) (are_times_rising (item.time ∷ times_of items)) rising in
+    let parts : (are_in_order a.time item.time ≡ true) × (are_times_rising (item.time ∷ times_in items) ≡ true) = and_parts (are_in_order a.time item.time) (are_times_rising (item.time ∷ times_in items)) rising in
     (order_none a.id a.time item.time parts.0, parts.1)
 
 item_keeps : (def : LevelDef) (taken : List ℕ) (before : Option AnnotItem) (item : AnnotItem) → IsFineItem def taken before item → is_item_of def item ≡ true
@@ -275,7 +275,7 @@ level_keeps (Some def) named taken level fine =
     let second : (not (same_kind def.kind level.kind) ≡ false) × (last ≡ None) = cond_none (not (same_kind def.kind level.kind)) (rules.LevelKind level.name) last first.1 in
     let items : AreFineItems def taken None level.items = items_keep def taken None level.items second.1 in
     record {
-      kept = and_from (same_kind def.kind level.kind && list_all (is_item_of def) level.items) (are_times_rising (times_of level.items))
+      kept = and_from (same_kind def.kind level.kind && list_all (is_item_of def) level.items) (are_times_rising (times_in level.items))
           (and_from (same_kind def.kind level.kind) (list_all (is_item_of def) level.items) (not-false (same_kind def.kind level.kind) second.0) items.each) items.rising;
       name = first.0;
       different = items.different;
@@ -286,8 +286,8 @@ level_none : (o : Option LevelDef) (named : List (List ℕ)) (taken : List ℕ) 
 level_none None named taken level fine = absurd (false≢true fine.kept)
 level_none (Some def) named taken level fine =
     let last : Option Broken = items_fault def taken None level.items in
-    let parts : (same_kind def.kind level.kind && list_all (is_item_of def) level.items ≡ true) × (are_times_rising (times_of level.items) ≡ true)
-    = and_parts (same_kind def.kind level.kind && list_all (is_item_of def) level.items) (are_times_rising (times_of level.items)) fine.kept in
+    let parts : (same_kind def.kind level.kind && list_all (is_item_of def) level.items ≡ true) × (are_times_rising (times_in level.items) ≡ true)
+    = and_parts (same_kind def.kind level.kind && list_all (is_item_of def) level.items) (are_times_rising (times_in level.items)) fine.kept in
     let kind : (same_kind def.kind level.kind ≡ true) × (list_all (is_item_of def) level.items ≡ true) = and_parts (same_kind def.kind level.kind) (list_all (is_item_of def) level.items) parts.0 in
     cond_else (list_any (same_text level.name) named) (rules.TwoLevels level.name) (cond (not (same_kind def.kind level.kind)) (Some (rules.LevelKind level.name)) last) fine.name
     (cond_else (not (same_kind def.kind level.kind)) (rules.LevelKind level.name) last (not_from_true (same_kind def.kind level.kind) kind.0)

@@ -4,10 +4,11 @@ use Rattle.std.proofs.lemmas.Option.{slice_get_past}
 use Rattle.session_core.specs.declared.bundle.Item.{Item}
 use Rattle.session_core.specs.declared.bundle.BundleParts.{BundleParts}
 use Rattle.session_core.specs.declared.config.Config.{Config}
-use Rattle.session_core.specs.Queries.{Place, rows_in}
+use Rattle.session_core.specs.Queries.{Place, Asked, rows_in}
 
-pub no_rows : (c : Config) (place : Place) (label : List ℕ) (b : BundleParts) (levels : List (List Item)) →
-    levels ≡ b.levels → length levels ≤ place.level → rows_in c place label b ≡ []
-no_rows c place label b levels same past =
-    let none : slice_get b.levels place.level ≡ None = ap (λ (xs : List (List Item)). slice_get xs place.level) (sym same) ∙ slice_get_past levels place.level past in
+pub no_rows : (c : Config) (asked : Asked) (b : BundleParts) (levels : List (List Item)) →
+    levels ≡ b.levels → length levels ≤ asked.place.level → rows_in c asked b ≡ []
+no_rows c asked b levels same past =
+    let none : slice_get b.levels asked.place.level ≡ None =
+        ap (λ (xs : List (List Item)). slice_get xs asked.place.level) (sym same) ∙ slice_get_past levels asked.place.level past in
     rw none refl

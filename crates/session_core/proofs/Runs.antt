@@ -1,8 +1,9 @@
 -- Every run of events that fit is a legal run.
-use Rattle.std.proofs.Common.{◌≡◌, ◌≢◌, ℕ, ◌<◌, ◌≤◌, Bool, true, false, cond, not, List, [], ◌∷◌, ◌++◌, length, map, filter, replicate, Option, Some, None, Result, Ok, Err, option_map, refl, sym, ◌∙◌, ap, subst, arith, append_assoc, eqb-true, eq-eqb}
+use Rattle.std.proofs.Common.{◌≡◌, ◌≢◌, ℕ, ◌+◌, ◌<◌, ◌≤◌, Bool, true, false, cond, not, List, [], ◌∷◌, ◌++◌, length, map, filter, replicate, Option, Some, None, Result, Ok, Err, option_map, refl, sym, ◌∙◌, ap, subst, arith, rules, append_assoc, eqb-true, eq-eqb}
 use Rattle.std.proofs.lemmas.Bool.{ne_eqb}
 use Rattle.std.proofs.lemmas.List.{append-nil}
 use Rattle.std.proofs.lemmas.List.Elements.{filter-append}
+use Rattle.std.proofs.lemmas.List.Sums.{sum_by-cons}
 use Rattle.emu_names.specs.declared.kinds.SessionNo.{SessionNo}
 use Rattle.emu_names.specs.declared.rules.Broken.{Broken}
 use Rattle.session_core.specs.declared.config.Config.{Config}
@@ -14,19 +15,23 @@ use Rattle.session_core.specs.declared.event.Event.TheVariants as events
 use Rattle.session_core.specs.declared.line.Ask.{Ask}
 use Rattle.session_core.specs.declared.line.Command.{Command}
 use Rattle.session_core.specs.declared.line.Command.TheVariants as commands
+use Rattle.session_core.specs.declared.line.Refusal.{Refusal}
+use Rattle.session_core.specs.declared.line.Refusal.TheVariants as refusals
 use Rattle.session_core.specs.declared.line.Request.{Request}
 use Rattle.session_core.specs.declared.line.Request.TheVariants as requests
 use Rattle.session_core.specs.declared.line.Line.{Line}
 use Rattle.session_core.specs.declared.line.Reply.{Reply}
 use Rattle.session_core.specs.Effects.{IsLegal, edited}
-use Rattle.session_core.specs.Steps.{Opened, State, start, slot, session_places, is_full, edit_step, edit_event, look_step, look_event, finish_step, query_step, finish_event, core_step, query_fails, finish_fails, core_fails, option_list, steps}
-use Rattle.session_core.specs.Worlds.{Turn, Moment, World, outcome, query_line, finish_line, query_answered, answered, turns_of, happens, run, opening_world, Each, AllFit, is_waiting, is_done, script_of}
-use Rattle.session_core.specs.Legal.{of_session, lines_of_session, is_of, is_line_of, lines_in, replies_in, with_number, history_limit, HasSeenTurn, Legal}
-use Rattle.session_core.specs.Laws.{IsLegalRun, with_memory}
-use Rattle.session_core.proofs.Turns.{each_map, each_kept, each_to_map, replies_more, low_of, HasSeenStill, still_seen, no_disks}
+use Rattle.session_core.specs.Steps.{Opened, State, start, slot, session_places, present, is_full, edit_step, edit_event, look_step, look_event, finish_step, query_step, Asker, by_look, by_query, by_none, asker_of, finish_by, core_step, query_fails, finish_fails_by, core_fails, option_list, steps}
+use Rattle.session_core.specs.Worlds.{Turn, Trouble, untroubled, no_memory, store_full, disk_failed, is_disk_failed, Occurrence, World, edit_kept_out, outcome_of, query_line, finish_line, query_answered, answered_by, answered, turns_of, happens, run, opening_world, Each, AllFit, disk_failures, is_waiting, is_done, lines_done}
+use Rattle.session_core.specs.Legal.{of_session, lines_of_session, is_of, is_line_of, lines_in, replies_in, with_number, HasSeenTurn, disk_replies, Legal}
+use Rattle.emu_names.specs.declared.limits.TheConstants.{HISTORY_EDITS}
+use Rattle.fault_counts.specs.Count.{RoseBy}
+use Rattle.session_core.specs.Laws.{IsLegalWorld, taken}
+use Rattle.session_core.proofs.Turns.{each_map, each_kept, each_to_map, replies_more, low_of, HasSeenStill, still_seen}
 use Rattle.session_core.proofs.Places.{slot_none}
 use Rattle.session_core.proofs.Seats.{session_no, look_of, IsIn, IsWaiting, Seat, Good}
-use Rattle.session_core.proofs.Events.{moment_good}
+use Rattle.session_core.proofs.Events.{occurrence_good}
 
 -- The beginning, and each run.
 
@@ -44,8 +49,8 @@ start_seat c opening s =
       waits = subst (λ (o : Option Opened). IsWaiting (length opening) opening [] o) (sym none) tt;
     }
 
-start_good : (c : Config) (opening : List Entry) → IsLegal c opening → length opening ≤ history_limit → Good opening (opening_world c opening)
-start_good c opening legal most = record {
+start_good : (c : Config) (opening : List Entry) (store : Bool) → IsLegal c opening → length opening ≤ HISTORY_EDITS → Good opening store 0 (opening_world c opening)
+start_good c opening store legal most = record {
   more = [];
   prefix = sym (append-nil opening);
   most = most;
@@ -54,15 +59,21 @@ start_good c opening legal most = record {
   named = tt;
   right = tt;
   still = tt;
-  no_disk = tt;
+  disks = omega arith;
   looks_count = refl;
   queries_count = refl;
   seats = λ s. start_seat c opening s;
 }
 
-run_good : (opening : List Entry) (w : World) (ms : List Moment) → Good opening w → AllFit w ms → Good opening (run w ms)
-run_good opening w [] g fits = g
-run_good opening w (m ∷ ms) g fits = run_good opening (happens w m) ms (moment_good opening w g m fits.0) fits.1
+run_good : (opening : List Entry) (store : Bool) (faults : ℕ) (w : World) (ms : List Occurrence) → Good opening store faults w → AllFit store w ms
+    → Good opening store (faults + disk_failures ms) (run w ms)
+run_good opening store faults w [] g fits = subst (λ (k : ℕ). Good opening store k w) (let none : faults ≡ faults + 0 = omega arith in none) g
+run_good opening store faults w (m ∷ ms) g fits =
+    let one : ℕ = cond (is_disk_failed m.trouble) 1 0 in
+    let sum : disk_failures (m ∷ ms) ≡ one + disk_failures ms = sum_by-cons (λ (n : Occurrence). cond (is_disk_failed n.trouble) 1 0) m ms in
+    let same : (faults + one) + disk_failures ms ≡ faults + disk_failures (m ∷ ms) = omega arith in
+    subst (λ (k : ℕ). Good opening store k (run w (m ∷ ms))) same
+    (run_good opening store (faults + one) (happens w m) ms (occurrence_good opening store faults w g m fits.0) fits.1)
 
 -- The configuration stays.
 
@@ -101,41 +112,43 @@ fails_config : (st : State) (line : ℕ) (s : SessionNo) (held : Option Opened) 
 fails_config st line s None = refl
 fails_config st line s (Some held) = refl
 
-finish_event_config : (st : State) (line : ℕ) (s : SessionNo) (command : Command) → (finish_event st line s command).1.config ≡ st.config
-finish_event_config st line s commands.Finish = finish_config st line s (slot st.looks s.0)
-finish_event_config st line s commands.Query = query_config st line s (slot st.queries s.0)
-finish_event_config st line s commands.Config = refl
-finish_event_config st line s commands.AddBundle = refl
-finish_event_config st line s commands.Look = refl
-finish_event_config st line s commands.After = refl
+finish_by_config : (st : State) (line : ℕ) (s : SessionNo) (asker : Asker) → (finish_by st line s asker).1.config ≡ st.config
+finish_by_config st line s by_look = finish_config st line s (slot st.looks s.0)
+finish_by_config st line s by_query = query_config st line s (slot st.queries s.0)
+finish_by_config st line s by_none = refl
 
-finish_fails_config : (st : State) (line : ℕ) (s : SessionNo) (command : Command) → (finish_fails st line s command).1.config ≡ st.config
-finish_fails_config st line s commands.Finish = refl
-finish_fails_config st line s commands.Query = fails_config st line s (slot st.queries s.0)
-finish_fails_config st line s commands.Config = refl
-finish_fails_config st line s commands.AddBundle = refl
-finish_fails_config st line s commands.Look = refl
-finish_fails_config st line s commands.After = refl
+finish_fails_config : (st : State) (line : ℕ) (s : SessionNo) (asker : Asker) → (finish_fails_by st line s asker).1.config ≡ st.config
+finish_fails_config st line s by_look = refl
+finish_fails_config st line s by_query = fails_config st line s (slot st.queries s.0)
+finish_fails_config st line s by_none = refl
 
 step_config : (st : State) (e : Event) → (core_step st e).1.config ≡ st.config
 step_config st (events.Edit l) = edit_event_config st l l.request
 step_config st (events.Look l) = look_event_config st l l.request
 step_config st (events.Piece s) = refl
-step_config st (events.Finish line s command) = finish_event_config st line s command
+step_config st (events.Finish line s command) = finish_by_config st line s (asker_of command)
 
 step_fails_config : (st : State) (e : Event) → (core_fails st e).1.config ≡ st.config
 step_fails_config st (events.Edit l) = refl
 step_fails_config st (events.Look l) = refl
 step_fails_config st (events.Piece s) = refl
-step_fails_config st (events.Finish line s command) = finish_fails_config st line s command
+step_fails_config st (events.Finish line s command) = finish_fails_config st line s (asker_of command)
 
-moment_config : (st : State) (e : Event) (fails : Bool) → (outcome st (record { event = e; fails = fails })).1.config ≡ st.config
-moment_config st e true = step_fails_config st e
-moment_config st e false = step_config st e
+kept_out_config : (st : State) (e : Event) (n : Option ℕ) (refusal : Refusal) → (edit_kept_out st e n refusal).1.config ≡ st.config
+kept_out_config st (events.Edit l) n refusal = refl
+kept_out_config st (events.Look l) n refusal = refl
+kept_out_config st (events.Piece s) n refusal = refl
+kept_out_config st (events.Finish line s command) n refusal = refl
 
-run_config : (w : World) (ms : List Moment) → (run w ms).state.config ≡ w.state.config
+outcome_config : (st : State) (e : Event) (trouble : Trouble) → (outcome_of st e trouble).1.config ≡ st.config
+outcome_config st e untroubled = step_config st e
+outcome_config st e no_memory = step_fails_config st e
+outcome_config st e store_full = kept_out_config st e (Some (present st)) refusals.StoreFull
+outcome_config st e disk_failed = kept_out_config st e None refusals.Disk
+
+run_config : (w : World) (ms : List Occurrence) → (run w ms).state.config ≡ w.state.config
 run_config w [] = refl
-run_config w (m ∷ ms) = run_config (happens w m) ms ∙ moment_config w.state m.event m.fails
+run_config w (m ∷ ms) = run_config (happens w m) ms ∙ outcome_config w.state m.event m.trouble
 
 -- The script: the lines that came and are answered.
 
@@ -169,7 +182,7 @@ each_any : {A : Type 0} (P : A → Type 0) → ((x : A) → P x) → (xs : List 
 each_any P f [] = tt
 each_any P f (x ∷ xs) = (f x, each_any P f xs)
 
-module _ (opening : List Entry) (w : World) (g : Good opening w) (s : ℕ) where
+module _ (opening : List Entry) (store : Bool) (faults : ℕ) (w : World) (g : Good opening store faults w) (s : ℕ) where
   is_own : Each (λ t. is_of s t ≡ true) (of_session s w.turns)
   is_own = each_kept (λ t. is_of s t ≡ true) (is_of s) w.turns (each_any (λ t. is_of s t ≡ true → is_of s t ≡ true) (λ t own. own) w.turns)
 
@@ -204,7 +217,7 @@ module _ (opening : List Entry) (w : World) (g : Good opening w) (s : ℕ) where
       (each_map (λ t. t.line.line < held.line) (λ t. is_waiting t.line (Some held) ≡ false)
       (λ t below. let apart : held.line ≢ t.line.line = omega arith in ne_eqb held.line t.line.line apart) (of_session s w.turns) waits.2)
 
-  script_in_order : lines_in (of_session s w.turns) ≡ lines_of_session s (script_of w)
+  script_in_order : lines_in (of_session s w.turns) ≡ lines_of_session s (lines_done w)
   script_in_order = sym (
       filter_swap (is_line_of s) (is_done w.state) w.lines
       ∙ ap (λ (ls : List Line). filter (is_done w.state) ls) (g.seats s).lines
@@ -213,40 +226,50 @@ module _ (opening : List Entry) (w : World) (g : Good opening w) (s : ℕ) where
 -- What is kept makes a run legal.
 
 -- a legal run whose turns are those of the world
-abbrev pub HasTurns : Config → List Entry → World → Type 0
-HasTurns c opening w = (legal_run : IsLegalRun c opening w) × (legal_run.turns ≡ w.turns)
+abbrev pub HasTurns : Config → List Entry → World → Bool → ℕ → ℕ → Type 0
+HasTurns c opening w store before now = (legal_run : IsLegalWorld c opening w store before now) × (legal_run.turns ≡ w.turns)
 
-good_legal : (opening : List Entry) (w : World) → Good opening w → HasTurns w.state.config opening w
-good_legal opening w g =
-    let disks : _ = no_disks w.turns g.no_disk in (
-      record {
-        more = g.more;
-        prefix = g.prefix;
-        legal = g.legal;
-        turns = w.turns;
-        replied = refl;
-        named = g.named;
-        in_order = λ s. script_in_order opening w g s;
-        one_entry = λ n. ap (λ ms. with_number n ms) g.marks;
-        right = g.right;
-        never_falls = λ s. (g.seats s).falls;
-        looks = λ s. (g.seats s).looks;
-        seen_there = each_map (λ t. HasSeenStill (length opening) w.turns t.line.request t.reply.n) (HasSeenTurn (length opening) w.turns)
-            (λ t still. still_seen (length opening) w.turns t.line.request t.reply.n still) w.turns g.still;
-        disk = omega (arith, disks);
-      },
-      refl,
-    )
+fewer_rise : (j k before now : ℕ) → j ≤ k → RoseBy k before now → RoseBy j before now
+fewer_rise j k before now fewer rose = search rules
 
-pub run_legal_turns : (c : Config) (opening : List Entry) (ms : List Moment) → IsLegal c opening → length opening ≤ history_limit → AllFit (opening_world c opening) ms
-    → HasTurns c opening (run (opening_world c opening) ms)
-run_legal_turns c opening ms legal most fits =
-    subst (λ (k : Config). HasTurns k opening (run (opening_world c opening) ms)) (run_config (opening_world c opening) ms)
-    (good_legal opening (run (opening_world c opening) ms) (run_good opening (opening_world c opening) ms (start_good c opening legal most) fits))
+good_legal : (opening : List Entry) (store : Bool) (faults before now : ℕ) (w : World) → Good opening store faults w → RoseBy faults before now
+    → HasTurns w.state.config opening w store before now
+good_legal opening store faults before now w g rose = (
+  record {
+    more = g.more;
+    prefix = g.prefix;
+    legal = g.legal;
+    turns = w.turns;
+    replied = refl;
+    sessions = λ s. record {
+      in_order = script_in_order opening store faults w g s;
+      never_falls = (g.seats s).falls;
+      looks = (g.seats s).looks;
+    };
+    whole = record {
+      named = g.named;
+      one_entry = λ n. ap (λ ms. with_number n ms) g.marks;
+      right = g.right;
+      seen_there = each_map (λ t. HasSeenStill (length opening) w.turns t.line.request t.reply.n) (HasSeenTurn (length opening) w.turns)
+          (λ t still. still_seen (length opening) w.turns t.line.request t.reply.n still) w.turns g.still;
+      disk = fewer_rise (disk_replies (replies_in w.turns)) faults before now g.disks rose;
+    };
+  },
+  refl,
+)
 
-pub run_legal : (c : Config) (opening : List Entry) (ms : List Moment) → IsLegal c opening → length opening ≤ history_limit → AllFit (opening_world c opening) ms
-    → IsLegalRun c opening (run (opening_world c opening) ms)
-run_legal c opening ms legal most fits = (run_legal_turns c opening ms legal most fits).0
+module _ (c : Config) (opening : List Entry) (ms : List Occurrence) (store : Bool) (before now : ℕ) where
+  pub run_legal_turns : IsLegal c opening → length opening ≤ HISTORY_EDITS → AllFit store (opening_world c opening) ms → RoseBy (disk_failures ms) before now
+      → HasTurns c opening (run (opening_world c opening) ms) store before now
+  run_legal_turns legal most fits rose =
+      subst (λ (k : Config). HasTurns k opening (run (opening_world c opening) ms) store before now) (run_config (opening_world c opening) ms)
+      (good_legal opening store (0 + disk_failures ms) before now (run (opening_world c opening) ms)
+      (run_good opening store 0 (opening_world c opening) ms (start_good c opening store legal most) fits)
+      (fewer_rise (0 + disk_failures ms) (disk_failures ms) before now (omega arith) rose))
+
+  pub run_legal : IsLegal c opening → length opening ≤ HISTORY_EDITS → AllFit store (opening_world c opening) ms → RoseBy (disk_failures ms) before now
+      → IsLegalWorld c opening (run (opening_world c opening) ms) store before now
+  run_legal legal most fits rose = (run_legal_turns legal most fits rose).0
 
 -- Runs in which memory does not run out are those of the core.
 
@@ -258,38 +281,42 @@ query_reply : (st : State) (line : ℕ) (s : SessionNo) (held : Option Opened) �
 query_reply st line s None = refl
 query_reply st line s (Some held) = refl
 
-finish_reply : (st : State) (line : ℕ) (s : SessionNo) (command : Command)
-    → replies_in (turns_of (answered st (events.Finish line s command)) (finish_event st line s command).0) ≡ option_list (finish_event st line s command).0
-finish_reply st line s commands.Finish = one_reply (finish_line line s) (finish_step st line s (slot st.looks s.0)).0
-finish_reply st line s commands.Query = query_reply st line s (slot st.queries s.0)
-finish_reply st line s commands.Config = refl
-finish_reply st line s commands.AddBundle = refl
-finish_reply st line s commands.Look = refl
-finish_reply st line s commands.After = refl
+finish_reply : (st : State) (line : ℕ) (s : SessionNo) (asker : Asker)
+    → replies_in (turns_of (answered_by st line s asker) (finish_by st line s asker).0) ≡ option_list (finish_by st line s asker).0
+finish_reply st line s by_look = one_reply (finish_line line s) (finish_step st line s (slot st.looks s.0)).0
+finish_reply st line s by_query = query_reply st line s (slot st.queries s.0)
+finish_reply st line s by_none = refl
 
 step_reply : (st : State) (e : Event) → replies_in (turns_of (answered st e) (core_step st e).0) ≡ option_list (core_step st e).0
 step_reply st (events.Edit l) = one_reply l (edit_event st l l.request).0
 step_reply st (events.Look l) = one_reply l (look_event st l l.request).0
 step_reply st (events.Piece s) = refl
-step_reply st (events.Finish line s command) = finish_reply st line s command
+step_reply st (events.Finish line s command) = finish_reply st line s (asker_of command)
 
-run_replies : (w : World) (es : List Event) → replies_in (run w (map with_memory es)).turns ≡ replies_in w.turns ++ (steps w.state es).0
+run_replies : (w : World) (es : List Event) → replies_in (run w (map taken es)).turns ≡ replies_in w.turns ++ (steps w.state es).0
 run_replies w [] = sym (append-nil (replies_in w.turns))
 run_replies w (e ∷ es) =
-    run_replies (happens w (with_memory e)) es
+    run_replies (happens w (taken e)) es
     ∙ ap (λ (rs : List Reply). rs ++ (steps (core_step w.state e).1 es).0)
     (replies_more w.turns (turns_of (answered w.state e) (core_step w.state e).0) ∙ ap (λ (rs : List Reply). replies_in w.turns ++ rs) (step_reply w.state e))
     ∙ append_assoc (replies_in w.turns) (option_list (core_step w.state e).0) (steps (core_step w.state e).1 es).0
 
-run_state : (w : World) (es : List Event) → (run w (map with_memory es)).state ≡ (steps w.state es).1
+run_state : (w : World) (es : List Event) → (run w (map taken es)).state ≡ (steps w.state es).1
 run_state w [] = refl
-run_state w (e ∷ es) = run_state (happens w (with_memory e)) es
+run_state w (e ∷ es) = run_state (happens w (taken e)) es
 
-pub core_run_legal : (c : Config) (opening : List Entry) (es : List Event) → IsLegal c opening → length opening ≤ history_limit → AllFit (opening_world c opening) (map with_memory es)
-    → Legal c opening (script_of (run (opening_world c opening) (map with_memory es))) (steps (start c opening) es).0 (steps (start c opening) es).1.entries false 0
+-- where every event takes its step, no disk fails
+none_failed : (es : List Event) → disk_failures (map taken es) ≡ 0
+none_failed [] = refl
+none_failed (e ∷ es) = sum_by-cons (λ (n : Occurrence). cond (is_disk_failed n.trouble) 1 0) (taken e) (map taken es) ∙ ap (λ (k : ℕ). 0 + k) (none_failed es)
+
+none_rise : (k : ℕ) → k ≡ 0 → RoseBy k 0 0
+none_rise k none = omega arith
+
+pub core_run_legal : (c : Config) (opening : List Entry) (es : List Event) → IsLegal c opening → length opening ≤ HISTORY_EDITS → AllFit false (opening_world c opening) (map taken es)
+    → Legal c opening (lines_done (run (opening_world c opening) (map taken es))) (steps (start c opening) es).0 (steps (start c opening) es).1.entries false 0 0
 core_run_legal c opening es legal most fits =
-    let w : World = opening_world c opening in
-    let last : World = run (opening_world c opening) (map with_memory es) in
-    subst (λ (rs : List Reply). Legal c opening (script_of (run (opening_world c opening) (map with_memory es))) rs (steps (start c opening) es).1.entries false 0) (run_replies (opening_world c opening) es)
-    (subst (λ (st : State). Legal c opening (script_of (run (opening_world c opening) (map with_memory es))) (replies_in (run (opening_world c opening) (map with_memory es)).turns) st.entries false 0) (run_state (opening_world c opening) es)
-    (run_legal c opening (map with_memory es) legal most fits))
+    let last : World = run (opening_world c opening) (map taken es) in
+    subst (λ (rs : List Reply). Legal c opening (lines_done (run (opening_world c opening) (map taken es))) rs (steps (start c opening) es).1.entries false 0 0) (run_replies (opening_world c opening) es)
+    (subst (λ (st : State). Legal c opening (lines_done (run (opening_world c opening) (map taken es))) (replies_in (run (opening_world c opening) (map taken es)).turns) st.entries false 0 0) (run_state (opening_world c opening) es)
+    (run_legal c opening (map taken es) false 0 0 legal most fits (none_rise (disk_failures (map taken es)) (none_failed es))))

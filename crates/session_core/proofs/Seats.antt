@@ -1,8 +1,9 @@
 -- What a run of the core keeps true: of the whole, and of each session.
-use Rattle.std.proofs.Common.{◌≡◌, ◌≢◌, ⊎_elim, ℕ, zero, suc, ◌+◌, ◌<◌, ◌≤◌, true, false, List, [], ◌∷◌, ◌++◌, length, Option, Some, None, slice_get, take, option_map, refl, sym, ◌∙◌, ap, subst, arith, append_assoc, length-append}
+use Rattle.std.proofs.Common.{◌≡◌, ◌≢◌, ⊎_elim, ℕ, zero, suc, ◌+◌, ◌<◌, ◌≤◌, Bool, true, false, List, [], ◌∷◌, ◌++◌, length, Option, Some, None, slice_get, take, option_map, refl, sym, ◌∙◌, ap, subst, arith, append_assoc, length-append}
 use Rattle.std.proofs.lemmas.Bool.{cases_eq}
 use Rattle.std.proofs.lemmas.List.{append-nil, take-append-le}
 use Rattle.emu_names.specs.declared.kinds.SessionNo.{SessionNo}
+use Rattle.emu_names.specs.declared.limits.TheConstants.{HISTORY_EDITS}
 use Rattle.session_core.specs.declared.config.Config.{Config}
 use Rattle.session_core.specs.declared.edit.Edit.{Edit}
 use Rattle.session_core.specs.declared.edit.Entry.{Entry}
@@ -15,17 +16,16 @@ use Rattle.session_core.specs.declared.line.Request.{Request}
 use Rattle.session_core.specs.declared.line.Request.TheVariants as requests
 use Rattle.session_core.specs.declared.line.Line.{Line}
 use Rattle.session_core.specs.Effects.{IsLegal, edited, bundles_after}
-use Rattle.session_core.specs.Queries.{asked}
-use Rattle.session_core.specs.Answers.{query_answer, answer_at}
+use Rattle.session_core.specs.Answers.{answer_over, answer_at, entry_of}
 use Rattle.session_core.specs.Steps.{Opened, slot, session_places}
-use Rattle.session_core.specs.Worlds.{Turn, World, Each, query_answered}
-use Rattle.session_core.specs.Legal.{IsNamed, of_session, lines_of_session, is_of, lines_in, Mark, accepting, accepted, numbered, history_limit, IsRightRefusal, IsRightEdit, IsRightAt, IsRight, IsRightTurn, low_after, KeepsUp, NeverFalls, Look, open_after, FinishReplyFits, ReplyFits, LooksFit, is_disk}
-use Rattle.session_core.proofs.Turns.{each_push, each_map, each_filter, turns_own, turns_other, lines_push, accepted_push, numbered_more, low_of, falls_push, low_push, held_of, looks_push, held_push, IsPast, IsTo, HasSeenStill, all_still}
+use Rattle.session_core.specs.Worlds.{Turn, World, Each, query_answered, passes_store}
+use Rattle.session_core.specs.Legal.{IsNamed, of_session, lines_of_session, is_of, lines_in, NumberedEntry, accepting, accepted, numbered, IsRightRefusal, IsRightEdit, IsRightAt, IsRight, IsRightTurn, low_behind, KeepsUp, NeverFalls, Look, open_behind, FinishReplyFits, ReplyFits, LooksFit, replies_in, disk_replies}
+use Rattle.session_core.proofs.Turns.{each_push, each_map, each_filter, turns_own, turns_other, lines_push, accepted_push, numbered_more, low_of, falls_push, low_push, held_of, looks_push, held_push, IsPast, IsTo, HasSeenStill, all_still, disk_of, disks_push}
 
 -- A longer history changes nothing of what was said of a shorter one.
 
 pub answer_same : (c : Config) (H new : List Entry) (n : ℕ) (ask : Ask) → n ≤ length H → answer_at c (H ++ new) n ask ≡ answer_at c H n ask
-answer_same c H new n ask high = ap (λ (xs : List Entry). query_answer (asked c (bundles_after c xs) ask)) (take-append-le n H new high)
+answer_same c H new n ask high = ap (λ (xs : List Entry). answer_over c (bundles_after c xs) ask) (take-append-le n H new high)
 
 edited_same : (c : Config) (H new : List Entry) (n : ℕ) (edit : Edit) → n ≤ length H → edited c (take n (H ++ new)) edit ≡ edited c (take n H) edit
 edited_same c H new n edit high = ap (λ (xs : List Entry). edited c xs edit) (take-append-le n H new high)
@@ -39,21 +39,24 @@ pub slice_get_last : {A : Type 0} (xs : List A) (x : A) → slice_get (xs ++ x �
 slice_get_last [] x = refl
 slice_get_last (y ∷ xs) x = slice_get_last xs x
 
-module _ (c : Config) (m : ℕ) (H new : List Entry) where
-  refusal_more : (l : Line) (edit : Edit) (n : ℕ) (r : Refusal) → n ≤ length H → IsRightRefusal c H false l edit n r → IsRightRefusal c (H ++ new) false l edit n r
+module _ (store : Bool) (c : Config) (m : ℕ) (H new : List Entry) where
+  refusal_more : (l : Line) (edit : Edit) (n : ℕ) (r : Refusal) → n ≤ length H → IsRightRefusal c H store l edit n r → IsRightRefusal c (H ++ new) store l edit n r
   refusal_more l edit n (refusals.Rule rule) high right = (right.0, edited_same c H new n edit high ∙ right.1)
   refusal_more l edit n refusals.HistoryFull high right = right
-  refusal_more l edit n refusals.StoreFull high right = absurd (stored right.stored)
-    where
-      stored : false ≡ true → ⊥
-      stored e = cc
+  refusal_more l edit n refusals.StoreFull high right = record {
+    room = right.room;
+    stored = right.stored;
+    bundles = right.bundles;
+    right = edited_same c H new n edit high ∙ right.right;
+    passes = ap (λ (xs : List Entry). passes_store c xs (entry_of l edit)) (take-append-le n H new high) ∙ right.passes;
+  }
   refusal_more l edit n (refusals.Resolve fault) high right = right
   refusal_more l edit n refusals.NoLook high right = right
   refusal_more l edit n refusals.LookOpen high right = right
   refusal_more l edit n refusals.Disk high right = right
   refusal_more l edit n refusals.Memory high right = right
 
-  edit_more : (l : Line) (edit : Edit) (n : ℕ) (answer : Answer) → n ≤ length H → IsRightEdit c H false l edit n answer → IsRightEdit c (H ++ new) false l edit n answer
+  edit_more : (l : Line) (edit : Edit) (n : ℕ) (answer : Answer) → n ≤ length H → IsRightEdit c H store l edit n answer → IsRightEdit c (H ++ new) store l edit n answer
   edit_more l edit n (Done command) high right =
       let n_is : n ≡ right.before + 1 = right.number in
       let low : right.before < length H = omega arith in
@@ -70,26 +73,26 @@ module _ (c : Config) (m : ℕ) (H new : List Entry) where
   edit_more l edit n (Refused refusal) high right = refusal_more l edit n refusal high right
   edit_more l edit n (Segments rows) high right = right
 
-  right_at_more : (l : Line) (r : Request) (n : ℕ) (answer : Answer) → n ≤ length H → IsRightAt c H false l r n answer → IsRightAt c (H ++ new) false l r n answer
+  right_at_more : (l : Line) (r : Request) (n : ℕ) (answer : Answer) → n ≤ length H → IsRightAt c H store l r n answer → IsRightAt c (H ++ new) store l r n answer
   right_at_more l (requests.Edit edit) n answer high right = edit_more l edit n answer high right
   right_at_more l (requests.Query ask) n answer high right = right ∙ sym (answer_same c H new n ask high)
   right_at_more l (requests.Look ask) n answer high right = right
   right_at_more l (requests.After earlier) n answer high right = right
   right_at_more l requests.Finish n answer high right = tt
 
-  right_more : (l : Line) (n : Option ℕ) (answer : Answer) → IsRight c m H false l n answer → IsRight c m (H ++ new) false l n answer
+  right_more : (l : Line) (n : Option ℕ) (answer : Answer) → IsRight c m H store l n answer → IsRight c m (H ++ new) store l n answer
   right_more l None answer right = right
   right_more l (Some n) answer right = (right.0, omega (arith, right.1, length-append H new), right_at_more l l.request n answer right.1 right.2)
 
-  pub rights_more : (ts : List Turn) → Each (IsRightTurn c m H false) ts → Each (IsRightTurn c m (H ++ new) false) ts
-  rights_more ts each = each_map (IsRightTurn c m H false) (IsRightTurn c m (H ++ new) false) (λ t right. right_more t.line t.reply.n t.reply.answer right) ts each
+  pub rights_more : (ts : List Turn) → Each (IsRightTurn c m H store) ts → Each (IsRightTurn c m (H ++ new) store) ts
+  rights_more ts each = each_map (IsRightTurn c m H store) (IsRightTurn c m (H ++ new) store) (λ t right. right_more t.line t.reply.n t.reply.answer right) ts each
 
-  right_to : (l : Line) (n : Option ℕ) (answer : Answer) → IsRight c m H false l n answer → IsTo (length H) n
+  right_to : (l : Line) (n : Option ℕ) (answer : Answer) → IsRight c m H store l n answer → IsTo (length H) n
   right_to l None answer right = tt
   right_to l (Some n) answer right = right.1
 
-  pub rights_to : (ts : List Turn) → Each (IsRightTurn c m H false) ts → Each (λ t. IsTo (length H) t.reply.n) ts
-  rights_to ts each = each_map (IsRightTurn c m H false) (λ t. IsTo (length H) t.reply.n) (λ t right. right_to t.line t.reply.n t.reply.answer right) ts each
+  pub rights_to : (ts : List Turn) → Each (IsRightTurn c m H store) ts → Each (λ t. IsTo (length H) t.reply.n) ts
+  rights_to ts each = each_map (IsRightTurn c m H store) (λ t. IsTo (length H) t.reply.n) (λ t right. right_to t.line t.reply.n t.reply.answer right) ts each
 
   finish_more : (held : Option Look) (n : Option ℕ) (answer : Answer) → IsTo (length H) n → FinishReplyFits c H held n answer → FinishReplyFits c (H ++ new) held n answer
   finish_more None (Some n) answer to fits = fits
@@ -110,7 +113,7 @@ module _ (c : Config) (m : ℕ) (H new : List Entry) where
   looks_more : (held : Option Look) (ts : List Turn) → Each (λ t. IsTo (length H) t.reply.n) ts → LooksFit c H held ts → LooksFit c (H ++ new) held ts
   looks_more held [] to looks = tt
   looks_more held (t ∷ ts) to looks =
-      (fits_more held t.line.request t.reply.n t.reply.answer to.0 looks.0, looks_more (open_after held t.line.request t.reply.n) ts to.1 looks.1)
+      (fits_more held t.line.request t.reply.n t.reply.answer to.0 looks.0, looks_more (open_behind held t.line.request t.reply.n) ts to.1 looks.1)
 
 -- One session.
 
@@ -157,7 +160,7 @@ seat_more c m H new s ts ls look query to seat = record {
   falls = seat.falls;
   from = seat.from;
   low = omega (arith, seat.low, length-append H new);
-  looks = looks_more c m H new None ts to seat.looks;
+  looks = looks_more false c m H new None ts to seat.looks;
   held = seat.held;
   look_in = in_more m H new look seat.look_in;
   waits = waits_more (low_of m ts) H new ts query seat.waits;
@@ -167,10 +170,10 @@ seat_more c m H new s ts ls look query to seat = record {
 pub seat_told : (c : Config) (m : ℕ) (H : List Entry) (s : ℕ) (ts : List Turn) (ls : List Line) (look query : Option Opened) → Seat c m H s ts ls look query
     → (t : Turn) (ls' : List Line) (look' : Option Opened)
     → KeepsUp (low_of m ts) t.line.request t.reply.n
-    → m ≤ low_after (low_of m ts) t.line.request t.reply.n
-    → low_after (low_of m ts) t.line.request t.reply.n ≤ length H
+    → m ≤ low_behind (low_of m ts) t.line.request t.reply.n
+    → low_behind (low_of m ts) t.line.request t.reply.n ≤ length H
     → ReplyFits c H (option_map look_of look) t.line.request t.reply.n t.reply.answer
-    → open_after (option_map look_of look) t.line.request t.reply.n ≡ option_map look_of look'
+    → open_behind (option_map look_of look) t.line.request t.reply.n ≡ option_map look_of look'
     → IsIn m H look'
     → ls' ≡ lines_in ts ++ t.line ∷ []
     → Seat c m H s (ts ++ t ∷ []) ls' look' None
@@ -180,23 +183,24 @@ seat_told c m H s ts ls look query seat t ls' look' keeps from low fits opens in
   from = subst (λ (k : ℕ). m ≤ k) (sym (low_push m ts t)) from;
   low = subst (λ (k : ℕ). k ≤ length H) (sym (low_push m ts t)) low;
   looks = looks_push c H None ts t seat.looks (subst (λ (o : Option Look). ReplyFits c H o t.line.request t.reply.n t.reply.answer) (sym seat.held) fits);
-  held = held_push None ts t ∙ ap (λ (o : Option Look). open_after o t.line.request t.reply.n) seat.held ∙ opens;
+  held = held_push None ts t ∙ ap (λ (o : Option Look). open_behind o t.line.request t.reply.n) seat.held ∙ opens;
   look_in = in_there;
   waits = tt;
 }
 
 -- The whole.
 
-pub record Good (opening : List Entry) (w : World) : Type 0 where
+-- `store` says whether there is a store; the disk failed at most so often
+pub record Good (opening : List Entry) (store : Bool) (faults : ℕ) (w : World) : Type 0 where
   pub more : List Entry
   pub prefix : w.state.entries ≡ opening ++ more
-  pub most : length w.state.entries ≤ history_limit
+  pub most : length w.state.entries ≤ HISTORY_EDITS
   pub legal : IsLegal w.state.config w.state.entries
   pub marks : accepted w.turns ≡ numbered (length opening + 1) more
   pub named : Each IsNamed w.turns
-  pub right : Each (IsRightTurn w.state.config (length opening) w.state.entries false) w.turns
+  pub right : Each (IsRightTurn w.state.config (length opening) w.state.entries store) w.turns
   pub still : Each (λ t. HasSeenStill (length opening) w.turns t.line.request t.reply.n) w.turns
-  pub no_disk : Each (λ t. is_disk t.reply.answer ≡ false) w.turns
+  pub disks : disk_replies (replies_in w.turns) ≤ faults
   pub looks_count : length w.state.looks ≡ session_places
   pub queries_count : length w.state.queries ≡ session_places
   pub seats : (s : ℕ) → Seat w.state.config (length opening) w.state.entries s (of_session s w.turns) (lines_of_session s w.lines) (slot w.state.looks s) (slot w.state.queries s)
@@ -209,16 +213,16 @@ world_of c H looks queries lines turns = record {
 }
 
 -- a reply that fits into what is kept
-pub record Adds (opening : List Entry) (w : World) (H : List Entry) (looks queries : List (Option Opened)) (come : List Line) (t : Turn) (new : List Entry) : Type 0 where
+pub record Adds (opening : List Entry) (store : Bool) (faults faults' : ℕ) (w : World) (H : List Entry) (looks queries : List (Option Opened)) (come : List Line) (t : Turn) (new : List Entry) : Type 0 where
   pub grown : H ≡ w.state.entries ++ new
-  pub most : length H ≤ history_limit
+  pub most : length H ≤ HISTORY_EDITS
   pub legal : IsLegal w.state.config H
   pub mark : accepting t.line t.line.request t.reply.n t.reply.answer ≡ numbered (length w.state.entries + 1) new
   pub named : IsNamed t
-  pub right : IsRightTurn w.state.config (length opening) H false t
+  pub right : IsRightTurn w.state.config (length opening) H store t
   pub still : HasSeenStill (length opening) w.turns t.line.request t.reply.n
   pub past : IsPast t w.turns
-  pub no_disk : is_disk t.reply.answer ≡ false
+  pub disks : faults + disk_of t.reply.answer ≤ faults'
   pub looks_count : length looks ≡ session_places
   pub queries_count : length queries ≡ session_places
   pub other_looks : (s : ℕ) → t.line.session.0 ≢ s → slot looks s ≡ slot w.state.looks s
@@ -227,25 +231,25 @@ pub record Adds (opening : List Entry) (w : World) (H : List Entry) (looks queri
   pub own : Seat w.state.config (length opening) H t.line.session.0 (of_session t.line.session.0 w.turns ++ t ∷ [])
       (lines_of_session t.line.session.0 (w.lines ++ come)) (slot looks t.line.session.0) (slot queries t.line.session.0)
 
-module _ (opening : List Entry) (w : World) (H : List Entry) (looks queries : List (Option Opened)) (come : List Line) (t : Turn) (new : List Entry) where
+module _ (opening : List Entry) (store : Bool) (faults faults' : ℕ) (w : World) (H : List Entry) (looks queries : List (Option Opened)) (come : List Line) (t : Turn) (new : List Entry) where
   abbrev SeatThere : ℕ → Type 0
   SeatThere s = Seat w.state.config (length opening) H s (of_session s (w.turns ++ t ∷ [])) (lines_of_session s (w.lines ++ come)) (slot looks s) (slot queries s)
 
   -- the old seat of a session beside the longer history
-  pub old_seat : Good opening w → H ≡ w.state.entries ++ new → (s : ℕ)
+  pub old_seat : Good opening store faults w → H ≡ w.state.entries ++ new → (s : ℕ)
       → Seat w.state.config (length opening) H s (of_session s w.turns) (lines_of_session s w.lines) (slot w.state.looks s) (slot w.state.queries s)
   old_seat g grown s =
       subst (λ (xs : List Entry). Seat w.state.config (length opening) xs s (of_session s w.turns) (lines_of_session s w.lines) (slot w.state.looks s) (slot w.state.queries s)) (sym grown)
       (seat_more w.state.config (length opening) w.state.entries new s (of_session s w.turns) (lines_of_session s w.lines) (slot w.state.looks s) (slot w.state.queries s)
-      (each_filter (λ u. IsTo (length w.state.entries) u.reply.n) (is_of s) w.turns (rights_to w.state.config (length opening) w.state.entries new w.turns g.right))
+      (each_filter (λ u. IsTo (length w.state.entries) u.reply.n) (is_of s) w.turns (rights_to store w.state.config (length opening) w.state.entries new w.turns g.right))
       (g.seats s))
 
-  own_seat : Adds opening w H looks queries come t new → (s : ℕ) → t.line.session.0 ≡ s → SeatThere s
+  own_seat : Adds opening store faults faults' w H looks queries come t new → (s : ℕ) → t.line.session.0 ≡ s → SeatThere s
   own_seat a s e = subst SeatThere e
       (subst (λ (ts : List Turn). Seat w.state.config (length opening) H t.line.session.0 ts (lines_of_session t.line.session.0 (w.lines ++ come)) (slot looks t.line.session.0) (slot queries t.line.session.0))
       (sym (turns_own t.line.session.0 w.turns t refl)) a.own)
 
-  other_seat : Good opening w → Adds opening w H looks queries come t new → (s : ℕ) → t.line.session.0 ≢ s → SeatThere s
+  other_seat : Good opening store faults w → Adds opening store faults faults' w H looks queries come t new → (s : ℕ) → t.line.session.0 ≢ s → SeatThere s
   other_seat g a s ne =
       subst (λ (ts : List Turn). Seat w.state.config (length opening) H s ts (lines_of_session s (w.lines ++ come)) (slot looks s) (slot queries s)) (sym (turns_other s w.turns t ne))
       (subst (λ (ls : List Line). Seat w.state.config (length opening) H s (of_session s w.turns) ls (slot looks s) (slot queries s)) (sym (a.other_lines s ne))
@@ -254,7 +258,7 @@ module _ (opening : List Entry) (w : World) (H : List Entry) (looks queries : Li
       (old_seat g a.grown s))))
 
   -- the run goes on by a reply
-  pub added : Good opening w → Adds opening w H looks queries come t new → Good opening (world_of w.state.config H looks queries (w.lines ++ come) (w.turns ++ t ∷ []))
+  pub added : Good opening store faults w → Adds opening store faults faults' w H looks queries come t new → Good opening store faults' (world_of w.state.config H looks queries (w.lines ++ come) (w.turns ++ t ∷ []))
   added g a =
       let count : length w.state.entries ≡ length opening + length g.more = ap length g.prefix ∙ length-append opening g.more in
       let number : (length opening + 1) + length g.more ≡ length w.state.entries + 1 = omega arith in
@@ -265,15 +269,15 @@ module _ (opening : List Entry) (w : World) (H : List Entry) (looks queries : Li
         legal = a.legal;
         marks =
             accepted_push w.turns t
-            ∙ ap (λ (ms : List Mark). ms ++ accepting t.line t.line.request t.reply.n t.reply.answer) g.marks
-            ∙ ap (λ (ms : List Mark). numbered (length opening + 1) g.more ++ ms) (a.mark ∙ ap (λ (k : ℕ). numbered k new) (sym number))
+            ∙ ap (λ (ms : List NumberedEntry). ms ++ accepting t.line t.line.request t.reply.n t.reply.answer) g.marks
+            ∙ ap (λ (ms : List NumberedEntry). numbered (length opening + 1) g.more ++ ms) (a.mark ∙ ap (λ (k : ℕ). numbered k new) (sym number))
             ∙ sym (numbered_more (length opening + 1) g.more new);
         named = each_push IsNamed w.turns t g.named a.named;
-        right = each_push (IsRightTurn w.state.config (length opening) H false) w.turns t
-            (subst (λ (xs : List Entry). Each (IsRightTurn w.state.config (length opening) xs false) w.turns) (sym a.grown) (rights_more w.state.config (length opening) w.state.entries new w.turns g.right))
+        right = each_push (IsRightTurn w.state.config (length opening) H store) w.turns t
+            (subst (λ (xs : List Entry). Each (IsRightTurn w.state.config (length opening) xs store) w.turns) (sym a.grown) (rights_more store w.state.config (length opening) w.state.entries new w.turns g.right))
             a.right;
         still = all_still (length opening) w.turns t a.past g.still a.still;
-        no_disk = each_push (λ u. is_disk u.reply.answer ≡ false) w.turns t g.no_disk a.no_disk;
+        disks = omega (arith, disks_push w.turns t, g.disks, a.disks);
         looks_count = a.looks_count;
         queries_count = a.queries_count;
         seats = λ s. ⊎_elim (λ e. own_seat a s e) (λ ne. other_seat g a s ne) (cases_eq t.line.session.0 s);

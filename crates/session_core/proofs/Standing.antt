@@ -5,6 +5,9 @@ use Rattle.emu_names.specs.declared.rules.Broken.{Broken}
 use Rattle.session_core.specs.declared.bundle.BundleParts.{BundleParts}
 use Rattle.session_core.specs.declared.edit.Edit.{Edit}
 use Rattle.session_core.specs.declared.line.Ask.{Ask}
+use Rattle.session_core.specs.declared.line.Answer.TheVariants.{Refused}
+use Rattle.session_core.specs.declared.line.Refusal.{Refusal}
+use Rattle.session_core.specs.declared.line.Refusal.TheVariants as refusals
 use Rattle.session_core.specs.declared.line.Request.{Request}
 use Rattle.session_core.specs.declared.line.Request.TheVariants as requests
 use Rattle.session_core.specs.declared.line.Line.{Line}
@@ -12,9 +15,9 @@ use Rattle.session_core.specs.declared.line.Reply.{Reply}
 use Rattle.session_core.specs.Effects.{edited}
 use Rattle.session_core.specs.Answers.{memory, reply_to, entry_of}
 use Rattle.session_core.specs.Steps.{Opened, State, slot, put_slot, present, is_full, opened_at, edit_step, look_step, finish_step, query_step, query_fails}
-use Rattle.session_core.specs.Worlds.{Turn}
+use Rattle.session_core.specs.Worlds.{Turn, Trouble, untroubled, no_memory, store_full, disk_failed}
 use Rattle.session_core.specs.Legal.{lines_in, replies_in, accepting}
-use Rattle.session_core.specs.InOrder.{Outage, fine, at_first, at_last, replied, looked, request_turn, one_turn, in_turn}
+use Rattle.session_core.specs.InOrder.{Outage, fine, at_first, at_last, disk_fails, replied, query_begun, edit_outcome, trouble_at, request_turn, one_turn, in_turn}
 use Rattle.session_core.specs.Readings.{IsStanding, AreStanding}
 
 -- The turns of a list of lines.
@@ -22,20 +25,21 @@ use Rattle.session_core.specs.Readings.{IsStanding, AreStanding}
 abbrev pub turn_to : Line → Reply → Turn
 turn_to l reply = record { line = l; reply = reply }
 
-abbrev pub turns_in_turn : State → List Line → List Outage → List Turn
-turns_in_turn st [] outages = []
-turns_in_turn st (l ∷ ls) [] = []
-turns_in_turn st (l ∷ ls) (outage ∷ outages) = turn_to l (one_turn st l outage).0 ∷ turns_in_turn (one_turn st l outage).1 ls outages
+abbrev pub turns_in_turn : Bool → State → List Line → List Outage → List Turn
+turns_in_turn store st [] outages = []
+turns_in_turn store st (l ∷ ls) [] = []
+turns_in_turn store st (l ∷ ls) (outage ∷ outages) =
+    turn_to l (one_turn store st l outage).0 ∷ turns_in_turn store (one_turn store st l outage).1 ls outages
 
-pub replies_told : (st : State) (ls : List Line) (outages : List Outage) → replies_in (turns_in_turn st ls outages) ≡ (in_turn st ls outages).0
-replies_told st [] outages = refl
-replies_told st (l ∷ ls) [] = refl
-replies_told st (l ∷ ls) (outage ∷ outages) = ap (λ (rs : List Reply). (one_turn st l outage).0 ∷ rs) (replies_told (one_turn st l outage).1 ls outages)
+pub replies_told : (store : Bool) (st : State) (ls : List Line) (outages : List Outage) → replies_in (turns_in_turn store st ls outages) ≡ (in_turn store st ls outages).0
+replies_told store st [] outages = refl
+replies_told store st (l ∷ ls) [] = refl
+replies_told store st (l ∷ ls) (outage ∷ outages) = ap (λ (rs : List Reply). (one_turn store st l outage).0 ∷ rs) (replies_told store (one_turn store st l outage).1 ls outages)
 
-pub lines_told : (st : State) (ls : List Line) (outages : List Outage) → length outages ≡ length ls → lines_in (turns_in_turn st ls outages) ≡ ls
-lines_told st [] outages long = refl
-lines_told st (l ∷ ls) [] long = absurd (let size : 0 ≡ suc (length ls) = long in omega arith)
-lines_told st (l ∷ ls) (outage ∷ outages) long = ap (λ (rest : List Line). l ∷ rest) (lines_told (one_turn st l outage).1 ls outages (omega (arith, long)))
+pub lines_told : (store : Bool) (st : State) (ls : List Line) (outages : List Outage) → length outages ≡ length ls → lines_in (turns_in_turn store st ls outages) ≡ ls
+lines_told store st [] outages long = refl
+lines_told store st (l ∷ ls) [] long = absurd (let size : 0 ≡ suc (length ls) = long in omega arith)
+lines_told store st (l ∷ ls) (outage ∷ outages) long = ap (λ (rest : List Line). l ∷ rest) (lines_told store (one_turn store st l outage).1 ls outages (omega (arith, long)))
 
 -- One line: its number is the number of entries behind it, an acceptance's entry among them.
 
@@ -45,12 +49,12 @@ record Counts (st : State) (l : Line) (request : Request) (out : Reply × State)
 
 module _ (st : State) (l : Line) where
   -- want of memory, which has no number and leaves the state
-  no_memory : (request : Request) → Counts st l request (reply_to l None memory, st)
-  no_memory (requests.Edit edit) = record { stands = tt; count = omega arith }
-  no_memory (requests.Query ask) = record { stands = tt; count = omega arith }
-  no_memory (requests.Look ask) = record { stands = tt; count = omega arith }
-  no_memory requests.Finish = record { stands = tt; count = omega arith }
-  no_memory (requests.After earlier) = record { stands = tt; count = omega arith }
+  memory_counts : (request : Request) → Counts st l request (reply_to l None memory, st)
+  memory_counts (requests.Edit edit) = record { stands = tt; count = omega arith }
+  memory_counts (requests.Query ask) = record { stands = tt; count = omega arith }
+  memory_counts (requests.Look ask) = record { stands = tt; count = omega arith }
+  memory_counts requests.Finish = record { stands = tt; count = omega arith }
+  memory_counts (requests.After earlier) = record { stands = tt; count = omega arith }
 
   edit_counts : (edit : Edit) (full : Bool) (made : Result (List BundleParts) Broken) → Counts st l (requests.Edit edit) (replied l (edit_step st l edit full made))
   edit_counts edit true made = record { stands = omega arith; count = omega arith }
@@ -75,11 +79,11 @@ module _ (st : State) (l : Line) where
   now_put (x ∷ xs) zero held is = is
   now_put (x ∷ xs) (suc s) held is = now_put xs s held is
 
-  query_counts : (ask : Ask) (held : Option Opened) → IsNow held → Counts st l (requests.Query ask) (replied l (query_step (looked st l ask) l.line l.session held))
+  query_counts : (ask : Ask) (held : Option Opened) → IsNow held → Counts st l (requests.Query ask) (replied l (query_step (query_begun st l ask) l.line l.session held))
   query_counts ask None is = record { stands = tt; count = omega arith }
   query_counts ask (Some held) is = record { stands = (let now : held.n ≡ present st = is in omega arith); count = omega arith }
 
-  fails_counts : (ask : Ask) (held : Option Opened) → Counts st l (requests.Query ask) (replied l (query_fails (looked st l ask) l.line l.session held))
+  fails_counts : (ask : Ask) (held : Option Opened) → Counts st l (requests.Query ask) (replied l (query_fails (query_begun st l ask) l.line l.session held))
   fails_counts ask None = record { stands = tt; count = omega arith }
   fails_counts ask (Some held) = record { stands = tt; count = omega arith }
 
@@ -87,27 +91,40 @@ module _ (st : State) (l : Line) where
   abbrev under_way : Ask → Option Opened
   under_way ask = slot (put_slot st.queries l.session.0 (Some (opened_at st l ask))) l.session.0
 
-  request_counts : (request : Request) (outage : Outage) → Counts st l request (request_turn st l request outage)
-  request_counts (requests.Edit edit) fine = edit_counts edit (is_full st.entries) (edited st.config st.entries edit)
-  request_counts (requests.Edit edit) at_first = no_memory (requests.Edit edit)
-  request_counts (requests.Edit edit) at_last = no_memory (requests.Edit edit)
-  request_counts (requests.Query ask) fine = query_counts ask (under_way ask) (now_put st.queries l.session.0 (opened_at st l ask) refl)
-  request_counts (requests.Query ask) at_first = no_memory (requests.Query ask)
-  request_counts (requests.Query ask) at_last = fails_counts ask (under_way ask)
-  request_counts (requests.Look ask) fine = look_counts ask (slot st.looks l.session.0)
-  request_counts (requests.Look ask) at_first = no_memory (requests.Look ask)
-  request_counts (requests.Look ask) at_last = no_memory (requests.Look ask)
-  request_counts requests.Finish fine = finish_counts (slot st.looks l.session.0)
-  request_counts requests.Finish at_first = no_memory requests.Finish
-  request_counts requests.Finish at_last = no_memory requests.Finish
-  request_counts (requests.After earlier) fine = record { stands = omega arith; count = omega arith }
-  request_counts (requests.After earlier) at_first = no_memory (requests.After earlier)
-  request_counts (requests.After earlier) at_last = no_memory (requests.After earlier)
+  -- an edit that is answered without an entry
+  kept_counts : (edit : Edit) (n : ℕ) (refusal : Refusal) → n ≡ present st → Counts st l (requests.Edit edit) (reply_to l (Some n) (Refused refusal), st)
+  kept_counts edit n refusal is = record { stands = omega arith; count = omega arith }
+
+  trouble_counts : (edit : Edit) (trouble : Trouble) → Counts st l (requests.Edit edit) (replied l (edit_outcome st l edit trouble))
+  trouble_counts edit untroubled = edit_counts edit (is_full st.entries) (edited st.config st.entries edit)
+  trouble_counts edit no_memory = memory_counts (requests.Edit edit)
+  trouble_counts edit store_full = kept_counts edit (present st) refusals.StoreFull refl
+  trouble_counts edit disk_failed = record { stands = tt; count = omega arith }
+
+  request_counts : (store : Bool) (request : Request) (outage : Outage) → Counts st l request (request_turn store st l request outage)
+  request_counts store (requests.Edit edit) outage = trouble_counts edit (trouble_at store st l edit outage)
+  request_counts store (requests.Query ask) fine = query_counts ask (under_way ask) (now_put st.queries l.session.0 (opened_at st l ask) refl)
+  request_counts store (requests.Query ask) at_first = memory_counts (requests.Query ask)
+  request_counts store (requests.Query ask) at_last = fails_counts ask (under_way ask)
+  request_counts store (requests.Query ask) disk_fails = query_counts ask (under_way ask) (now_put st.queries l.session.0 (opened_at st l ask) refl)
+  request_counts store (requests.Look ask) fine = look_counts ask (slot st.looks l.session.0)
+  request_counts store (requests.Look ask) at_first = memory_counts (requests.Look ask)
+  request_counts store (requests.Look ask) at_last = memory_counts (requests.Look ask)
+  request_counts store (requests.Look ask) disk_fails = look_counts ask (slot st.looks l.session.0)
+  request_counts store requests.Finish fine = finish_counts (slot st.looks l.session.0)
+  request_counts store requests.Finish at_first = memory_counts requests.Finish
+  request_counts store requests.Finish at_last = memory_counts requests.Finish
+  request_counts store requests.Finish disk_fails = finish_counts (slot st.looks l.session.0)
+  request_counts store (requests.After earlier) fine = record { stands = omega arith; count = omega arith }
+  request_counts store (requests.After earlier) at_first = memory_counts (requests.After earlier)
+  request_counts store (requests.After earlier) at_last = memory_counts (requests.After earlier)
+  request_counts store (requests.After earlier) disk_fails = record { stands = omega arith; count = omega arith }
 
 -- line after line
-pub numbers_told : (st : State) (ls : List Line) (outages : List Outage) → AreStanding (present st) (turns_in_turn st ls outages)
-numbers_told st [] outages = tt
-numbers_told st (l ∷ ls) [] = tt
-numbers_told st (l ∷ ls) (outage ∷ outages) =
-    let one : Counts st l l.request (one_turn st l outage) = request_counts st l l.request outage in
-    (one.stands, subst (λ (k : ℕ). AreStanding k (turns_in_turn (one_turn st l outage).1 ls outages)) one.count (numbers_told (one_turn st l outage).1 ls outages))
+pub numbers_told : (store : Bool) (st : State) (ls : List Line) (outages : List Outage) → AreStanding (present st) (turns_in_turn store st ls outages)
+numbers_told store st [] outages = tt
+numbers_told store st (l ∷ ls) [] = tt
+numbers_told store st (l ∷ ls) (outage ∷ outages) =
+    let one : Counts st l l.request (one_turn store st l outage) = request_counts st l store l.request outage in
+    (one.stands, subst (λ (k : ℕ). AreStanding k (turns_in_turn store (one_turn store st l outage).1 ls outages)) one.count
+    (numbers_told store (one_turn store st l outage).1 ls outages))

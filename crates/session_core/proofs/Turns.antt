@@ -8,11 +8,12 @@ use Rattle.std.proofs.lemmas.List.Sums.{sum_by-cons}
 use Rattle.std.proofs.Math.Nat.{max-le}
 use Rattle.session_core.specs.declared.config.Config.{Config}
 use Rattle.session_core.specs.declared.edit.Entry.{Entry}
+use Rattle.session_core.specs.declared.line.Answer.{Answer}
 use Rattle.session_core.specs.declared.line.Request.{Request}
 use Rattle.session_core.specs.declared.line.Request.TheVariants as requests
 use Rattle.session_core.specs.declared.line.Reply.{Reply}
 use Rattle.session_core.specs.Worlds.{Turn, Each, is_answered}
-use Rattle.session_core.specs.Legal.{is_of, of_session, lines_in, replies_in, accepting, accepted, numbered, low_after, KeepsUp, NeverFalls, Look, open_after, ReplyFits, LooksFit, session_of, number_or, seen_by, seen_in, seen, HasSeen, is_disk, disk_replies}
+use Rattle.session_core.specs.Legal.{is_of, of_session, lines_in, replies_in, accepting, accepted, numbered, low_behind, KeepsUp, NeverFalls, Look, open_behind, ReplyFits, LooksFit, session_of, number_or, seen_by, seen_in, seen, HasSeen, is_disk, disk_replies}
 
 -- What holds of each element.
 
@@ -101,31 +102,31 @@ numbered_more n (x ∷ xs) ys =
 -- the least number that the next reply may have
 abbrev pub low_of : ℕ → List Turn → ℕ
 low_of low [] = low
-low_of low (t ∷ ts) = low_of (low_after low t.line.request t.reply.n) ts
+low_of low (t ∷ ts) = low_of (low_behind low t.line.request t.reply.n) ts
 
 pub falls_push : (low : ℕ) (ts : List Turn) (t : Turn) → NeverFalls low ts → KeepsUp (low_of low ts) t.line.request t.reply.n → NeverFalls low (ts ++ t ∷ [])
 falls_push low [] t falls keeps = (keeps, tt)
-falls_push low (u ∷ ts) t falls keeps = (falls.0, falls_push (low_after low u.line.request u.reply.n) ts t falls.1 keeps)
+falls_push low (u ∷ ts) t falls keeps = (falls.0, falls_push (low_behind low u.line.request u.reply.n) ts t falls.1 keeps)
 
-pub low_push : (low : ℕ) (ts : List Turn) (t : Turn) → low_of low (ts ++ t ∷ []) ≡ low_after (low_of low ts) t.line.request t.reply.n
+pub low_push : (low : ℕ) (ts : List Turn) (t : Turn) → low_of low (ts ++ t ∷ []) ≡ low_behind (low_of low ts) t.line.request t.reply.n
 low_push low [] t = refl
-low_push low (u ∷ ts) t = low_push (low_after low u.line.request u.reply.n) ts t
+low_push low (u ∷ ts) t = low_push (low_behind low u.line.request u.reply.n) ts t
 
 -- Looks.
 
 -- the look that is open behind these turns
 abbrev pub held_of : Option Look → List Turn → Option Look
 held_of held [] = held
-held_of held (t ∷ ts) = held_of (open_after held t.line.request t.reply.n) ts
+held_of held (t ∷ ts) = held_of (open_behind held t.line.request t.reply.n) ts
 
 pub looks_push : (c : Config) (H : List Entry) (held : Option Look) (ts : List Turn) (t : Turn)
     → LooksFit c H held ts → ReplyFits c H (held_of held ts) t.line.request t.reply.n t.reply.answer → LooksFit c H held (ts ++ t ∷ [])
 looks_push c H held [] t looks fits = (fits, tt)
-looks_push c H held (u ∷ ts) t looks fits = (looks.0, looks_push c H (open_after held u.line.request u.reply.n) ts t looks.1 fits)
+looks_push c H held (u ∷ ts) t looks fits = (looks.0, looks_push c H (open_behind held u.line.request u.reply.n) ts t looks.1 fits)
 
-pub held_push : (held : Option Look) (ts : List Turn) (t : Turn) → held_of held (ts ++ t ∷ []) ≡ open_after (held_of held ts) t.line.request t.reply.n
+pub held_push : (held : Option Look) (ts : List Turn) (t : Turn) → held_of held (ts ++ t ∷ []) ≡ open_behind (held_of held ts) t.line.request t.reply.n
 held_push held [] t = refl
-held_push held (u ∷ ts) t = held_push (open_after held u.line.request u.reply.n) ts t
+held_push held (u ∷ ts) t = held_push (open_behind held u.line.request u.reply.n) ts t
 
 -- What an `after` has seen.
 
@@ -248,8 +249,18 @@ still_seen m ts requests.Finish n has = tt
 
 -- Failed disks.
 
-pub no_disks : (ts : List Turn) → Each (λ t. is_disk t.reply.answer ≡ false) ts → disk_replies (replies_in ts) ≡ 0
-no_disks [] each = refl
-no_disks (t ∷ ts) each =
-    sum_by-cons (λ (r : Reply). cond (is_disk r.answer) 1 0) t.reply (replies_in ts)
-    ∙ ap (λ b. cond b 1 0 + disk_replies (replies_in ts)) each.0 ∙ ap (λ k. 0 + k) (no_disks ts each.1)
+-- a reply that a failed disk gave, as a number
+abbrev pub disk_of : Answer → ℕ
+disk_of answer = cond (is_disk answer) 1 0
+
+pub disks_push : (ts : List Turn) (t : Turn) → disk_replies (replies_in (ts ++ t ∷ [])) ≡ disk_replies (replies_in ts) + disk_of t.reply.answer
+disks_push [] t =
+    let one : disk_replies (t.reply ∷ []) ≡ disk_of t.reply.answer + 0 = sum_by-cons (λ (r : Reply). disk_of r.answer) t.reply [] in
+    omega arith
+disks_push (u ∷ ts) t =
+    let long : disk_replies (u.reply ∷ replies_in (ts ++ t ∷ [])) ≡ disk_of u.reply.answer + disk_replies (replies_in (ts ++ t ∷ [])) =
+        sum_by-cons (λ (r : Reply). disk_of r.answer) u.reply (replies_in (ts ++ t ∷ [])) in
+    let short : disk_replies (u.reply ∷ replies_in ts) ≡ disk_of u.reply.answer + disk_replies (replies_in ts) =
+        sum_by-cons (λ (r : Reply). disk_of r.answer) u.reply (replies_in ts) in
+    let more : disk_replies (replies_in (ts ++ t ∷ [])) ≡ disk_replies (replies_in ts) + disk_of t.reply.answer = disks_push ts t in
+    omega arith

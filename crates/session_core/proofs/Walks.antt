@@ -9,7 +9,7 @@ use Rattle.std.proofs.Common.{arith}
 use Rattle.emu_names.specs.declared.rules.Broken.{Broken}
 use Rattle.emu_names.specs.declared.rules.Fault.{Fault}
 use Rattle.emu_names.specs.declared.rules.Fault.TheVariants as faults
-use Rattle.session_core.specs.Gives.{FindsFault}
+use Rattle.emu_names.specs.Gives.{FindsFault}
 
 -- the rest of a list at a place
 pub drop_at : {A : Type 0} (xs : List A) (i : ℕ) (x : A) → i < length xs → x ≡ get_or xs i x → drop i xs ≡ x ∷ drop (i + 1) xs

@@ -12,12 +12,15 @@ example_history_is = refl
 
 pub example_fits : ExampleFits
 example_fits = (
-  record { next = record { place = omega arith; idle = refl; behind = tt }; kind = refl; command = refl },
+  record { event = record { next = record { place = omega arith; idle = refl; behind = tt }; kind = refl; command = refl }; trouble = tt },
   (
-    record { next = record { place = omega arith; idle = refl; behind = (record { own = λ same. omega arith; others = λ ne same. ne refl }, tt) }; kind = refl; command = refl; answered = tt },
+    record {
+      event = record { next = record { place = omega arith; idle = refl; behind = (record { own = λ same. omega arith; others = λ ne same. ne refl }, tt) }; kind = refl; command = refl; answered = tt };
+      trouble = tt;
+    },
     (
-      omega arith,
-      (record { place = omega arith; held = refl }, tt),
+      record { event = omega arith; trouble = tt },
+      (record { event = record { place = omega arith; held = refl }; trouble = tt }, tt),
     ),
   ),
 )

@@ -1,16 +1,22 @@
 -- A run in order: each line is answered before the next one is read. The replies follow from the
 -- lines, the history before them and the places where memory ran out.
-use Rattle.std.specs.Prelude.{◌≡◌, ℕ, ◌<◌, true, List, [], ◌∷◌, ◌++◌, Option, Some, None, nat_eq}
+use Rattle.std.specs.Prelude.{◌≡◌, ℕ, ◌<◌, Bool, true, false, List, [], ◌∷◌, ◌++◌, count_by, Option, Some, None, Result, Ok, Err, nat_eq}
 use Rattle.std.specs.List.{list_any}
+use Rattle.emu_names.specs.declared.rules.Broken.{Broken}
+use Rattle.session_core.specs.declared.bundle.BundleParts.{BundleParts}
+use Rattle.session_core.specs.declared.edit.Edit.{Edit}
 use Rattle.session_core.specs.declared.line.Ask.{Ask}
+use Rattle.session_core.specs.declared.line.Answer.TheVariants.{Refused}
+use Rattle.session_core.specs.declared.line.Refusal.TheVariants as refusals
 use Rattle.session_core.specs.declared.line.Request.{Request}
 use Rattle.session_core.specs.declared.line.Request.TheVariants as requests
 use Rattle.session_core.specs.declared.line.Line.{Line}
 use Rattle.session_core.specs.declared.line.Reply.{Reply}
 use Rattle.session_core.specs.declared.line.Command.TheVariants as commands
-use Rattle.session_core.specs.Answers.{memory, reply_to}
-use Rattle.session_core.specs.Steps.{State, edit_event, look_event, finish_event, finish_fails, opened_at, with_query, session_places}
-use Rattle.session_core.specs.Worlds.{Each, is_command_of}
+use Rattle.session_core.specs.Effects.{edited}
+use Rattle.session_core.specs.Answers.{memory, reply_to, entry_of}
+use Rattle.session_core.specs.Steps.{State, present, is_full, edit_event, look_event, finish_event, finish_fails, opened_at, with_query, session_places}
+use Rattle.session_core.specs.Worlds.{Trouble, untroubled, no_memory, store_full, disk_failed, passes_store, Each, is_command_of}
 
 -- the reply that an event gives to its line
 abbrev pub given : Line → Option Reply → Reply
@@ -20,45 +26,98 @@ given l None = reply_to l None memory
 abbrev pub replied : Line → Option Reply × State → Reply × State
 replied l (reply, st) = (given l reply, st)
 
--- whether memory runs out at a line: not at all, at its first event, or where a query is answered
+-- what fails at a line: nothing; memory runs out, at its first event or where a query is answered; or the
+-- disk, where there is a store and the line's edit would be accepted
 pub data Outage : Type 0 where
   fine : Outage
   at_first : Outage
   at_last : Outage
+  disk_fails : Outage
 
 -- a query is put under way over the present state, and then answered
-abbrev pub looked : State → Line → Ask → State
-looked st l ask = with_query st l.session.0 (Some (opened_at st l ask))
+abbrev pub query_begun : State → Line → Ask → State
+query_begun st l ask = with_query st l.session.0 (Some (opened_at st l ask))
 
 abbrev pub query_turn : State → Line → Ask → Outage → Reply × State
-query_turn st l ask fine = replied l (finish_event (looked st l ask) l.line l.session commands.Query)
+query_turn st l ask fine = replied l (finish_event (query_begun st l ask) l.line l.session commands.Query)
 query_turn st l ask at_first = (reply_to l None memory, st)
-query_turn st l ask at_last = replied l (finish_fails (looked st l ask) l.line l.session commands.Query)
+query_turn st l ask at_last = replied l (finish_fails (query_begun st l ask) l.line l.session commands.Query)
+query_turn st l ask disk_fails = replied l (finish_event (query_begun st l ask) l.line l.session commands.Query)
 
 -- an event's reply and state, or want of memory, which changes nothing
 abbrev pub unless_outage : State → Line → Outage → Option Reply × State → Reply × State
 unless_outage st l fine made = replied l made
 unless_outage st l at_first made = (reply_to l None memory, st)
 unless_outage st l at_last made = (reply_to l None memory, st)
+unless_outage st l disk_fails made = replied l made
+
+-- What keeps the edit of a line from its step: an edit that would be accepted needs room in the store,
+-- and then the disk.
+abbrev pub stored_trouble : Bool → Bool → Trouble
+stored_trouble true fails = store_full
+stored_trouble false true = disk_failed
+stored_trouble false false = untroubled
+
+abbrev pub accepted_trouble : Bool → Bool → Bool → Trouble
+accepted_trouble false passes fails = untroubled
+accepted_trouble true passes fails = stored_trouble passes fails
+
+abbrev pub made_trouble : Bool → State → Line → Edit → Bool → Bool → Result (List BundleParts) Broken → Trouble
+made_trouble store st l edit fails true made = untroubled
+made_trouble store st l edit fails false (Err rule) = untroubled
+made_trouble store st l edit fails false (Ok bundles) =
+    accepted_trouble store (passes_store st.config st.entries (entry_of l edit)) fails
+
+-- `store` says whether there is a store, `fails` whether the disk fails
+abbrev pub edit_trouble : Bool → State → Line → Edit → Bool → Trouble
+edit_trouble store st l edit fails =
+    made_trouble store st l edit fails (is_full st.entries) (edited st.config st.entries edit)
+
+abbrev pub trouble_at : Bool → State → Line → Edit → Outage → Trouble
+trouble_at store st l edit fine = edit_trouble store st l edit false
+trouble_at store st l edit at_first = no_memory
+trouble_at store st l edit at_last = no_memory
+trouble_at store st l edit disk_fails = edit_trouble store st l edit true
+
+abbrev pub edit_outcome : State → Line → Edit → Trouble → Option Reply × State
+edit_outcome st l edit untroubled = edit_event st l (requests.Edit edit)
+edit_outcome st l edit no_memory = (Some (reply_to l None memory), st)
+edit_outcome st l edit store_full = (Some (reply_to l (Some (present st)) (Refused refusals.StoreFull)), st)
+edit_outcome st l edit disk_failed = (Some (reply_to l None (Refused refusals.Disk)), st)
+
+-- an edit, over all edits before it
+abbrev pub edit_turn : Bool → State → Line → Edit → Outage → Reply × State
+edit_turn store st l edit outage = replied l (edit_outcome st l edit (trouble_at store st l edit outage))
 
 -- a request is answered over all edits before it; a `finish` over its look
-abbrev pub request_turn : State → Line → Request → Outage → Reply × State
-request_turn st l (requests.Edit edit) outage = unless_outage st l outage (edit_event st l (requests.Edit edit))
-request_turn st l (requests.Query ask) outage = query_turn st l ask outage
-request_turn st l (requests.Look ask) outage = unless_outage st l outage (look_event st l (requests.Look ask))
-request_turn st l requests.Finish outage = unless_outage st l outage (finish_event st l.line l.session commands.Finish)
-request_turn st l (requests.After earlier) outage = unless_outage st l outage (look_event st l (requests.After earlier))
+abbrev pub request_turn : Bool → State → Line → Request → Outage → Reply × State
+request_turn store st l (requests.Edit edit) outage = edit_turn store st l edit outage
+request_turn store st l (requests.Query ask) outage = query_turn st l ask outage
+request_turn store st l (requests.Look ask) outage = unless_outage st l outage (look_event st l (requests.Look ask))
+request_turn store st l requests.Finish outage =
+    unless_outage st l outage (finish_event st l.line l.session commands.Finish)
+request_turn store st l (requests.After earlier) outage =
+    unless_outage st l outage (look_event st l (requests.After earlier))
 
--- one line: its reply, and the state behind it
-abbrev pub one_turn : State → Line → Outage → Reply × State
-one_turn st l outage = request_turn st l l.request outage
+-- one line: its reply, and the state behind it; `store` says whether there is a store
+abbrev pub one_turn : Bool → State → Line → Outage → Reply × State
+one_turn store st l outage = request_turn store st l l.request outage
 
 -- the replies to a list of lines, and the state behind them
-abbrev pub in_turn : State → List Line → List Outage → List Reply × State
-in_turn st [] outages = ([], st)
-in_turn st (l ∷ ls) [] = ([], st)
-in_turn st (l ∷ ls) (outage ∷ outages) =
-    ((one_turn st l outage).0 ∷ (in_turn (one_turn st l outage).1 ls outages).0, (in_turn (one_turn st l outage).1 ls outages).1)
+abbrev pub in_turn : Bool → State → List Line → List Outage → List Reply × State
+in_turn store st [] outages = ([], st)
+in_turn store st (l ∷ ls) [] = ([], st)
+in_turn store st (l ∷ ls) (outage ∷ outages) =
+    ((one_turn store st l outage).0 ∷ (in_turn store (one_turn store st l outage).1 ls outages).0,
+    (in_turn store (one_turn store st l outage).1 ls outages).1)
+
+-- how often the disk fails
+abbrev pub is_disk_outage : Outage → Bool
+is_disk_outage disk_fails = true
+is_disk_outage outage = false
+
+abbrev pub disk_outages : List Outage → ℕ
+disk_outages outages = count_by is_disk_outage outages
 
 -- Which lists of lines come in order: numbers rise, sessions have a place, a line has the command of
 -- its request, and an `after` names a line before it.

@@ -1,5 +1,6 @@
--- What the core keeps beside its state, which saves it to work out bundles again: the bundles of the
--- present, and those of each moment that a look or a query under way is over.
+-- The core's cache. This is no definition of the product: it says what the code keeps beside the state,
+-- which saves it to work out bundles again, namely the bundles of the present, and those of each moment
+-- that a look or a query under way is over.
 use Rattle.std.specs.Prelude.{◌≡◌, ◌≤◌, ℕ, ◌+◌, Bool, true, false, List, [], ◌∷◌, ◌++◌, length, map, take, Option, Some, None, Result, Ok, Err}
 use Rattle.std.specs.Option.{option_map}
 use Rattle.emu_names.specs.declared.kinds.SessionNo.{SessionNo}
@@ -16,8 +17,7 @@ use Rattle.session_core.specs.declared.line.Reply.{Reply}
 use Rattle.session_core.specs.declared.slots.Held.{Held}
 use Rattle.session_core.specs.declared.moves.Head.{Head}
 use Rattle.session_core.specs.Effects.{after, effect}
-use Rattle.session_core.specs.Queries.{asked}
-use Rattle.session_core.specs.Answers.{query_answer}
+use Rattle.session_core.specs.Answers.{answer_over}
 use Rattle.session_core.specs.Steps.{Opened, State, slot, put_slot, is_full, session_places, reply_of}
 
 -- The state that the parts of a core stand for.
@@ -60,21 +60,21 @@ head_reply head n answer = reply_of head.line head.session n answer
 abbrev pub head_entry : Head → Edit → Entry
 head_entry head edit = record { session = head.session; line = head.line; edit = edit }
 
-abbrev pub change_made : Head → Edit → List Entry → List BundleParts → Result (List BundleParts) Broken → Reply × List Entry × List BundleParts
-change_made head edit history bundles (Ok next) =
+abbrev pub edit_tried_made : Head → Edit → List Entry → List BundleParts → Result (List BundleParts) Broken → Reply × List Entry × List BundleParts
+edit_tried_made head edit history bundles (Ok next) =
     (head_reply head (Some (length history + 1)) (Done head.command), history ++ head_entry head edit ∷ [], next)
-change_made head edit history bundles (Err rule) =
+edit_tried_made head edit history bundles (Err rule) =
     (head_reply head (Some (length history)) (Refused (refusals.Rule rule)), history, bundles)
 
-abbrev pub change_step : Head → Edit → List Entry → List BundleParts → Bool → Result (List BundleParts) Broken → Reply × List Entry × List BundleParts
-change_step head edit history bundles true made =
+abbrev pub edit_tried_step : Head → Edit → List Entry → List BundleParts → Bool → Result (List BundleParts) Broken → Reply × List Entry × List BundleParts
+edit_tried_step head edit history bundles true made =
     (head_reply head (Some (length history)) (Refused refusals.HistoryFull), history, bundles)
-change_step head edit history bundles false made = change_made head edit history bundles made
+edit_tried_step head edit history bundles false made = edit_tried_made head edit history bundles made
 
 -- an edit: the reply, the history and the bundles
-abbrev pub change : Config → Head → Edit → List Entry → List BundleParts → Reply × List Entry × List BundleParts
-change c head edit history bundles =
-    change_step head edit history bundles (is_full history) (effect c bundles edit)
+abbrev pub edit_tried : Config → Head → Edit → List Entry → List BundleParts → Reply × List Entry × List BundleParts
+edit_tried c head edit history bundles =
+    edit_tried_step head edit history bundles (is_full history) (effect c bundles edit)
 
 abbrev pub held_at : Head → Ask → ℕ → List BundleParts → Held
 held_at head ask n bundles = record { line = head.line; n = n; ask = ask; bundles = bundles }
@@ -87,7 +87,7 @@ looked head ask n bundles slots (Some held) = (head_reply head None (Refused ref
 
 -- the answer to a query that is held
 abbrev pub held_answer : Config → Held → Answer
-held_answer c held = query_answer (asked c held.bundles held.ask)
+held_answer c held = answer_over c held.bundles held.ask
 
 -- the answer of a look: the reply, and the looks
 abbrev pub look_closed : Config → ℕ → SessionNo → List (Option Held) → Option Held → Reply × List (Option Held)

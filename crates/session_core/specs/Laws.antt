@@ -8,8 +8,10 @@ use Rattle.session_core.specs.Configs.{is_valid_config}
 use Rattle.session_core.specs.Effects.{after, edited, IsLegal, bundles_after}
 use Rattle.session_core.specs.Valid.{is_valid_state}
 use Rattle.session_core.specs.Steps.{start, steps}
-use Rattle.session_core.specs.Worlds.{Moment, World, run, opening_world, AllFit, script_of}
-use Rattle.session_core.specs.Legal.{Legal, replies_in, history_limit}
+use Rattle.session_core.specs.Worlds.{Occurrence, untroubled, World, run, opening_world, AllFit, disk_failures, lines_done}
+use Rattle.session_core.specs.Legal.{Legal, replies_in}
+use Rattle.emu_names.specs.declared.limits.TheConstants.{HISTORY_EDITS}
+use Rattle.fault_counts.specs.Count.{RoseBy}
 use Rattle.session_core.specs.Example.{add_line, replies_with, no_memory_reply, example_row, example_config, example_events, example_lines, example_history, example_replies}
 
 -- one more entry changes the state as its edit does
@@ -25,30 +27,32 @@ abbrev pub StatesKeepRules : Type 0
 StatesKeepRules = (c : Config) (history : List Entry)
     → is_valid_config c ≡ true → IsLegal c history → (n : ℕ) → is_valid_state c (bundles_after c (take n history)) ≡ true
 
--- the replies of a run are legal beside the history that it leaves, with no store and no disk
-abbrev pub IsLegalRun : Config → List Entry → World → Type 0
-IsLegalRun c opening w = Legal c opening (script_of w) (replies_in w.turns) w.state.entries false 0
+-- the replies of a run are legal beside the history that it leaves
+abbrev pub IsLegalWorld : Config → List Entry → World → Bool → ℕ → ℕ → Type 0
+IsLegalWorld c opening w store before now =
+    Legal c opening (lines_done w) (replies_in w.turns) w.state.entries store before now
 
--- whatever events fit, and whenever memory runs out
+-- whatever events fit, whenever memory runs out, and whatever the store and the disk refuse
 abbrev pub EveryRunIsLegal : Type 0
-EveryRunIsLegal = (c : Config) (opening : List Entry) (moments : List Moment)
-    → IsLegal c opening → length opening ≤ history_limit → AllFit (opening_world c opening) moments
-    → IsLegalRun c opening (run (opening_world c opening) moments)
+EveryRunIsLegal = (c : Config) (opening : List Entry) (occurrences : List Occurrence) (store : Bool) (before now : ℕ)
+    → IsLegal c opening → length opening ≤ HISTORY_EDITS → AllFit store (opening_world c opening) occurrences
+    → RoseBy (disk_failures occurrences) before now
+    → IsLegalWorld c opening (run (opening_world c opening) occurrences) store before now
 
--- an event at which memory does not run out
-abbrev pub with_memory : Event → Moment
-with_memory e = record { event = e; fails = false }
+-- an event that takes its step
+abbrev pub taken : Event → Occurrence
+taken e = record { event = e; trouble = untroubled }
 
--- the replies and the history of the core's steps, where memory does not run out
+-- the replies and the history of the core's steps, where memory does not run out and there is no store
 abbrev pub EveryCoreRunIsLegal : Type 0
 EveryCoreRunIsLegal = (c : Config) (opening : List Entry) (events : List Event)
-    → IsLegal c opening → length opening ≤ history_limit → AllFit (opening_world c opening) (map with_memory events)
-    → Legal c opening (script_of (run (opening_world c opening) (map with_memory events)))
-    (steps (start c opening) events).0 (steps (start c opening) events).1.entries false 0
+    → IsLegal c opening → length opening ≤ HISTORY_EDITS → AllFit false (opening_world c opening) (map taken events)
+    → Legal c opening (lines_done (run (opening_world c opening) (map taken events)))
+    (steps (start c opening) events).0 (steps (start c opening) events).1.entries false 0 0
 
 -- The example's events fit, its replies and its history are these, and they make a legal run.
 abbrev pub ExampleFits : Type 0
-ExampleFits = AllFit (opening_world example_config []) (map with_memory example_events)
+ExampleFits = AllFit false (opening_world example_config []) (map taken example_events)
 
 abbrev pub ExampleReplies : Type 0
 ExampleReplies = (steps (start example_config []) example_events).0 ≡ example_replies
@@ -57,23 +61,25 @@ abbrev pub ExampleHistory : Type 0
 ExampleHistory = (steps (start example_config []) example_events).1.entries ≡ example_history
 
 abbrev pub ExampleIsLegal : Type 0
-ExampleIsLegal = Legal example_config [] example_lines example_replies example_history false 0
+ExampleIsLegal = Legal example_config [] example_lines example_replies example_history false 0 0
 
 -- Which replies to the example's lines are no legal run. The query stands behind its session's own
 -- edit, so that it is never answered over the state before it.
 abbrev pub StaleIsNotLegal : Type 0
-StaleIsNotLegal = (history : List Entry) (rows : List Row) (store : Bool) (faults : ℕ)
-    → Legal example_config [] example_lines (replies_with 0 rows) history store faults → ⊥
+StaleIsNotLegal = (history : List Entry) (rows : List Row) (store : Bool) (before now : ℕ)
+    → Legal example_config [] example_lines (replies_with 0 rows) history store before now → ⊥
 
 -- beside the history with the edit there is one right answer
 abbrev pub AnswerIsExact : Type 0
-AnswerIsExact = (rows : List Row) (store : Bool) (faults : ℕ)
-    → Legal example_config [] example_lines (replies_with 1 rows) example_history store faults → rows ≡ example_row ∷ []
+AnswerIsExact = (rows : List Row) (store : Bool) (before now : ℕ)
+    → Legal example_config [] example_lines (replies_with 1 rows) example_history store before now → rows ≡ example_row ∷ []
 
 -- an edit that was accepted is in the history
 abbrev pub AcceptedIsRecorded : Type 0
-AcceptedIsRecorded = (store : Bool) (faults : ℕ) → Legal example_config [] example_lines example_replies [] store faults → ⊥
+AcceptedIsRecorded = (store : Bool) (before now : ℕ)
+    → Legal example_config [] example_lines example_replies [] store before now → ⊥
 
 -- an edit that is in the history was accepted
 abbrev pub RecordedIsAccepted : Type 0
-RecordedIsAccepted = (store : Bool) (faults : ℕ) → Legal example_config [] (add_line ∷ []) (no_memory_reply ∷ []) example_history store faults → ⊥
+RecordedIsAccepted = (store : Bool) (before now : ℕ)
+    → Legal example_config [] (add_line ∷ []) (no_memory_reply ∷ []) example_history store before now → ⊥

@@ -16,8 +16,9 @@ use Rattle.session_core.specs.declared.line.Line.{Line}
 use Rattle.session_core.specs.declared.line.Reply.{Reply}
 use Rattle.session_core.specs.Effects.{IsLegal, edited}
 use Rattle.session_core.specs.Answers.{answer_at, memory, entry_of}
-use Rattle.session_core.specs.Sizes.{store_size, entry_size, store_limit}
-use Rattle.session_core.specs.Worlds.{Turn, Each}
+use Rattle.session_core.specs.Worlds.{Turn, Each, passes_store}
+use Rattle.fault_counts.specs.Count.{RoseBy}
+use Rattle.emu_names.specs.declared.limits.TheConstants.{HISTORY_EDITS}
 
 -- 1. Lines and replies. Each line has one reply, and the replies of each session stand in the order
 -- of its lines.
@@ -48,11 +49,11 @@ replies_in turns = map (λ t. t.reply) turns
 -- line, and is the edit of that line; each accepting reply has such an entry.
 
 -- an entry and its number in the history, counted from 1
-pub record Mark : Type 0 where
+pub record NumberedEntry : Type 0 where
   pub n : ℕ
   pub entry : Entry
 
-abbrev pub accepting : Line → Request → Option ℕ → Answer → List Mark
+abbrev pub accepting : Line → Request → Option ℕ → Answer → List NumberedEntry
 accepting l (requests.Edit edit) (Some n) (Done command) = record { n = n; entry = entry_of l edit } ∷ []
 accepting l (requests.Edit edit) (Some n) (Segments rows) = []
 accepting l (requests.Edit edit) (Some n) (Refused refusal) = []
@@ -62,46 +63,43 @@ accepting l (requests.Look ask) n answer = []
 accepting l requests.Finish n answer = []
 accepting l (requests.After earlier) n answer = []
 
-abbrev pub accepted : List Turn → List Mark
+abbrev pub accepted : List Turn → List NumberedEntry
 accepted [] = []
 accepted (t ∷ ts) = accepting t.line t.line.request t.reply.n t.reply.answer ++ accepted ts
 
-abbrev pub numbered : ℕ → List Entry → List Mark
+abbrev pub numbered : ℕ → List Entry → List NumberedEntry
 numbered n [] = []
 numbered n (e ∷ es) = record { n = n; entry = e } ∷ numbered (n + 1) es
 
-abbrev pub has_number : ℕ → Mark → Bool
+abbrev pub has_number : ℕ → NumberedEntry → Bool
 has_number n m = nat_eq m.n n
 
-abbrev pub with_number : ℕ → List Mark → List Mark
+abbrev pub with_number : ℕ → List NumberedEntry → List NumberedEntry
 with_number n marks = filter (has_number n) marks
 
 -- 3. Each answer is right for the state that its number names.
-
-abbrev pub history_limit : ℕ
-history_limit = 100000
 
 -- an acceptance at n is right for the state after n - 1, and its edit is the n-th entry
 pub record IsAcceptance (c : Config) (H : List Entry) (l : Line) (edit : Edit) (n : ℕ) (command : Command) : Type 0 where
   pub own : command ≡ l.command
   pub before : ℕ
   pub number : n ≡ before + 1
-  pub room : before < history_limit
+  pub room : before < HISTORY_EDITS
   pub bundles : List BundleParts
   pub right : edited c (take before H) edit ≡ Ok bundles
   pub entry : slice_get H before ≡ Some (entry_of l edit)
 
 -- the store has no room for the entry, whose edit breaks no rule after n
 pub record IsStoreFull (c : Config) (H : List Entry) (store : Bool) (l : Line) (edit : Edit) (n : ℕ) : Type 0 where
-  pub room : n < history_limit
+  pub room : n < HISTORY_EDITS
   pub stored : store ≡ true
   pub bundles : List BundleParts
   pub right : edited c (take n H) edit ≡ Ok bundles
-  pub passes : store_limit < store_size c (take n H) + 6 + entry_size (entry_of l edit)
+  pub passes : passes_store c (take n H) (entry_of l edit) ≡ true
 
 abbrev pub IsRightRefusal : Config → List Entry → Bool → Line → Edit → ℕ → Refusal → Type 0
-IsRightRefusal c H store l edit n (refusals.Rule rule) = (n < history_limit) × (edited c (take n H) edit ≡ Err rule)
-IsRightRefusal c H store l edit n refusals.HistoryFull = n ≡ history_limit
+IsRightRefusal c H store l edit n (refusals.Rule rule) = (n < HISTORY_EDITS) × (edited c (take n H) edit ≡ Err rule)
+IsRightRefusal c H store l edit n refusals.HistoryFull = n ≡ HISTORY_EDITS
 IsRightRefusal c H store l edit n refusals.StoreFull = IsStoreFull c H store l edit n
 IsRightRefusal c H store l edit n (refusals.Resolve fault) = ⊥
 IsRightRefusal c H store l edit n refusals.NoLook = ⊥
@@ -146,23 +144,23 @@ IsFinish (requests.Look ask) = ⊥
 IsFinish requests.Finish = Unit {0}
 IsFinish (requests.After earlier) = ⊥
 
-abbrev pub IsRefusedAlone : Bool → Request → Refusal → Type 0
-IsRefusedAlone store request refusals.Memory = Unit {0}
-IsRefusedAlone store request refusals.Disk = IsDiskFor store request
-IsRefusedAlone store request refusals.LookOpen = IsLook request
-IsRefusedAlone store request refusals.NoLook = IsFinish request
-IsRefusedAlone store request (refusals.Rule rule) = ⊥
-IsRefusedAlone store request (refusals.Resolve fault) = ⊥
-IsRefusedAlone store request refusals.HistoryFull = ⊥
-IsRefusedAlone store request refusals.StoreFull = ⊥
+abbrev pub IsRefusedUnnumbered : Bool → Request → Refusal → Type 0
+IsRefusedUnnumbered store request refusals.Memory = Unit {0}
+IsRefusedUnnumbered store request refusals.Disk = IsDiskFor store request
+IsRefusedUnnumbered store request refusals.LookOpen = IsLook request
+IsRefusedUnnumbered store request refusals.NoLook = IsFinish request
+IsRefusedUnnumbered store request (refusals.Rule rule) = ⊥
+IsRefusedUnnumbered store request (refusals.Resolve fault) = ⊥
+IsRefusedUnnumbered store request refusals.HistoryFull = ⊥
+IsRefusedUnnumbered store request refusals.StoreFull = ⊥
 
-abbrev pub IsRightAlone : Bool → Request → Answer → Type 0
-IsRightAlone store request (Refused refusal) = IsRefusedAlone store request refusal
-IsRightAlone store request (Done command) = ⊥
-IsRightAlone store request (Segments rows) = ⊥
+abbrev pub IsRightUnnumbered : Bool → Request → Answer → Type 0
+IsRightUnnumbered store request (Refused refusal) = IsRefusedUnnumbered store request refusal
+IsRightUnnumbered store request (Done command) = ⊥
+IsRightUnnumbered store request (Segments rows) = ⊥
 
 abbrev pub IsRight : Config → ℕ → List Entry → Bool → Line → Option ℕ → Answer → Type 0
-IsRight c m H store l None answer = IsRightAlone store l.request answer
+IsRight c m H store l None answer = IsRightUnnumbered store l.request answer
 IsRight c m H store l (Some n) answer = (m ≤ n) × (n ≤ length H) × IsRightAt c H store l l.request n answer
 
 abbrev pub IsRightTurn : Config → ℕ → List Entry → Bool → Turn → Type 0
@@ -174,13 +172,13 @@ IsRightTurn c m H store t = IsRight c m H store t.line t.reply.n t.reply.answer
 -- look as it was.
 
 -- the least number that the session's next reply may have
-abbrev pub low_after : ℕ → Request → Option ℕ → ℕ
-low_after low request None = low
-low_after low requests.Finish (Some n) = low
-low_after low (requests.Edit edit) (Some n) = n
-low_after low (requests.Query ask) (Some n) = n
-low_after low (requests.Look ask) (Some n) = n
-low_after low (requests.After earlier) (Some n) = n
+abbrev pub low_behind : ℕ → Request → Option ℕ → ℕ
+low_behind low request None = low
+low_behind low requests.Finish (Some n) = low
+low_behind low (requests.Edit edit) (Some n) = n
+low_behind low (requests.Query ask) (Some n) = n
+low_behind low (requests.Look ask) (Some n) = n
+low_behind low (requests.After earlier) (Some n) = n
 
 abbrev pub KeepsUp : ℕ → Request → Option ℕ → Type 0
 KeepsUp low request None = Unit {0}
@@ -192,7 +190,7 @@ KeepsUp low (requests.After earlier) (Some n) = low ≤ n
 
 abbrev pub NeverFalls : ℕ → List Turn → Type 0
 NeverFalls low [] = Unit {0}
-NeverFalls low (t ∷ ts) = KeepsUp low t.line.request t.reply.n × NeverFalls (low_after low t.line.request t.reply.n) ts
+NeverFalls low (t ∷ ts) = KeepsUp low t.line.request t.reply.n × NeverFalls (low_behind low t.line.request t.reply.n) ts
 
 -- an open look: its number and its query
 pub record Look : Type 0 where
@@ -200,21 +198,21 @@ pub record Look : Type 0 where
   pub ask : Ask
 
 -- a `look`'s reply, and the look that is open behind it
-abbrev pub look_after : Option Look → Ask → Option ℕ → Option Look
-look_after held ask None = held
-look_after None ask (Some n) = Some (record { n = n; ask = ask })
-look_after (Some held) ask (Some n) = Some held
+abbrev pub look_behind : Option Look → Ask → Option ℕ → Option Look
+look_behind held ask None = held
+look_behind None ask (Some n) = Some (record { n = n; ask = ask })
+look_behind (Some held) ask (Some n) = Some held
 
-abbrev pub finish_after : Option Look → Option ℕ → Option Look
-finish_after held None = held
-finish_after held (Some n) = None
+abbrev pub finish_behind : Option Look → Option ℕ → Option Look
+finish_behind held None = held
+finish_behind held (Some n) = None
 
-abbrev pub open_after : Option Look → Request → Option ℕ → Option Look
-open_after held (requests.Look ask) n = look_after held ask n
-open_after held requests.Finish n = finish_after held n
-open_after held (requests.Edit edit) n = held
-open_after held (requests.Query ask) n = held
-open_after held (requests.After earlier) n = held
+abbrev pub open_behind : Option Look → Request → Option ℕ → Option Look
+open_behind held (requests.Look ask) n = look_behind held ask n
+open_behind held requests.Finish n = finish_behind held n
+open_behind held (requests.Edit edit) n = held
+open_behind held (requests.Query ask) n = held
+open_behind held (requests.After earlier) n = held
 
 abbrev pub LookReplyFits : Option Look → Option ℕ → Answer → Type 0
 LookReplyFits None (Some n) answer = Unit {0}
@@ -239,7 +237,7 @@ abbrev pub LooksFit : Config → List Entry → Option Look → List Turn → Ty
 LooksFit c H held [] = Unit {0}
 LooksFit c H held (t ∷ ts) =
     ReplyFits c H held t.line.request t.reply.n t.reply.answer
-    × LooksFit c H (open_after held t.line.request t.reply.n) ts
+    × LooksFit c H (open_behind held t.line.request t.reply.n) ts
 
 -- 5. What an `after` has seen: at least the greatest number among the replies of the named line's
 -- session up to that line, or the opening's where there is none.
@@ -279,37 +277,54 @@ HasSeenTurn m turns t = HasSeen m turns t.line.request t.reply.n
 
 -- 6. Failed disks: no more of them than the disk's count of faults rose by.
 
+-- the disk refused a request
 abbrev pub is_disk_refusal : Refusal → Bool
 is_disk_refusal refusals.Disk = true
-is_disk_refusal (refusals.Rule rule) = false
-is_disk_refusal (refusals.Resolve fault) = false
-is_disk_refusal refusals.NoLook = false
-is_disk_refusal refusals.LookOpen = false
-is_disk_refusal refusals.HistoryFull = false
-is_disk_refusal refusals.StoreFull = false
-is_disk_refusal refusals.Memory = false
+is_disk_refusal refusal = false
 
 abbrev pub is_disk : Answer → Bool
 is_disk (Refused refusal) = is_disk_refusal refusal
-is_disk (Done command) = false
-is_disk (Segments rows) = false
+is_disk answer = false
 
+-- how many requests the disk refused
 abbrev pub disk_replies : List Reply → ℕ
 disk_replies replies = count_by (λ r. is_disk r.answer) replies
 
--- The replies to the lines of a script are legal beside a history that begins with the opening's
--- entries; `store` says whether there is a store, `faults` by how many the disk's count rose.
-pub record Legal (c : Config) (opening : List Entry) (script : List Line) (replies : List Reply) (H : List Entry) (store : Bool) (faults : ℕ) : Type 0 where
+-- What holds of the lines and replies of one session alone: m is the number of entries before the run,
+-- and H the history.
+pub record KeepsSession (c : Config) (m : ℕ) (H : List Entry) (script : List Line) (turns : List Turn) (s : ℕ) : Type 0 where
+  -- each line of the session has one reply, and the replies stand in the order of the lines
+  pub in_order : lines_in (of_session s turns) ≡ lines_of_session s script
+  -- its numbers never fall, those of a `finish` apart
+  pub never_falls : NeverFalls m (of_session s turns)
+  -- its looks open and close as their replies say, and a `finish` has its look's number and answer
+  pub looks : LooksFit c H None (of_session s turns)
+
+-- What holds of all lines and replies together: m entries stood before the run, and these came in it. `store`
+-- says whether there is a store; the disk's count of faults went from one number to another.
+pub record KeepsRun (c : Config) (m : ℕ) (H more : List Entry) (turns : List Turn) (store : Bool) (before now : ℕ) : Type 0 where
+  -- each reply names its line and its session
+  pub named : Each IsNamed turns
+  -- each new entry has exactly one accepting reply, and each accepting reply has its entry
+  pub one_entry : (n : ℕ) → with_number n (accepted turns) ≡ with_number n (numbered (m + 1) more)
+  -- each answer with a number is right for the state of that number
+  pub right : Each (IsRightTurn c m H store) turns
+  -- an `after` has seen what its line's session had seen
+  pub seen_there : Each (HasSeenTurn m turns) turns
+  -- the disk's count rose once or more for each of its refusals
+  pub disk : RoseBy (disk_replies (replies_in turns)) before now
+
+-- The replies to the lines of a script are legal beside a history that begins with the opening's entries;
+-- `store` says whether there is a store, and the disk's count of faults went from one number to another.
+pub record Legal (c : Config) (opening : List Entry) (script : List Line) (replies : List Reply) (H : List Entry) (store : Bool) (before now : ℕ) : Type 0 where
+  -- the entries that came in the run
   pub more : List Entry
+  -- the history goes on from the opening's
   pub prefix : H ≡ opening ++ more
+  -- no entry breaks a rule
   pub legal : IsLegal c H
+  -- the lines with their replies
   pub turns : List Turn
   pub replied : replies_in turns ≡ replies
-  pub named : Each IsNamed turns
-  pub in_order : (s : ℕ) → lines_in (of_session s turns) ≡ lines_of_session s script
-  pub one_entry : (n : ℕ) → with_number n (accepted turns) ≡ with_number n (numbered (length opening + 1) more)
-  pub right : Each (IsRightTurn c (length opening) H store) turns
-  pub never_falls : (s : ℕ) → NeverFalls (length opening) (of_session s turns)
-  pub looks : (s : ℕ) → LooksFit c H None (of_session s turns)
-  pub seen_there : Each (HasSeenTurn (length opening) turns) turns
-  pub disk : disk_replies replies ≤ faults
+  pub sessions : (s : ℕ) → KeepsSession c (length opening) H script turns s
+  pub whole : KeepsRun c (length opening) H more turns store before now

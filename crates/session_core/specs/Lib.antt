@@ -1,4 +1,3 @@
-pub mod Gives
 pub mod Times
 pub mod Configs
 pub mod Build

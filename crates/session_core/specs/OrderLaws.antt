@@ -1,14 +1,21 @@
 -- The law of runs in order: the replies to lines that are answered one after another are legal.
-use Rattle.std.specs.Prelude.{◌≡◌, false, List, [], length}
+use Rattle.std.specs.Prelude.{◌≡◌, ℕ, ◌≤◌, Bool, List, [], length}
+use Rattle.emu_names.specs.declared.limits.TheConstants.{HISTORY_EDITS}
+use Rattle.fault_counts.specs.Count.{RoseBy}
 use Rattle.session_core.specs.declared.config.Config.{Config}
+use Rattle.session_core.specs.declared.edit.Entry.{Entry}
 use Rattle.session_core.specs.declared.line.Line.{Line}
+use Rattle.session_core.specs.Effects.{IsLegal}
 use Rattle.session_core.specs.Steps.{start}
 use Rattle.session_core.specs.Legal.{Legal}
-use Rattle.session_core.specs.InOrder.{Outage, in_turn, ComeInOrder}
+use Rattle.session_core.specs.InOrder.{Outage, disk_outages, in_turn, ComeInOrder}
 
--- whatever the configuration and the lines, and wherever memory runs out: the replies in turn are
--- legal beside the history that they leave, which begins with nothing, with no store and no disk
+-- whatever the configuration and the lines, with a store and without, and wherever memory runs out or the disk
+-- fails: the replies in turn are legal beside the history that they leave, which begins with any legal history
+-- that is not too long
 abbrev pub InOrderIsLegal : Type 0
-InOrderIsLegal = (c : Config) (lines : List Line) (outages : List Outage)
-    → ComeInOrder [] lines → length outages ≡ length lines
-    → Legal c [] lines (in_turn (start c []) lines outages).0 (in_turn (start c []) lines outages).1.entries false 0
+InOrderIsLegal = (c : Config) (opening : List Entry) (lines : List Line) (outages : List Outage) (store : Bool) (before now : ℕ)
+    → IsLegal c opening → length opening ≤ HISTORY_EDITS
+    → ComeInOrder [] lines → length outages ≡ length lines → RoseBy (disk_outages outages) before now
+    → Legal c opening lines (in_turn store (start c opening) lines outages).0
+    (in_turn store (start c opening) lines outages).1.entries store before now

@@ -114,18 +114,29 @@ row_of c place b (position, item) = record {
 abbrev pub is_asked : ℕ → List ℕ → ℕ × Item → Bool
 is_asked attribute label (position, item) = same_text (label_at attribute item) label
 
+-- a query whose names have been found: a level and an attribute, and the wanted label
+pub record Asked : Type 0 where
+  pub place : Place
+  pub label : List ℕ
+
 -- the items with the wanted label, in order of position
-abbrev pub rows_in : Config → Place → List ℕ → BundleParts → List Row
-rows_in c place label b = map (row_of c place b) (filter (is_asked place.attribute label) (enumerate_from 0 (items_at b place.level)))
+abbrev pub rows_in : Config → Asked → BundleParts → List Row
+rows_in c asked b =
+    map (row_of c asked.place b)
+    (filter (is_asked asked.place.attribute asked.label) (enumerate_from 0 (items_at b asked.place.level)))
 
 -- the segment list over a state: the rows of one bundle after another, in order of their keys
-abbrev pub segment_list : Config → Place → List ℕ → List BundleParts → List Row
-segment_list c place label bundles = flat_map (rows_in c place label) bundles
+abbrev pub segment_list : Config → Asked → List BundleParts → List Row
+segment_list c asked bundles = flat_map (rows_in c asked) bundles
 
-abbrev pub found_rows : Config → Option Place → Ask → List BundleParts → Result (List Row) AskFault
-found_rows c None ask bundles = Err (UnknownName ask.name)
-found_rows c (Some place) ask bundles = Ok (segment_list c place ask.label bundles)
+-- what is asked for at a place of the configuration
+abbrev pub asked_by : ℕ → ℕ → List ℕ → Asked
+asked_by level attribute label = record { place = record { level = level; attribute = attribute }; label = label }
 
--- the answer to a query over a state: its rows, or why it has no meaning
-abbrev pub asked : Config → List BundleParts → Ask → Result (List Row) AskFault
-asked c bundles ask = found_rows c (name_place c ask.name) ask bundles
+abbrev pub asked_at : Ask → Option Place → Result Asked AskFault
+asked_at ask None = Err (UnknownName ask.name)
+asked_at ask (Some place) = Ok (record { place = place; label = ask.label })
+
+-- a query with its names found in the configuration, or why it has no meaning; no state is looked at
+abbrev pub resolved : Config → Ask → Result Asked AskFault
+resolved c ask = asked_at ask (name_place c ask.name)

@@ -1,6 +1,8 @@
 -- The law of one reading: of a legal run in order the replies and the history follow from the
 -- lines, the history before them and the places where memory ran out.
-use Rattle.std.specs.Prelude.{◌≡◌, ℕ, ◌+◌, false, List, [], ◌∷◌, length, map, Option, Some, None}
+use Rattle.std.specs.Prelude.{◌≡◌, ℕ, ◌+◌, ◌≤◌, Bool, false, List, [], ◌∷◌, length, map, Option, Some, None}
+use Rattle.emu_names.specs.declared.limits.TheConstants.{HISTORY_EDITS}
+use Rattle.fault_counts.specs.Count.{RoseBy}
 use Rattle.session_core.specs.declared.config.Config.{Config}
 use Rattle.session_core.specs.declared.edit.Entry.{Entry}
 use Rattle.session_core.specs.declared.line.Answer.{Answer}
@@ -11,10 +13,11 @@ use Rattle.session_core.specs.declared.line.Request.{Request}
 use Rattle.session_core.specs.declared.line.Request.TheVariants as requests
 use Rattle.session_core.specs.declared.line.Line.{Line}
 use Rattle.session_core.specs.declared.line.Reply.{Reply}
+use Rattle.session_core.specs.Effects.{IsLegal}
 use Rattle.session_core.specs.Steps.{start}
 use Rattle.session_core.specs.Worlds.{Turn}
 use Rattle.session_core.specs.Legal.{Legal, lines_in, accepting}
-use Rattle.session_core.specs.InOrder.{Outage, fine, at_first, in_turn, ComeInOrder}
+use Rattle.session_core.specs.InOrder.{Outage, fine, at_first, disk_fails, disk_outages, in_turn, ComeInOrder}
 
 -- how many entries stand when a line is done, where n stood before it
 abbrev pub standing : ℕ → Turn → ℕ
@@ -35,7 +38,7 @@ abbrev pub AreStanding : ℕ → List Turn → Type 0
 AreStanding n [] = Unit {0}
 AreStanding n (t ∷ ts) = IsStanding (standing n t) t.line.request t.reply.n × AreStanding (standing n t) ts
 
--- where memory ran out, as the replies tell it
+-- where memory ran out or the disk failed, as the replies tell it
 abbrev pub outage_at : Refusal → Outage
 outage_at refusals.Memory = at_first
 outage_at (refusals.Rule rule) = fine
@@ -44,7 +47,7 @@ outage_at refusals.NoLook = fine
 outage_at refusals.LookOpen = fine
 outage_at refusals.HistoryFull = fine
 outage_at refusals.StoreFull = fine
-outage_at refusals.Disk = fine
+outage_at refusals.Disk = disk_fails
 
 abbrev pub outage_in : Answer → Outage
 outage_in (Done command) = fine
@@ -62,27 +65,29 @@ pub record IsInOrder (opening : List Entry) (lines : List Line) (turns : List Tu
 -- the replies of a legal run in order, with no store, are those that the definition gives in turn,
 -- and the history is the one that it leaves
 abbrev pub RepliesFollow : Type 0
-RepliesFollow = (c : Config) (opening : List Entry) (lines : List Line) (replies : List Reply) (H : List Entry) (faults : ℕ)
-    → ComeInOrder [] lines → (run : Legal c opening lines replies H false faults) → IsInOrder opening lines run.turns
-    → (replies ≡ (in_turn (start c opening) lines (map outage_of replies)).0)
-    × (H ≡ (in_turn (start c opening) lines (map outage_of replies)).1.entries)
+RepliesFollow = (c : Config) (opening : List Entry) (lines : List Line) (replies : List Reply) (H : List Entry) (before now : ℕ)
+    → ComeInOrder [] lines → (run : Legal c opening lines replies H false before now) → IsInOrder opening lines run.turns
+    → (replies ≡ (in_turn false (start c opening) lines (map outage_of replies)).0)
+    × (H ≡ (in_turn false (start c opening) lines (map outage_of replies)).1.entries)
 
 -- two legal runs in order of the same lines, from the same history, in which memory ran out at the
 -- same lines, have the same replies and the same history
 abbrev pub OneReading : Type 0
 OneReading = (c : Config) (opening : List Entry) (lines : List Line)
-    (replies replies' : List Reply) (H H' : List Entry) (faults faults' : ℕ)
+    (replies replies' : List Reply) (H H' : List Entry) (before now before' now' : ℕ)
     → ComeInOrder [] lines
-    → (run : Legal c opening lines replies H false faults) → IsInOrder opening lines run.turns
-    → (run' : Legal c opening lines replies' H' false faults') → IsInOrder opening lines run'.turns
+    → (run : Legal c opening lines replies H false before now) → IsInOrder opening lines run.turns
+    → (run' : Legal c opening lines replies' H' false before' now') → IsInOrder opening lines run'.turns
     → map outage_of replies ≡ map outage_of replies'
     → (replies ≡ replies') × (H ≡ H')
 
--- the other way round: the replies in turn are themselves those of a legal run in order, whatever the
--- configuration and the lines, and wherever memory runs out, from no history. So the legal replies in
--- order are exactly these.
+-- the other way round: the replies in turn are themselves those of a legal run in order, with a store and
+-- without, whatever the configuration and the lines, and wherever memory runs out or the disk fails, from
+-- any legal history that is not too long. So without a store the legal replies in order are exactly these.
 abbrev pub InTurnIsInOrder : Type 0
-InTurnIsInOrder = (c : Config) (lines : List Line) (outages : List Outage)
-    → ComeInOrder [] lines → length outages ≡ length lines
-    → (run : Legal c [] lines (in_turn (start c []) lines outages).0 (in_turn (start c []) lines outages).1.entries false 0)
-    × IsInOrder [] lines run.turns
+InTurnIsInOrder = (c : Config) (opening : List Entry) (lines : List Line) (outages : List Outage) (store : Bool) (before now : ℕ)
+    → IsLegal c opening → length opening ≤ HISTORY_EDITS
+    → ComeInOrder [] lines → length outages ≡ length lines → RoseBy (disk_outages outages) before now
+    → (run : Legal c opening lines (in_turn store (start c opening) lines outages).0
+        (in_turn store (start c opening) lines outages).1.entries store before now)
+    × IsInOrder opening lines run.turns

@@ -30,8 +30,8 @@ are_labels_of def labels = list_all (is_label_of def) labels && are_distinct (la
 abbrev pub is_item_of : LevelDef → AnnotItem → Bool
 is_item_of def item = fits_kind def.kind item.time && is_in_time item.time && are_labels_of def item.labels
 
-abbrev pub times_of : List AnnotItem → List Time
-times_of items = map (λ i. i.time) items
+abbrev pub times_in : List AnnotItem → List Time
+times_in items = map (λ i. i.time) items
 
 -- each two neighbours are in order
 abbrev pub are_times_rising : List Time → Bool
@@ -43,7 +43,7 @@ are_times_rising (a ∷ b ∷ times) = are_in_order a b && are_times_rising (b �
 abbrev pub is_level_of : AnnotLevel → Option LevelDef → Bool
 is_level_of level None = false
 is_level_of level (Some def) =
-    same_kind def.kind level.kind && list_all (is_item_of def) level.items && are_times_rising (times_of level.items)
+    same_kind def.kind level.kind && list_all (is_item_of def) level.items && are_times_rising (times_in level.items)
 
 -- the configuration has a level of this name, and it is such
 abbrev pub is_level_in : List LevelDef → AnnotLevel → Bool

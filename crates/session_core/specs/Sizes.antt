@@ -60,7 +60,3 @@ frame_size body = 5 + body
 -- the place of the last gate of the store of a configuration and its entries: eight bytes open it
 abbrev pub store_size : Config → List Entry → ℕ
 store_size c history = 8 + frame_size (head_size c) + sum_by (λ e. frame_size (entry_size e)) history
-
--- the most bytes of a store
-abbrev pub store_limit : ℕ
-store_limit = 268435456

@@ -1,6 +1,7 @@
 -- The steps of the core: what an event makes of a state, and the reply that it may give.
 use Rattle.std.specs.Prelude.{ℕ, zero, suc, ◌+◌, Bool, true, false, List, [], ◌∷◌, ◌++◌, length, replicate, Option, Some, None, Result, Ok, Err, nat_le}
 use Rattle.emu_names.specs.declared.kinds.SessionNo.{SessionNo}
+use Rattle.emu_names.specs.declared.limits.TheConstants.{HISTORY_EDITS, SESSIONS}
 use Rattle.emu_names.specs.declared.rules.Broken.{Broken}
 use Rattle.session_core.specs.declared.config.Config.{Config}
 use Rattle.session_core.specs.declared.bundle.BundleParts.{BundleParts}
@@ -34,9 +35,9 @@ pub record State : Type 0 where
   pub looks : List (Option Opened)
   pub queries : List (Option Opened)
 
--- a script has the sessions 1 to 16, and 0 is the program itself; no other session has a place
+-- a script has the sessions from 1 on, and 0 is the program itself; no other session has a place
 abbrev pub session_places : ℕ
-session_places = 17
+session_places = SESSIONS + 1
 
 -- the state of a configuration and a history, with no look open
 abbrev pub start : Config → List Entry → State
@@ -74,9 +75,9 @@ present st = length st.entries
 
 -- An edit.
 
--- whether a history has no room for one more entry: it has at most 100,000
+-- whether a history has no room for one more entry
 abbrev pub is_full : List Entry → Bool
-is_full history = nat_le 100000 (length history)
+is_full history = nat_le HISTORY_EDITS (length history)
 
 abbrev pub edit_made : State → Line → Edit → Result (List BundleParts) Broken → Option Reply × State
 edit_made st l edit (Ok bundles) = (Some (reply_to l (Some (present st + 1)) (Done l.command)), with_entry st (entry_of l edit))
@@ -122,13 +123,26 @@ abbrev pub query_step : State → ℕ → SessionNo → Option Opened → Option
 query_step st line s None = (None, st)
 query_step st line s (Some held) = (Some (reply_of line s (Some held.n) (answer_at st.config st.entries held.n held.ask)), with_query st s.0 None)
 
+-- what a Finish of a command answers: its session's open look, its query under way, or nothing
+pub data Asker : Type 0 where
+  by_look : Asker
+  by_query : Asker
+  by_none : Asker
+
+-- a `finish` asks for the open look, and a query for itself; no other command asks by a Finish
+abbrev pub asker_of : Command → Asker
+asker_of commands.Finish = by_look
+asker_of commands.Query = by_query
+asker_of command = by_none
+
+abbrev pub finish_by : State → ℕ → SessionNo → Asker → Option Reply × State
+finish_by st line s by_look = finish_step st line s (slot st.looks s.0)
+finish_by st line s by_query = query_step st line s (slot st.queries s.0)
+finish_by st line s by_none = (None, st)
+
+-- a Finish of a command
 abbrev pub finish_event : State → ℕ → SessionNo → Command → Option Reply × State
-finish_event st line s commands.Finish = finish_step st line s (slot st.looks s.0)
-finish_event st line s commands.Query = query_step st line s (slot st.queries s.0)
-finish_event st line s commands.Config = (None, st)
-finish_event st line s commands.AddBundle = (None, st)
-finish_event st line s commands.Look = (None, st)
-finish_event st line s commands.After = (None, st)
+finish_event st line s command = finish_by st line s (asker_of command)
 
 -- one step: the reply that it may give, and the next state
 abbrev pub core_step : State → Event → Option Reply × State
@@ -144,13 +158,14 @@ abbrev pub query_fails : State → ℕ → SessionNo → Option Opened → Optio
 query_fails st line s None = (None, st)
 query_fails st line s (Some held) = (Some (reply_of line s None memory), with_query st s.0 None)
 
+abbrev pub finish_fails_by : State → ℕ → SessionNo → Asker → Option Reply × State
+finish_fails_by st line s by_look = (Some (reply_of line s None memory), st)
+finish_fails_by st line s by_query = query_fails st line s (slot st.queries s.0)
+finish_fails_by st line s by_none = (None, st)
+
+-- a Finish of a command at which memory runs out
 abbrev pub finish_fails : State → ℕ → SessionNo → Command → Option Reply × State
-finish_fails st line s commands.Finish = (Some (reply_of line s None memory), st)
-finish_fails st line s commands.Query = query_fails st line s (slot st.queries s.0)
-finish_fails st line s commands.Config = (None, st)
-finish_fails st line s commands.AddBundle = (None, st)
-finish_fails st line s commands.Look = (None, st)
-finish_fails st line s commands.After = (None, st)
+finish_fails st line s command = finish_fails_by st line s (asker_of command)
 
 abbrev pub core_fails : State → Event → Option Reply × State
 core_fails st (events.Edit l) = (Some (reply_to l None memory), st)

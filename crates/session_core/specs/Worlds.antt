@@ -1,7 +1,8 @@
 -- Whole runs of the core: which lists of events fit, and the lines and replies that they bring.
-use Rattle.std.specs.Prelude.{◌≡◌, ◌≢◌, ℕ, ◌<◌, Bool, true, false, not, List, [], ◌∷◌, ◌++◌, filter, Option, Some, None, nat_eq}
+use Rattle.std.specs.Prelude.{◌≡◌, ◌≢◌, ℕ, ◌+◌, ◌<◌, Bool, true, false, not, List, [], ◌∷◌, ◌++◌, count_by, filter, Option, Some, None, Result, Ok, nat_eq, nat_lt}
 use Rattle.std.specs.List.{list_any}
 use Rattle.emu_names.specs.declared.kinds.SessionNo.{SessionNo}
+use Rattle.emu_names.specs.declared.limits.TheConstants.{STORE_BYTES}
 use Rattle.session_core.specs.declared.config.Config.{Config}
 use Rattle.session_core.specs.declared.edit.Entry.{Entry}
 use Rattle.session_core.specs.declared.event.Event.{Event}
@@ -11,18 +12,35 @@ use Rattle.session_core.specs.declared.line.Command.TheVariants as commands
 use Rattle.session_core.specs.declared.line.Request.{Request}
 use Rattle.session_core.specs.declared.line.Request.TheVariants as requests
 use Rattle.session_core.specs.declared.line.Line.{Line}
+use Rattle.session_core.specs.declared.line.Answer.TheVariants.{Refused}
+use Rattle.session_core.specs.declared.line.Refusal.{Refusal}
+use Rattle.session_core.specs.declared.line.Refusal.TheVariants as refusals
 use Rattle.session_core.specs.declared.line.Reply.{Reply}
-use Rattle.session_core.specs.Steps.{Opened, State, slot, core_step, core_fails, start, session_places}
+use Rattle.session_core.specs.declared.bundle.BundleParts.{BundleParts}
+use Rattle.session_core.specs.declared.edit.Edit.{Edit}
+use Rattle.session_core.specs.declared.edit.Edit.TheVariants as edits
+use Rattle.session_core.specs.Effects.{edited}
+use Rattle.session_core.specs.Answers.{reply_to, entry_of}
+use Rattle.session_core.specs.Sizes.{store_size, entry_size}
+use Rattle.session_core.specs.Steps.{Opened, State, slot, present, is_full, core_step, core_fails, start, session_places, Asker, by_look, by_query, by_none, asker_of}
 
 -- a line with its reply
 pub record Turn : Type 0 where
   pub line : Line
   pub reply : Reply
 
--- an event, and whether memory runs out at it
-pub record Moment : Type 0 where
+-- what may keep an event from its step: memory runs out; an accepted edit does not fit into the
+-- store, or the disk does not take it
+pub data Trouble : Type 0 where
+  untroubled : Trouble
+  no_memory : Trouble
+  store_full : Trouble
+  disk_failed : Trouble
+
+-- an event, and what keeps it from its step
+pub record Occurrence : Type 0 where
   pub event : Event
-  pub fails : Bool
+  pub trouble : Trouble
 
 -- a run so far: the state, the lines that came, and the lines that were answered with their replies
 pub record World : Type 0 where
@@ -30,13 +48,22 @@ pub record World : Type 0 where
   pub lines : List Line
   pub turns : List Turn
 
-abbrev pub outcome_of : State → Event → Bool → Option Reply × State
-outcome_of st e true = core_fails st e
-outcome_of st e false = core_step st e
+-- an edit that the store or the disk refuses, by this answer, changes nothing
+abbrev pub edit_kept_out : State → Event → Option ℕ → Refusal → Option Reply × State
+edit_kept_out st (events.Edit l) n refusal = (Some (reply_to l n (Refused refusal)), st)
+edit_kept_out st e n refusal = (None, st)
 
-abbrev pub outcome : State → Moment → Option Reply × State
-outcome st m = outcome_of st m.event m.fails
+abbrev pub outcome_of : State → Event → Trouble → Option Reply × State
+outcome_of st e untroubled = core_step st e
+outcome_of st e no_memory = core_fails st e
+outcome_of st e store_full = edit_kept_out st e (Some (present st)) refusals.StoreFull
+outcome_of st e disk_failed = edit_kept_out st e None refusals.Disk
 
+-- what an occurrence makes of a state
+abbrev pub outcome : State → Occurrence → Option Reply × State
+outcome st m = outcome_of st m.event m.trouble
+
+-- the same command
 abbrev pub same_command : Command → Command → Bool
 same_command commands.Config commands.Config = true
 same_command commands.AddBundle commands.AddBundle = true
@@ -46,9 +73,13 @@ same_command commands.Finish commands.Finish = true
 same_command commands.After commands.After = true
 same_command a b = false
 
+-- whether a command makes an edit
+abbrev pub does_edit : Command → Edit → Bool
+does_edit command (edits.AddBundle key annot) = same_command command commands.AddBundle
+
 -- whether a command is one of a request
 abbrev pub is_command_of : Command → Request → Bool
-is_command_of command (requests.Edit edit) = same_command command commands.AddBundle
+is_command_of command (requests.Edit edit) = does_edit command edit
 is_command_of command (requests.Query ask) = same_command command commands.Query
 is_command_of command (requests.Look ask) = same_command command commands.Look
 is_command_of command requests.Finish = same_command command commands.Finish
@@ -62,39 +93,36 @@ finish_line line s = record { line = line; session = s; command = commands.Finis
 abbrev pub query_line : SessionNo → Opened → Line
 query_line s held = record { line = held.line; session = s; command = commands.Query; request = requests.Query held.ask }
 
--- the lines that an event brings: a query's comes with its look
-abbrev pub brought_by_finish : ℕ → SessionNo → Command → List Line
-brought_by_finish line s commands.Finish = finish_line line s ∷ []
-brought_by_finish line s commands.Query = []
-brought_by_finish line s commands.Config = []
-brought_by_finish line s commands.AddBundle = []
-brought_by_finish line s commands.Look = []
-brought_by_finish line s commands.After = []
+-- a Finish brings the line of a `finish`; a query's came with its look
+abbrev pub brought_by : ℕ → SessionNo → Asker → List Line
+brought_by line s by_look = finish_line line s ∷ []
+brought_by line s by_query = []
+brought_by line s by_none = []
 
+-- the lines that an event brings
 abbrev pub brought : Event → List Line
 brought (events.Edit l) = l ∷ []
 brought (events.Look l) = l ∷ []
 brought (events.Piece s) = []
-brought (events.Finish line s command) = brought_by_finish line s command
+brought (events.Finish line s command) = brought_by line s (asker_of command)
 
--- the line that an event's reply answers
+-- the line of the query under way that is answered
 abbrev pub query_answered : SessionNo → Option Opened → List Line
 query_answered s None = []
 query_answered s (Some held) = query_line s held ∷ []
 
-abbrev pub answered_by_finish : State → ℕ → SessionNo → Command → List Line
-answered_by_finish st line s commands.Finish = finish_line line s ∷ []
-answered_by_finish st line s commands.Query = query_answered s (slot st.queries s.0)
-answered_by_finish st line s commands.Config = []
-answered_by_finish st line s commands.AddBundle = []
-answered_by_finish st line s commands.Look = []
-answered_by_finish st line s commands.After = []
+-- the line that a Finish answers
+abbrev pub answered_by : State → ℕ → SessionNo → Asker → List Line
+answered_by st line s by_look = finish_line line s ∷ []
+answered_by st line s by_query = query_answered s (slot st.queries s.0)
+answered_by st line s by_none = []
 
+-- the line that an event answers
 abbrev pub answered : State → Event → List Line
 answered st (events.Edit l) = l ∷ []
 answered st (events.Look l) = l ∷ []
 answered st (events.Piece s) = []
-answered st (events.Finish line s command) = answered_by_finish st line s command
+answered st (events.Finish line s command) = answered_by st line s (asker_of command)
 
 -- the turns of a reply
 abbrev pub turns_of : List Line → Option Reply → List Turn
@@ -102,14 +130,14 @@ turns_of [] reply = []
 turns_of (l ∷ ls) None = []
 turns_of (l ∷ ls) (Some reply) = record { line = l; reply = reply } ∷ []
 
-abbrev pub happens : World → Moment → World
+abbrev pub happens : World → Occurrence → World
 happens w m = record {
   state = (outcome w.state m).1;
   lines = w.lines ++ brought m.event;
   turns = w.turns ++ turns_of (answered w.state m.event) (outcome w.state m).0;
 }
 
-abbrev pub run : World → List Moment → World
+abbrev pub run : World → List Occurrence → World
 run w [] = w
 run w (m ∷ ms) = run (happens w m) ms
 
@@ -179,23 +207,74 @@ pub record QueryFits (w : World) (line session : ℕ) : Type 0 where
   pub place : session < session_places
   pub held : IsUnderWay line (slot w.state.queries session)
 
-abbrev pub FinishFits : World → ℕ → SessionNo → Command → Type 0
-FinishFits w line s commands.Finish = IsNext w line s.0
-FinishFits w line s commands.Query = QueryFits w line s.0
-FinishFits w line s commands.Config = ⊥
-FinishFits w line s commands.AddBundle = ⊥
-FinishFits w line s commands.Look = ⊥
-FinishFits w line s commands.After = ⊥
+-- a Finish fits where it is a `finish` that may come next, or one of the query under way
+abbrev pub FinishFits : World → ℕ → SessionNo → Asker → Type 0
+FinishFits w line s by_look = IsNext w line s.0
+FinishFits w line s by_query = QueryFits w line s.0
+FinishFits w line s by_none = ⊥
 
+-- an event may come next
 abbrev pub Fits : World → Event → Type 0
 Fits w (events.Edit l) = EditFits w l
 Fits w (events.Look l) = LookFits w l
 Fits w (events.Piece s) = s.0 < session_places
-Fits w (events.Finish line s command) = FinishFits w line s command
+Fits w (events.Finish line s command) = FinishFits w line s (asker_of command)
 
-abbrev pub AllFit : World → List Moment → Type 0
-AllFit w [] = Unit {0}
-AllFit w (m ∷ ms) = Fits w m.event × AllFit (happens w m) ms
+-- the store has no room for an entry behind a history: a frame has a gate byte and four bytes of length, and a gate
+-- closes the store
+abbrev pub passes_store : Config → List Entry → Entry → Bool
+passes_store c history entry = nat_lt STORE_BYTES (store_size c history + 6 + entry_size entry)
+
+-- the edit of a line would be accepted, and there is a store that has no room for its entry
+pub record IsOverStore (store : Bool) (st : State) (l : Line) (edit : Edit) : Type 0 where
+  pub stored : store ≡ true
+  pub room : is_full st.entries ≡ false
+  pub bundles : List BundleParts
+  pub made : edited st.config st.entries edit ≡ Ok bundles
+  pub passes : passes_store st.config st.entries (entry_of l edit) ≡ true
+
+abbrev pub StoreRefusesRequest : Bool → State → Line → Request → Type 0
+StoreRefusesRequest store st l (requests.Edit edit) = IsOverStore store st l edit
+StoreRefusesRequest store st l request = ⊥
+
+-- the store refuses the edit of an event
+abbrev pub StoreRefuses : Bool → State → Event → Type 0
+StoreRefuses store st (events.Edit l) = StoreRefusesRequest store st l l.request
+StoreRefuses store st (events.Look l) = ⊥
+StoreRefuses store st (events.Piece s) = ⊥
+StoreRefuses store st (events.Finish line s command) = ⊥
+
+-- the disk may refuse an edit, where there is a store
+abbrev pub DiskMayRefuse : Bool → Event → Type 0
+DiskMayRefuse store (events.Edit l) = store ≡ true
+DiskMayRefuse store (events.Look l) = ⊥
+DiskMayRefuse store (events.Piece s) = ⊥
+DiskMayRefuse store (events.Finish line s command) = ⊥
+
+-- what keeps an event from its step may do so; `store` says whether there is a store
+abbrev pub TroubleFits : Bool → State → Event → Trouble → Type 0
+TroubleFits store st e untroubled = Unit {0}
+TroubleFits store st e no_memory = Unit {0}
+TroubleFits store st e store_full = StoreRefuses store st e
+TroubleFits store st e disk_failed = DiskMayRefuse store e
+
+-- an occurrence may come next
+pub record OccurrenceFits (store : Bool) (w : World) (m : Occurrence) : Type 0 where
+  pub event : Fits w m.event
+  pub trouble : TroubleFits store w.state m.event m.trouble
+
+-- each of these may come next in turn
+abbrev pub AllFit : Bool → World → List Occurrence → Type 0
+AllFit store w [] = Unit {0}
+AllFit store w (m ∷ ms) = OccurrenceFits store w m × AllFit store (happens w m) ms
+
+-- how often the disk failed
+abbrev pub is_disk_failed : Trouble → Bool
+is_disk_failed disk_failed = true
+is_disk_failed trouble = false
+
+abbrev pub disk_failures : List Occurrence → ℕ
+disk_failures ms = count_by (λ (m : Occurrence). is_disk_failed m.trouble) ms
 
 -- The script of a run: the lines that came, but for a query that is still under way.
 abbrev pub is_waiting : Line → Option Opened → Bool
@@ -205,5 +284,5 @@ is_waiting l (Some held) = nat_eq held.line l.line
 abbrev pub is_done : State → Line → Bool
 is_done st l = not (is_waiting l (slot st.queries l.session.0))
 
-abbrev pub script_of : World → List Line
-script_of w = filter (is_done w.state) w.lines
+abbrev pub lines_done : World → List Line
+lines_done w = filter (is_done w.state) w.lines

@@ -1,6 +1,6 @@
 //! An annotation's bundle, or the rule that it breaks.
 ghost use Rattle.session_core.specs.Build.{built};
-ghost use Rattle.session_core.specs.Gives.{GivesOrBroken};
+ghost use Rattle.emu_names.specs.Gives.{GivesOrBroken};
 
 use crate::annot::Annot;
 use crate::bundle::Bundle;

@@ -4,7 +4,7 @@ ghost use Rattle.std.specs.List.{list_any};
 ghost use Rattle.std.specs.Option.{option_copied};
 ghost use Rattle.session_core.specs.Build.{labels_fault, order_fault, neighbour_fault, item_fault, items_fault, same_kind, known_level_fault, level_fault, levels_fault, annot_items, build_fault, ids_of};
 ghost use Rattle.session_core.specs.Configs.{same_text, level_named, has_attribute};
-ghost use Rattle.session_core.specs.Gives.{FindsFault};
+ghost use Rattle.emu_names.specs.Gives.{FindsFault};
 ghost use Rattle.session_core.specs.Times.{fits_kind, is_in_time, is_rate};
 ghost use Rattle.session_core.specs.declared.annot.AnnotLabel.{AnnotLabel};
 ghost use Rattle.session_core.specs.declared.annot.AnnotLevel.{AnnotLevel};

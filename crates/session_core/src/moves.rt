@@ -1,7 +1,7 @@
 //! What one event does to the parts of the core, each part on its own.
 ghost use Rattle.session_core.specs.Effects.{after};
-ghost use Rattle.session_core.specs.Gives.{GivesOrBroken};
-ghost use Rattle.session_core.specs.Kept.{change, head_reply, held_answer, held_at, look_closed, looked, query_closed, query_dropped};
+ghost use Rattle.emu_names.specs.Gives.{GivesOrBroken};
+ghost use Rattle.session_core.specs.Kept.{edit_tried, head_reply, held_answer, held_at, look_closed, looked, query_closed, query_dropped};
 ghost use Rattle.session_core.specs.Steps.{is_full as is_full_list, put_slot, slot};
 ghost use Rattle.std.specs.Prelude.{◌≡◌, ◌<◌, Ok, Some, IfOk, OnErr, OnOk, length};
 
@@ -70,7 +70,7 @@ pub fn try_edit(
     head: Head,
     edit: Edit,
 ) -> Result<Reply, Memory>
-    ensures ok { IfOk result (λ reply. (reply, entries.new, bundles.new) ≡ change config.now head edit entries.old bundles.old) }
+    ensures ok { IfOk result (λ reply. (reply, entries.new, bundles.new) ≡ edit_tried config.now head edit entries.old bundles.old) }
     ensures history { OnErr result (entries.new ≡ entries.old) }
     ensures present { OnErr result (bundles.new ≡ bundles.old) }
 {

@@ -1,6 +1,6 @@
 //! The answer to a query over the bundles of a state.
-ghost use Rattle.session_core.specs.Answers.{query_answer};
-ghost use Rattle.session_core.specs.Queries.{asked, attribute_from, attribute_place, level_place, name_place};
+ghost use Rattle.session_core.specs.Answers.{answer_over};
+ghost use Rattle.session_core.specs.Queries.{attribute_from, attribute_place, level_place, name_place};
 ghost use Rattle.std.specs.Prelude.{◌≡◌, IfOk, MatchOption};
 
 use crate::bundle::Bundles;
@@ -76,7 +76,7 @@ pub fn answer(
     bundles: &Bundles,
     ask: &Ask,
 ) -> Result<Answer, Memory>
-    ensures { IfOk result (λ given. given ≡ query_answer (asked config.now bundles.now ask.now)) }
+    ensures { IfOk result (λ given. given ≡ answer_over config.now bundles.now ask.now) }
 {
     match name_place(config, &ask.name) {
         Some(place) => {

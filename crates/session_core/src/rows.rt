@@ -1,7 +1,8 @@
 //! The rows that the bundles of a state give to a query.
 ghost use Rattle.std.specs.Prelude.{◌≡◌, ◌++◌, ◌≤◌, ◌<◌, ◌^◌, IsTrue, true, map, filter, length, IfOk, OnOk};
 ghost use Rattle.std.specs.List.{list_all, enumerate_from};
-ghost use Rattle.session_core.specs.Queries.{level_name, attribute_name, label_at, times_of, row_of, is_asked, rows_in, segment_list};
+ghost use Rattle.emu_names.specs.declared.limits.TheConstants.{BUNDLE_ITEMS};
+ghost use Rattle.session_core.specs.Queries.{level_name, attribute_name, label_at, times_of, row_of, asked_by, is_asked, rows_in, segment_list};
 ghost use Rattle.session_core.specs.Times.{is_in_time, is_rate, is_item_in_time};
 
 use crate::annot::Time;
@@ -105,7 +106,8 @@ fn row(
 ) -> Result<Row, Memory>
     requires rate { IsTrue (is_rate parts.now.rate) }
     requires in_time { IsTrue (is_in_time item.now.time) }
-    ensures { IfOk result (λ made. made ≡ row_of wanted.now.config.now (record { level = wanted.now.level; attribute = wanted.now.attribute }) parts.now (position, item.now)) }
+    ensures { IfOk result (λ made. made ≡ row_of wanted.now.config.now
+        (record { level = wanted.now.level; attribute = wanted.now.attribute }) parts.now (position, item.now)) }
 {
     let times = times_of(parts.rate, item.time);
     let session = Text::new(alloc, parts.key.session.as_str())?;
@@ -144,8 +146,10 @@ fn add_rows(
 ) -> Result<(), Memory>
     requires rate { IsTrue (is_rate parts.now.rate) }
     requires in_time { list_all is_item_in_time items.now ≡ true }
-    requires few { length items.now ≤ 65536 }
-    ensures { OnOk result (rows.new ≡ rows.old ++ map (row_of wanted.now.config.now (record { level = wanted.now.level; attribute = wanted.now.attribute }) parts.now) (filter (is_asked wanted.now.attribute wanted.now.label.now) (enumerate_from 0 items.now))) }
+    requires few { length items.now ≤ BUNDLE_ITEMS }
+    ensures { OnOk result (rows.new ≡ rows.old
+        ++ map (row_of wanted.now.config.now (record { level = wanted.now.level; attribute = wanted.now.attribute }) parts.now)
+        (filter (is_asked wanted.now.attribute wanted.now.label.now) (enumerate_from 0 items.now))) }
 {
     for position in 0..items.len() {
         let item = &items[position];
@@ -163,7 +167,8 @@ fn add_bundle_rows(
     wanted: &Wanted,
     bundle: &Bundle,
 ) -> Result<(), Memory>
-    ensures { OnOk result (rows.new ≡ rows.old ++ rows_in wanted.now.config.now (record { level = wanted.now.level; attribute = wanted.now.attribute }) wanted.now.label.now bundle.now) }
+    ensures { OnOk result (rows.new ≡ rows.old ++ rows_in wanted.now.config.now
+        (asked_by wanted.now.level wanted.now.attribute wanted.now.label.now) bundle.now) }
 {
     let parts = bundle.parts();
     match parts.levels.as_slice().get(wanted.level) {
@@ -178,7 +183,8 @@ pub(crate) fn segment_list(
     wanted: &Wanted,
     bundles: &Bundles,
 ) -> Result<SegmentList, Memory>
-    ensures { IfOk result (λ made. made ≡ segment_list wanted.now.config.now (record { level = wanted.now.level; attribute = wanted.now.attribute }) wanted.now.label.now bundles.now) }
+    ensures { IfOk result (λ made. made ≡ segment_list wanted.now.config.now
+        (asked_by wanted.now.level wanted.now.attribute wanted.now.label.now) bundles.now) }
 {
     let mut rows = Series::new(alloc);
     for bundle in bundles.as_slice() {
