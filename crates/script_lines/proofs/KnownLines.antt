@@ -21,7 +21,7 @@ use Rattle.session_core.specs.declared.config.Config.{Config}
 use Rattle.session_core.specs.declared.edit.Edit.TheVariants as edits
 use Rattle.session_core.specs.declared.line.Ask.{Ask}
 use Rattle.emu_names.specs.declared.names.BundleKey.{BundleKey}
-use Rattle.session_core.specs.Configs.{same_text}
+use Rattle.session_core.specs.Configs.{same_text, is_valid_config}
 use Rattle.session_core.specs.Steps.{session_places}
 use Rattle.session_core.specs.Worlds.{is_command_of}
 use Rattle.script_lines.specs.declared.faults.LineFault.{LineFault}
@@ -33,6 +33,7 @@ use Rattle.script_lines.specs.Forms.{or_shape, name_at, whole_member, id_limit}
 use Rattle.script_lines.specs.Thin.{thin_config, thin_annot}
 use Rattle.script_lines.specs.Lines.{request_of, blank_line, json_line, value_line, placed_line, config_line, line_in, if_command, command_named, session_at, session_in, if_session, members_of, bundle_request, query_request, look_request, after_request, if_earlier, ask_in, is_blank, json_of, word_of_line}
 use Rattle.script_lines.specs.Known.{Known, IsRequestLine, NamesOneOf}
+use Rattle.script_lines.proofs.ValidConfigs.{thin_valid}
 
 abbrev ok_shape : Request → Result Request Shape
 ok_shape x = Ok x
@@ -199,13 +200,20 @@ request_known : (number : ℕ) (earlier word : List ℕ) (s : Seen) (read : Read
 unfolding line_in
 request_known number earlier word s read h = commanded number earlier s (if_command (command_named word)) read h
 
-configured : (number : ℕ) (earlier : List ℕ) (config : Result Config LineFault) (read : ReadLine) → (config >>= λ c. Ok (reads.Config c)) ≡ Ok read → Known number true earlier read
-configured number earlier (Ok c) read h = let same : reads.Config c ≡ read = read_is h in subst (λ q. Known number true earlier q) same tt
-configured number earlier (Err e) read h = absurd (cc)
+configured : (number : ℕ) (earlier : List ℕ) (config : Result Config LineFault) (read : ReadLine) → ((c : Config) → config ≡ Ok c → is_valid_config c ≡ true)
+    → (config >>= λ c. Ok (reads.Config c)) ≡ Ok read → Known number true earlier read
+configured number earlier (Ok c) read valid h = let same : reads.Config c ≡ read = read_is h in subst (λ q. Known number true earlier q) same (valid c refl)
+configured number earlier (Err e) read valid h = absurd (cc)
+
+member_valid : (member : Result Seen Shape) (c : Config) → (member >>= thin_config) ≡ Ok c → is_valid_config c ≡ true
+member_valid (Ok s) c h = thin_valid s c h
+member_valid (Err e) c h = absurd (cc)
 
 config_known : (number : ℕ) (earlier : List ℕ) (s : Seen) (read : ReadLine) → config_line s ≡ Ok read → Known number true earlier read
 unfolding config_line
-config_known number earlier s read h = configured number earlier (form (member_of (codes "config") wanted.Object s >>= thin_config)) read h
+config_known number earlier s read h =
+    configured number earlier (form (member_of (codes "config") wanted.Object s >>= thin_config)) read
+    (λ c told. member_valid (member_of (codes "config") wanted.Object s) c (form_ok (member_of (codes "config") wanted.Object s >>= thin_config) c told)) h
 
 placed_known : (wants is_config : Bool) (number : ℕ) (earlier word : List ℕ) (s : Seen) (read : ReadLine) → placed_line wants is_config number earlier word s ≡ Ok read → Known number wants earlier read
 placed_known true true number earlier word s read h = config_known number earlier s read h

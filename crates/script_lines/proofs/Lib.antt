@@ -6,3 +6,4 @@ pub mod Ids
 pub mod Stops
 pub mod Printed
 pub mod KnownLines
+pub mod ValidConfigs

@@ -5,6 +5,7 @@ use Rattle.std.specs.List.{list_any}
 use Rattle.session_core.specs.declared.line.Line.{Line}
 use Rattle.session_core.specs.declared.line.Request.{Request}
 use Rattle.session_core.specs.declared.line.Request.TheVariants as requests
+use Rattle.session_core.specs.Configs.{is_valid_config}
 use Rattle.session_core.specs.Steps.{session_places}
 use Rattle.session_core.specs.Worlds.{is_command_of}
 use Rattle.script_lines.specs.declared.faults.ReadLine.{ReadLine}
@@ -27,14 +28,16 @@ pub record IsRequestLine (n : ℕ) (earlier : List ℕ) (l : Line) : Type 0 wher
   pub command : is_command_of l.command l.request ≡ true
   pub names : NamesOneOf earlier l.request
 
--- where the configuration is wanted, a line is the configuration, and nowhere else
+-- where the configuration is wanted, a line is a configuration that keeps its rules, and nowhere else
 abbrev pub Known : ℕ → Bool → List ℕ → ReadLine → Type 0
-Known number true earlier (reads.Config config) = Unit {0}
+Known number true earlier (reads.Config config) = is_valid_config config ≡ true
 Known number true earlier reads.Blank = ⊥
 Known number true earlier (reads.Request l) = ⊥
 Known number false earlier (reads.Config config) = ⊥
 Known number false earlier reads.Blank = Unit {0}
 Known number false earlier (reads.Request l) = IsRequestLine number earlier l
 
+-- every line that is read is known so
 abbrev pub ReadLinesAreKnown : Type 0
-ReadLinesAreKnown = (line : List ℕ) (number : ℕ) (wants : Bool) (earlier : List ℕ) (read : ReadLine) → request_of line number wants earlier ≡ Ok read → Known number wants earlier read
+ReadLinesAreKnown = (line : List ℕ) (number : ℕ) (wants : Bool) (earlier : List ℕ) (read : ReadLine)
+    → request_of line number wants earlier ≡ Ok read → Known number wants earlier read

@@ -11,6 +11,7 @@ use Rattle.json_view.specs.Seen.{Seen, seen}
 use Rattle.json_view.specs.Parts.{shape, member_of, optional_of, text_at, whole_at, at_most, whole_in}
 use Rattle.json_view.specs.Steps.{◌>>=◌}
 use Rattle.emu_names.specs.declared.kinds.SessionNo.{SessionNo}
+use Rattle.emu_names.specs.declared.limits.TheConstants.{SESSIONS}
 use Rattle.emu_names.specs.declared.names.BundleKey.{BundleKey}
 use Rattle.session_core.specs.declared.config.Config.{Config}
 use Rattle.session_core.specs.declared.edit.Edit.TheVariants as edits
@@ -29,16 +30,6 @@ use Rattle.script_lines.specs.Faults.{form}
 use Rattle.script_lines.specs.Forms.{id_limit, or_shape, name_at, text_member, whole_member, no_member}
 use Rattle.script_lines.specs.Thin.{thin_config, thin_annot, thin_query}
 
--- The lines. A script is cut at each line feed; a last line without one counts where it is not empty.
-
-abbrev pub put_before : ℕ → List (List ℕ) → List (List ℕ)
-put_before b [] = (b ∷ []) ∷ []
-put_before b (line ∷ lines) = (b ∷ line) ∷ lines
-
-abbrev pub lines : List ℕ → List (List ℕ)
-lines [] = []
-lines (b ∷ bs) = if b == 10 then [] ∷ lines bs else put_before b (lines bs)
-
 -- white space alone (RFC 8259, section 2)
 abbrev pub is_space : ℕ → Bool
 is_space b = (b == 32) || (b == 9) || (b == 10) || (b == 13)
@@ -52,13 +43,13 @@ json_of line = if is_utf8 line then read line else None
 
 -- The members of a request.
 
--- a session: a whole number from 1 to 16
+-- a session: a whole number from 1 to the last session's
 abbrev pub if_session : Seen → Option ℕ → Result SessionNo Shape
 if_session s None = Err (shape s.path wanted.Session)
 if_session s (Some n) = if nat_le 1 n then Ok (record { 0 = n }) else Err (shape s.path wanted.Session)
 
 unfoldable pub session_in : Seen → Result SessionNo Shape
-session_in s = or_shape (shape s.path wanted.Session) (whole_at 16 s >>= λ n. if_session s (Some n))
+session_in s = or_shape (shape s.path wanted.Session) (whole_at SESSIONS s >>= λ n. if_session s (Some n))
 
 unfoldable pub session_at : Seen → Result SessionNo Shape
 session_at s = member_of (codes "s") wanted.Session s >>= session_in

@@ -11,6 +11,7 @@ use Rattle.json_view.specs.Lists.{each_of}
 use Rattle.json_view.specs.Steps.{◌>>=◌}
 use Rattle.emu_names.specs.declared.kinds.LevelKind.TheVariants as kinds
 use Rattle.emu_names.specs.declared.kinds.ItemId.{ItemId}
+use Rattle.emu_names.specs.declared.limits.TheConstants.{BUNDLE_ITEMS, LABEL_BYTES, QUERY_BYTES}
 use Rattle.session_core.specs.declared.annot.Time.{Time}
 use Rattle.session_core.specs.declared.annot.Time.TheVariants.{Span}
 use Rattle.session_core.specs.declared.annot.AnnotLabel.{AnnotLabel}
@@ -135,7 +136,7 @@ annot_parts s = do
 -- an item has exactly one label, of at most 4,096 bytes, and ends below sample 2^40
 abbrev pub one_short_label : List AnnotLabel → Bool
 one_short_label [] = false
-one_short_label (l ∷ []) = nat_le (length l.value) 4096
+one_short_label (l ∷ []) = nat_le (length l.value) LABEL_BYTES
 one_short_label (l ∷ m ∷ ls) = false
 
 abbrev pub is_thin_item : AnnotItem → Bool
@@ -150,10 +151,10 @@ rise_in_time (a ∷ b ∷ items) = are_in_order a.time b.time && rise_in_time (b
 abbrev pub item_ids : List AnnotItem → List ℕ
 item_ids items = map (λ i. i.id.0) items
 
--- at most 65,536 items, of distinct ids, that keep the level rule
+-- not too many items, of distinct ids, that keep the level rule
 abbrev pub is_thin_level : AnnotLevel → Bool
 is_thin_level level =
-    nat_le (length level.items) 65536 && list_all is_thin_item level.items
+    nat_le (length level.items) BUNDLE_ITEMS && list_all is_thin_item level.items
     && rise_in_time level.items && are_different (item_ids level.items)
 
 abbrev pub is_thin_annot : Annot → Bool
@@ -219,4 +220,4 @@ label_test text =
     nothing_left (after_white label.1) (record { name = name.0; label = label.0 }))))
 
 unfoldable pub thin_query : List ℕ → Option Ask
-thin_query text = if nat_le (length text) 4096 then label_test text else None
+thin_query text = if nat_le (length text) QUERY_BYTES then label_test text else None

@@ -7,24 +7,16 @@ ghost use Rattle.std.specs.List.{list_all};
 ghost use Rattle.script_lines.specs.Thin.{one_short_label, is_thin_item, rise_in_time, item_ids, is_thin_level, is_thin_annot};
 
 use emu_names::Memory;
+use emu_names::limits::{BUNDLE_ITEMS, LABEL_BYTES, SAMPLES, TOP_RATE};
 use session_core::{Annot, AnnotItem, AnnotLabel, AnnotLevel, Time};
 use std::alloc::Global;
 use std::collections::BTreeSet;
-
-/// The most bytes of a label.
-const MOST_LABEL_BYTES: usize = 4096;
-
-/// The most items of a level.
-const MOST_ITEMS: usize = 65_536;
-
-/// Samples are below this.
-const SAMPLE_END: u64 = 1_099_511_627_776;
 
 fn has_one_short_label(labels: &[AnnotLabel]) -> bool
     ensures { result ≡ one_short_label labels.now }
 {
     match labels {
-        [only] => only.value.as_str().len() <= MOST_LABEL_BYTES,
+        [only] => only.value.as_str().len() <= LABEL_BYTES,
         _ => false,
     }
 }
@@ -35,10 +27,10 @@ fn is_in_time(time: Time) -> bool
     match time {
         Time::NoTime => true,
         Time::Span { start, dur } => match start.checked_add(dur) {
-            Some(last) => last < SAMPLE_END,
+            Some(last) => last < SAMPLES,
             None => false,
         },
-        Time::Point { at } => at < SAMPLE_END,
+        Time::Point { at } => at < SAMPLES,
     }
 }
 
@@ -112,7 +104,7 @@ fn is_thin_level(alloc: Global, level: &AnnotLevel) -> Result<bool, Memory>
     ensures { IfOk result (λ thin. thin ≡ is_thin_level level.now) }
 {
     let items = level.items.as_slice();
-    if items.len() > MOST_ITEMS || !are_thin_items(items) || !rise_in_time(items) {
+    if items.len() > BUNDLE_ITEMS || !are_thin_items(items) || !rise_in_time(items) {
         return Ok(false);
     }
     have_own_ids(alloc, items)
@@ -135,7 +127,7 @@ fn are_thin_levels(alloc: Global, levels: &[AnnotLevel]) -> Result<bool, Memory>
 pub(crate) fn is_thin_annot(alloc: Global, annot: &Annot) -> Result<bool, Memory>
     ensures { IfOk result (λ thin. thin ≡ is_thin_annot annot.now) }
 {
-    if annot.rate < 1 || annot.rate > 1_000_000 {
+    if annot.rate < 1 || annot.rate > TOP_RATE {
         return Ok(false);
     }
     are_thin_levels(alloc, annot.levels.as_slice())

@@ -4,12 +4,10 @@ ghost use Rattle.std.specs.Prelude.{◌≡◌, ◌≤◌, ◌∷◌, ◌||◌, I
 ghost use Rattle.std.specs.List.{starts_with};
 ghost use Rattle.script_lines.specs.Thin.{is_white, is_mark, word_len, white_len, after_white, word_at, equal_at, label_test, thin_query};
 
+use emu_names::limits::QUERY_BYTES;
 use emu_names::{Memory, Text};
 use session_core::Ask;
 use std::alloc::Global;
-
-/// The most bytes of a query.
-const MOST_QUERY_BYTES: usize = 4096;
 
 /// The characters that end a bare word.
 const MARKS: &[u8] = b"[](),&|^#'=!<>";
@@ -137,7 +135,7 @@ fn label_test(text: &str) -> Option<LabelTest>
 pub(crate) fn thin_query(alloc: Global, text: &str) -> Result<Option<Ask>, Memory>
     ensures { IfOk result (λ ask. ask ≡ thin_query text.now) }
 {
-    if text.len() > MOST_QUERY_BYTES {
+    if text.len() > QUERY_BYTES {
         return Ok(None);
     }
     match label_test(text) {

@@ -10,13 +10,14 @@ use crate::faults::LineFault;
 use crate::forms::{ID_LIMIT, name_at, no_member, whole_member};
 use crate::line_set::LineSet;
 use crate::query::thin_query;
+use emu_names::limits::SESSIONS;
 use emu_names::{BundleKey, SessionNo};
 use json_view::{View, ViewFault, Wanted};
 use session_core::{Ask, Command, Edit, Request};
 use std::alloc::Global;
 
 /// Sessions are numbered from 1 to this.
-const LAST_SESSION: u64 = 16;
+const LAST_SESSION: u64 = SESSIONS as u64;
 
 #[tactic(auto, unfolding(crate::specs::Lines::session_in))]
 fn session_in(view: &View) -> Result<SessionNo, ViewFault>

@@ -487,14 +487,17 @@ module _ (opening : List Entry) (store : Bool) (faults : ℕ) (w : World) (g : G
         → Good opening store faults (world_of w.state.config w.state.entries w.state.looks w.state.queries (w.lines ++ kept_line ∷ []) (w.turns ++ turn_of kept_line (Some (length w.state.entries)) (Refused refusals.StoreFull) ∷ []))
     over_good over =
         let whole : take (length w.state.entries) w.state.entries ≡ w.state.entries = take-length w.state.entries in
-        same kept_line (Some (length w.state.entries)) (Refused refusals.StoreFull) next refl
-        (opening_below, omega arith, record {
-          room = leb-false HISTORY_EDITS (length w.state.entries) over.room;
-          stored = over.stored;
-          bundles = over.bundles;
-          right = ap (λ (xs : List Entry). edited w.state.config xs edit) whole ∙ over.made;
-          passes = ap (λ (xs : List Entry). passes_store w.state.config xs (entry_of kept_line edit)) whole ∙ over.passes;
-        }) tt refl
+        same kept_line (Some (length w.state.entries)) (Refused refusals.StoreFull) next refl (
+          opening_below,
+          omega arith,
+          record {
+            room = leb-false HISTORY_EDITS (length w.state.entries) over.room;
+            stored = over.stored;
+            bundles = over.bundles;
+            right = ap (λ (xs : List Entry). edited w.state.config xs edit) whole ∙ over.made;
+            passes = ap (λ (xs : List Entry). passes_store w.state.config xs (entry_of kept_line edit)) whole ∙ over.passes;
+          },
+        ) tt refl
         (λ low high. high) (λ low above. opening_below) (λ low high. omega arith) tt refl
 
     -- the disk failed

@@ -140,7 +140,7 @@ all_failures store st (l ∷ ls) (outage ∷ outages) =
     let here : disk_failures (request_moments store st l l.request outage) ≤ cond (is_disk_outage outage) 1 0 = line_failures store st l l.request outage in
     let rest : disk_failures (moments_in_turn store (one_turn store st l outage).1 ls outages) ≤ disk_outages outages = all_failures store (one_turn store st l outage).1 ls outages in
     let both : disk_failures (request_moments store st l l.request outage ++ moments_in_turn store (one_turn store st l outage).1 ls outages)
-        ≡ disk_failures (request_moments store st l l.request outage) + disk_failures (moments_in_turn store (one_turn store st l outage).1 ls outages) =
+    ≡ disk_failures (request_moments store st l l.request outage) + disk_failures (moments_in_turn store (one_turn store st l outage).1 ls outages) =
     failures_more (request_moments store st l l.request outage) (moments_in_turn store (one_turn store st l outage).1 ls outages) in
     let sum : disk_outages (outage ∷ outages) ≡ cond (is_disk_outage outage) 1 0 + disk_outages outages = sum_by-cons (λ (o : Outage). cond (is_disk_outage o) 1 0) outage outages in
     omega arith
@@ -355,6 +355,7 @@ module _ (store : Bool) (before : List Line) (w : World) (b : Between before w) 
         count = same_count _ kept;
         idle = same_idle _ kept;
       }
+
   look_answers : (line : ℕ) (s : SessionNo) (command : Command) (ask : Ask) (outage : Outage) → ComesNext before (line_of line s command (requests.Look ask))
       → Answers store w (line_of line s command (requests.Look ask)) (request_moments store w.state (line_of line s command (requests.Look ask)) (requests.Look ask) outage)
       (request_turn store w.state (line_of line s command (requests.Look ask)) (requests.Look ask) outage)
@@ -389,6 +390,7 @@ module _ (store : Bool) (before : List Line) (w : World) (b : Between before w) 
     count = b.count;
     idle = b.idle;
   }
+
   after_answers : (line : ℕ) (s : SessionNo) (command : Command) (earlier : ℕ) (outage : Outage) → ComesNext before (line_of line s command (requests.After earlier))
       → Answers store w (line_of line s command (requests.After earlier)) (request_moments store w.state (line_of line s command (requests.After earlier)) (requests.After earlier) outage)
       (request_turn store w.state (line_of line s command (requests.After earlier)) (requests.After earlier) outage)
@@ -426,6 +428,7 @@ module _ (store : Bool) (before : List Line) (w : World) (b : Between before w) 
         count = same_count _ kept;
         idle = same_idle _ kept;
       }
+
   finish_answers : (line : ℕ) (s : SessionNo) (outage : Outage) → ComesNext before (line_of line s commands.Finish requests.Finish)
       → Answers store w (line_of line s commands.Finish requests.Finish) (request_moments store w.state (line_of line s commands.Finish requests.Finish) requests.Finish outage)
       (request_turn store w.state (line_of line s commands.Finish requests.Finish) requests.Finish outage)

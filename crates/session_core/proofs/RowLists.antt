@@ -10,5 +10,5 @@ pub no_rows : (c : Config) (asked : Asked) (b : BundleParts) (levels : List (Lis
     levels ≡ b.levels → length levels ≤ asked.place.level → rows_in c asked b ≡ []
 no_rows c asked b levels same past =
     let none : slice_get b.levels asked.place.level ≡ None =
-        ap (λ (xs : List (List Item)). slice_get xs asked.place.level) (sym same) ∙ slice_get_past levels asked.place.level past in
+    ap (λ (xs : List (List Item)). slice_get xs asked.place.level) (sym same) ∙ slice_get_past levels asked.place.level past in
     rw none refl

@@ -125,6 +125,8 @@ pub numbers_told : (store : Bool) (st : State) (ls : List Line) (outages : List 
 numbers_told store st [] outages = tt
 numbers_told store st (l ∷ ls) [] = tt
 numbers_told store st (l ∷ ls) (outage ∷ outages) =
-    let one : Counts st l l.request (one_turn store st l outage) = request_counts st l store l.request outage in
-    (one.stands, subst (λ (k : ℕ). AreStanding k (turns_in_turn store (one_turn store st l outage).1 ls outages)) one.count
-    (numbers_told store (one_turn store st l outage).1 ls outages))
+    let one : Counts st l l.request (one_turn store st l outage) = request_counts st l store l.request outage in (
+      one.stands,
+      subst (λ (k : ℕ). AreStanding k (turns_in_turn store (one_turn store st l outage).1 ls outages)) one.count
+          (numbers_told store (one_turn store st l outage).1 ls outages),
+    )

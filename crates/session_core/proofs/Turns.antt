@@ -259,8 +259,8 @@ disks_push [] t =
     omega arith
 disks_push (u ∷ ts) t =
     let long : disk_replies (u.reply ∷ replies_in (ts ++ t ∷ [])) ≡ disk_of u.reply.answer + disk_replies (replies_in (ts ++ t ∷ [])) =
-        sum_by-cons (λ (r : Reply). disk_of r.answer) u.reply (replies_in (ts ++ t ∷ [])) in
+    sum_by-cons (λ (r : Reply). disk_of r.answer) u.reply (replies_in (ts ++ t ∷ [])) in
     let short : disk_replies (u.reply ∷ replies_in ts) ≡ disk_of u.reply.answer + disk_replies (replies_in ts) =
-        sum_by-cons (λ (r : Reply). disk_of r.answer) u.reply (replies_in ts) in
+    sum_by-cons (λ (r : Reply). disk_of r.answer) u.reply (replies_in ts) in
     let more : disk_replies (replies_in (ts ++ t ∷ [])) ≡ disk_replies (replies_in ts) + disk_of t.reply.answer = disks_push ts t in
     omega arith

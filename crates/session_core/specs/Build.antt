@@ -1,6 +1,7 @@
 -- What an annotation makes, or the rule that it breaks first (EMU-SDMS Manual, "The emuDB format":
 -- `_annot.json`; that gaps between segments are allowed is this project's choice).
 use Rattle.std.specs.Prelude.{ℕ, ◌+◌, Bool, true, false, not, List, [], ◌∷◌, ◌++◌, length, map, sum_by, Option, Some, None, Result, Ok, Err, nat_lt, nat_eq, if◌then◌else◌}
+use Rattle.emu_names.specs.declared.limits.TheConstants.{LABEL_BYTES, BUNDLE_ITEMS}
 use Rattle.std.specs.List.{list_any}
 use Rattle.emu_names.specs.declared.kinds.LevelKind.{LevelKind}
 use Rattle.emu_names.specs.declared.kinds.LevelKind.TheVariants as kinds
@@ -36,7 +37,7 @@ labels_fault defs named [] = None
 labels_fault defs named (l ∷ ls) =
     if not (has_attribute defs l.name) then Some (rules.NoAttribute l.name)
     else if list_any (same_text l.name) named then Some (rules.TwoLabels l.name)
-    else if nat_lt 4096 (length l.value) then Some rules.LabelTooLong
+    else if nat_lt LABEL_BYTES (length l.value) then Some rules.LabelTooLong
     else labels_fault defs (named ++ l.name ∷ []) ls
 
 -- how an item lies behind the one before it: a segment starts past the other's last sample, a
@@ -107,7 +108,7 @@ annot_items levels = sum_by (λ l. length l.items) levels
 abbrev pub build_fault : Config → Annot → Option Broken
 build_fault c annot =
     if not (is_rate annot.rate) then Some rules.RateOut
-    else if nat_lt 65536 (annot_items annot.levels) then Some (rules.TooMany counted.BundleItems)
+    else if nat_lt BUNDLE_ITEMS (annot_items annot.levels) then Some (rules.TooMany counted.BundleItems)
     else levels_fault c.levels [] [] annot.levels
 
 -- The bundle, where no rule is broken: a level that is not given is empty, a label that is not

@@ -1,5 +1,6 @@
 -- What an edit does, and the state that a history stands for.
 use Rattle.std.specs.Prelude.{◌≡◌, ℕ, ◌+◌, Bool, ◌&&◌, List, [], ◌∷◌, length, sum_by, Result, Ok, Err, nat_lt, nat_le, if◌then◌else◌}
+use Rattle.emu_names.specs.declared.limits.TheConstants.{ALL_ITEMS, BUNDLES}
 use Rattle.std.specs.List.{list_any}
 use Rattle.std.specs.Ordering.{is_lt}
 use Rattle.emu_names.specs.declared.names.BundleKey.{BundleKey}
@@ -45,14 +46,14 @@ all_items bundles = sum_by item_count bundles
 
 abbrev pub bundle_added : List BundleParts → BundleParts → Result (List BundleParts) Broken
 bundle_added bundles new =
-    if nat_lt 2000000 (all_items bundles + item_count new) then Err (rules.TooMany counted.AllItems)
+    if nat_lt ALL_ITEMS (all_items bundles + item_count new) then Err (rules.TooMany counted.AllItems)
     else Ok (put_in_order new bundles)
 
 -- the bundles that an edit leaves, or the rule that it breaks first
 abbrev pub effect : Config → List BundleParts → Edit → Result (List BundleParts) Broken
 effect c bundles (edits.AddBundle key annot) =
     if has_key key bundles then Err rules.BundleTaken
-    else if nat_le 10000 (length bundles) then Err (rules.TooMany counted.Bundles)
+    else if nat_le BUNDLES (length bundles) then Err (rules.TooMany counted.Bundles)
     else built c key annot >>= bundle_added bundles
 
 -- the effects of a history in turn

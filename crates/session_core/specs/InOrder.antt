@@ -107,9 +107,10 @@ one_turn store st l outage = request_turn store st l l.request outage
 abbrev pub in_turn : Bool → State → List Line → List Outage → List Reply × State
 in_turn store st [] outages = ([], st)
 in_turn store st (l ∷ ls) [] = ([], st)
-in_turn store st (l ∷ ls) (outage ∷ outages) =
-    ((one_turn store st l outage).0 ∷ (in_turn store (one_turn store st l outage).1 ls outages).0,
-    (in_turn store (one_turn store st l outage).1 ls outages).1)
+in_turn store st (l ∷ ls) (outage ∷ outages) = (
+  (one_turn store st l outage).0 ∷ (in_turn store (one_turn store st l outage).1 ls outages).0,
+  (in_turn store (one_turn store st l outage).1 ls outages).1,
+)
 
 -- how often the disk fails
 abbrev pub is_disk_outage : Outage → Bool

@@ -89,5 +89,5 @@ InTurnIsInOrder = (c : Config) (opening : List Entry) (lines : List Line) (outag
     → IsLegal c opening → length opening ≤ HISTORY_EDITS
     → ComeInOrder [] lines → length outages ≡ length lines → RoseBy (disk_outages outages) before now
     → (run : Legal c opening lines (in_turn store (start c opening) lines outages).0
-        (in_turn store (start c opening) lines outages).1.entries store before now)
+    (in_turn store (start c opening) lines outages).1.entries store before now)
     × IsInOrder opening lines run.turns

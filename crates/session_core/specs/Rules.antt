@@ -1,6 +1,7 @@
 -- Which annotations keep the rules (EMU-SDMS Manual, "The emuDB format": `_annot.json`): each rule by
 -- itself, of the whole annotation, with no order in which they are tested.
 use Rattle.std.specs.Prelude.{◌≡◌, ℕ, Bool, true, false, ◌&&◌, List, [], ◌∷◌, ◌++◌, map, Option, Some, None, nat_le}
+use Rattle.emu_names.specs.declared.limits.TheConstants.{BUNDLE_ITEMS}
 use Rattle.std.specs.List.{list_all}
 use Rattle.std.specs.Option.{is_none}
 use Rattle.session_core.specs.declared.annot.Time.{Time}
@@ -61,7 +62,7 @@ all_ids_of (level ∷ levels) = ids_of level.items ++ all_ids_of levels
 -- two of them are the same, and no id stands twice in the whole annotation
 abbrev pub keeps_rules : Config → Annot → Bool
 keeps_rules c annot =
-    is_rate annot.rate && nat_le (annot_items annot.levels) 65536
+    is_rate annot.rate && nat_le (annot_items annot.levels) BUNDLE_ITEMS
     && list_all (is_level_in c.levels) annot.levels
     && are_distinct (level_names annot.levels) && are_different (all_ids_of annot.levels)
 

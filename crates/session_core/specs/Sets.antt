@@ -1,5 +1,6 @@
 -- The places of bundles in a list whose keys rise.
 use Rattle.std.specs.Prelude.{◌≡◌, ◌≤◌, ℕ, Bool, true, false, List, Option, Some, None, length, insert, slice_get}
+use Rattle.emu_names.specs.declared.limits.TheConstants.{ALL_ITEMS}
 use Rattle.emu_names.specs.declared.names.BundleKey.{BundleKey}
 use Rattle.session_core.specs.declared.bundle.BundleParts.{BundleParts}
 use Rattle.session_core.specs.Effects.{same_key, has_key, put_in_order, all_items}
@@ -9,7 +10,7 @@ use Rattle.session_core.specs.Valid.{are_keys_rising}
 pub record IsSet (bundles : List BundleParts) (items : ℕ) : Type 0 where
   pub rising : are_keys_rising bundles ≡ true
   pub count : items ≡ all_items bundles
-  pub few : all_items bundles ≤ 2000000
+  pub few : all_items bundles ≤ ALL_ITEMS
 
 -- no bundle has the key, and one that has it belongs at this place
 pub record IsFree (key : BundleKey) (bundles : List BundleParts) (place : ℕ) : Type 0 where

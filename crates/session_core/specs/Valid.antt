@@ -1,5 +1,6 @@
 -- Which states keep the configuration's rules.
 use Rattle.std.specs.Prelude.{ℕ, ◌+◌, Bool, true, false, ◌&&◌, not, List, [], ◌∷◌, ◌++◌, length, map, nat_lt, nat_le, nat_eq, ◌==◌}
+use Rattle.emu_names.specs.declared.limits.TheConstants.{LABEL_BYTES, BUNDLE_ITEMS, BUNDLES, ALL_ITEMS}
 use Rattle.std.specs.List.{list_all, list_any}
 use Rattle.session_core.specs.declared.annot.Time.{Time}
 use Rattle.session_core.specs.declared.annot.Time.TheVariants.{NoTime, Span, Point}
@@ -30,7 +31,7 @@ are_rising (a ∷ []) = true
 are_rising (a ∷ b ∷ items) = are_in_order a.time b.time && are_rising (b ∷ items)
 
 abbrev pub is_short : List ℕ → Bool
-is_short label = nat_le (length label) 4096
+is_short label = nat_le (length label) LABEL_BYTES
 
 -- the time has the form of the level's kind and ends below sample 2^40; there is one label for
 -- each attribute, of at most 4,096 bytes
@@ -65,7 +66,7 @@ are_different (n ∷ ns) = not (list_any (nat_eq n) ns) && are_different ns
 -- bundle, and each level keeps the level rule
 abbrev pub is_valid_bundle : Config → BundleParts → Bool
 is_valid_bundle c b =
-    is_rate b.rate && nat_le (item_count b) 65536
+    is_rate b.rate && nat_le (item_count b) BUNDLE_ITEMS
     && are_different (ids_in b.levels) && are_valid_lists c.levels b.levels
 
 -- the keys rise strictly
@@ -78,5 +79,5 @@ are_keys_rising (a ∷ b ∷ bundles) = is_before a.key b.key && are_keys_rising
 -- their keys, each of them valid, and at most 2,000,000 items in all
 abbrev pub is_valid_state : Config → List BundleParts → Bool
 is_valid_state c bundles =
-    is_valid_config c && nat_le (length bundles) 10000 && are_keys_rising bundles
-    && list_all (is_valid_bundle c) bundles && nat_le (all_items bundles) 2000000
+    is_valid_config c && nat_le (length bundles) BUNDLES && are_keys_rising bundles
+    && list_all (is_valid_bundle c) bundles && nat_le (all_items bundles) ALL_ITEMS

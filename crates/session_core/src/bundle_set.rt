@@ -12,15 +12,10 @@ use crate::bundle::{Bundle, Bundles};
 use crate::config::Config;
 use crate::edit::Edit;
 use emu_lists::{PlainData, Series, Shared};
+use emu_names::limits::{ALL_ITEMS, BUNDLES};
 use emu_names::{Broken, BundleKey, Fault, Memory, What};
 use std::alloc::Global;
 use std::marker::Model;
-
-/// The most bundles of a database.
-const MOST_BUNDLES: usize = 10_000;
-
-/// The most items of all bundles together.
-const MOST_ITEMS: usize = 2_000_000;
 
 /// The bundles of a state: their keys rise, and they have at most 2,000,000 items together.
 ///
@@ -64,7 +59,7 @@ fn counted(count: usize, bundle: &Bundle) -> usize
 {
     let mut sum = count;
     for items in bundle.parts().levels.as_slice() {
-        sum = sum.saturating_add(items.len()).min(MOST_ITEMS + 1);
+        sum = sum.saturating_add(items.len()).min(ALL_ITEMS + 1);
     }
     sum
 }
@@ -139,12 +134,12 @@ impl BundleSet {
         let Some(place) = self.free_place(key) else {
             return Err(Fault::Broken(Broken::BundleTaken));
         };
-        if self.list.as_ref().len() >= MOST_BUNDLES {
+        if self.list.as_ref().len() >= BUNDLES {
             return Err(Fault::Broken(Broken::TooMany(What::Bundles)));
         }
         let new = build(alloc, config, key, annot)?;
         let items = counted(self.items, &new);
-        if items > MOST_ITEMS {
+        if items > ALL_ITEMS {
             return Err(Fault::Broken(Broken::TooMany(What::AllItems)));
         }
         self.list.insert(place, Shared::new(alloc, new)?)?;

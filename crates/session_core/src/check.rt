@@ -14,20 +14,9 @@ use crate::annot::{
 };
 use crate::config::{AttributeDef, AttributeDefs, Config, LevelDef, LevelDefs};
 use crate::taken::TakenIds;
+use emu_names::limits::{BUNDLE_ITEMS, LABEL_BYTES, SAMPLES, TOP_RATE};
 use emu_names::{Broken, Fault, ItemId, LevelKind, Text, What};
 use std::alloc::Global;
-
-/// The most bytes of a label.
-const MOST_LABEL_BYTES: usize = 4096;
-
-/// The most items of a bundle.
-const MOST_ITEMS: usize = 65536;
-
-/// The most samples a second.
-const MOST_RATE: u64 = 1_000_000;
-
-/// The first sample that is too late.
-const END_OF_TIME: u64 = 1 << 40;
 
 fn has_name(def: &AttributeDef, name: &Text) -> bool
     ensures { result ≡ same_text def.now.name name.now }
@@ -68,7 +57,7 @@ fn label_passes(
     if are_labelled(before, &label.name) {
         return Err(Fault::Broken(Broken::TwoLabels(label.name.copy(alloc)?)));
     }
-    if label.value.as_str().len() > MOST_LABEL_BYTES {
+    if label.value.as_str().len() > LABEL_BYTES {
         return Err(Fault::Broken(Broken::LabelTooLong));
     }
     Ok(())
@@ -122,8 +111,8 @@ fn is_in_time(time: Time) -> bool
 {
     match time {
         Time::NoTime => true,
-        Time::Span { start, dur } => start < END_OF_TIME && dur < END_OF_TIME - start,
-        Time::Point { at } => at < END_OF_TIME,
+        Time::Span { start, dur } => start < SAMPLES && dur < SAMPLES - start,
+        Time::Point { at } => at < SAMPLES,
     }
 }
 
@@ -256,9 +245,9 @@ fn levels_pass(alloc: Global, defs: &LevelDefs, levels: &AnnotLevels) -> Result<
 
 /// Whether the levels have over 65,536 items together.
 fn are_too_many(levels: &AnnotLevels) -> bool
-    ensures { result ≡ nat_lt 65536 (annot_items levels.now) }
+    ensures { result ≡ nat_lt BUNDLE_ITEMS (annot_items levels.now) }
 {
-    let mut room = MOST_ITEMS;
+    let mut room = BUNDLE_ITEMS;
     for level in levels.as_slice() {
         let count = level.items.len();
         if count > room {
@@ -272,7 +261,7 @@ fn are_too_many(levels: &AnnotLevels) -> bool
 fn is_rate(rate: u64) -> bool
     ensures { result ≡ is_rate rate }
 {
-    1 <= rate && rate <= MOST_RATE
+    1 <= rate && rate <= TOP_RATE
 }
 
 /// Tests an annotation: passes where it breaks no rule, else names the first rule that it breaks.

@@ -1,4 +1,5 @@
 //! The core: a configuration, a history, and what each session holds, changed by one event at a time.
+ghost use Rattle.emu_names.specs.declared.limits.TheConstants.{HISTORY_EDITS};
 ghost use Rattle.emu_names.specs.declared.rules.Fault.{Fault};
 ghost use Rattle.session_core.specs.Effects.{after, IsLegal};
 ghost use Rattle.session_core.specs.Steps.{core_fails, core_step, edit_event, finish_step, look_event, option_list, place_of, query_fails, query_step, session_places, slot, start, steps};
@@ -47,7 +48,7 @@ impl Core {
     /// The core of a configuration and of a history of at most 100,000 entries, with no look open.
     /// A history that breaks a rule is refused by the first rule that it breaks.
     pub fn new(alloc: Global, config: Config, history: Entries) -> Result<Core, Fault>
-        requires { length history ≤ 100000 }
+        requires { length history ≤ HISTORY_EDITS }
         ensures begun { IfOk result (λ core. core ≡ start config history) }
         ensures legal { IfOk result (λ core. IsLegal config history) }
         ensures broken { IfErr result (λ fault. IsFirstFault fault (after config history)) }

@@ -1,4 +1,5 @@
 //! The bundle that an annotation makes.
+ghost use Rattle.emu_names.specs.declared.limits.TheConstants.{TOP_RATE};
 ghost use Rattle.std.specs.Prelude.{◌≡◌, ◌≤◌, ◌<◌, ◌^◌, List, ℕ, map, length, IfOk};
 ghost use Rattle.session_core.specs.Build.{label_named, made_item, items_named, made_level, made_bundle};
 ghost use Rattle.session_core.specs.declared.config.AttributeDef.{AttributeDef};
@@ -88,7 +89,7 @@ pub(crate) fn made_bundle(
     key: &BundleKey,
     annot: &Annot,
 ) -> Result<BundleParts, Memory>
-    requires { annot.now.rate ≤ 1000000 }
+    requires { annot.now.rate ≤ TOP_RATE }
     ensures { IfOk result (λ made. made ≡ made_bundle config.now key.now annot.now) }
 {
     let key = key.copy(alloc)?;

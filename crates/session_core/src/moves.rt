@@ -11,11 +11,9 @@ use crate::edit::{Edit, Entries, Entry};
 use crate::line::{Answer, Ask, Command, Refusal, Reply};
 use crate::queries::answer;
 use crate::slots::{Held, Slots};
+use emu_names::limits::HISTORY_EDITS;
 use emu_names::{Fault, Memory, SessionNo};
 use std::alloc::Global;
-
-/// The most entries of a history.
-const MOST_ENTRIES: usize = 100_000;
 
 /// Where a request comes from, and its command.
 #[derive(Clone, Copy)]
@@ -57,7 +55,7 @@ pub fn replay(alloc: Global, config: &Config, history: &Entries) -> Result<Bundl
 fn is_full(entries: &Entries) -> bool
     ensures { result ≡ is_full_list entries.now }
 {
-    MOST_ENTRIES <= entries.len()
+    HISTORY_EDITS <= entries.len()
 }
 
 /// Tries an edit: the reply to it. It is put last in the history first, and taken out again where it

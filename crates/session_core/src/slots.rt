@@ -6,6 +6,7 @@ use crate::bundle::Bundles;
 use crate::line::Ask;
 use emu_lists::Shared;
 use emu_names::Memory;
+use emu_names::limits::SESSIONS;
 use std::alloc::Global;
 use std::marker::Model;
 
@@ -38,7 +39,7 @@ impl Model for Slots {
 }
 
 /// How many places there are.
-const SESSION_PLACES: usize = 17;
+const SESSION_PLACES: usize = SESSIONS as usize + 1;
 
 impl Slots {
     /// The places, with nothing held. The only refusal is want of memory.
