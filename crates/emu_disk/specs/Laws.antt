@@ -8,7 +8,7 @@ use Rattle.emu_disk.specs.declared.call.Call.{Call}
 use Rattle.emu_disk.specs.declared.call.Call.TheVariants.{Read, Write, Cut, Sync}
 use Rattle.emu_disk.specs.declared.sure.Mark.{Mark}
 use Rattle.emu_disk.specs.Sure.{replay, Held}
-use Rattle.emu_disk.specs.Disk.{put, Torn, Scrambled}
+use Rattle.emu_disk.specs.Disk.{put, Torn, Scrambled, Becomes}
 use Rattle.emu_disk.specs.Memory.{landed, kept, content, effect, Step, Leaves, CutLeaves, SyncLeaves, LeavesAfter, IsImage, WasImage}
 
 put_parts : (at : ℕ) (bytes xs : List ℕ) → put at bytes xs ≡ take at xs ++ (bytes ++ drop (at + length bytes) xs)
@@ -96,3 +96,7 @@ module _ (marks : List Mark) (written bytes : List ℕ) (replays : bytes ≡ rep
 
 pub some_same : (xs ys : List ℕ) → Some xs ≡ Some ys → ys ≡ xs
 some_same xs ys is = cc
+
+-- a step of the bytes, where they are told
+pub becomes_some : (step : List ℕ → List ℕ → Type 0) (xs ys : List ℕ) → step xs ys → Becomes step (Some xs) (Some ys)
+becomes_some step xs ys goes zs is = (ys, refl, subst (λ (l : List ℕ). step l ys) (sym (some_same xs zs is)) goes)

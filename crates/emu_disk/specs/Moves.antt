@@ -1,7 +1,7 @@
 -- How a disk in memory goes on with a call.
 use Rattle.std.specs.Prelude.{◌≡◌, ◌⊎◌, [], ◌∷◌, ◌++◌, Bool, true, false, Result, Ok, Err}
 use Rattle.emu_disk.specs.declared.call.Call.{Call}
-use Rattle.emu_disk.specs.declared.memory.Log.{Log}
+use Rattle.emu_disk.specs.declared.log.Log.{Log}
 
 -- one call more
 pub record Adds (call : Call) (old new : Log) : Type 0 where

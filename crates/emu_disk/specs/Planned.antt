@@ -1,5 +1,5 @@
 -- What callers see of a disk in memory.
-use Rattle.std.specs.Prelude.{◌≡◌, ◌⊎◌, ℕ, ◌+◌, ◌-◌, ◌^◌, min, List, [], ◌∷◌, ◌++◌, length, Bool, true, false, Option, Result, Ok, Err, OnOk}
+use Rattle.std.specs.Prelude.{◌≡◌, ◌⊎◌, ℕ, ◌+◌, ◌-◌, ◌^◌, min, List, [], ◌∷◌, ◌++◌, length, Bool, true, false, Option, Some, Result, Ok, Err, OnOk}
 use Rattle.emu_disk.specs.declared.call.Call.{Call}
 use Rattle.emu_disk.specs.declared.memory.MemoryDisk.{MemoryDisk}
 use Rattle.emu_disk.specs.Memory.{IsImage, WasImage}
@@ -16,6 +16,10 @@ calls_of disk = disk.log.calls.items
 -- the bytes before the first call
 abbrev pub first_of : MemoryDisk → List ℕ
 first_of disk = disk.log.first.items
+
+-- what a read gives, as a disk tells it
+abbrev pub reads_of : MemoryDisk → Option (List ℕ)
+reads_of disk = Some (bytes_of disk)
 
 -- what a crash may leave now
 abbrev pub images_of : MemoryDisk → List ℕ → Type 0

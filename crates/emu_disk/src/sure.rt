@@ -1,13 +1,15 @@
 //! A disk in memory that takes all its room when it is made, for callers that are to succeed without memory.
 ghost use Rattle.std.specs.Prelude.{◌≡◌, ◌+◌, ◌-◌, ◌*◌, ◌<◌, ◌≤◌, ℕ, List, [], ◌∷◌, ◌++◌, Some, length, take, vec_capacity, vec_len, IsOk, IfOk, OnOk, OnErr};
-ghost use Rattle.emu_disk.specs.Disk.{put, IsRead, Torn, Shorter, Scrambled, Follows, Within, Only, Elapses, HasCause};
+ghost use Rattle.fault_counts.specs.Count.{HasCause};
+ghost use Rattle.emu_disk.specs.Disk.{put, told, IsReadOf, HasPlace, Torn, Shorter, Scrambled};
+ghost use Rattle.emu_disk.specs.Disk.{Becomes, Follows, Within, Only, GoesOn};
 ghost use Rattle.emu_disk.specs.Sure.{replay, total};
 ghost use Rattle.emu_disk.specs.Laws.{held_now, held_only_now, some_same};
 
 use crate::bytes::{copy_from, extend, overlay};
 use crate::disk::{Disk, Failed};
 use crate::faults::fault;
-use crate::memory::Memory;
+use crate::shortage::Memory;
 use std::alloc::Global;
 
 // A change: the place and the number of the bytes that a write put, or the length after a cut.
@@ -75,9 +77,9 @@ impl SureDisk {
 }
 
 impl Disk for SureDisk {
-    ghost use Rattle.emu_disk.specs.Roomy.{bytes_of, room_of, images_of, moment_of, past_of, faults_of};
+    ghost use Rattle.emu_disk.specs.Roomy.{bytes_of, reads_of, room_of, images_of, moment_of, past_of, faults_of};
 
-    ghost reads = { λ m. Some (bytes_of m) };
+    ghost reads = { reads_of };
 
     ghost may_leave = { images_of };
 
@@ -97,26 +99,27 @@ impl Disk for SureDisk {
         ensures sure { IsOk result }
         ensures room { room_of self.new ≡ room_of self.old }
         ensures bound { IfOk result (λ n. n ≤ length buf.new) }
-        ensures bytes { IfOk result (λ n. (xs : List ℕ) → Some (bytes_of self.old) ≡ Some xs → IsRead xs at n buf.new) }
-        ensures same { Some (bytes_of self.new) ≡ Some (bytes_of self.old) }
+        ensures bytes { IfOk result (λ n. IsReadOf (reads_of self.old) at n buf.new) }
+        ensures same { reads_of self.new ≡ reads_of self.old }
         ensures crash { Within (images_of self.old) (images_of self.new) }
         ensures all { Within (images_of self.new) (images_of self.old) }
-        ensures time { Elapses (moment_of self.old) (moment_of self.new) (past_of self.old) (past_of self.new) (images_of self.new) }
+        ensures time { GoesOn moment_of past_of images_of self.old self.new }
         ensures cause { HasCause (faults_of self.old) (faults_of self.new) result }
     {
         Ok(copy_from(&self.bytes, at, buf))
     }
 
     fn write_at(&mut self, at: u64, bytes: &[u8]) -> Result<(), Failed>
-        requires { (xs : List ℕ) → Some (bytes_of self.old) ≡ Some xs → at ≤ length xs }
+        requires { HasPlace (reads_of self.old) at }
         ensures sure { length bytes.now ≤ room_of self.old → IsOk result }
         ensures past { OnErr result (room_of self.old < length bytes.now) }
         ensures room { OnOk result (room_of self.new + length bytes.now ≡ room_of self.old) }
         ensures kept { OnErr result (room_of self.new ≡ room_of self.old) }
         ensures same { OnErr result (bytes_of self.new ≡ bytes_of self.old) }
-        ensures written { OnOk result (Some (bytes_of self.new) ≡ Some (put at bytes.now (bytes_of self.old))) }
+        ensures written { OnOk result (reads_of self.new ≡ told (put at bytes.now) (reads_of self.old)) }
+        ensures torn { OnErr result (Becomes (Torn at (length bytes.now)) (reads_of self.old) (reads_of self.new)) }
         ensures crash { Follows (Torn at (length bytes.now)) (images_of self.old) (images_of self.new) }
-        ensures time { Elapses (moment_of self.old) (moment_of self.new) (past_of self.old) (past_of self.new) (images_of self.new) }
+        ensures time { GoesOn moment_of past_of images_of self.old self.new }
         ensures cause { HasCause (faults_of self.old) (faults_of self.new) result }
     {
         if bytes.len() > self.room - self.written.len() {
@@ -135,10 +138,11 @@ impl Disk for SureDisk {
     fn cut(&mut self, len: u64) -> Result<(), Failed>
         ensures sure { IsOk result }
         ensures room { room_of self.new ≡ room_of self.old }
-        ensures cut { OnOk result (Some (bytes_of self.new) ≡ Some (take len (bytes_of self.old))) }
+        ensures cut { OnOk result (reads_of self.new ≡ told (take len) (reads_of self.old)) }
+        ensures left { OnErr result (Becomes (Scrambled len) (reads_of self.old) (reads_of self.new)) }
         ensures crash { OnOk result (Follows (Shorter len) (images_of self.old) (images_of self.new)) }
         ensures scrambled { OnErr result (Follows (Scrambled len) (images_of self.old) (images_of self.new)) }
-        ensures time { Elapses (moment_of self.old) (moment_of self.new) (past_of self.old) (past_of self.new) (images_of self.new) }
+        ensures time { GoesOn moment_of past_of images_of self.old self.new }
         ensures cause { HasCause (faults_of self.old) (faults_of self.new) result }
     {
         if len < self.bytes.len() as u64 {
@@ -151,11 +155,11 @@ impl Disk for SureDisk {
     fn sync(&mut self) -> Result<(), Failed>
         ensures sure { IsOk result }
         ensures room { room_of self.new ≡ room_of self.old }
-        ensures durable { OnOk result (Only (Some (bytes_of self.old)) (images_of self.new)) }
-        ensures same { Some (bytes_of self.new) ≡ Some (bytes_of self.old) }
+        ensures durable { OnOk result (Only (reads_of self.old) (images_of self.new)) }
+        ensures same { reads_of self.new ≡ reads_of self.old }
         ensures crash { Within (images_of self.old) (images_of self.new) }
         ensures all { OnErr result (Within (images_of self.new) (images_of self.old)) }
-        ensures time { Elapses (moment_of self.old) (moment_of self.new) (past_of self.old) (past_of self.new) (images_of self.new) }
+        ensures time { GoesOn moment_of past_of images_of self.old self.new }
         ensures cause { HasCause (faults_of self.old) (faults_of self.new) result }
     {
         Ok(())
