@@ -1,5 +1,5 @@
 //! A disk in memory that takes all its room when it is made, for callers that are to succeed without memory.
-ghost use Rattle.std.specs.Prelude.{◌≡◌, ◌+◌, ◌-◌, ◌*◌, ◌<◌, ◌≤◌, ℕ, List, [], ◌∷◌, ◌++◌, Some, length, take, vec_capacity, vec_len, IsOk, IfOk, OnOk, OnErr};
+ghost use Rattle.std.specs.Prelude.{◌≡◌, ◌+◌, ◌-◌, ◌*◌, ◌<◌, ◌≤◌, ◌^◌, ℕ, List, [], ◌∷◌, ◌++◌, Some, length, take, vec_capacity, vec_len, IsOk, IfOk, OnOk, OnErr};
 ghost use Rattle.fault_counts.specs.Count.{HasCause};
 ghost use Rattle.emu_disk.specs.Disk.{put, told, IsReadOf, HasPlace, Torn, Shorter, Scrambled};
 ghost use Rattle.emu_disk.specs.Disk.{Becomes, Follows, Within, Only, GoesOn};
@@ -15,8 +15,8 @@ use std::alloc::Global;
 // A change: the place and the number of the bytes that a write put, or the length after a cut.
 #[derive(Clone, Copy)]
 enum Mark {
-    Wrote { at: u64, len: u64 },
-    Cut { len: u64 },
+    Wrote { at: u32, len: u32 },
+    Cut { len: u32 },
 }
 
 // Adds a change for which there is room.
@@ -30,6 +30,8 @@ fn push(marks: &mut Vec<Mark>, mark: Mark)
 
 /// A disk in memory with room for a given number of bytes to be written, all writes together. It fails only at
 /// a write that passes this room. Each change is safe at once.
+///
+/// It takes 26 bytes of memory for each byte of room, since it keeps what it held after each change.
 #[derive(Drop)]
 pub struct SureDisk {
     bytes: Vec<u8>,
@@ -42,6 +44,7 @@ pub struct SureDisk {
     ghost few: { length marks.items + length bytes.items ≤ 2 * length written.items },
     ghost short: { length bytes.items ≤ length written.items },
     ghost fits: { length written.items ≤ room },
+    ghost small: { room < 2 ^ 32 },
     ghost room_bytes: { room ≤ vec_capacity bytes },
     ghost room_written: { room ≤ vec_capacity written },
     ghost room_marks: { 2 * room ≤ vec_capacity marks },
@@ -50,19 +53,20 @@ pub struct SureDisk {
 impl SureDisk {
     ghost use Rattle.emu_disk.specs.Roomy.{bytes_of, room_of, faults_of};
 
-    /// A disk of no byte, with room for so many bytes to be written.
+    /// A disk of no byte, with room for so many bytes to be written. Room of 2^32 bytes or more is refused as
+    /// want of memory.
     pub fn new(alloc: Global, room: usize) -> Result<SureDisk, Memory>
         ensures bytes { IfOk result (λ disk. bytes_of disk ≡ []) }
         ensures room { IfOk result (λ disk. room_of disk ≡ room) }
         ensures faults { IfOk result (λ disk. faults_of disk ≡ 0) }
     {
-        let Some(changes) = room.checked_mul(2) else {
+        if room > u32::MAX as usize {
             return Err(Memory);
-        };
+        }
         Ok(SureDisk {
             bytes: Vec::with_capacity(alloc, room)?,
             written: Vec::with_capacity(alloc, room)?,
-            marks: Vec::with_capacity(alloc, changes)?,
+            marks: Vec::with_capacity(alloc, 2 * room)?,
             room,
             faults: 0,
         })
@@ -130,8 +134,11 @@ impl Disk for SureDisk {
         }
         overlay(&mut self.bytes, at as usize, bytes);
         extend(&mut self.written, bytes);
-        let len = bytes.len() as u64;
-        push(&mut self.marks, Mark::Wrote { at, len });
+        let wrote = Mark::Wrote {
+            at: at as u32,
+            len: bytes.len() as u32,
+        };
+        push(&mut self.marks, wrote);
         Ok(())
     }
 
@@ -146,7 +153,7 @@ impl Disk for SureDisk {
         ensures cause { HasCause (faults_of self.old) (faults_of self.new) result }
     {
         if len < self.bytes.len() as u64 {
-            push(&mut self.marks, Mark::Cut { len });
+            push(&mut self.marks, Mark::Cut { len: len as u32 });
             self.bytes.truncate(len as usize);
         }
         Ok(())
