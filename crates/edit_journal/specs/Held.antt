@@ -1,6 +1,7 @@
 -- What a journal holds: a list of bodies, and perhaps one more that a crash may bring back.
-use Rattle.std.specs.Prelude.{◌≡◌, ◌≢◌, ◌⊎◌, ℕ, ◌≤◌, List, [], ◌∷◌, ◌++◌, length, Bool, Option, None, Some, Result}
+use Rattle.std.specs.Prelude.{◌≡◌, ◌≢◌, ◌⊎◌, ℕ, ◌+◌, ◌<◌, ◌≤◌, List, [], ◌∷◌, ◌++◌, length, Bool, Option, None, Some, Result}
 use Rattle.std.specs.Int.{w32, to_be_bytes}
+use Rattle.emu_disk.specs.Disk.{LeavesOnly}
 use Rattle.edit_journal.specs.declared.body.Body.{Body}
 use Rattle.edit_journal.specs.declared.journal.Journal.{Journal}
 use Rattle.edit_journal.specs.declared.journal.Gate.{Gate}
@@ -10,6 +11,10 @@ use Rattle.edit_journal.specs.Store.{limit, start, bodies, IsSized, AreSized, St
 -- the disk that a journal owns
 abbrev pub disk_of : {D : Type 0} → Journal D → D
 disk_of journal = journal.disk
+
+-- the place of a journal's last gate
+abbrev pub end_of : {D : Type 0} → Journal D → ℕ
+end_of journal = journal.end
 
 -- the texts of bodies, without their places
 abbrev pub texts_of : List Body → List (List ℕ)
@@ -51,6 +56,30 @@ pub record Holds {D : Type 0} (may_leave : D → List ℕ → Type 0) (texts : L
   pub by_gate : FitsGate journal.gate texts lost
   pub images : (c : List ℕ) → may_leave journal.disk c → IsHeldBy journal.gate texts lost c
 
+-- whatever bodies a journal holds, and perhaps one in doubt, P is said of them
+abbrev pub ForHeld : {D : Type 0} → (D → List ℕ → Type 0) → Journal D → (List (List ℕ) → Option (List ℕ) → Type 0) → Type 0
+ForHeld may_leave journal P = (texts : List (List ℕ)) (lost : Option (List ℕ)) → Holds may_leave texts lost journal → P texts lost
+
+-- the same, where nothing is in doubt
+abbrev pub ForSettled : {D : Type 0} → (D → List ℕ → Type 0) → Journal D → (List (List ℕ) → Type 0) → Type 0
+ForSettled may_leave journal P = (texts : List (List ℕ)) → Holds may_leave texts None journal → P texts
+
+-- each image of a journal's disk has P
+abbrev pub EachImage : {D : Type 0} → (D → List ℕ → Type 0) → Journal D → (List ℕ → Type 0) → Type 0
+EachImage may_leave journal P = (c : List ℕ) → may_leave (disk_of journal) c → P c
+
+-- a crash at any moment since a journal was the old one leaves bytes that have P
+abbrev pub LeavesIn : {D : Type 0} → (D → ℕ) → (D → ℕ → List ℕ → Type 0) → Journal D → Journal D → (List ℕ → Type 0) → Type 0
+LeavesIn moment left_since old new P = LeavesOnly moment left_since (disk_of old) (disk_of new) P
+
+-- a count of the disk that a journal owns
+abbrev pub count_in : {D : Type 0} → (D → ℕ) → Journal D → ℕ
+count_in count journal = count (disk_of journal)
+
+-- with one body more the store would pass its limit
+abbrev pub PassesLimit : List (List ℕ) → List ℕ → Type 0
+PassesLimit texts body = limit < length (start texts) + 6 + length body
+
 -- the last append answered that the disk failed
 abbrev pub has_failed : {D : Type 0} → Journal D → Bool
 has_failed journal = journal.failed
@@ -60,6 +89,10 @@ pub record IsStagedIn {D : Type 0} (may_leave : D → List ℕ → Type 0) (text
   pub sized : IsSized body
   pub holds : Holds may_leave texts None journal
   pub staged : (c : List ℕ) → may_leave journal.disk c → Stands texts (Some body) c
+
+-- whatever bodies a journal holds with this one behind the gate, P is said of them
+abbrev pub ForStaged : {D : Type 0} → (D → List ℕ → Type 0) → List ℕ → Journal D → (List (List ℕ) → Type 0) → Type 0
+ForStaged may_leave body journal P = (texts : List (List ℕ)) → IsStagedIn may_leave texts body journal → P texts
 
 -- it holds some list
 abbrev pub IsHeld : {D : Type 0} → (D → List ℕ → Type 0) → Journal D → Type 0

@@ -2,11 +2,12 @@
 use Rattle.std.specs.Prelude.{◌≡◌, ℕ, zero, suc, ◌+◌, ◌^◌, ◌≤◌, List, [], ◌∷◌, ◌++◌, length, take, drop, Bool, ◌&&◌, ◌==◌, nat_eq, nat_lt, nat_le, if◌then◌else◌, Result, Ok, Err}
 use Rattle.std.specs.Int.{w32, from_be_bytes, to_be_bytes}
 use Rattle.std.specs.Cmp.Lexicographic.{pointwise}
+use Rattle.emu_names.specs.declared.limits.TheConstants.{STORE_BYTES}
 use Rattle.edit_journal.specs.declared.body.Body.{Body}
 
 -- the most bytes of a store
 abbrev pub limit : ℕ
-limit = 268435456
+limit = STORE_BYTES
 
 -- the eight bytes `EMUSTORE`, with which a store begins
 abbrev pub head : List ℕ
@@ -73,6 +74,7 @@ placed at (body ∷ more) = body_at at body ∷ placed (at + 5 + length body) mo
 abbrev pub IsSized : List ℕ → Type 0
 IsSized body = (1 ≤ length body) × (length body ≤ 2 ^ 28)
 
+-- each of these bodies has 1 to 2^28 bytes
 abbrev pub AreSized : List (List ℕ) → Type 0
 AreSized [] = Unit {0}
 AreSized (body ∷ more) = IsSized body × AreSized more

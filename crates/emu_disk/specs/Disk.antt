@@ -31,6 +31,10 @@ pub record Torn (at n : ℕ) (old new : List ℕ) : Type 0 where
   pub no_shorter : length old ≤ length new
   pub no_longer : length new ≤ max (length old) (at + n)
 
+-- such a write of these bytes
+abbrev pub TornBy : ℕ → List ℕ → List ℕ → List ℕ → Type 0
+TornBy at bytes old new = Torn at (length bytes) old new
+
 -- a cut to n bytes that was done, until the next sync: some length between the old and the new
 pub record Shorter (n : ℕ) (old new : List ℕ) : Type 0 where
   pub no_shorter : min n (length old) ≤ length new

@@ -1,7 +1,7 @@
 //! A disk as its callers see it: what a read gives, what a crash may leave, and how often it has failed.
 ghost use Rattle.std.specs.Prelude.{◌≡◌, ◌≤◌, ℕ, List, Option, Some, length, take, IfOk, OnOk, OnErr};
 ghost use Rattle.fault_counts.specs.Count.{HasCause};
-ghost use Rattle.emu_disk.specs.Disk.{put, told, IsReadOf, HasPlace, Torn, Shorter, Scrambled};
+ghost use Rattle.emu_disk.specs.Disk.{put, told, IsReadOf, HasPlace, TornBy, Shorter, Scrambled};
 ghost use Rattle.emu_disk.specs.Disk.{Becomes, Follows, Within, Only, GoesOn};
 
 /// A call of the disk failed. What it left is said at each call of [`Disk`].
@@ -45,8 +45,10 @@ pub trait Disk {
     fn write_at(&mut self, at: u64, bytes: &[u8]) -> Result<(), Failed>
         requires { HasPlace (reads self.old) at }
         ensures written { OnOk result (reads self.new ≡ told (put at bytes.now) (reads self.old)) }
-        ensures torn { OnErr result (Becomes (Torn at (length bytes.now)) (reads self.old) (reads self.new)) }
-        ensures crash { Follows (Torn at (length bytes.now)) (may_leave self.old) (may_leave self.new) }
+        ensures torn {
+            OnErr result (Becomes (TornBy at bytes.now) (reads self.old) (reads self.new))
+        }
+        ensures crash { Follows (TornBy at bytes.now) (may_leave self.old) (may_leave self.new) }
         ensures time { GoesOn moment left_since may_leave self.old self.new }
         ensures cause { HasCause (faults self.old) (faults self.new) result };
 
@@ -55,8 +57,12 @@ pub trait Disk {
     fn cut(&mut self, len: u64) -> Result<(), Failed>
         ensures cut { OnOk result (reads self.new ≡ told (take len) (reads self.old)) }
         ensures left { OnErr result (Becomes (Scrambled len) (reads self.old) (reads self.new)) }
-        ensures crash { OnOk result (Follows (Shorter len) (may_leave self.old) (may_leave self.new)) }
-        ensures scrambled { OnErr result (Follows (Scrambled len) (may_leave self.old) (may_leave self.new)) }
+        ensures crash {
+            OnOk result (Follows (Shorter len) (may_leave self.old) (may_leave self.new))
+        }
+        ensures scrambled {
+            OnErr result (Follows (Scrambled len) (may_leave self.old) (may_leave self.new))
+        }
         ensures time { GoesOn moment left_since may_leave self.old self.new }
         ensures cause { HasCause (faults self.old) (faults self.new) result };
 

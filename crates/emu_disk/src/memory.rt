@@ -1,7 +1,7 @@
 //! A disk in memory for tests: it keeps its calls, fails where it is told to, and shows what a crash may leave.
 ghost use Rattle.std.specs.Prelude.{◌≡◌, ◌≤◌, ◌++◌, ℕ, List, [], Option, Some, None, length, take, IfOk, OnOk, OnErr};
 ghost use Rattle.fault_counts.specs.Count.{HasCause};
-ghost use Rattle.emu_disk.specs.Disk.{put, told, IsReadOf, HasPlace, Torn, Shorter, Scrambled};
+ghost use Rattle.emu_disk.specs.Disk.{put, told, IsReadOf, HasPlace, TornBy, Shorter, Scrambled};
 ghost use Rattle.emu_disk.specs.Disk.{Becomes, Follows, Within, Only, GoesOn};
 ghost use Rattle.emu_disk.specs.Laws.{as_read_of, image_now, image_only_now};
 
@@ -136,7 +136,9 @@ impl Disk for MemoryDisk {
     ghost only_now = { λ m c was. image_only_now m.log.first.items m.log.calls.items c was };
 
     fn read(&mut self, at: u64, buf: &mut [u8]) -> Result<usize, Failed>
-        ensures made { IsMade (λ done. Call.Read at (length buf.old) done) result self.old self.new }
+        ensures made {
+            IsMade (λ done. Call.Read at (length buf.old) done) result self.old self.new
+        }
         ensures bound { IfOk result (λ n. n ≤ length buf.new) }
         ensures bytes { IfOk result (λ n. IsReadOf (reads_of self.old) at n buf.new) }
         ensures same { reads_of self.new ≡ reads_of self.old }
@@ -155,9 +157,13 @@ impl Disk for MemoryDisk {
     fn write_at(&mut self, at: u64, bytes: &[u8]) -> Result<(), Failed>
         requires { HasPlace (reads_of self.old) at }
         ensures made { IsMade (λ done. Call.Write at bytes.now done) result self.old self.new }
-        ensures written { OnOk result (reads_of self.new ≡ told (put at bytes.now) (reads_of self.old)) }
-        ensures torn { OnErr result (Becomes (Torn at (length bytes.now)) (reads_of self.old) (reads_of self.new)) }
-        ensures crash { Follows (Torn at (length bytes.now)) (images_of self.old) (images_of self.new) }
+        ensures written {
+            OnOk result (reads_of self.new ≡ told (put at bytes.now) (reads_of self.old))
+        }
+        ensures torn {
+            OnErr result (Becomes (TornBy at bytes.now) (reads_of self.old) (reads_of self.new))
+        }
+        ensures crash { Follows (TornBy at bytes.now) (images_of self.old) (images_of self.new) }
         ensures time { GoesOn moment_of past_of images_of self.old self.new }
         ensures cause { HasCause (faults_of self.old) (faults_of self.new) result }
     {
@@ -171,9 +177,15 @@ impl Disk for MemoryDisk {
     fn cut(&mut self, len: u64) -> Result<(), Failed>
         ensures made { IsMade (λ done. Call.Cut len done) result self.old self.new }
         ensures cut { OnOk result (reads_of self.new ≡ told (take len) (reads_of self.old)) }
-        ensures left { OnErr result (Becomes (Scrambled len) (reads_of self.old) (reads_of self.new)) }
-        ensures crash { OnOk result (Follows (Shorter len) (images_of self.old) (images_of self.new)) }
-        ensures scrambled { OnErr result (Follows (Scrambled len) (images_of self.old) (images_of self.new)) }
+        ensures left {
+            OnErr result (Becomes (Scrambled len) (reads_of self.old) (reads_of self.new))
+        }
+        ensures crash {
+            OnOk result (Follows (Shorter len) (images_of self.old) (images_of self.new))
+        }
+        ensures scrambled {
+            OnErr result (Follows (Scrambled len) (images_of self.old) (images_of self.new))
+        }
         ensures time { GoesOn moment_of past_of images_of self.old self.new }
         ensures cause { HasCause (faults_of self.old) (faults_of self.new) result }
     {

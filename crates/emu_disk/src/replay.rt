@@ -1,6 +1,6 @@
 //! What calls do to bytes, and an image that a crash may leave, picked by fates.
 ghost use Rattle.std.specs.Prelude.{◌≡◌, ◌≤◌, IfOk, OnOk, length, take};
-ghost use Rattle.emu_disk.specs.Disk.{put, Torn, Shorter, Scrambled};
+ghost use Rattle.emu_disk.specs.Disk.{put, TornBy, Shorter, Scrambled};
 ghost use Rattle.emu_disk.specs.Memory.{landed, kept, effect, Step, CutLeaves, SyncLeaves};
 
 use crate::call::Call;
@@ -36,7 +36,10 @@ impl Replay {
         fates: &[Fate],
     ) -> Result<(), AllocError>
         ensures bytes { OnOk result (self.new.bytes.items ≡ effect call.now self.old.bytes.items) }
-        ensures image { OnOk result (Step call.now self.old.bytes.items self.old.image.items self.new.image.items) }
+        ensures image {
+            OnOk result (
+                Step call.now self.old.bytes.items self.old.image.items self.new.image.items)
+        }
     {
         match call {
             Call::Read { .. } => Ok(()),
@@ -56,8 +59,12 @@ impl Replay {
         done: bool,
         fates: &[Fate],
     ) -> Result<(), AllocError>
-        ensures bytes { OnOk result (self.new.bytes.items ≡ put at (landed done bytes.now) self.old.bytes.items) }
-        ensures image { OnOk result (Torn at (length bytes.now) self.old.image.items self.new.image.items) }
+        ensures bytes {
+            OnOk result (self.new.bytes.items ≡ put at (landed done bytes.now) self.old.bytes.items)
+        }
+        ensures image {
+            OnOk result (TornBy at bytes.now self.old.image.items self.new.image.items)
+        }
     {
         self.bytes = with_written(alloc, &self.bytes, at, part(bytes, done))?;
         let fate = fates.get(self.changes).copied().unwrap_or(Fate::Whole);
@@ -79,7 +86,10 @@ impl Replay {
 
     fn sync(&mut self, alloc: Global, done: bool) -> Result<(), AllocError>
         ensures bytes { OnOk result (self.new.bytes.items ≡ self.old.bytes.items) }
-        ensures image { OnOk result (SyncLeaves done self.old.bytes.items self.old.image.items self.new.image.items) }
+        ensures image {
+            OnOk result (
+                SyncLeaves done self.old.bytes.items self.old.image.items self.new.image.items)
+        }
     {
         if done {
             self.image = self.bytes.to_vec(alloc)?;
@@ -138,7 +148,7 @@ pub(crate) fn with_written(
 
 // What a fate leaves of a write.
 fn torn(alloc: Global, old: &[u8], at: u64, bytes: &[u8], fate: Fate) -> Result<Vec<u8>, AllocError>
-    ensures { IfOk result (λ v. Torn at (length bytes.now) old.now v.items) }
+    ensures { IfOk result (λ v. TornBy at bytes.now old.now v.items) }
 {
     match fate {
         Fate::Lost => old.to_vec(alloc),

@@ -1,7 +1,7 @@
 //! A disk in memory that takes all its room when it is made, for callers that are to succeed without memory.
 ghost use Rattle.std.specs.Prelude.{◌≡◌, ◌+◌, ◌-◌, ◌*◌, ◌<◌, ◌≤◌, ◌^◌, ℕ, List, [], ◌∷◌, ◌++◌, Some, length, take, vec_capacity, vec_len, IsOk, IfOk, OnOk, OnErr};
 ghost use Rattle.fault_counts.specs.Count.{HasCause};
-ghost use Rattle.emu_disk.specs.Disk.{put, told, IsReadOf, HasPlace, Torn, Shorter, Scrambled};
+ghost use Rattle.emu_disk.specs.Disk.{put, told, IsReadOf, HasPlace, TornBy, Shorter, Scrambled};
 ghost use Rattle.emu_disk.specs.Disk.{Becomes, Follows, Within, Only, GoesOn};
 ghost use Rattle.emu_disk.specs.Sure.{replay, total};
 ghost use Rattle.emu_disk.specs.Laws.{held_now, held_only_now, some_same};
@@ -120,9 +120,13 @@ impl Disk for SureDisk {
         ensures room { OnOk result (room_of self.new + length bytes.now ≡ room_of self.old) }
         ensures kept { OnErr result (room_of self.new ≡ room_of self.old) }
         ensures same { OnErr result (bytes_of self.new ≡ bytes_of self.old) }
-        ensures written { OnOk result (reads_of self.new ≡ told (put at bytes.now) (reads_of self.old)) }
-        ensures torn { OnErr result (Becomes (Torn at (length bytes.now)) (reads_of self.old) (reads_of self.new)) }
-        ensures crash { Follows (Torn at (length bytes.now)) (images_of self.old) (images_of self.new) }
+        ensures written {
+            OnOk result (reads_of self.new ≡ told (put at bytes.now) (reads_of self.old))
+        }
+        ensures torn {
+            OnErr result (Becomes (TornBy at bytes.now) (reads_of self.old) (reads_of self.new))
+        }
+        ensures crash { Follows (TornBy at bytes.now) (images_of self.old) (images_of self.new) }
         ensures time { GoesOn moment_of past_of images_of self.old self.new }
         ensures cause { HasCause (faults_of self.old) (faults_of self.new) result }
     {
@@ -146,9 +150,15 @@ impl Disk for SureDisk {
         ensures sure { IsOk result }
         ensures room { room_of self.new ≡ room_of self.old }
         ensures cut { OnOk result (reads_of self.new ≡ told (take len) (reads_of self.old)) }
-        ensures left { OnErr result (Becomes (Scrambled len) (reads_of self.old) (reads_of self.new)) }
-        ensures crash { OnOk result (Follows (Shorter len) (images_of self.old) (images_of self.new)) }
-        ensures scrambled { OnErr result (Follows (Scrambled len) (images_of self.old) (images_of self.new)) }
+        ensures left {
+            OnErr result (Becomes (Scrambled len) (reads_of self.old) (reads_of self.new))
+        }
+        ensures crash {
+            OnOk result (Follows (Shorter len) (images_of self.old) (images_of self.new))
+        }
+        ensures scrambled {
+            OnErr result (Follows (Scrambled len) (images_of self.old) (images_of self.new))
+        }
         ensures time { GoesOn moment_of past_of images_of self.old self.new }
         ensures cause { HasCause (faults_of self.old) (faults_of self.new) result }
     {
