@@ -37,7 +37,8 @@ pub record IsFound (bytes : List ℕ) (found : Found) : Type 0 where
   pub stands : IsHeldBy found.gate (texts_of found.bodies) None bytes
 
 -- they are those of the bytes that a disk gives, and each image is these bytes
-pub record IsFoundOn (reads : Option (List ℕ)) (may_leave : List ℕ → Type 0) (found : Found) : Type 0 where
+pub record IsFoundOn (reads : Option (List ℕ)) (may_leave : List ℕ → Type 0)
+    (found : Found) : Type 0 where
   pub bytes : List ℕ
   pub told : Tells reads bytes
   pub found_in : IsFound bytes found

@@ -30,16 +30,17 @@ abbrev pub with_front : List Body → Result (List Body) ℕ → Result (List Bo
 with_front front (Ok more) = Ok (front ++ more)
 with_front front (Err at) = Err at
 
--- The bodies from a place on, up to the first gate that is not open (1), or the place of the damage: where a gate
--- is missing, or where the gate stands behind which the length is cut, is 0 or passes the end. Each step needs a
--- byte, so as many steps as there are bytes are enough.
+-- The bodies from a place on, up to the first gate that is not open (1), or the place of the
+-- damage: where a gate is missing, or where the gate stands behind which the length is cut, is 0 or
+-- passes the end. Each step needs a byte, so as many steps as there are bytes are enough.
 abbrev pub walk : ℕ → ℕ → List ℕ → Result (List Body) ℕ
 walk zero at bytes = Err at
 walk (suc steps) at [] = Err at
 walk (suc steps) at (gate ∷ a ∷ b ∷ c ∷ d ∷ rest) =
     if gate == 1 then (
     if is_whole (size_of a b c d) rest
-    then with_front (body_at at (take (size_of a b c d) rest) ∷ []) (walk steps (at + 5 + size_of a b c d) (drop (size_of a b c d) rest))
+    then with_front (body_at at (take (size_of a b c d) rest) ∷ [])
+        (walk steps (at + 5 + size_of a b c d) (drop (size_of a b c d) rest))
     else Err at
     ) else Ok []
 walk (suc steps) at (gate ∷ rest) = if gate == 1 then Err at else Ok []
@@ -49,7 +50,9 @@ abbrev pub bodies : List ℕ → Result (List Body) ℕ
 bodies bytes =
     if nat_le (length bytes) limit then (
     if nat_le (length bytes) 9 then Ok []
-    else (if pointwise nat_eq (take 8 bytes) head then walk (length bytes) 8 (drop 8 bytes) else Err 0)
+    else (
+    if pointwise nat_eq (take 8 bytes) head then walk (length bytes) 8 (drop 8 bytes) else Err 0
+    )
     ) else Err limit
 
 -- a body behind an open gate, as it is written

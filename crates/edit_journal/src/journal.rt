@@ -1,4 +1,5 @@
-//! The journal: a list of bodies on a disk, which grows by one body at a time, safe from a crash at any moment.
+//! The journal: a list of bodies on a disk, which grows by one body at a time, safe from a crash at
+//! any moment.
 ghost use Rattle.std.specs.Prelude.{◌≡◌, ◌⊎◌, ◌+◌, ◌<◌, ◌≤◌, ◌↔◌, ◌++◌, [], ◌∷◌, List, ℕ, Option, None, Some, length, IsTrue, OnOk, OnErr, IsErrOf};
 ghost use Rattle.fault_counts.specs.Count.{HasCause, Rose};
 ghost use Rattle.emu_disk.specs.Disk.{put, HasPlace, TornBy, Follows, LeavesOnly};
@@ -80,7 +81,8 @@ impl<D: Disk> Journal<D> {
         disk
     }
 
-    /// Each image of the disk stands for the bodies that the journal holds, or also for the one in doubt.
+    /// Each image of the disk stands for the bodies that the journal holds, or also for the one in
+    /// doubt.
     pub fn stands(&self)
         requires { IsHeld D.may_leave self.now }
         ensures {
@@ -229,7 +231,8 @@ impl<D: Disk> Journal<D> {
         }
         ensures any_moment {
             ForHeld D.may_leave self.old (λ texts lost.
-                LeavesIn D.moment D.left_since self.old self.new (DuringAppend texts lost frame.now))
+                LeavesIn D.moment D.left_since self.old self.new (
+                    DuringAppend texts lost frame.now))
         }
         ensures cause { HasCause (count_in D.faults self.old) (count_in D.faults self.new) result }
     {
@@ -238,13 +241,13 @@ impl<D: Disk> Journal<D> {
         self.open_gate(frame)
     }
 
-    /// Appends a body. It takes no memory, and refuses `StoreFull` before any call of the disk. Where the disk
-    /// fails the list is as it was, and the journal goes on.
+    /// Appends a body. It takes no memory, and refuses `StoreFull` before any call of the disk.
+    /// Where the disk fails the list is as it was, and the journal goes on.
     ///
-    /// It makes four calls of the disk: it writes the length, the bytes and a closed gate behind the gate, syncs,
-    /// opens the gate, and syncs. Where the store has no gate yet it first writes the head and a closed gate, and
-    /// syncs; where an append before it failed after it had begun to open the gate, it first closes the gate, and
-    /// syncs.
+    /// It makes four calls of the disk: it writes the length, the bytes and a closed gate behind
+    /// the gate, syncs, opens the gate, and syncs. Where the store has no gate yet it first writes
+    /// the head and a closed gate, and syncs; where an append before it failed after it had begun
+    /// to open the gate, it first closes the gate, and syncs.
     pub fn append(&mut self, frame: &Frame) -> Result<(), JournalFault>
         requires { IsHeld D.may_leave self.old }
         ensures held { IsHeld D.may_leave self.new }
@@ -265,11 +268,12 @@ impl<D: Disk> Journal<D> {
                 OnErr result (IsAsBefore D.may_leave texts lost frame.now self.new))
         }
 
-        // A crash at any moment of the call leaves the list from before, with the new body or without; or with the
-        // body in doubt.
+        // A crash at any moment of the call leaves the list from before, with the new body or
+        // without; or with the body in doubt.
         ensures any_moment {
             ForHeld D.may_leave self.old (λ texts lost.
-                LeavesIn D.moment D.left_since self.old self.new (DuringAppend texts lost frame.now))
+                LeavesIn D.moment D.left_since self.old self.new (
+                    DuringAppend texts lost frame.now))
         }
 
         ensures full {

@@ -32,11 +32,12 @@ pub(crate) struct Found {
 }
 
 impl<D: Disk> Journal<D> {
-    /// The journal of a disk, and the bodies of its store. It begins with a sync, reads all and writes nothing.
-    /// `Damaged` comes exactly where the bytes stand for no list of bodies, and says where the damage is: at 0
-    /// where more than 9 bytes do not begin with `EMUSTORE`; where the store ends and a gate should stand; at an
-    /// open gate whose length is cut, is 0 or passes the end; and at 268,435,456 where the store is longer than
-    /// that. A store of at most 9 bytes has no body. After a fault the disk is handed back.
+    /// The journal of a disk, and the bodies of its store. It begins with a sync, reads all and
+    /// writes nothing. `Damaged` comes exactly where the bytes stand for no list of bodies, and
+    /// says where the damage is: at 0 where more than 9 bytes do not begin with `EMUSTORE`; where
+    /// the store ends and a gate should stand; at an open gate whose length is cut, is 0 or passes
+    /// the end; and at 268,435,456 where the store is longer than that. A store of at most 9 bytes
+    /// has no body. After a fault the disk is handed back.
     pub fn recover(alloc: Global, disk: D) -> Result<Recovered<D>, NoJournal<D>>
         ensures bodies { IfOk result (λ r. Reads (D.reads disk) (Ok r.bodies)) }
         ensures holds { IfOk result (λ r. Holds D.may_leave (texts_of r.bodies) None r.journal) }
@@ -108,7 +109,8 @@ fn read_store<D: Disk>(alloc: Global, disk: &mut D) -> Result<Found, JournalFaul
 // Reads all, and finds the bodies, where each image of the disk is what a read gives.
 fn read_safe<D: Disk>(alloc: Global, disk: &mut D) -> Result<Found, JournalFault>
     ensures ok {
-        IfOk result (λ found. (bytes : List ℕ) × Tells (D.reads disk.old) bytes × IsFound bytes found)
+        IfOk result (λ found.
+            (bytes : List ℕ) × Tells (D.reads disk.old) bytes × IsFound bytes found)
     }
     ensures damaged { ForDamage result (λ at. Reads (D.reads disk.old) (Err at)) }
     ensures disk { IsErrOf result JournalFault.Disk → Rose (D.faults disk.old) (D.faults disk.new) }

@@ -10,7 +10,8 @@ abbrev pub told : (List ℕ → List ℕ) → Option (List ℕ) → Option (List
 told f None = None
 told f (Some xs) = Some (f xs)
 
--- A read of buffer's length at a place gave n bytes: as many as fit and are there, and these are the buffer's first.
+-- A read of buffer's length at a place gave n bytes: as many as fit and are there, and these are
+-- the buffer's first.
 pub record IsRead (xs : List ℕ) (at n : ℕ) (buffer : List ℕ) : Type 0 where
   pub count : n ≡ min (length buffer) (length xs - at)
   pub bytes : take n buffer ≡ take n (drop at xs)
@@ -23,8 +24,8 @@ IsReadOf reads at n buffer = (xs : List ℕ) → reads ≡ Some xs → IsRead xs
 abbrev pub HasPlace : Option (List ℕ) → ℕ → Type 0
 HasPlace reads at = (xs : List ℕ) → reads ≡ Some xs → at ≤ length xs
 
--- A write of n bytes at a place, done or not, until the next sync: any bytes in its range and past the old end,
--- the same elsewhere, and a length between the old and the new.
+-- A write of n bytes at a place, done or not, until the next sync: any bytes in its range and past
+-- the old end, the same elsewhere, and a length between the old and the new.
 pub record Torn (at n : ℕ) (old new : List ℕ) : Type 0 where
   pub before : take (min at (length old)) new ≡ take at old
   pub after : drop (at + n) new ≡ drop (at + n) old
@@ -62,18 +63,23 @@ Within old new = (c : List ℕ) → new c → old c
 abbrev pub Only : Option (List ℕ) → (List ℕ → Type 0) → Type 0
 Only reads may_leave = (c : List ℕ) → may_leave c → reads ≡ Some c
 
--- Time goes on: a crash since t might have left what it might have left before, or what it may leave now.
-pub record Elapses (before now : ℕ) (past since : ℕ → List ℕ → Type 0) (may_leave : List ℕ → Type 0) : Type 0 where
+-- Time goes on: a crash since t might have left what it might have left before, or what it may
+-- leave now.
+pub record Elapses (before now : ℕ) (past since : ℕ → List ℕ → Type 0)
+    (may_leave : List ℕ → Type 0) : Type 0 where
   pub later : before ≤ now
   pub nothing_else : (t : ℕ) (c : List ℕ) → t ≤ before → since t c → past t c ⊎ may_leave c
   pub keeps : (t : ℕ) (c : List ℕ) → t ≤ before → past t c → since t c
 
--- Time goes on from one state of a disk to the next, in which a crash leaves what the second may leave.
-abbrev pub GoesOn : {D : Type 0} → (D → ℕ) → (D → ℕ → List ℕ → Type 0) → (D → List ℕ → Type 0) → D → D → Type 0
-GoesOn moment left_since may_leave old new = Elapses (moment old) (moment new) (left_since old) (left_since new) (may_leave new)
+-- time goes on from one state of a disk to the next
+abbrev pub GoesOn : {D : Type 0} → (D → ℕ) → (D → ℕ → List ℕ → Type 0)
+    → (D → List ℕ → Type 0) → D → D → Type 0
+GoesOn moment left_since may_leave old new =
+    Elapses (moment old) (moment new) (left_since old) (left_since new) (may_leave new)
 
 -- a crash at any moment since old leaves bytes that have P
-pub record LeavesOnly {D : Type 0} (moment : D → ℕ) (left_since : D → ℕ → List ℕ → Type 0) (old new : D) (P : List ℕ → Type 0) : Type 0 where
+pub record LeavesOnly {D : Type 0} (moment : D → ℕ) (left_since : D → ℕ → List ℕ → Type 0)
+    (old new : D) (P : List ℕ → Type 0) : Type 0 where
   pub later : moment old ≤ moment new
   pub each : (c : List ℕ) → left_since new (moment old) c → P c
   -- for a run that began earlier

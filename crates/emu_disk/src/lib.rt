@@ -1,4 +1,5 @@
-//! A disk of bytes that may fail at any call and may crash at any moment, in memory and as a real file.
+//! A disk of bytes that may fail at any call and may crash at any moment, in memory and as a real
+//! file.
 #![tactic(auto)]
 
 mod bytes;

@@ -3,7 +3,7 @@ ghost use Rattle.std.specs.Prelude.{◌≡◌, ◌≤◌, length, take, true, If
 ghost use Rattle.emu_disk.specs.Disk.{put, IsRead};
 ghost use Rattle.emu_disk.specs.Memory.{content, effect};
 
-use crate::bytes::{copy_from, overlay};
+use crate::bytes::{copy_from, keep_front, overlay};
 use crate::call::{Call, Written};
 use crate::disk::Failed;
 use crate::replay::part;
@@ -52,8 +52,7 @@ impl Log {
         ensures err { OnErr result (Stays self.old self.new) }
     {
         self.calls.push(call)?;
-        let len = len.min(self.bytes.len() as u64);
-        self.bytes.truncate(len as usize);
+        keep_front(&mut self.bytes, len);
         Ok(())
     }
 
@@ -75,7 +74,13 @@ impl Log {
         Ok(copy_from(&self.bytes, at, buf))
     }
 
-    pub(crate) fn write(&mut self, alloc: Global, at: u64, bytes: &[u8], done: bool) -> Result<(), Failed>
+    pub(crate) fn write(
+        &mut self,
+        alloc: Global,
+        at: u64,
+        bytes: &[u8],
+        done: bool,
+    ) -> Result<(), Failed>
         requires { at ≤ length self.old.bytes.items }
         ensures due { OnOk result (done ≡ true) }
         ensures moves { Keeps (λ done. Call.Write at bytes.now done) result self.old self.new }

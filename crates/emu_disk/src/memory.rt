@@ -1,4 +1,5 @@
-//! A disk in memory for tests: it keeps its calls, fails where it is told to, and shows what a crash may leave.
+//! A disk in memory for tests: it keeps its calls, fails where it is told to, and shows what a
+//! crash may leave.
 ghost use Rattle.std.specs.Prelude.{◌≡◌, ◌≤◌, ◌++◌, ℕ, List, [], Option, Some, None, length, take, IfOk, OnOk, OnErr};
 ghost use Rattle.fault_counts.specs.Count.{HasCause};
 ghost use Rattle.emu_disk.specs.Disk.{put, told, IsReadOf, HasPlace, TornBy, Shorter, Scrambled};
@@ -14,8 +15,9 @@ use crate::replay::{Fate, Replay};
 use crate::shortage::Memory;
 use std::alloc::Global;
 
-/// A disk in memory. It keeps a list of all its calls, fails at the calls that it is told to, and shows what
-/// a crash may leave. A call for which it gets no memory fails too, and then changes nothing.
+/// A disk in memory. It keeps a list of all its calls, fails at the calls that it is told to, and
+/// shows what a crash may leave. A call for which it gets no memory fails too, and then changes
+/// nothing.
 ///
 /// Of a write that fails the first half of the bytes lands. A cut that fails cuts nothing.
 #[derive(Drop)]
@@ -92,8 +94,8 @@ impl MemoryDisk {
         &self.log.bytes
     }
 
-    /// An image that a crash may leave now. Each write and cut since the last sync that succeeded meets its
-    /// fate, in order; those behind the list's end are whole.
+    /// An image that a crash may leave now. Each write and cut since the last sync that succeeded
+    /// meets its fate, in order; those behind the list's end are whole.
     pub fn image(&self, alloc: Global, fates: &[Fate]) -> Result<Vec<u8>, Memory>
         ensures { IfOk result (λ image. images_of self.now image.items) }
     {
@@ -129,9 +131,14 @@ impl Disk for MemoryDisk {
 
     ghost faults = { faults_of };
 
-    ghost as_read = { λ m xs is. as_read_of m.log.first.items m.log.calls.items m.log.bytes.items xs m.log.replays is };
+    ghost as_read = {
+        λ m xs is.
+            as_read_of m.log.first.items m.log.calls.items m.log.bytes.items xs m.log.replays is
+    };
 
-    ghost counts_now = { λ m t c le image. image_now m.log.first.items m.log.calls.items t c le image };
+    ghost counts_now = {
+        λ m t c le image. image_now m.log.first.items m.log.calls.items t c le image
+    };
 
     ghost only_now = { λ m c was. image_only_now m.log.first.items m.log.calls.items c was };
 

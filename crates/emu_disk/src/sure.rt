@@ -1,4 +1,5 @@
-//! A disk in memory that takes all its room when it is made, for callers that are to succeed without memory.
+//! A disk in memory that takes all its room when it is made, for callers that are to succeed
+//! without memory.
 ghost use Rattle.std.specs.Prelude.{◌≡◌, ◌+◌, ◌-◌, ◌*◌, ◌<◌, ◌≤◌, ◌^◌, ℕ, List, [], ◌∷◌, ◌++◌, Some, length, take, vec_capacity, vec_len, IsOk, IfOk, OnOk, OnErr};
 ghost use Rattle.fault_counts.specs.Count.{HasCause};
 ghost use Rattle.emu_disk.specs.Disk.{put, told, IsReadOf, HasPlace, TornBy, Shorter, Scrambled};
@@ -28,10 +29,11 @@ fn push(marks: &mut Vec<Mark>, mark: Mark)
     marks.push(mark).unwrap();
 }
 
-/// A disk in memory with room for a given number of bytes to be written, all writes together. It fails only at
-/// a write that passes this room. Each change is safe at once.
+/// A disk in memory with room for a given number of bytes to be written, all writes together. It
+/// fails only at a write that passes this room. Each change is safe at once.
 ///
-/// It takes 26 bytes of memory for each byte of room, since it keeps what it held after each change.
+/// It takes 26 bytes of memory for each byte of room, since it keeps what it held after each
+/// change.
 #[derive(Drop)]
 pub struct SureDisk {
     bytes: Vec<u8>,
@@ -53,8 +55,8 @@ pub struct SureDisk {
 impl SureDisk {
     ghost use Rattle.emu_disk.specs.Roomy.{bytes_of, room_of, faults_of};
 
-    /// A disk of no byte, with room for so many bytes to be written. Room of 2^32 bytes or more is refused as
-    /// want of memory.
+    /// A disk of no byte, with room for so many bytes to be written. Room of 2^32 bytes or more is
+    /// refused as want of memory.
     pub fn new(alloc: Global, room: usize) -> Result<SureDisk, Memory>
         ensures bytes { IfOk result (λ disk. bytes_of disk ≡ []) }
         ensures room { IfOk result (λ disk. room_of disk ≡ room) }
@@ -95,9 +97,13 @@ impl Disk for SureDisk {
 
     ghost as_read = { λ m xs is. some_same (bytes_of m) xs is };
 
-    ghost counts_now = { λ m t c le image. held_now m.marks.items m.written.items m.bytes.items m.replays t c le image };
+    ghost counts_now = {
+        λ m t c le is. held_now m.marks.items m.written.items m.bytes.items m.replays t c le is
+    };
 
-    ghost only_now = { λ m c held. held_only_now m.marks.items m.written.items m.bytes.items m.replays c held };
+    ghost only_now = {
+        λ m c held. held_only_now m.marks.items m.written.items m.bytes.items m.replays c held
+    };
 
     fn read(&mut self, at: u64, buf: &mut [u8]) -> Result<usize, Failed>
         ensures sure { IsOk result }
