@@ -40,7 +40,7 @@ walk (suc steps) at (gate ∷ a ∷ b ∷ c ∷ d ∷ rest) =
     if gate == 1 then (
     if is_whole (size_of a b c d) rest
     then with_front (body_at at (take (size_of a b c d) rest) ∷ [])
-        (walk steps (at + 5 + size_of a b c d) (drop (size_of a b c d) rest))
+    (walk steps (at + 5 + size_of a b c d) (drop (size_of a b c d) rest))
     else Err at
     ) else Ok []
 walk (suc steps) at (gate ∷ rest) = if gate == 1 then Err at else Ok []

@@ -37,15 +37,11 @@ pub struct Journal<D: Disk> {
 // Writes, and syncs.
 fn write_safely<D: Disk>(disk: &mut D, at: u64, bytes: &[u8]) -> Result<(), Failed>
     requires { HasPlace (D.reads disk.old) at }
-    ensures done {
-        OnOk result (
-            Follows (λ d c. c ≡ put at bytes.now d) (D.may_leave disk.old) (D.may_leave disk.new))
-    }
+    ensures done { OnOk result (
+        Follows (λ d c. c ≡ put at bytes.now d) (D.may_leave disk.old) (D.may_leave disk.new)) }
     ensures crash { Follows (TornBy at bytes.now) (D.may_leave disk.old) (D.may_leave disk.new) }
-    ensures any_moment {
-        LeavesOnly D.moment D.left_since disk.old disk.new (λ c.
-            (d : List ℕ) × D.may_leave disk.old d × TornBy at bytes.now d c)
-    }
+    ensures any_moment { LeavesOnly D.moment D.left_since disk.old disk.new (λ c.
+        (d : List ℕ) × D.may_leave disk.old d × TornBy at bytes.now d c) }
     ensures cause { HasCause (D.faults disk.old) (D.faults disk.new) result }
 {
     disk.write_at(at, bytes)?;
@@ -85,27 +81,19 @@ impl<D: Disk> Journal<D> {
     /// doubt.
     pub fn stands(&self)
         requires { IsHeld D.may_leave self.now }
-        ensures {
-            ForHeld D.may_leave self.now (λ texts lost.
-                EachImage D.may_leave self.now (MayHave texts lost))
-        }
+        ensures { ForHeld D.may_leave self.now (λ texts lost.
+            EachImage D.may_leave self.now (MayHave texts lost)) }
     {}
 
     // Writes the head and a closed gate.
     fn begin(&mut self) -> Result<(), Failed>
         requires missing { self.old.gate ≡ Gate.Missing }
-        ensures ok {
-            ForHeld D.may_leave self.old (λ texts lost.
-                OnOk result (Holds D.may_leave texts None self.new))
-        }
-        ensures err {
-            ForHeld D.may_leave self.old (λ texts lost.
-                OnErr result (Holds D.may_leave texts lost self.new))
-        }
-        ensures any_moment {
-            ForHeld D.may_leave self.old (λ texts lost.
-                LeavesIn D.moment D.left_since self.old self.new (MayHave texts lost))
-        }
+        ensures ok { ForHeld D.may_leave self.old (λ texts lost.
+            OnOk result (Holds D.may_leave texts None self.new)) }
+        ensures err { ForHeld D.may_leave self.old (λ texts lost.
+            OnErr result (Holds D.may_leave texts lost self.new)) }
+        ensures any_moment { ForHeld D.may_leave self.old (λ texts lost.
+            LeavesIn D.moment D.left_since self.old self.new (MayHave texts lost)) }
         ensures gate { OnOk result (self.new.gate ≡ Gate.Closed) }
         ensures end { self.new.end ≡ self.old.end }
         ensures cause { HasCause (count_in D.faults self.old) (count_in D.faults self.new) result }
@@ -119,18 +107,12 @@ impl<D: Disk> Journal<D> {
     fn shut(&mut self) -> Result<(), Failed>
         requires held { IsHeld D.may_leave self.old }
         requires in_doubt { self.old.gate ≡ Gate.InDoubt }
-        ensures ok {
-            ForHeld D.may_leave self.old (λ texts lost.
-                OnOk result (Holds D.may_leave texts None self.new))
-        }
-        ensures err {
-            ForHeld D.may_leave self.old (λ texts lost.
-                OnErr result (Holds D.may_leave texts lost self.new))
-        }
-        ensures any_moment {
-            ForHeld D.may_leave self.old (λ texts lost.
-                LeavesIn D.moment D.left_since self.old self.new (MayHave texts lost))
-        }
+        ensures ok { ForHeld D.may_leave self.old (λ texts lost.
+            OnOk result (Holds D.may_leave texts None self.new)) }
+        ensures err { ForHeld D.may_leave self.old (λ texts lost.
+            OnErr result (Holds D.may_leave texts lost self.new)) }
+        ensures any_moment { ForHeld D.may_leave self.old (λ texts lost.
+            LeavesIn D.moment D.left_since self.old self.new (MayHave texts lost)) }
         ensures gate { OnOk result (self.new.gate ≡ Gate.Closed) }
         ensures end { self.new.end ≡ self.old.end }
         ensures cause { HasCause (count_in D.faults self.old) (count_in D.faults self.new) result }
@@ -143,18 +125,12 @@ impl<D: Disk> Journal<D> {
     // Sees that the list ends at a gate that is closed after every crash.
     fn settle(&mut self) -> Result<(), Failed>
         requires held { IsHeld D.may_leave self.old }
-        ensures ok {
-            ForHeld D.may_leave self.old (λ texts lost.
-                OnOk result (Holds D.may_leave texts None self.new))
-        }
-        ensures err {
-            ForHeld D.may_leave self.old (λ texts lost.
-                OnErr result (Holds D.may_leave texts lost self.new))
-        }
-        ensures any_moment {
-            ForHeld D.may_leave self.old (λ texts lost.
-                LeavesIn D.moment D.left_since self.old self.new (MayHave texts lost))
-        }
+        ensures ok { ForHeld D.may_leave self.old (λ texts lost.
+            OnOk result (Holds D.may_leave texts None self.new)) }
+        ensures err { ForHeld D.may_leave self.old (λ texts lost.
+            OnErr result (Holds D.may_leave texts lost self.new)) }
+        ensures any_moment { ForHeld D.may_leave self.old (λ texts lost.
+            LeavesIn D.moment D.left_since self.old self.new (MayHave texts lost)) }
         ensures gate { OnOk result (self.new.gate ≡ Gate.Closed) }
         ensures end { self.new.end ≡ self.old.end }
         ensures cause { HasCause (count_in D.faults self.old) (count_in D.faults self.new) result }
@@ -171,18 +147,12 @@ impl<D: Disk> Journal<D> {
         requires held { IsHeld D.may_leave self.old }
         requires closed { self.old.gate ≡ Gate.Closed }
         requires fits { self.old.end + 6 + length frame.now ≤ limit }
-        ensures ok {
-            ForSettled D.may_leave self.old (λ texts.
-                OnOk result (IsStagedIn D.may_leave texts frame.now self.new))
-        }
-        ensures err {
-            ForSettled D.may_leave self.old (λ texts.
-                OnErr result (Holds D.may_leave texts None self.new))
-        }
-        ensures any_moment {
-            ForSettled D.may_leave self.old (λ texts.
-                LeavesIn D.moment D.left_since self.old self.new (StandsFor texts))
-        }
+        ensures ok { ForSettled D.may_leave self.old (λ texts.
+            OnOk result (IsStagedIn D.may_leave texts frame.now self.new)) }
+        ensures err { ForSettled D.may_leave self.old (λ texts.
+            OnErr result (Holds D.may_leave texts None self.new)) }
+        ensures any_moment { ForSettled D.may_leave self.old (λ texts.
+            LeavesIn D.moment D.left_since self.old self.new (StandsFor texts)) }
         ensures gate { self.new.gate ≡ Gate.Closed }
         ensures end { self.new.end ≡ self.old.end }
         ensures cause { HasCause (count_in D.faults self.old) (count_in D.faults self.new) result }
@@ -195,18 +165,12 @@ impl<D: Disk> Journal<D> {
         requires held { IsHeld D.may_leave self.old }
         requires closed { self.old.gate ≡ Gate.Closed }
         requires fits { self.old.end + 6 + length frame.now ≤ limit }
-        ensures ok {
-            ForStaged D.may_leave frame.now self.old (λ texts.
-                OnOk result (Holds D.may_leave (texts ++ frame.now ∷ []) None self.new))
-        }
-        ensures err {
-            ForStaged D.may_leave frame.now self.old (λ texts.
-                OnErr result (Holds D.may_leave texts (Some frame.now) self.new))
-        }
-        ensures any_moment {
-            ForStaged D.may_leave frame.now self.old (λ texts.
-                LeavesIn D.moment D.left_since self.old self.new (MayHave texts (Some frame.now)))
-        }
+        ensures ok { ForStaged D.may_leave frame.now self.old (λ texts.
+            OnOk result (Holds D.may_leave (texts ++ frame.now ∷ []) None self.new)) }
+        ensures err { ForStaged D.may_leave frame.now self.old (λ texts.
+            OnErr result (Holds D.may_leave texts (Some frame.now) self.new)) }
+        ensures any_moment { ForStaged D.may_leave frame.now self.old (λ texts.
+            LeavesIn D.moment D.left_since self.old self.new (MayHave texts (Some frame.now))) }
         ensures cause { HasCause (count_in D.faults self.old) (count_in D.faults self.new) result }
     {
         self.gate = Gate::InDoubt;
@@ -221,19 +185,13 @@ impl<D: Disk> Journal<D> {
         requires held { IsHeld D.may_leave self.old }
         requires fits { self.old.end + 6 + length frame.now ≤ limit }
         ensures held { IsHeld D.may_leave self.new }
-        ensures ok {
-            ForHeld D.may_leave self.old (λ texts lost.
-                OnOk result (Holds D.may_leave (texts ++ frame.now ∷ []) None self.new))
-        }
-        ensures err {
-            ForHeld D.may_leave self.old (λ texts lost.
-                OnErr result (IsAsBefore D.may_leave texts lost frame.now self.new))
-        }
-        ensures any_moment {
-            ForHeld D.may_leave self.old (λ texts lost.
-                LeavesIn D.moment D.left_since self.old self.new (
-                    DuringAppend texts lost frame.now))
-        }
+        ensures ok { ForHeld D.may_leave self.old (λ texts lost.
+            OnOk result (Holds D.may_leave (texts ++ frame.now ∷ []) None self.new)) }
+        ensures err { ForHeld D.may_leave self.old (λ texts lost.
+            OnErr result (IsAsBefore D.may_leave texts lost frame.now self.new)) }
+        ensures any_moment { ForHeld D.may_leave self.old (λ texts lost.
+            LeavesIn D.moment D.left_since self.old self.new (
+            DuringAppend texts lost frame.now)) }
         ensures cause { HasCause (count_in D.faults self.old) (count_in D.faults self.new) result }
     {
         self.settle()?;
@@ -253,50 +211,32 @@ impl<D: Disk> Journal<D> {
         ensures held { IsHeld D.may_leave self.new }
 
         // After Ok the body is the list's last, and every crash leaves it.
-        ensures ok {
-            ForHeld D.may_leave self.old (λ texts lost.
-                OnOk result (Holds D.may_leave (texts ++ frame.now ∷ []) None self.new))
-        }
-        ensures safe {
-            ForHeld D.may_leave self.old (λ texts lost.
-                OnOk result (EachImage D.may_leave self.new (StandsFor (texts ++ frame.now ∷ []))))
-        }
+        ensures ok { ForHeld D.may_leave self.old (λ texts lost.
+            OnOk result (Holds D.may_leave (texts ++ frame.now ∷ []) None self.new)) }
+        ensures safe { ForHeld D.may_leave self.old (λ texts lost.
+            OnOk result (EachImage D.may_leave self.new (StandsFor (texts ++ frame.now ∷ [])))) }
 
         // After a refusal the list is as before.
-        ensures err {
-            ForHeld D.may_leave self.old (λ texts lost.
-                OnErr result (IsAsBefore D.may_leave texts lost frame.now self.new))
-        }
+        ensures err { ForHeld D.may_leave self.old (λ texts lost.
+            OnErr result (IsAsBefore D.may_leave texts lost frame.now self.new)) }
 
         // A crash at any moment of the call leaves the list from before, with the new body or
         // without; or with the body in doubt.
-        ensures any_moment {
-            ForHeld D.may_leave self.old (λ texts lost.
-                LeavesIn D.moment D.left_since self.old self.new (
-                    DuringAppend texts lost frame.now))
-        }
+        ensures any_moment { ForHeld D.may_leave self.old (λ texts lost.
+            LeavesIn D.moment D.left_since self.old self.new (
+            DuringAppend texts lost frame.now)) }
 
-        ensures full {
-            ForHeld D.may_leave self.old (λ texts lost.
-                IsErrOf result JournalFault.StoreFull ↔ PassesLimit texts frame.now)
-        }
-        ensures untouched {
-            IsErrOf result JournalFault.StoreFull → disk_of self.new ≡ disk_of self.old
-        }
-        ensures full_same {
-            IsErrOf result JournalFault.StoreFull →
-                ForHeld D.may_leave self.old (λ texts lost. Holds D.may_leave texts lost self.new)
-        }
-        ensures disk {
-            IsErrOf result JournalFault.Disk →
-                Rose (count_in D.faults self.old) (count_in D.faults self.new)
-        }
+        ensures full { ForHeld D.may_leave self.old (λ texts lost.
+            IsErrOf result JournalFault.StoreFull ↔ PassesLimit texts frame.now) }
+        ensures untouched { IsErrOf result JournalFault.StoreFull → disk_of self.new ≡ disk_of self.old }
+        ensures full_same { IsErrOf result JournalFault.StoreFull →
+            ForHeld D.may_leave self.old (λ texts lost. Holds D.may_leave texts lost self.new) }
+        ensures disk { IsErrOf result JournalFault.Disk →
+            Rose (count_in D.faults self.old) (count_in D.faults self.new) }
         ensures failed { IsTrue (has_failed self.new) ↔ IsErrOf result JournalFault.Disk }
         ensures later { count_in D.faults self.old ≤ count_in D.faults self.new }
-        ensures no_other {
-            OnErr result (
-                IsErrOf result JournalFault.StoreFull ⊎ IsErrOf result JournalFault.Disk)
-        }
+        ensures no_other { OnErr result (
+            IsErrOf result JournalFault.StoreFull ⊎ IsErrOf result JournalFault.Disk) }
     {
         if STORE_BYTES - self.end < 6 + frame.len() {
             self.failed = false;

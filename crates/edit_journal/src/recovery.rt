@@ -48,26 +48,18 @@ impl<D: Disk> Journal<D> {
         ensures places { IfOk result (λ r. r.bodies ≡ placed 8 (texts_of r.bodies)) }
         ensures end { IfOk result (λ r. end_of r.journal ≡ length (start (texts_of r.bodies))) }
 
-        ensures damaged {
-            IfErr result (λ e.
-                (at : ℕ) → e.fault ≡ JournalFault.Damaged at → Reads (D.reads disk) (Err at))
-        }
-        ensures disk {
-            IfErr result (λ e.
-                e.fault ≡ JournalFault.Disk → Rose (D.faults disk) (D.faults e.disk))
-        }
+        ensures damaged { IfErr result (λ e.
+            (at : ℕ) → e.fault ≡ JournalFault.Damaged at → Reads (D.reads disk) (Err at)) }
+        ensures disk { IfErr result (λ e.
+            e.fault ≡ JournalFault.Disk → Rose (D.faults disk) (D.faults e.disk)) }
         ensures not_full { IfErr result (λ e. e.fault ≡ JournalFault.StoreFull → ⊥) }
 
         // It writes nothing: the disk reads as before, and no image is new at any moment.
         ensures same { IfOk result (λ r. D.reads (disk_of r.journal) ≡ D.reads disk) }
         ensures same_err { IfErr result (λ e. D.reads e.disk ≡ D.reads disk) }
-        ensures any_moment {
-            IfOk result (λ r.
-                LeavesOnly D.moment D.left_since disk (disk_of r.journal) (D.may_leave disk))
-        }
-        ensures any_moment_err {
-            IfErr result (λ e. LeavesOnly D.moment D.left_since disk e.disk (D.may_leave disk))
-        }
+        ensures any_moment { IfOk result (λ r.
+            LeavesOnly D.moment D.left_since disk (disk_of r.journal) (D.may_leave disk)) }
+        ensures any_moment_err { IfErr result (λ e. LeavesOnly D.moment D.left_since disk e.disk (D.may_leave disk)) }
         ensures later { IfOk result (λ r. D.faults disk ≤ D.faults (disk_of r.journal)) }
         ensures later_err { IfErr result (λ e. D.faults disk ≤ D.faults e.disk) }
     {
@@ -108,10 +100,8 @@ fn read_store<D: Disk>(alloc: Global, disk: &mut D) -> Result<Found, JournalFaul
 
 // Reads all, and finds the bodies, where each image of the disk is what a read gives.
 fn read_safe<D: Disk>(alloc: Global, disk: &mut D) -> Result<Found, JournalFault>
-    ensures ok {
-        IfOk result (λ found.
-            (bytes : List ℕ) × Tells (D.reads disk.old) bytes × IsFound bytes found)
-    }
+    ensures ok { IfOk result (λ found.
+        (bytes : List ℕ) × Tells (D.reads disk.old) bytes × IsFound bytes found) }
     ensures damaged { ForDamage result (λ at. Reads (D.reads disk.old) (Err at)) }
     ensures disk { IsErrOf result JournalFault.Disk → Rose (D.faults disk.old) (D.faults disk.new) }
     ensures not_full { IsErrOf result JournalFault.StoreFull → ⊥ }

@@ -39,10 +39,8 @@ impl Replay {
         fates: &[Fate],
     ) -> Result<(), AllocError>
         ensures bytes { OnOk result (self.new.bytes.items ≡ effect call.now self.old.bytes.items) }
-        ensures image {
-            OnOk result (
-                Step call.now self.old.bytes.items self.old.image.items self.new.image.items)
-        }
+        ensures image { OnOk result (
+            Step call.now self.old.bytes.items self.old.image.items self.new.image.items) }
     {
         match call {
             Call::Read { .. } => Ok(()),
@@ -65,12 +63,8 @@ impl Replay {
         done: bool,
         fates: &[Fate],
     ) -> Result<(), AllocError>
-        ensures bytes {
-            OnOk result (self.new.bytes.items ≡ put at (landed done bytes.now) self.old.bytes.items)
-        }
-        ensures image {
-            OnOk result (TornBy at bytes.now self.old.image.items self.new.image.items)
-        }
+        ensures bytes { OnOk result (self.new.bytes.items ≡ put at (landed done bytes.now) self.old.bytes.items) }
+        ensures image { OnOk result (TornBy at bytes.now self.old.image.items self.new.image.items) }
     {
         write_over(&mut self.bytes, at, part(bytes, done))?;
         let fate = fates.get(self.changes).copied().unwrap_or(Fate::Whole);
@@ -91,10 +85,8 @@ impl Replay {
 
     fn sync(&mut self, alloc: Global, done: bool) -> Result<(), AllocError>
         ensures bytes { OnOk result (self.new.bytes.items ≡ self.old.bytes.items) }
-        ensures image {
-            OnOk result (
-                SyncLeaves done self.old.bytes.items self.old.image.items self.new.image.items)
-        }
+        ensures image { OnOk result (
+            SyncLeaves done self.old.bytes.items self.old.image.items self.new.image.items) }
     {
         if done {
             self.image = self.bytes.to_vec(alloc)?;
