@@ -27,10 +27,12 @@ impl Model for ListSource {
 
     ghost Value = { ListedSource };
 
-    ghost view = {
-        λ s. record {
-            left = drop s.at s.bytes.items; calls = s.calls; fails = s.fails.items; faults = s.faults }
-    };
+    ghost view = { λ s. record {
+      left = drop s.at s.bytes.items;
+      calls = s.calls;
+      fails = s.fails.items;
+      faults = s.faults;
+    } };
 
     ghost invariant = { λ s. s.at ≤ length s.bytes.items };
 }
@@ -113,10 +115,12 @@ impl Model for ListSink {
 
     ghost Value = { ListedSink };
 
-    ghost view = {
-        λ s. record {
-            written = s.bytes.items; calls = s.calls; fails = s.fails.items; faults = s.faults }
-    };
+    ghost view = { λ s. record {
+      written = s.bytes.items;
+      calls = s.calls;
+      fails = s.fails.items;
+      faults = s.faults;
+    } };
 }
 
 impl ListSink {
@@ -160,9 +164,7 @@ impl Sink for ListSink {
     fn write(&mut self, buf: &[u8]) -> Result<usize, Failed>
         ensures bound { WritesAtMost result buf.now }
         ensures some { IfOk result (λ n. 0 < length buf.now → 0 < n) }
-        ensures bytes {
-            WriteAppends (Some self.old.written) (Some self.new.written) result buf.now
-        }
+        ensures bytes { WriteAppends (Some self.old.written) (Some self.new.written) result buf.now }
         ensures cause { HasCause self.old.faults self.new.faults result }
 
         // It fails at the listed calls, and else, unless memory runs out, takes all.

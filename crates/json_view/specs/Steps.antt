@@ -2,7 +2,6 @@
 use Rattle.std.specs.Prelude.{List, ◌++◌, Result, Ok, Err}
 
 infixl 10 ◌>>=◌
-
 -- the second reading, of what the first gave
 abbrev pub ◌>>=◌ : {A B E : Type 0} → Result A E → (A → Result B E) → Result B E
 Ok x >>= f = f x

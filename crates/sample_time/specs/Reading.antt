@@ -44,7 +44,7 @@ unfoldable pub power_at : List ℕ → Option (Bool × List ℕ)
 power_at [] = Some (false, [])
 power_at (b ∷ bs) =
     if (b == 101 || b == 69) && nat_lt 0 (length (after_sign bs))
-        && digit_count (after_sign bs) == length (after_sign bs)
+    && digit_count (after_sign bs) == length (after_sign bs)
     then Some (has_minus bs, after_sign bs) else None
 
 -- the parts of a decimal
@@ -104,9 +104,9 @@ unfoldable pub value_of : ℕ → DecimalText → Result Decimal NumberFault
 value_of bytes parts =
     if nat_lt bytes (2 ^ 30) && nat_le (power_size parts) 9999
     then ok_or
-        (option_map (with_exponent parts)
-        (option_and_then (push_all parts.fraction) (push_all parts.whole no_digits)))
-        TooManyDigits
+    (option_map (with_exponent parts)
+    (option_and_then (push_all parts.fraction) (push_all parts.whole no_digits)))
+    TooManyDigits
     else Err TooManyDigits
 
 -- the value of the parts, where a text has any
