@@ -69,13 +69,14 @@ fn each_form_has_its_word(rt: HostRuntime) -> Result<(), Fail> {
     ] {
         expect_word(&rt, rt.alloc(), &root, wanted, word)?;
     }
-    Ok(())
+    expect(&rt, rt.alloc(), root.object(), "ok")
 }
 
 /// The faults of a text.
 fn expect_of_text(rt: &impl Abort, alloc: Global, text: &View) -> Result<(), Fail> {
     expect(rt, alloc, text.text(), "ok")?;
     expect(rt, alloc, text.optional("b"), "$.text: object wanted")?;
+    expect(rt, alloc, text.object(), "$.text: object wanted")?;
     expect(
         rt,
         alloc,

@@ -1,6 +1,7 @@
 -- What a journal holds: a list of bodies, and perhaps one more that a crash may bring back.
-use Rattle.std.specs.Prelude.{◌≡◌, ◌≢◌, ◌⊎◌, ℕ, ◌≤◌, List, [], ◌∷◌, ◌++◌, length, Bool, Option, None, Some, Result}
+use Rattle.std.specs.Prelude.{◌≡◌, ◌≢◌, ◌⊎◌, ℕ, ◌+◌, ◌<◌, ◌≤◌, List, [], ◌∷◌, ◌++◌, length, Bool, Option, None, Some, Result}
 use Rattle.std.specs.Int.{w32, to_be_bytes}
+use Rattle.emu_disk.specs.Disk.{LeavesOnly}
 use Rattle.edit_journal.specs.declared.body.Body.{Body}
 use Rattle.edit_journal.specs.declared.journal.Journal.{Journal}
 use Rattle.edit_journal.specs.declared.journal.Gate.{Gate}
@@ -11,16 +12,22 @@ use Rattle.edit_journal.specs.Store.{limit, start, bodies, IsSized, AreSized, St
 abbrev pub disk_of : {D : Type 0} → Journal D → D
 disk_of journal = journal.disk
 
+-- the place of a journal's last gate
+abbrev pub end_of : {D : Type 0} → Journal D → ℕ
+end_of journal = journal.end
+
 -- the texts of bodies, without their places
 abbrev pub texts_of : List Body → List (List ℕ)
 texts_of [] = []
 texts_of (body ∷ more) = body.bytes ∷ texts_of more
 
--- What stands at the end of the list: a closed gate; or, where a body is in doubt, a gate of any byte, the body, and
--- a closed gate behind it.
+-- What stands at the end of the list: a closed gate; or, where a body is in doubt, a gate of any
+-- byte, the body, and a closed gate behind it.
 abbrev pub AtGate : Option (List ℕ) → ℕ → List ℕ → Type 0
 AtGate None gate rest = gate ≢ 1
-AtGate (Some body) gate rest = (shut : ℕ) × (more : List ℕ) × (shut ≢ 1) × (rest ≡ to_be_bytes w32 (length body) ++ body ++ shut ∷ more)
+AtGate (Some body) gate rest =
+    (shut : ℕ) × (more : List ℕ) × (shut ≢ 1)
+    × (rest ≡ to_be_bytes w32 (length body) ++ body ++ shut ∷ more)
 
 -- bytes of a store with these bodies, and perhaps one in doubt
 pub record Stands (texts : List (List ℕ)) (lost : Option (List ℕ)) (c : List ℕ) : Type 0 where
@@ -36,47 +43,90 @@ IsHeldBy Missing texts lost c = length c ≤ 9
 IsHeldBy Closed texts lost c = Stands texts None c
 IsHeldBy InDoubt texts lost c = Stands texts lost c
 
--- the gate is in doubt exactly where there is a body in doubt, and is missing only where there is no body
+-- the gate is in doubt exactly where there is a body in doubt, and is missing only where there is
+-- no body
 abbrev pub FitsGate : Gate → List (List ℕ) → Option (List ℕ) → Type 0
 FitsGate Missing texts lost = (texts ≡ []) × (lost ≡ None)
 FitsGate Closed texts lost = lost ≡ None
 FitsGate InDoubt texts lost = (body : List ℕ) × (lost ≡ Some body) × IsSized body
 
--- A journal holds these bodies, and perhaps one in doubt. Its end is the place of the last gate, and each image of its
--- disk is such a store.
-pub record Holds {D : Type 0} (may_leave : D → List ℕ → Type 0) (texts : List (List ℕ)) (lost : Option (List ℕ)) (journal : Journal D) : Type 0 where
+-- A journal holds these bodies, and perhaps one in doubt. Its end is the place of the last gate,
+-- and each image of its disk is such a store.
+pub record Holds {D : Type 0} (may_leave : D → List ℕ → Type 0) (texts : List (List ℕ))
+    (lost : Option (List ℕ)) (journal : Journal D) : Type 0 where
   pub sized : AreSized texts
   pub end : journal.end ≡ length (start texts)
   pub small : journal.end ≤ limit
   pub by_gate : FitsGate journal.gate texts lost
   pub images : (c : List ℕ) → may_leave journal.disk c → IsHeldBy journal.gate texts lost c
 
+-- whatever bodies a journal holds, and perhaps one in doubt, P is said of them
+abbrev pub ForHeld : {D : Type 0} → (D → List ℕ → Type 0) → Journal D
+    → (List (List ℕ) → Option (List ℕ) → Type 0) → Type 0
+ForHeld may_leave journal P =
+    (texts : List (List ℕ)) (lost : Option (List ℕ))
+    → Holds may_leave texts lost journal → P texts lost
+
+-- the same, where nothing is in doubt
+abbrev pub ForSettled : {D : Type 0} → (D → List ℕ → Type 0) → Journal D
+    → (List (List ℕ) → Type 0) → Type 0
+ForSettled may_leave journal P =
+    (texts : List (List ℕ)) → Holds may_leave texts None journal → P texts
+
+-- each image of a journal's disk has P
+abbrev pub EachImage : {D : Type 0} → (D → List ℕ → Type 0) → Journal D → (List ℕ → Type 0)
+    → Type 0
+EachImage may_leave journal P = (c : List ℕ) → may_leave (disk_of journal) c → P c
+
+-- a crash at any moment since a journal was the old one leaves bytes that have P
+abbrev pub LeavesIn : {D : Type 0} → (D → ℕ) → (D → ℕ → List ℕ → Type 0) → Journal D → Journal D
+    → (List ℕ → Type 0) → Type 0
+LeavesIn moment left_since old new P = LeavesOnly moment left_since (disk_of old) (disk_of new) P
+
+-- a count of the disk that a journal owns
+abbrev pub count_in : {D : Type 0} → (D → ℕ) → Journal D → ℕ
+count_in count journal = count (disk_of journal)
+
+-- with one body more the store would pass its limit
+abbrev pub PassesLimit : List (List ℕ) → List ℕ → Type 0
+PassesLimit texts body = limit < length (start texts) + 6 + length body
+
 -- the last append answered that the disk failed
 abbrev pub has_failed : {D : Type 0} → Journal D → Bool
 has_failed journal = journal.failed
 
 -- it holds these bodies, and behind the gate stands one more
-pub record IsStagedIn {D : Type 0} (may_leave : D → List ℕ → Type 0) (texts : List (List ℕ)) (body : List ℕ) (journal : Journal D) : Type 0 where
+pub record IsStagedIn {D : Type 0} (may_leave : D → List ℕ → Type 0) (texts : List (List ℕ))
+    (body : List ℕ) (journal : Journal D) : Type 0 where
   pub sized : IsSized body
   pub holds : Holds may_leave texts None journal
   pub staged : (c : List ℕ) → may_leave journal.disk c → Stands texts (Some body) c
 
+-- whatever bodies a journal holds with this one behind the gate, P is said of them
+abbrev pub ForStaged : {D : Type 0} → (D → List ℕ → Type 0) → List ℕ → Journal D
+    → (List (List ℕ) → Type 0) → Type 0
+ForStaged may_leave body journal P =
+    (texts : List (List ℕ)) → IsStagedIn may_leave texts body journal → P texts
+
 -- it holds some list
 abbrev pub IsHeld : {D : Type 0} → (D → List ℕ → Type 0) → Journal D → Type 0
-IsHeld may_leave journal = ∥ ((texts : List (List ℕ)) × (lost : Option (List ℕ)) × Holds may_leave texts lost journal) ∥₁
+IsHeld may_leave journal =
+    ∥ ((texts : List (List ℕ)) × (lost : Option (List ℕ)) × Holds may_leave texts lost journal) ∥₁
 
 -- a crash leaves these bodies, or also the one in doubt
 abbrev pub MayHave : List (List ℕ) → Option (List ℕ) → List ℕ → Type 0
 MayHave texts None c = StandsFor texts c
 MayHave texts (Some body) c = StandsFor texts c ⊎ StandsFor (texts ++ body ∷ []) c
 
--- while a body is appended a crash leaves the bodies from before, or also the one in doubt in the new one's place, or
--- these and the new one
+-- while a body is appended a crash leaves the bodies from before, or also the one in doubt in the
+-- new one's place, or these and the new one
 abbrev pub DuringAppend : List (List ℕ) → Option (List ℕ) → List ℕ → List ℕ → Type 0
 DuringAppend texts lost body c = MayHave texts lost c ⊎ StandsFor (texts ++ body ∷ []) c
 
--- A failed append leaves the list as it was. In doubt may be what was in doubt before, or the body that failed.
-pub record IsAsBefore {D : Type 0} (may_leave : D → List ℕ → Type 0) (texts : List (List ℕ)) (lost : Option (List ℕ)) (body : List ℕ) (journal : Journal D) : Type 0 where
+-- A failed append leaves the list as it was. In doubt may be what was in doubt before, or the body
+-- that failed.
+pub record IsAsBefore {D : Type 0} (may_leave : D → List ℕ → Type 0) (texts : List (List ℕ))
+    (lost : Option (List ℕ)) (body : List ℕ) (journal : Journal D) : Type 0 where
   pub left : Option (List ℕ)
   pub holds : Holds may_leave texts left journal
   pub which : (left ≡ None) ⊎ (left ≡ lost) ⊎ (left ≡ Some body)

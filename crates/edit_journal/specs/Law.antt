@@ -9,7 +9,9 @@ AreBytes c = (i : ℕ) → get_or c i 0 < 256
 
 -- a list that was written and ends at a closed gate is read back, whatever stands behind that gate
 abbrev pub WrittenIsRead : Type 0
-WrittenIsRead = (texts : List (List ℕ)) (gate : ℕ) (rest : List ℕ) → AreSized texts → gate ≢ 1 → length (start texts ++ gate ∷ rest) ≤ limit → StandsFor texts (start texts ++ gate ∷ rest)
+WrittenIsRead =
+    (texts : List (List ℕ)) (gate : ℕ) (rest : List ℕ) → AreSized texts → gate ≢ 1
+    → length (start texts ++ gate ∷ rest) ≤ limit → StandsFor texts (start texts ++ gate ∷ rest)
 
 -- bytes that were written as these bodies and end at a closed gate
 pub record WasWritten (c : List ℕ) (found : List Body) : Type 0 where
@@ -22,9 +24,12 @@ pub record WasWritten (c : List ℕ) (found : List Body) : Type 0 where
 
 -- a list that is read was written so, or the store has at most nine bytes
 abbrev pub ReadWasWritten : Type 0
-ReadWasWritten = (c : List ℕ) (found : List Body) → AreBytes c → bodies c ≡ Ok found → ((length c ≤ 9) × (found ≡ [])) ⊎ WasWritten c found
+ReadWasWritten =
+    (c : List ℕ) (found : List Body) → AreBytes c → bodies c ≡ Ok found
+    → ((length c ≤ 9) × (found ≡ [])) ⊎ WasWritten c found
 
--- what cannot stand at the place of a gate: no byte, or an open gate with a length that is cut, is 0 or passes the end
+-- what cannot stand at the place of a gate: no byte, or an open gate with a length that is cut, is
+-- 0 or passes the end
 abbrev pub IsBroken : List ℕ → Type 0
 IsBroken [] = Unit {0}
 IsBroken (gate ∷ a ∷ b ∷ c ∷ d ∷ rest) = (gate ≡ 1) × (is_whole (size_of a b c d) rest ≡ false)
@@ -38,7 +43,10 @@ pub record IsBrokenAt (c : List ℕ) (at : ℕ) : Type 0 where
   pub place : at ≡ length (start texts)
   pub broken : IsBroken rest
 
--- Damage has its place: the limit, where the store is longer; 0, where more than nine bytes do not begin with the
--- head; or the place where the list breaks.
+-- Damage has its place: the limit, where the store is longer; 0, where more than nine bytes do not
+-- begin with the head; or the place where the list breaks.
 abbrev pub DamageHasPlace : Type 0
-DamageHasPlace = (c : List ℕ) (at : ℕ) → AreBytes c → bodies c ≡ Err at → ((limit < length c) × (at ≡ limit)) ⊎ ((9 < length c) × (take 8 c ≢ head) × (at ≡ 0)) ⊎ IsBrokenAt c at
+DamageHasPlace =
+    (c : List ℕ) (at : ℕ) → AreBytes c → bodies c ≡ Err at
+    → ((limit < length c) × (at ≡ limit)) ⊎ ((9 < length c) × (take 8 c ≢ head) × (at ≡ 0))
+    ⊎ IsBrokenAt c at

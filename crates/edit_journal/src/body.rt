@@ -149,7 +149,8 @@ impl Bodies {
 
     /// The body at a place.
     pub fn get(&self, place: usize) -> Option<&Body>
-        ensures { MatchOption result (length self.now ≤ place) (λ body. slice_get self.now place ≡ Some body.now) }
+        ensures { MatchOption result (length self.now ≤ place) (λ body.
+            slice_get self.now place ≡ Some body.now) }
     {
         self.items.get(place)
     }

@@ -1,5 +1,6 @@
-//! A list of bodies on a disk that survives a crash at any moment. A store is the eight bytes `EMUSTORE` and then
-//! the bodies, each behind a gate byte that is opened only once the body is safe.
+//! A list of bodies on a disk that survives a crash at any moment. A store is the eight bytes
+//! `EMUSTORE` and then the bodies, each behind a gate byte that is opened only once the body is
+//! safe.
 #![tactic(auto)]
 
 mod body;

@@ -1,15 +1,17 @@
 //! Recovery: the list of bodies of a store that a crash may have left.
 ghost use Rattle.std.specs.Prelude.{◌≡◌, ◌<◌, ◌≤◌, [], ◌∷◌, ◌++◌, List, ℕ, None, Ok, Err, false, length, take, IfOk, IfErr, IsErrOf};
-ghost use Rattle.emu_disk.specs.Disk.{Within, LeavesOnly, Rose};
-ghost use Rattle.edit_journal.specs.Store.{limit, head, bodies, IsSized};
-ghost use Rattle.edit_journal.specs.Held.{disk_of, has_failed, texts_of, Holds, IsHeld, Tells, Reads};
-ghost use Rattle.edit_journal.specs.Recovery.{IsFound, IsFoundOn};
+ghost use Rattle.fault_counts.specs.Count.{Rose};
+ghost use Rattle.emu_disk.specs.Disk.{Within, LeavesOnly};
+ghost use Rattle.edit_journal.specs.Store.{limit, head, start, placed, bodies, IsSized};
+ghost use Rattle.edit_journal.specs.Held.{disk_of, end_of, has_failed, texts_of, Holds, IsHeld, Tells, Reads};
+ghost use Rattle.edit_journal.specs.Recovery.{ForDamage, IsFound, IsFoundOn};
 
 use crate::body::{Bodies, Body, BodyBytes};
 use crate::fault::{JournalFault, NoJournal};
-use crate::journal::{Gate, Journal, LIMIT};
+use crate::journal::{Gate, Journal};
 use crate::next::{Next, next_at};
 use emu_disk::{Disk, Failed};
+use emu_names::limits::STORE_BYTES;
 use std::alloc::Global;
 
 const BUFFER: usize = 4096;
@@ -30,25 +32,33 @@ pub(crate) struct Found {
 }
 
 impl<D: Disk> Journal<D> {
-    /// The journal of a disk, and the bodies of its store. It begins with a sync, reads all and writes nothing.
-    /// `Damaged` comes exactly where the bytes stand for no list of bodies, and says where the damage is: at 0
-    /// where more than 9 bytes do not begin with `EMUSTORE`; where the store ends and a gate should stand; at an
-    /// open gate whose length is cut, is 0 or passes the end; and at 268,435,456 where the store is longer than
-    /// that. A store of at most 9 bytes has no body. After a fault the disk is handed back.
+    /// The journal of a disk, and the bodies of its store. It begins with a sync, reads all and
+    /// writes nothing. `Damaged` comes exactly where the bytes stand for no list of bodies, and
+    /// says where the damage is: at 0 where more than 9 bytes do not begin with `EMUSTORE`; where
+    /// the store ends and a gate should stand; at an open gate whose length is cut, is 0 or passes
+    /// the end; and at 268,435,456 where the store is longer than that. A store of at most 9 bytes
+    /// has no body. After a fault the disk is handed back.
     pub fn recover(alloc: Global, disk: D) -> Result<Recovered<D>, NoJournal<D>>
         ensures bodies { IfOk result (λ r. Reads (D.reads disk) (Ok r.bodies)) }
         ensures holds { IfOk result (λ r. Holds D.may_leave (texts_of r.bodies) None r.journal) }
         ensures held { IfOk result (λ r. IsHeld D.may_leave r.journal) }
         ensures failed { IfOk result (λ r. has_failed r.journal ≡ false) }
 
-        ensures damaged { IfErr result (λ e. (at : ℕ) → e.fault ≡ JournalFault.Damaged at → Reads (D.reads disk) (Err at)) }
-        ensures disk { IfErr result (λ e. e.fault ≡ JournalFault.Disk → Rose (D.faults disk) (D.faults e.disk)) }
+        // Each body has the place of its gate, and the journal's end is the place of the last gate.
+        ensures places { IfOk result (λ r. r.bodies ≡ placed 8 (texts_of r.bodies)) }
+        ensures end { IfOk result (λ r. end_of r.journal ≡ length (start (texts_of r.bodies))) }
+
+        ensures damaged { IfErr result (λ e.
+            (at : ℕ) → e.fault ≡ JournalFault.Damaged at → Reads (D.reads disk) (Err at)) }
+        ensures disk { IfErr result (λ e.
+            e.fault ≡ JournalFault.Disk → Rose (D.faults disk) (D.faults e.disk)) }
         ensures not_full { IfErr result (λ e. e.fault ≡ JournalFault.StoreFull → ⊥) }
 
         // It writes nothing: the disk reads as before, and no image is new at any moment.
         ensures same { IfOk result (λ r. D.reads (disk_of r.journal) ≡ D.reads disk) }
         ensures same_err { IfErr result (λ e. D.reads e.disk ≡ D.reads disk) }
-        ensures any_moment { IfOk result (λ r. LeavesOnly D.moment D.left_since disk (disk_of r.journal) (D.may_leave disk)) }
+        ensures any_moment { IfOk result (λ r.
+            LeavesOnly D.moment D.left_since disk (disk_of r.journal) (D.may_leave disk)) }
         ensures any_moment_err { IfErr result (λ e. LeavesOnly D.moment D.left_since disk e.disk (D.may_leave disk)) }
         ensures later { IfOk result (λ r. D.faults disk ≤ D.faults (disk_of r.journal)) }
         ensures later_err { IfErr result (λ e. D.faults disk ≤ D.faults e.disk) }
@@ -75,7 +85,7 @@ impl<D: Disk> Journal<D> {
 // Syncs, reads all, and finds the bodies.
 fn read_store<D: Disk>(alloc: Global, disk: &mut D) -> Result<Found, JournalFault>
     ensures ok { IfOk result (λ found. IsFoundOn (D.reads disk.old) (D.may_leave disk.new) found) }
-    ensures damaged { (at : ℕ) → IsErrOf result (JournalFault.Damaged at) → Reads (D.reads disk.old) (Err at) }
+    ensures damaged { ForDamage result (λ at. Reads (D.reads disk.old) (Err at)) }
     ensures disk { IsErrOf result JournalFault.Disk → Rose (D.faults disk.old) (D.faults disk.new) }
     ensures not_full { IsErrOf result JournalFault.StoreFull → ⊥ }
     ensures same { D.reads disk.new ≡ D.reads disk.old }
@@ -90,8 +100,9 @@ fn read_store<D: Disk>(alloc: Global, disk: &mut D) -> Result<Found, JournalFaul
 
 // Reads all, and finds the bodies, where each image of the disk is what a read gives.
 fn read_safe<D: Disk>(alloc: Global, disk: &mut D) -> Result<Found, JournalFault>
-    ensures ok { IfOk result (λ found. (bytes : List ℕ) × Tells (D.reads disk.old) bytes × IsFound bytes found) }
-    ensures damaged { (at : ℕ) → IsErrOf result (JournalFault.Damaged at) → Reads (D.reads disk.old) (Err at) }
+    ensures ok { IfOk result (λ found.
+        (bytes : List ℕ) × Tells (D.reads disk.old) bytes × IsFound bytes found) }
+    ensures damaged { ForDamage result (λ at. Reads (D.reads disk.old) (Err at)) }
     ensures disk { IsErrOf result JournalFault.Disk → Rose (D.faults disk.old) (D.faults disk.new) }
     ensures not_full { IsErrOf result JournalFault.StoreFull → ⊥ }
     ensures same { D.reads disk.new ≡ D.reads disk.old }
@@ -109,7 +120,7 @@ fn read_safe<D: Disk>(alloc: Global, disk: &mut D) -> Result<Found, JournalFault
 fn read_all<D: Disk>(alloc: Global, disk: &mut D) -> Result<Vec<u8>, JournalFault>
     ensures told { IfOk result (λ v. Tells (D.reads disk.old) v.items) }
     ensures fits { IfOk result (λ v. length v.items ≤ limit) }
-    ensures damaged { (at : ℕ) → IsErrOf result (JournalFault.Damaged at) → Reads (D.reads disk.old) (Err at) }
+    ensures damaged { ForDamage result (λ at. Reads (D.reads disk.old) (Err at)) }
     ensures disk { IsErrOf result JournalFault.Disk → Rose (D.faults disk.old) (D.faults disk.new) }
     ensures not_full { IsErrOf result JournalFault.StoreFull → ⊥ }
     ensures same { D.reads disk.new ≡ D.reads disk.old }
@@ -119,7 +130,7 @@ fn read_all<D: Disk>(alloc: Global, disk: &mut D) -> Result<Vec<u8>, JournalFaul
 {
     let mut bytes = Vec::new(alloc);
     let mut buffer = [0u8; BUFFER];
-    'reads: while bytes.len() <= LIMIT as usize {
+    'reads: while bytes.len() <= STORE_BYTES as usize {
         let count = match disk.read(bytes.len() as u64, &mut buffer) {
             Ok(count) => count,
             Err(Failed) => return Err(JournalFault::Disk),
@@ -129,14 +140,14 @@ fn read_all<D: Disk>(alloc: Global, disk: &mut D) -> Result<Vec<u8>, JournalFaul
         }
         bytes.extend_from_slice(&buffer[..count])?;
     }
-    Err(JournalFault::Damaged(LIMIT))
+    Err(JournalFault::Damaged(STORE_BYTES))
 }
 
 // Finds the bodies of a store.
 fn find(alloc: Global, bytes: &[u8]) -> Result<Found, JournalFault>
     requires { length bytes.now ≤ limit }
     ensures ok { IfOk result (λ found. IsFound bytes.now found) }
-    ensures damaged { (at : ℕ) → IsErrOf result (JournalFault.Damaged at) → bodies bytes.now ≡ Err at }
+    ensures damaged { ForDamage result (λ at. bodies bytes.now ≡ Err at) }
     ensures no_disk { IsErrOf result JournalFault.Disk → ⊥ }
     ensures not_full { IsErrOf result JournalFault.StoreFull → ⊥ }
 {
@@ -159,7 +170,7 @@ fn find_list(alloc: Global, bytes: &[u8]) -> Result<Found, JournalFault>
     requires long { 9 < length bytes.now }
     requires begun { take 8 bytes.now ≡ head }
     ensures ok { IfOk result (λ found. IsFound bytes.now found) }
-    ensures damaged { (at : ℕ) → IsErrOf result (JournalFault.Damaged at) → bodies bytes.now ≡ Err at }
+    ensures damaged { ForDamage result (λ at. bodies bytes.now ≡ Err at) }
     ensures no_disk { IsErrOf result JournalFault.Disk → ⊥ }
     ensures not_full { IsErrOf result JournalFault.StoreFull → ⊥ }
 {

@@ -2,13 +2,13 @@
 use Rattle.std.proofs.Common.{◌≡◌, ◌⊎◌, inl, inr, ⊎_elim, ℕ, ◌+◌, ◌<◌, ◌≤◌, List, [], ◌∷◌, ◌++◌, length, take, Bool, true, false, Some, if◌then◌else◌, refl, sym, ◌∙◌, ap, subst, arith, get_or, length-append}
 use Rattle.std.proofs.lemmas.Bool.{cases_lt}
 use Rattle.std.proofs.lemmas.List.{take_all, take_more, take-append-le}
-use Rattle.emu_disk.specs.Disk.{Torn, Shorter, Scrambled, Follows, Within, Only, Elapses}
+use Rattle.emu_disk.specs.Disk.{Torn, Shorter, Scrambled, Becomes, Follows, Within, Only, Elapses}
 use Rattle.emu_disk.specs.declared.call.Call.{Call}
 use Rattle.emu_disk.specs.declared.call.Call.TheVariants.{Write, Cut, Sync}
-use Rattle.emu_disk.specs.declared.memory.Log.{Log}
-use Rattle.emu_disk.specs.Memory.{content, effect, CutLeaves, Step, Leaves, LeavesAfter, IsImage, WasImage}
+use Rattle.emu_disk.specs.declared.log.Log.{Log}
+use Rattle.emu_disk.specs.Memory.{landed, content, effect, CutLeaves, Step, Leaves, LeavesAfter, IsImage, WasImage}
 use Rattle.emu_disk.specs.Moves.{Adds, Stays}
-use Rattle.emu_disk.specs.Laws.{torn_same, scrambled_same, reads_image}
+use Rattle.emu_disk.specs.Laws.{torn_put, torn_same, landed_fits, scrambled_same, reads_image, becomes_some}
 
 content-push : (xs : List ℕ) (calls : List Call) (call : Call) → content xs (calls ++ call ∷ []) ≡ effect call (content xs calls)
 content-push xs [] call = refl
@@ -126,6 +126,20 @@ module _ (old new : Log) where
   pub torn_failed : (at : ℕ) (bytes : List ℕ) → Adds (Write at bytes false) old new ⊎ Stays old new → Follows (Torn at (length bytes)) (IsImage old.first.items old.calls.items) (IsImage new.first.items new.calls.items)
   torn_failed at bytes moves c image =
       ⊎_elim (λ adds. image_by (Write at bytes false) old new c adds image) (λ stays. (c, image_before old new c stays image, torn_same at (length bytes) c)) moves
+
+  -- what a read gives after a write that failed
+  pub torn_reads : (at : ℕ) (bytes : List ℕ) → Adds (Write at bytes false) old new ⊎ Stays old new → Becomes (Torn at (length bytes)) (Some old.bytes.items) (Some new.bytes.items)
+  torn_reads at bytes moves =
+      let P : List ℕ → Type 0 = Torn at (length bytes) old.bytes.items in
+      let put_half = torn_put at (length bytes) (landed false bytes) old.bytes.items (landed_fits false bytes) in
+      becomes_some (Torn at (length bytes)) old.bytes.items new.bytes.items
+      (⊎_elim (λ adds. subst P (sym (bytes_by (Write at bytes false) adds)) put_half) (λ stays. subst P (sym (bytes_stay stays)) (torn_same at (length bytes) old.bytes.items)) moves)
+
+  -- and after a cut that failed
+  pub scrambled_reads : (len : ℕ) → Adds (Cut len false) old new ⊎ Stays old new → Becomes (Scrambled len) (Some old.bytes.items) (Some new.bytes.items)
+  scrambled_reads len moves =
+      becomes_some (Scrambled len) old.bytes.items new.bytes.items
+      (subst (Scrambled len old.bytes.items) (sym (same_failed (Cut len false) refl moves)) (scrambled_same len old.bytes.items))
 
   pub scrambled_failed : (len : ℕ) → Adds (Cut len false) old new ⊎ Stays old new → Follows (Scrambled len) (IsImage old.first.items old.calls.items) (IsImage new.first.items new.calls.items)
   scrambled_failed len moves c image =

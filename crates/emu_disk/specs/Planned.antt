@@ -1,5 +1,5 @@
 -- What callers see of a disk in memory.
-use Rattle.std.specs.Prelude.{◌≡◌, ◌⊎◌, ℕ, ◌+◌, ◌-◌, ◌^◌, min, List, [], ◌∷◌, ◌++◌, length, Bool, true, false, Option, Result, Ok, Err, OnOk}
+use Rattle.std.specs.Prelude.{◌≡◌, ◌⊎◌, ℕ, ◌+◌, ◌-◌, ◌^◌, min, List, [], ◌∷◌, ◌++◌, length, Bool, true, false, Option, Some, Result, Ok, Err, OnOk}
 use Rattle.emu_disk.specs.declared.call.Call.{Call}
 use Rattle.emu_disk.specs.declared.memory.MemoryDisk.{MemoryDisk}
 use Rattle.emu_disk.specs.Memory.{IsImage, WasImage}
@@ -16,6 +16,10 @@ calls_of disk = disk.log.calls.items
 -- the bytes before the first call
 abbrev pub first_of : MemoryDisk → List ℕ
 first_of disk = disk.log.first.items
+
+-- what a read gives, as a disk tells it
+abbrev pub reads_of : MemoryDisk → Option (List ℕ)
+reads_of disk = Some (bytes_of disk)
 
 -- what a crash may leave now
 abbrev pub images_of : MemoryDisk → List ℕ → Type 0
@@ -45,13 +49,15 @@ stop_of disk = disk.plan.stop
 abbrev pub made_of : MemoryDisk → ℕ
 made_of disk = disk.plan.made
 
--- the calls after one that answered a result: it stands there as done or as failed, or, for want of memory alone, not at all
+-- the calls after one that answered a result: it stands there as done or as failed, or, for want of
+-- memory alone, not at all
 abbrev pub CallsAfter : {T E : Type 0} → (Bool → Call) → Result T E → List Call → List Call → Type 0
 CallsAfter call (Ok v) old new = new ≡ old ++ call true ∷ []
 CallsAfter call (Err e) old new = (new ≡ old ++ call false ∷ []) ⊎ (new ≡ old)
 
 -- a call was made
-pub record IsMade {T E : Type 0} (call : Bool → Call) (result : Result T E) (old new : MemoryDisk) : Type 0 where
+pub record IsMade {T E : Type 0} (call : Bool → Call) (result : Result T E)
+    (old new : MemoryDisk) : Type 0 where
   pub due : OnOk result (IsDue old.plan)
   pub calls : CallsAfter call result (calls_of old) (calls_of new)
   pub first : first_of new ≡ first_of old

@@ -1,5 +1,5 @@
 -- What callers see of a disk with its own room.
-use Rattle.std.specs.Prelude.{ℕ, ◌-◌, List, length, ◌≡◌}
+use Rattle.std.specs.Prelude.{◌≡◌, ℕ, ◌-◌, List, length, Option, Some}
 use Rattle.emu_disk.specs.declared.sure.SureDisk.{SureDisk}
 use Rattle.emu_disk.specs.Sure.{Held}
 
@@ -10,6 +10,10 @@ bytes_of disk = disk.bytes.items
 -- how many bytes may still be written
 abbrev pub room_of : SureDisk → ℕ
 room_of disk = disk.room - length disk.written.items
+
+-- what a read gives, as a disk tells it
+abbrev pub reads_of : SureDisk → Option (List ℕ)
+reads_of disk = Some (bytes_of disk)
 
 -- what a crash may leave now: what a read gives
 abbrev pub images_of : SureDisk → List ℕ → Type 0

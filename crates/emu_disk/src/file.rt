@@ -102,8 +102,8 @@ fn fill<F: Read>(file: &mut F, buf: &mut [u8]) -> io::Result<usize>
     Ok(filled)
 }
 
-/// The disk over the file `emu.store` of the current folder. A file that is not there is a disk of no byte,
-/// and is made at the first write. Its contents are not told.
+/// The disk over the file `emu.store` of the current folder. A file that is not there is a disk of
+/// no byte, and is made at the first write. Its contents are not told.
 #[derive(Drop)]
 pub struct FileDisk<R: Files + Drop> {
     store: Store<R>,

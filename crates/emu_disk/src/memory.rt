@@ -1,158 +1,23 @@
-//! A disk in memory for tests: it keeps its calls, fails where it is told to, and shows what a crash may leave.
-ghost use Rattle.std.specs.Prelude.{◌≡◌, ◌⊎◌, ◌+◌, ◌-◌, ◌<◌, ◌≤◌, ◌^◌, ℕ, List, [], ◌∷◌, ◌++◌, Some, None, length, take, min, true, false, IsTrue, IfOk, OnOk, OnErr};
-ghost use Rattle.emu_disk.specs.Disk.{put, told, IsRead, Torn, Shorter, Scrambled, Follows, Within, Only, Elapses, HasCause, Rose};
-ghost use Rattle.emu_disk.specs.Memory.{landed, kept, content, effect, IsImage, WasImage};
+//! A disk in memory for tests: it keeps its calls, fails where it is told to, and shows what a
+//! crash may leave.
+ghost use Rattle.std.specs.Prelude.{◌≡◌, ◌≤◌, ◌++◌, ℕ, List, [], Option, Some, None, length, take, IfOk, OnOk, OnErr};
+ghost use Rattle.fault_counts.specs.Count.{HasCause};
+ghost use Rattle.emu_disk.specs.Disk.{put, told, IsReadOf, HasPlace, TornBy, Shorter, Scrambled};
+ghost use Rattle.emu_disk.specs.Disk.{Becomes, Follows, Within, Only, GoesOn};
 ghost use Rattle.emu_disk.specs.Laws.{as_read_of, image_now, image_only_now};
 
-use crate::bytes::copy_from;
-use crate::call::{Call, Written};
+use crate::call::Call;
 use crate::disk::{Disk, Failed};
 use crate::faults::fault;
-use crate::replay::{Fate, Replay, front, part, with_written};
-use std::alloc::{AllocError, AllocFailed, Global};
+use crate::log::Log;
+use crate::plan::Plan;
+use crate::replay::{Fate, Replay};
+use crate::shortage::Memory;
+use std::alloc::Global;
 
-/// Want of memory.
-#[derive(Clone, Copy, Debug, PartialEq, Eq)]
-pub struct Memory;
-
-impl From<AllocError> for Memory {
-    fn from(_: AllocError) -> Self {
-        Memory
-    }
-}
-
-impl<T: Drop> From<AllocFailed<T>> for Memory {
-    fn from(_: AllocFailed<T>) -> Self {
-        Memory
-    }
-}
-
-// A growth that is refused is a fault of the disk.
-impl From<AllocError> for Failed {
-    fn from(_: AllocError) -> Self {
-        Failed
-    }
-}
-
-impl<T: Drop> From<AllocFailed<T>> for Failed {
-    fn from(_: AllocFailed<T>) -> Self {
-        Failed
-    }
-}
-
-// The bytes at first, the calls since then, and what a read gives after them.
-#[derive(Drop)]
-struct Log {
-    first: Vec<u8>,
-    calls: Vec<Call>,
-    bytes: Vec<u8>,
-    ghost replays: { bytes.items ≡ content first.items calls.items },
-}
-
-impl Log {
-    ghost use Rattle.emu_disk.specs.Moves.{Adds, Stays, Keeps};
-
-    // Adds a call that changes no byte.
-    fn note(&mut self, call: Call) -> Result<(), AllocError>
-        requires { effect call self.old.bytes.items ≡ self.old.bytes.items }
-        ensures ok { OnOk result (Adds call self.old self.new) }
-        ensures err { OnErr result (Stays self.old self.new) }
-        ensures bytes { self.new.bytes.items ≡ self.old.bytes.items }
-    {
-        self.calls.push(call)?;
-        Ok(())
-    }
-
-    // Adds a call after which a read gives the next bytes.
-    fn change(&mut self, call: Call, next: Vec<u8>) -> Result<(), AllocError>
-        requires { next.items ≡ effect call self.old.bytes.items }
-        ensures ok { OnOk result (Adds call self.old self.new) }
-        ensures err { OnErr result (Stays self.old self.new) }
-    {
-        self.calls.push(call)?;
-        self.bytes = next;
-        Ok(())
-    }
-
-    fn read(&mut self, at: u64, buf: &mut [u8], done: bool) -> Result<usize, Failed>
-        ensures due { OnOk result (done ≡ true) }
-        ensures bytes { IfOk result (λ n. IsRead self.old.bytes.items at n buf.new) }
-        ensures moves { Keeps (λ done. Call.Read at (length buf.old) done) result self.old self.new }
-    {
-        self.note(Call::Read {
-            at,
-            len: buf.len() as u64,
-            done,
-        })?;
-        if !done {
-            return Err(Failed);
-        }
-        Ok(copy_from(&self.bytes, at, buf))
-    }
-
-    fn write(&mut self, alloc: Global, at: u64, bytes: &[u8], done: bool) -> Result<(), Failed>
-        requires { at ≤ length self.old.bytes.items }
-        ensures due { OnOk result (done ≡ true) }
-        ensures moves { Keeps (λ done. Call.Write at bytes.now done) result self.old self.new }
-    {
-        let next = with_written(alloc, &self.bytes, at, part(bytes, done))?;
-        let bytes = Written::new(bytes.to_vec(alloc)?);
-        self.change(Call::Write { at, bytes, done }, next)?;
-        if done { Ok(()) } else { Err(Failed) }
-    }
-
-    fn cut(&mut self, alloc: Global, len: u64, done: bool) -> Result<(), Failed>
-        ensures due { OnOk result (done ≡ true) }
-        ensures moves { Keeps (λ done. Call.Cut len done) result self.old self.new }
-    {
-        if !done {
-            self.note(Call::Cut { len, done: false })?;
-            return Err(Failed);
-        }
-        let next = front(&self.bytes, len).to_vec(alloc)?;
-        self.change(Call::Cut { len, done: true }, next)?;
-        Ok(())
-    }
-
-    fn sync(&mut self, done: bool) -> Result<(), Failed>
-        ensures due { OnOk result (done ≡ true) }
-        ensures moves { Keeps (λ done. Call.Sync done) result self.old self.new }
-    {
-        self.note(Call::Sync { done })?;
-        if done { Ok(()) } else { Err(Failed) }
-    }
-}
-
-// Which calls are to fail: those at the listed places, and all once it has stopped.
-#[derive(Drop)]
-struct Plan {
-    failing: Vec<u64>,
-    stop: Option<u64>,
-    made: u64,
-}
-
-impl Plan {
-    ghost use Rattle.emu_disk.specs.Plan.{IsDue};
-
-    // Counts a call, and says whether it is not to fail.
-    fn turn(&mut self) -> bool
-        ensures due { IsTrue result → IsDue self.old }
-        ensures failing { self.new.failing.items ≡ self.old.failing.items }
-        ensures stop { self.new.stop ≡ self.old.stop }
-        ensures made { self.new.made ≡ min (self.old.made + 1) (2 ^ 64 - 1) }
-    {
-        let place = self.made;
-        self.made = place.saturating_add(1);
-        let stopped = match self.stop {
-            Some(stop) => stop <= place,
-            None => false,
-        };
-        !stopped && !self.failing.contains(&place)
-    }
-}
-
-/// A disk in memory. It keeps a list of all its calls, fails at the calls that it is told to, and shows what
-/// a crash may leave. A call for which it gets no memory fails too, and then changes nothing.
+/// A disk in memory. It keeps a list of all its calls, fails at the calls that it is told to, and
+/// shows what a crash may leave. A call for which it gets no memory fails too, and then changes
+/// nothing.
 ///
 /// Of a write that fails the first half of the bytes lands. A cut that fails cuts nothing.
 #[derive(Drop)]
@@ -229,8 +94,8 @@ impl MemoryDisk {
         &self.log.bytes
     }
 
-    /// An image that a crash may leave now. Each write and cut since the last sync that succeeded meets its
-    /// fate, in order; those behind the list's end are whole.
+    /// An image that a crash may leave now. Each write and cut since the last sync that succeeded
+    /// meets its fate, in order; those behind the list's end are whole.
     pub fn image(&self, alloc: Global, fates: &[Fate]) -> Result<Vec<u8>, Memory>
         ensures { IfOk result (λ image. images_of self.now image.items) }
     {
@@ -254,9 +119,9 @@ impl MemoryDisk {
 }
 
 impl Disk for MemoryDisk {
-    ghost use Rattle.emu_disk.specs.Planned.{bytes_of, images_of, past_of, moment_of, faults_of, IsMade};
+    ghost use Rattle.emu_disk.specs.Planned.{reads_of, images_of, past_of, moment_of, faults_of, IsMade};
 
-    ghost reads = { λ m. Some (bytes_of m) };
+    ghost reads = { reads_of };
 
     ghost may_leave = { images_of };
 
@@ -266,7 +131,8 @@ impl Disk for MemoryDisk {
 
     ghost faults = { faults_of };
 
-    ghost as_read = { λ m xs is. as_read_of m.log.first.items m.log.calls.items m.log.bytes.items xs m.log.replays is };
+    ghost as_read = { λ m xs is.
+        as_read_of m.log.first.items m.log.calls.items m.log.bytes.items xs m.log.replays is };
 
     ghost counts_now = { λ m t c le image. image_now m.log.first.items m.log.calls.items t c le image };
 
@@ -275,11 +141,11 @@ impl Disk for MemoryDisk {
     fn read(&mut self, at: u64, buf: &mut [u8]) -> Result<usize, Failed>
         ensures made { IsMade (λ done. Call.Read at (length buf.old) done) result self.old self.new }
         ensures bound { IfOk result (λ n. n ≤ length buf.new) }
-        ensures bytes { IfOk result (λ n. (xs : List ℕ) → Some (bytes_of self.old) ≡ Some xs → IsRead xs at n buf.new) }
-        ensures same { Some (bytes_of self.new) ≡ Some (bytes_of self.old) }
+        ensures bytes { IfOk result (λ n. IsReadOf (reads_of self.old) at n buf.new) }
+        ensures same { reads_of self.new ≡ reads_of self.old }
         ensures crash { Within (images_of self.old) (images_of self.new) }
         ensures all { Within (images_of self.new) (images_of self.old) }
-        ensures time { Elapses (moment_of self.old) (moment_of self.new) (past_of self.old) (past_of self.new) (images_of self.new) }
+        ensures time { GoesOn moment_of past_of images_of self.old self.new }
         ensures cause { HasCause (faults_of self.old) (faults_of self.new) result }
     {
         let done = self.plan.turn();
@@ -290,11 +156,12 @@ impl Disk for MemoryDisk {
     }
 
     fn write_at(&mut self, at: u64, bytes: &[u8]) -> Result<(), Failed>
-        requires { (xs : List ℕ) → Some (bytes_of self.old) ≡ Some xs → at ≤ length xs }
+        requires { HasPlace (reads_of self.old) at }
         ensures made { IsMade (λ done. Call.Write at bytes.now done) result self.old self.new }
-        ensures written { OnOk result (Some (bytes_of self.new) ≡ Some (put at bytes.now (bytes_of self.old))) }
-        ensures crash { Follows (Torn at (length bytes.now)) (images_of self.old) (images_of self.new) }
-        ensures time { Elapses (moment_of self.old) (moment_of self.new) (past_of self.old) (past_of self.new) (images_of self.new) }
+        ensures written { OnOk result (reads_of self.new ≡ told (put at bytes.now) (reads_of self.old)) }
+        ensures torn { OnErr result (Becomes (TornBy at bytes.now) (reads_of self.old) (reads_of self.new)) }
+        ensures crash { Follows (TornBy at bytes.now) (images_of self.old) (images_of self.new) }
+        ensures time { GoesOn moment_of past_of images_of self.old self.new }
         ensures cause { HasCause (faults_of self.old) (faults_of self.new) result }
     {
         let done = self.plan.turn();
@@ -306,14 +173,15 @@ impl Disk for MemoryDisk {
 
     fn cut(&mut self, len: u64) -> Result<(), Failed>
         ensures made { IsMade (λ done. Call.Cut len done) result self.old self.new }
-        ensures cut { OnOk result (Some (bytes_of self.new) ≡ Some (take len (bytes_of self.old))) }
+        ensures cut { OnOk result (reads_of self.new ≡ told (take len) (reads_of self.old)) }
+        ensures left { OnErr result (Becomes (Scrambled len) (reads_of self.old) (reads_of self.new)) }
         ensures crash { OnOk result (Follows (Shorter len) (images_of self.old) (images_of self.new)) }
         ensures scrambled { OnErr result (Follows (Scrambled len) (images_of self.old) (images_of self.new)) }
-        ensures time { Elapses (moment_of self.old) (moment_of self.new) (past_of self.old) (past_of self.new) (images_of self.new) }
+        ensures time { GoesOn moment_of past_of images_of self.old self.new }
         ensures cause { HasCause (faults_of self.old) (faults_of self.new) result }
     {
         let done = self.plan.turn();
-        match self.log.cut(self.alloc, len, done) {
+        match self.log.cut(len, done) {
             Ok(()) => Ok(()),
             Err(Failed) => Err(fault(&mut self.faults)),
         }
@@ -321,11 +189,11 @@ impl Disk for MemoryDisk {
 
     fn sync(&mut self) -> Result<(), Failed>
         ensures made { IsMade (λ done. Call.Sync done) result self.old self.new }
-        ensures durable { OnOk result (Only (Some (bytes_of self.old)) (images_of self.new)) }
-        ensures same { Some (bytes_of self.new) ≡ Some (bytes_of self.old) }
+        ensures durable { OnOk result (Only (reads_of self.old) (images_of self.new)) }
+        ensures same { reads_of self.new ≡ reads_of self.old }
         ensures crash { Within (images_of self.old) (images_of self.new) }
         ensures all { OnErr result (Within (images_of self.new) (images_of self.old)) }
-        ensures time { Elapses (moment_of self.old) (moment_of self.new) (past_of self.old) (past_of self.new) (images_of self.new) }
+        ensures time { GoesOn moment_of past_of images_of self.old self.new }
         ensures cause { HasCause (faults_of self.old) (faults_of self.new) result }
     {
         let done = self.plan.turn();

@@ -1,12 +1,14 @@
 //! What calls do to bytes, and an image that a crash may leave, picked by fates.
-ghost use Rattle.std.specs.Prelude.{◌≡◌, ◌≤◌, IfOk, OnOk, length, take};
-ghost use Rattle.emu_disk.specs.Disk.{put, Torn, Shorter, Scrambled};
+ghost use Rattle.std.specs.Prelude.{◌≡◌, OnOk};
+ghost use Rattle.emu_disk.specs.Disk.{put, TornBy, Shorter, Scrambled};
 ghost use Rattle.emu_disk.specs.Memory.{landed, kept, effect, Step, CutLeaves, SyncLeaves};
 
+use crate::bytes::{keep_front, write_over};
 use crate::call::Call;
 use std::alloc::{AllocError, Global};
 
-/// What becomes of a write or a cut that no later sync has made safe. Of a cut all but `Whole` is as `Lost`.
+/// What becomes of a write or a cut that no later sync has made safe. Of a cut all but `Whole` is
+/// as `Lost`.
 #[derive(Clone, Copy, Debug, PartialEq, Eq)]
 pub enum Fate {
     /// Nothing is left of it.
@@ -19,7 +21,8 @@ pub enum Fate {
     Filled(u8),
 }
 
-// What a read gives after some calls, an image at that moment, and the number of changes since the last sync.
+// What a read gives after some calls, an image at that moment, and the number of changes since the
+// last sync.
 #[derive(Drop)]
 pub(crate) struct Replay {
     pub(crate) bytes: Vec<u8>,
@@ -36,14 +39,18 @@ impl Replay {
         fates: &[Fate],
     ) -> Result<(), AllocError>
         ensures bytes { OnOk result (self.new.bytes.items ≡ effect call.now self.old.bytes.items) }
-        ensures image { OnOk result (Step call.now self.old.bytes.items self.old.image.items self.new.image.items) }
+        ensures image { OnOk result (
+            Step call.now self.old.bytes.items self.old.image.items self.new.image.items) }
     {
         match call {
             Call::Read { .. } => Ok(()),
             Call::Write { at, bytes, done } => {
                 self.write(alloc, *at, bytes.as_slice(), *done, fates)
             }
-            Call::Cut { len, done } => self.cut(alloc, *len, *done, fates),
+            Call::Cut { len, done } => {
+                self.cut(*len, *done, fates);
+                Ok(())
+            }
             Call::Sync { done } => self.sync(alloc, *done),
         }
     }
@@ -57,29 +64,29 @@ impl Replay {
         fates: &[Fate],
     ) -> Result<(), AllocError>
         ensures bytes { OnOk result (self.new.bytes.items ≡ put at (landed done bytes.now) self.old.bytes.items) }
-        ensures image { OnOk result (Torn at (length bytes.now) self.old.image.items self.new.image.items) }
+        ensures image { OnOk result (TornBy at bytes.now self.old.image.items self.new.image.items) }
     {
-        self.bytes = with_written(alloc, &self.bytes, at, part(bytes, done))?;
+        write_over(&mut self.bytes, at, part(bytes, done))?;
         let fate = fates.get(self.changes).copied().unwrap_or(Fate::Whole);
-        self.image = torn(alloc, &self.image, at, bytes, fate)?;
+        tear(alloc, &mut self.image, at, bytes, fate)?;
         self.changes = self.changes.saturating_add(1);
         Ok(())
     }
 
-    fn cut(&mut self, alloc: Global, len: u64, done: bool, fates: &[Fate]) -> Result<(), AllocError>
-        ensures bytes { OnOk result (self.new.bytes.items ≡ kept done len self.old.bytes.items) }
-        ensures image { OnOk result (CutLeaves done len self.old.image.items self.new.image.items) }
+    fn cut(&mut self, len: u64, done: bool, fates: &[Fate])
+        ensures bytes { self.new.bytes.items ≡ kept done len self.old.bytes.items }
+        ensures image { CutLeaves done len self.old.image.items self.new.image.items }
     {
         let fate = fates.get(self.changes).copied().unwrap_or(Fate::Whole);
-        self.image = shorter(alloc, &self.image, len, fate)?;
-        self.bytes = kept_part(&self.bytes, len, done).to_vec(alloc)?;
+        shorten(&mut self.image, len, fate);
+        keep(&mut self.bytes, len, done);
         self.changes = self.changes.saturating_add(1);
-        Ok(())
     }
 
     fn sync(&mut self, alloc: Global, done: bool) -> Result<(), AllocError>
         ensures bytes { OnOk result (self.new.bytes.items ≡ self.old.bytes.items) }
-        ensures image { OnOk result (SyncLeaves done self.old.bytes.items self.old.image.items self.new.image.items) }
+        ensures image { OnOk result (
+            SyncLeaves done self.old.bytes.items self.old.image.items self.new.image.items) }
     {
         if done {
             self.image = self.bytes.to_vec(alloc)?;
@@ -100,61 +107,40 @@ pub(crate) fn part(bytes: &[u8], done: bool) -> &[u8]
     }
 }
 
-/// The first bytes, at most as many as there are.
-pub(crate) fn front(bytes: &[u8], len: u64) -> &[u8]
-    ensures { result.now ≡ take len bytes.now }
+// Keeps the bytes that a cut keeps.
+fn keep(bytes: &mut Vec<u8>, len: u64, done: bool)
+    ensures { bytes.new.items ≡ kept done len bytes.old.items }
 {
-    if len < bytes.len() as u64 {
-        &bytes[..len as usize]
-    } else {
-        bytes
+    if done {
+        keep_front(bytes, len);
     }
 }
 
-/// The bytes that a cut keeps.
-pub(crate) fn kept_part(bytes: &[u8], len: u64, done: bool) -> &[u8]
-    ensures { result.now ≡ kept done len bytes.now }
-{
-    if done { front(bytes, len) } else { bytes }
-}
-
-/// The old bytes with others at a place, or at their end where they end before it.
-pub(crate) fn with_written(
+// Leaves of a write what its fate is.
+fn tear(
     alloc: Global,
-    old: &[u8],
+    image: &mut Vec<u8>,
     at: u64,
     bytes: &[u8],
-) -> Result<Vec<u8>, AllocError>
-    ensures { IfOk result (λ v. v.items ≡ put at bytes.now old.now) }
-{
-    let mut next = front(old, at).to_vec(alloc)?;
-    next.extend_from_slice(bytes)?;
-    let after = at.saturating_add(bytes.len() as u64);
-    if after < old.len() as u64 {
-        next.extend_from_slice(&old[after as usize..])?;
-    }
-    Ok(next)
-}
-
-// What a fate leaves of a write.
-fn torn(alloc: Global, old: &[u8], at: u64, bytes: &[u8], fate: Fate) -> Result<Vec<u8>, AllocError>
-    ensures { IfOk result (λ v. Torn at (length bytes.now) old.now v.items) }
+    fate: Fate,
+) -> Result<(), AllocError>
+    ensures { OnOk result (TornBy at bytes.now image.old.items image.new.items) }
 {
     match fate {
-        Fate::Lost => old.to_vec(alloc),
-        Fate::Half => with_written(alloc, old, at, part(bytes, false)),
-        Fate::Whole => with_written(alloc, old, at, bytes),
-        Fate::Filled(byte) => with_written(alloc, old, at, &vec![in alloc; byte; bytes.len()]?),
+        Fate::Lost => Ok(()),
+        Fate::Half => write_over(image, at, part(bytes, false)),
+        Fate::Whole => write_over(image, at, bytes),
+        Fate::Filled(byte) => write_over(image, at, &vec![in alloc; byte; bytes.len()]?),
     }
 }
 
-// What a fate leaves of a cut.
-fn shorter(alloc: Global, old: &[u8], len: u64, fate: Fate) -> Result<Vec<u8>, AllocError>
-    ensures done { IfOk result (λ v. Shorter len old.now v.items) }
-    ensures failed { IfOk result (λ v. Scrambled len old.now v.items) }
+// Leaves of a cut what its fate is.
+fn shorten(image: &mut Vec<u8>, len: u64, fate: Fate)
+    ensures done { Shorter len image.old.items image.new.items }
+    ensures failed { Scrambled len image.old.items image.new.items }
 {
     match fate {
-        Fate::Whole => front(old, len).to_vec(alloc),
-        _ => old.to_vec(alloc),
+        Fate::Whole => keep_front(image, len),
+        _ => {}
     }
 }

@@ -1,16 +1,2 @@
 -- Why a call on the outside fails: because the object's count of faults rose in that very call.
-use Rattle.std.specs.Prelude.{ℕ, ◌+◌, ◌-◌, ◌^◌, ◌≤◌, min, OnErr}
-use Rattle.std.specs.Prelude.{Result}
-
--- a count of 64 bits after one more: at its end it stands still
-abbrev pub next_count : ℕ → ℕ
-next_count n = min (n + 1) (2 ^ 64 - 1)
-
--- the count went up by one or more, or stands at its end
-abbrev pub Rose : ℕ → ℕ → Type 0
-Rose before now = next_count before ≤ now
-
--- the count never falls, and an `Err` comes only where it rose
-pub record HasCause {T E : Type 0} (before now : ℕ) (result : Result T E) : Type 0 where
-  pub later : before ≤ now
-  pub failed : OnErr result (Rose before now)
+pub use Rattle.fault_counts.specs.Count.{next_count, Rose, HasCause}

@@ -1,14 +1,16 @@
 -- What sources and sinks in memory are seen as.
 use Rattle.std.specs.Prelude.{ℕ, List}
 
--- the bytes that are left to read, the number of calls so far, the calls that fail, counted from 1, and the faults
+-- the bytes that are left to read, the number of calls so far, the calls that fail, counted from 1,
+-- and the faults
 pub record ListedSource : Type 0 where
   pub left : List ℕ
   pub calls : ℕ
   pub fails : List ℕ
   pub faults : ℕ
 
--- the bytes that were written, the number of calls so far, the calls that fail, counted from 1, and the faults
+-- the bytes that were written, the number of calls so far, the calls that fail, counted from 1, and
+-- the faults
 pub record ListedSink : Type 0 where
   pub written : List ℕ
   pub calls : ℕ

@@ -2,7 +2,7 @@
 ghost use Rattle.std.specs.Prelude.{◌≡◌, [], ◌↔◌, ◌<◌, length, min, Contains, IsErr, IfOk, OnErr, OnOk};
 ghost use Rattle.std.specs.Io.{ReadsAtMost, WritesAtMost};
 ghost use Rattle.std.specs.Io.KnownBytes.{ReadConsumes, WriteAppends};
-ghost use Rattle.emu_io.specs.Cause.{HasCause, next_count};
+ghost use Rattle.fault_counts.specs.Count.{HasCause, next_count};
 
 use crate::copying::copy_front;
 use crate::faults::Failed;
@@ -10,7 +10,8 @@ use crate::traits::{Sink, Source};
 use std::alloc::Global;
 use std::marker::Model;
 
-/// A source of given bytes, which fails at listed reads. It gives as many bytes as the buffer takes.
+/// A source of given bytes, which fails at listed reads. It gives as many bytes as the buffer
+/// takes.
 #[derive(Drop)]
 pub struct ListSource {
     bytes: Vec<u8>,
@@ -26,7 +27,12 @@ impl Model for ListSource {
 
     ghost Value = { ListedSource };
 
-    ghost view = { λ s. record { left = drop s.at s.bytes.items; calls = s.calls; fails = s.fails.items; faults = s.faults } };
+    ghost view = { λ s. record {
+      left = drop s.at s.bytes.items;
+      calls = s.calls;
+      fails = s.fails.items;
+      faults = s.faults;
+    } };
 
     ghost invariant = { λ s. s.at ≤ length s.bytes.items };
 }
@@ -109,7 +115,12 @@ impl Model for ListSink {
 
     ghost Value = { ListedSink };
 
-    ghost view = { λ s. record { written = s.bytes.items; calls = s.calls; fails = s.fails.items; faults = s.faults } };
+    ghost view = { λ s. record {
+      written = s.bytes.items;
+      calls = s.calls;
+      fails = s.fails.items;
+      faults = s.faults;
+    } };
 }
 
 impl ListSink {

@@ -2,7 +2,7 @@
 ghost use Rattle.std.specs.Prelude.{◌≡◌, [], ◌↔◌, ◌+◌, ◌<◌, ◌≤◌, length, min, IsErr, IfOk, IsOk, OnOk, OnErr};
 ghost use Rattle.std.specs.Io.{ReadsAtMost, WritesAtMost};
 ghost use Rattle.std.specs.Io.KnownBytes.{ReadConsumes, WriteAppends};
-ghost use Rattle.emu_io.specs.Cause.{HasCause, next_count};
+ghost use Rattle.fault_counts.specs.Count.{HasCause, next_count};
 
 use crate::copying::copy_front;
 use crate::faults::{Failed, Memory};

@@ -1,7 +1,7 @@
 //! Reading a source as far as a limit, and writing all of a text.
 ghost use Rattle.std.specs.Prelude.{◌≡◌, ◌≤◌, ℕ, List, length, IsTrue, IsErrOf, IfOk, OnOk, OnErr};
 ghost use Rattle.std.specs.Io.KnownBytes.{Appends, Consumes};
-ghost use Rattle.emu_io.specs.Cause.{Rose};
+ghost use Rattle.fault_counts.specs.Count.{Rose};
 ghost use Rattle.emu_io.specs.Fronts.{TakesFront, IsFrontOf, WritesFront};
 
 use crate::faults::{Failed, ReadFault};
@@ -24,7 +24,8 @@ pub struct Front {
 /// `most` are answered then. `Failed` comes only where a read failed in this call. After a refusal
 /// the source has lost what was read.
 pub fn read_front<S: Source>(alloc: Global, source: &mut S, most: usize) -> Result<Front, ReadFault>
-    ensures taken { IfOk result (λ front. TakesFront (S.left source.old) (S.left source.new) front.bytes.items front.past) }
+    ensures taken { IfOk result (λ front.
+        TakesFront (S.left source.old) (S.left source.new) front.bytes.items front.past) }
     ensures front { IfOk result (λ front. IsFrontOf (S.left source.old) most front.bytes.items front.past) }
     ensures fits { IfOk result (λ front. length front.bytes.items ≤ most) }
     ensures full { IfOk result (λ front. IsTrue front.past → length front.bytes.items ≡ most) }

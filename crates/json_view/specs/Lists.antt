@@ -15,12 +15,14 @@ unfoldable pub element_of : ℕ → Seen → Option Seen
 element_of place s =
     option_map (λ d. seen d (element_path s.path place)) (slice_get (list_in s.value) place)
 
--- what the reader gives of each value in turn, the first of which stands at this place of the list at the
--- path, or the first fault
-abbrev pub readings : {A E : Type 0} → (Seen → Result A E) → List ℕ → ℕ → List Data → Result (List A) E
+-- what the reader gives of each value in turn, the first of which stands at this place of the list
+-- at the path, or the first fault
+abbrev pub readings : {A E : Type 0} → (Seen → Result A E) → List ℕ → ℕ → List Data
+    → Result (List A) E
 readings read path place [] = Ok []
 readings read path place (d ∷ ds) =
-    read (seen d (element_path path place)) >>= λ x. with_front (x ∷ []) (readings read path (place + 1) ds)
+    read (seen d (element_path path place)) >>= λ x.
+    with_front (x ∷ []) (readings read path (place + 1) ds)
 
 -- the readings of a list's elements from a place on
 unfoldable pub each_from : {A E : Type 0} → (Seen → Result A E) → ℕ → Seen → Result (List A) E

@@ -1,5 +1,5 @@
--- The typed parts of a JSON value (RFC 8259): each is the part, or the fault that says at which path
--- which form was wanted. A member that is `null` counts as missing.
+-- The typed parts of a JSON value (RFC 8259): each is the part, or the fault that says at which
+-- path which form was wanted. A member that is `null` counts as missing.
 use Rattle.std.specs.Prelude.{ℕ, List, [], ◌∷◌, nat_le, if◌then◌else◌, Option, Some, None, Result, Ok, Err, is_some, ok_or, option_map, option_and_then}
 use Rattle.serde_json.specs.Data.{Data, null, boolean, number, string, array, object, Items, no_items, item}
 use Rattle.serde_json.specs.Find.{get, as_object, as_array, as_str, as_number, as_u64}
@@ -15,6 +15,7 @@ shape path wanted = record { path = path; wanted = wanted }
 
 -- ---- members of an object
 
+-- `null` counts as nothing
 abbrev pub unless_null : Data → Option Data
 unless_null null = None
 unless_null (boolean b) = Some (boolean b)
@@ -27,6 +28,7 @@ unless_null (object ms) = Some (object ms)
 abbrev pub present : List ℕ → Data → Option Data
 present name d = option_and_then unless_null (get name d)
 
+-- the member of this name at its path, where it is there
 abbrev pub member_seen : List ℕ → Seen → Option Seen
 member_seen name s = option_map (λ d. seen d (member_path s.path name)) (present name s.value)
 
@@ -34,13 +36,19 @@ member_seen name s = option_map (λ d. seen d (member_path s.path name)) (presen
 unfoldable pub member_of : List ℕ → Wanted → Seen → Result Seen Shape
 member_of name wanted s = ok_or (member_seen name s) (shape (member_path s.path name) wanted)
 
+-- a value that has to be an object, with which each reader of an object begins
+unfoldable pub object_of : Seen → Result Seen Shape
+object_of s = if is_some (as_object s.value) then Ok s else Err (shape s.path wanted.Object)
+
 -- a member that may be missing, of a value that has to be an object
 unfoldable pub optional_of : List ℕ → Seen → Result (Option Seen) Shape
 optional_of name s =
-    if is_some (as_object s.value) then Ok (member_seen name s) else Err (shape s.path wanted.Object)
+    if is_some (as_object s.value) then Ok (member_seen name s)
+    else Err (shape s.path wanted.Object)
 
 -- ---- elements of a list
 
+-- the elements in order
 abbrev pub elements : Items → List Data
 elements no_items = []
 elements (item d ds) = d ∷ elements ds
@@ -61,15 +69,20 @@ elements_at s =
 
 -- ---- texts and numbers
 
+-- a text
 unfoldable pub text_at : Seen → Result (List ℕ) Shape
 text_at s = ok_or (as_str s.value) (shape s.path wanted.Text)
 
--- a whole number; one with a fraction or an exponent is none, nor is -0, a negative number, or one from 2^64 on
+-- a whole number; one with a fraction or an exponent is none, nor is -0, a negative number, or one
+-- from 2^64 on
 abbrev pub whole_in : Data → Option ℕ
 whole_in d = option_and_then as_u64 (as_number d)
 
+-- a number up to the most
 abbrev pub at_most : ℕ → ℕ → Option ℕ
 at_most most n = if nat_le n most then Some n else None
 
+-- a whole number up to the most
 unfoldable pub whole_at : ℕ → Seen → Result ℕ Shape
-whole_at most s = ok_or (option_and_then (at_most most) (whole_in s.value)) (shape s.path wanted.Whole)
+whole_at most s =
+    ok_or (option_and_then (at_most most) (whole_in s.value)) (shape s.path wanted.Whole)

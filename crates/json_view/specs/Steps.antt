@@ -1,8 +1,8 @@
 -- Readings in order: the first fault is the answer.
 use Rattle.std.specs.Prelude.{List, ◌++◌, Result, Ok, Err}
 
--- the second reading, of what the first gave
 infixl 10 ◌>>=◌
+-- the second reading, of what the first gave
 abbrev pub ◌>>=◌ : {A B E : Type 0} → Result A E → (A → Result B E) → Result B E
 Ok x >>= f = f x
 Err e >>= f = Err e

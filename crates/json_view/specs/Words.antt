@@ -6,6 +6,7 @@ use Rattle.json_view.specs.declared.faults.ViewFault.TheVariants as fault
 use Rattle.json_view.specs.declared.wants.Wanted.{Wanted}
 use Rattle.json_view.specs.declared.wants.Wanted.TheVariants as wanted
 
+-- the word of a form
 abbrev pub word_of : Wanted → List ℕ
 word_of wanted.Object = codes "object"
 word_of wanted.List = codes "list"
@@ -20,6 +21,7 @@ word_of wanted.Session = codes "session"
 abbrev pub shape_text : Shape → List ℕ
 shape_text s = s.path ++ (codes ": " ++ (word_of s.wanted ++ codes " wanted"))
 
+-- what each fault prints
 abbrev pub fault_text : ViewFault → List ℕ
 fault_text (fault.Shape s) = shape_text s
 fault_text fault.Memory = codes "out of memory"

@@ -7,8 +7,8 @@ use std::error::Error;
 use std::fmt;
 use std::marker::Model;
 
-/// The path of a place in a JSON value: `$` is the whole value, `.name` a member, `[k]` the element at
-/// place k, counted from 0.
+/// The path of a place in a JSON value: `$` is the whole value, `.name` a member, `[k]` the element
+/// at place k, counted from 0.
 #[derive(Debug, Drop)]
 pub struct PathText {
     text: String,

@@ -1,4 +1,5 @@
-//! Typed parts of a JSON value (RFC 8259), or the path and the wanted form of the part that is not there.
+//! Typed parts of a JSON value (RFC 8259), or the path and the wanted form of the part that is not
+//! there.
 #![tactic(auto)]
 
 mod faults;

@@ -3,7 +3,7 @@ ghost use Rattle.std.specs.Prelude.{◌≡◌, ◌≤◌, ◌<◌, ℕ, [], ◌�
 ghost use Rattle.serde_json.specs.View.{view};
 ghost use Rattle.json_view.specs.Gives.{Gives, Tells};
 ghost use Rattle.json_view.specs.Lists.{each_of, element_of, texts_at};
-ghost use Rattle.json_view.specs.Parts.{elements_at, list_in, member_of, optional_of, present, shape, text_at, whole_at};
+ghost use Rattle.json_view.specs.Parts.{elements_at, list_in, member_of, object_of, optional_of, present, shape, text_at, whole_at};
 ghost use Rattle.json_view.specs.Paths.{root_path, member_path, element_path};
 ghost use Rattle.json_view.specs.Seen.{seen, seen_at};
 
@@ -31,8 +31,8 @@ impl<'a> View<'a> {
         Ok(View { alloc, value, path })
     }
 
-    /// The member of this name. Where the value is no object, or has no such member, or `null` there, the
-    /// fault is a `Shape` with the member's path and the form that is wanted of it.
+    /// The member of this name. Where the value is no object, or has no such member, or `null`
+    /// there, the fault is a `Shape` with the member's path and the form that is wanted of it.
     #[tactic(auto, unfolding(crate::specs::Parts::member_of))]
     pub fn member(&self, name: &str, wanted: Wanted) -> Result<View<'a>, ViewFault>
         ensures { Gives seen_at result (member_of name.now wanted (seen_at self.now)) }
@@ -47,9 +47,22 @@ impl<'a> View<'a> {
         }
     }
 
-    /// The member of this name, or `None` where the value is an object that has no such member, or `null`
-    /// there. Where the value is no object, the fault is a `Shape` with this view's path and the form
-    /// `Object`.
+    /// Whether the value is an object: the first step of each reader of one. Where it is none, the
+    /// fault is a `Shape` with this view's path and the form `Object`.
+    #[tactic(auto, unfolding(crate::specs::Parts::object_of))]
+    pub fn object(&self) -> Result<(), ViewFault>
+        ensures { Gives (λ _. seen_at self.now) result (object_of (seen_at self.now)) }
+    {
+        if self.value.is_object() {
+            Ok(())
+        } else {
+            Err(self.refuse(Wanted::Object))
+        }
+    }
+
+    /// The member of this name, or `None` where the value is an object that has no such member, or
+    /// `null` there. Where the value is no object, the fault is a `Shape` with this view's path and
+    /// the form `Object`.
     #[tactic(auto, unfolding(crate::specs::Parts::optional_of))]
     pub fn optional(&self, name: &str) -> Result<Option<View<'a>>, ViewFault>
         ensures { Gives (option_map seen_at) result (optional_of name.now (seen_at self.now)) }
@@ -66,8 +79,8 @@ impl<'a> View<'a> {
         }
     }
 
-    /// The number of elements of a list. Where the value is no list, the fault is a `Shape` with this
-    /// view's path and the form `List`.
+    /// The number of elements of a list. Where the value is no list, the fault is a `Shape` with
+    /// this view's path and the form `List`.
     #[tactic(auto, unfolding(crate::specs::Parts::elements_at))]
     pub fn list_len(&self) -> Result<usize, ViewFault>
         ensures list { Gives (λ _. list_in (seen_at self.now).value) result (elements_at (seen_at self.now)) }
@@ -90,8 +103,8 @@ impl<'a> View<'a> {
         Ok(self.below(&self.listed()[place], path))
     }
 
-    /// The text. Where the value is no text, the fault is a `Shape` with this view's path and the form
-    /// `Text`.
+    /// The text. Where the value is no text, the fault is a `Shape` with this view's path and the
+    /// form `Text`.
     #[tactic(auto, unfolding(crate::specs::Parts::text_at))]
     pub fn text(&self) -> Result<&'a str, ViewFault>
         ensures { Gives (λ t. t.now) result (text_at (seen_at self.now)) }
@@ -102,9 +115,9 @@ impl<'a> View<'a> {
         }
     }
 
-    /// The whole number, from 0 to `most`. Where the value is no such number, the fault is a `Shape` with
-    /// this view's path and the form `Whole`. Numbers with a fraction or an exponent, `-0`, and numbers
-    /// from 2^64 on are no whole numbers.
+    /// The whole number, from 0 to `most`. Where the value is no such number, the fault is a
+    /// `Shape` with this view's path and the form `Whole`. Numbers with a fraction or an exponent,
+    /// `-0`, and numbers from 2^64 on are no whole numbers.
     #[tactic(auto, unfolding(crate::specs::Parts::whole_at))]
     pub fn whole(&self, most: u64) -> Result<u64, ViewFault>
         ensures number { Gives (λ n. n) result (whole_at most (seen_at self.now)) }
@@ -116,9 +129,10 @@ impl<'a> View<'a> {
         }
     }
 
-    /// The texts of a list of texts, or of a text alone, which counts as a list of one. Where the value is
-    /// neither a text nor a list, the fault is a `Shape` with this view's path and the form `List`; else
-    /// it is that of the first element that is no text, with the element's path and the form `Text`.
+    /// The texts of a list of texts, or of a text alone, which counts as a list of one. Where the
+    /// value is neither a text nor a list, the fault is a `Shape` with this view's path and the
+    /// form `List`; else it is that of the first element that is no text, with the element's path
+    /// and the form `Text`.
     #[tactic(auto, unfolding(crate::specs::Lists::texts_at))]
     pub fn texts(&self) -> Result<TextViews<'a>, ViewFault>
         ensures { Gives (λ t. t) result (texts_at (seen_at self.now)) }

@@ -1,16 +1,17 @@
--- The samples at the times of a TextGrid, which are decimals of seconds (Praat manual, "TextGrid file
--- formats"). A recording has `rate` samples a second, and sample s stands at s / rate seconds.
+-- The samples at the times of a TextGrid, which are decimals of seconds (Praat manual, "TextGrid
+-- file formats"). A recording has `rate` samples a second, and sample s stands at s / rate seconds.
 use Rattle.std.specs.Prelude.{ℕ, suc, ◌+◌, ◌*◌, ◌/◌, ◌^◌, ◌<◌, ◌≤◌, Bool, ◌&&◌, nat_lt, nat_le, if◌then◌else◌, ℤ, pos, negsuc, Result, Ok, Err}
 use Rattle.std.specs.Int.{div_ceil}
 use Rattle.sample_time.specs.declared.decimal.Decimal.{Decimal}
 use Rattle.sample_time.specs.declared.sample.TimeFault.{TimeFault}
 use Rattle.sample_time.specs.declared.sample.TimeFault.TheVariants.{NegativeTime, TimeTooLarge}
 
--- ten to the power e, as a fraction: what stands above and below its bar
+-- ten to the power e, as a fraction: what stands above its bar
 abbrev pub ten_above : ℤ → ℕ
 ten_above (pos n) = 10 ^ n
 ten_above (negsuc n) = 1
 
+-- and what stands below it
 abbrev pub ten_below : ℤ → ℕ
 ten_below (pos n) = 1
 ten_below (negsuc n) = 10 ^ suc n
@@ -19,6 +20,7 @@ ten_below (negsuc n) = 10 ^ suc n
 abbrev pub samples_above : Decimal → ℕ → ℕ
 samples_above time rate = time.digits * rate * ten_above time.exponent
 
+-- the lower one of the two
 abbrev pub samples_below : Decimal → ℕ
 samples_below time = ten_below time.exponent
 

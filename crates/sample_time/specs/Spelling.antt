@@ -1,15 +1,15 @@
--- Decimals as texts spell them, and what they stand for: an optional sign, digits, optionally a point
--- and digits, and optionally `e` or `E` with an optional sign and digits. (Praat manual, "TextGrid
--- file formats": the numbers of a TextGrid.)
+-- Decimals as texts spell them, and what they stand for: an optional sign, digits, optionally a
+-- point and digits, and optionally `e` or `E` with an optional sign and digits. (Praat manual,
+-- "TextGrid file formats": the numbers of a TextGrid.)
 use Rattle.std.specs.Prelude.{◌≡◌, ◌≢◌, ◌↔◌, ℕ, ◌*◌, ◌%◌, ◌^◌, ◌<◌, ◌≤◌, ◌⊎◌, Bool, true, false, IsTrue, List, [], ◌∷◌, ◌++◌, length, if◌then◌else◌, ℤ, pos, ◌+ℤ◌, ◌-ℤ◌, neg_ℤ, Result, Ok, Err}
 use Rattle.std.specs.Str.Parse.{IsNumeral, digits_value}
 use Rattle.sample_time.specs.declared.decimal.Decimal.{Decimal}
 use Rattle.sample_time.specs.declared.decimal.NumberFault.{NumberFault}
 use Rattle.sample_time.specs.declared.decimal.NumberFault.TheVariants.{NotANumber, TooManyDigits}
 
--- What the text of a decimal says: whether a minus stands before it, the digits before and behind its
--- point, whether a minus stands before its exponent, and the digits of that. A part that is missing
--- has no digit and no minus.
+-- What the text of a decimal says: whether a minus stands before it, the digits before and behind
+-- its point, whether a minus stands before its exponent, and the digits of that. A part that is
+-- missing has no digit and no minus.
 pub record DecimalText : Type 0 where
   pub negative : Bool
   pub whole : List ℕ
@@ -39,6 +39,7 @@ pub record IsMarkedPower (text : List ℕ) (negative : Bool) (digits : List ℕ)
   pub sign : IsSign sign_text negative
   pub numeral : IsNumeral 10 digits
 
+-- a power of ten that may be missing
 abbrev pub IsPower : List ℕ → Bool → List ℕ → Type 0
 IsPower text negative digits =
     ((text ≡ []) × (negative ≡ false) × (digits ≡ []))

@@ -103,10 +103,10 @@ fn value(parts: &Parts<'_>, bytes: usize) -> Result<Decimal, NumberFault>
 /// The decimal that the text is: an optional sign, digits, optionally a point and digits, and
 /// optionally `e` or `E` with an optional sign and digits. (Praat manual, "TextGrid file formats".)
 ///
-/// The value has one form: trailing zeros of the digits are part of the exponent, the digits are below
-/// 10^20, and zero is plainly `0 * 10^0` and not negative. Every other text is `NotANumber`.
-/// `TooManyDigits` is a decimal with more than 20 digits once leading and trailing zeros are dropped,
-/// with a written exponent past 9,999 in size, or of 2^30 bytes or more.
+/// The value has one form: trailing zeros of the digits are part of the exponent, the digits are
+/// below 10^20, and zero is plainly `0 * 10^0` and not negative. Every other text is `NotANumber`.
+/// `TooManyDigits` is a decimal with more than 20 digits once leading and trailing zeros are
+/// dropped, with a written exponent past 9,999 in size, or of 2^30 bytes or more.
 #[tactic(auto, unfolding(crate::specs::Reading::decimal_of, crate::specs::Reading::value_at))]
 pub fn read_decimal(text: &[u8]) -> Result<Decimal, NumberFault>
     ensures answer { result ≡ decimal_of text.now }

@@ -4,7 +4,8 @@ use Rattle.logbook.specs.Pages.{Book, Cell, Named, Step, View}
 use Rattle.version_gate.specs.declared.entry.Entry.{Entry}
 use Rattle.version_gate.specs.Lists.{Rises}
 
--- The one word counts the publishes, each of which added one entry behind the opening; the numbers rise by one
+-- The one word counts the publishes, each of which added one entry behind the opening; the numbers
+-- rise by one
 pub record IsKept {T : Type 0} (cells : List Cell) (log : List (Entry T)) : Type 0 where
   pub published : ℕ
   pub first : ℕ

@@ -1,14 +1,17 @@
--- Lists of versions with their numbers, and what contracts see of a pass, of a note and of a publisher.
+-- Lists of versions with their numbers, and what contracts see of a pass, of a note and of a
+-- publisher.
 use Rattle.std.specs.Prelude.{◌≡◌, ℕ, suc, ◌+◌, ◌<◌, List, [], ◌∷◌, ◌++◌, length, Option}
 use Rattle.logbook.specs.Pages.{Book}
 use Rattle.version_gate.specs.declared.entry.Entry.{Entry}
 
--- What a pass or a note has: its gate, and the published versions from the opening to the last one that it has seen or learnt
+-- What a pass or a note has: its gate, and the published versions from the opening to the last one
+-- that it has seen or learnt
 pub record Front (T : Type 0) : Type 0 where
   pub gate : Book
   pub list : List (Entry T)
 
--- What a publisher has: its gate, the published list, the number of the last version there, and the version that is staged
+-- What a publisher has: its gate, the published list, the number of the last version there, and the
+-- version that is staged
 pub record Board (T : Type 0) : Type 0 where
   pub gate : Book
   pub list : List (Entry T)
@@ -16,9 +19,11 @@ pub record Board (T : Type 0) : Type 0 where
   pub staged : Option (Entry T)
 
 module _ {T : Type 0} where
+  -- a version under its number
   abbrev pub entry : ℕ → T → Entry T
   entry number version = record { number = number; version = version }
 
+  -- this gate, and these published versions
   abbrev pub front : Book → List (Entry T) → Front T
   front gate list = record { gate = gate; list = list }
 

@@ -6,6 +6,7 @@ use Rattle.logbook.specs.Pages.{Book}
 use Rattle.version_gate.specs.declared.rule.Known.{Known}
 use Rattle.version_gate.specs.Lists.{Front}
 
+-- it was told no gate
 abbrev pub stranger : Known
 stranger = record { told = false; number = 0; log_name = 0; cells_name = 0 }
 
@@ -13,9 +14,11 @@ stranger = record { told = false; number = 0; log_name = 0; cells_name = 0 }
 abbrev pub told_of : Book → Known
 told_of gate = record { told = true; number = gate.number; log_name = gate.log_name; cells_name = gate.cells_name }
 
+-- the gate that it was told
 abbrev pub named : Known → Book
 named v = record { number = v.number; log_name = v.log_name; cells_name = v.cells_name }
 
+-- it was told this gate
 abbrev pub Knows : Book → Known → Type 0
 Knows gate v = (v.told ≡ true) × (named v ≡ gate)
 

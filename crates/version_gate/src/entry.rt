@@ -12,7 +12,8 @@ pub struct Entry<T> {
     pub version: T,
 }
 
-/// A version that was published, with its number. Whoever has it keeps it, whatever is published later.
+/// A version that was published, with its number. Whoever has it keeps it, whatever is published
+/// later.
 #[derive(Drop)]
 pub struct Snapshot<T: Drop> {
     pub number: u64,

@@ -25,8 +25,9 @@ pub struct Made<T: Drop> {
     pub passes: Passes<T>,
 }
 
-/// Makes a gate whose published list is the opening, under the number given, for 1 to 16 readers. It gives at least one
-/// pass and at most as many as there are readers. It may wait, since a refusal may have to end the writer.
+/// Makes a gate whose published list is the opening, under the number given, for 1 to 16 readers.
+/// It gives at least one pass and at most as many as there are readers. It may wait, since a
+/// refusal may have to end the writer.
 pub fn new_gate<T: Drop, R: Wait>(
     rt: &R,
     alloc: Global,

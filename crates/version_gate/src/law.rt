@@ -5,8 +5,9 @@ ghost use mathlib.Core.List.{IsPrefix};
 use crate::pass::Pass;
 use crate::publisher::Publisher;
 
-/// Lets a pass learn the published list, and says whether its number is then the published one. If so, the pass has that
-/// list, and every list that it had before begins it. It takes no memory and waits for nobody.
+/// Lets a pass learn the published list, and says whether its number is then the published one. If
+/// so, the pass has that list, and every list that it had before begins it. It takes no memory and
+/// waits for nobody.
 pub fn catch_up<T: Drop>(publisher: &mut Publisher<T>, pass: &mut Pass<T>) -> bool
     requires gate { publisher.old.gate ≡ pass.old.gate }
     ensures published { publisher.new ≡ publisher.old }

@@ -1,5 +1,5 @@
-//! Versions that one publisher publishes and passes look at in any thread, with no lock: a look gives a published
-//! version, and never one that is older than what its pass has seen or learnt.
+//! Versions that one publisher publishes and passes look at in any thread, with no lock: a look
+//! gives a published version, and never one that is older than what its pass has seen or learnt.
 #![tactic(auto)]
 
 mod entry;

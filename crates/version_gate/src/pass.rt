@@ -19,8 +19,8 @@ use std::marker::Model;
 /// A place at the two copies from which one thread at a time reads.
 pub type SeatOf<T> = Reader<Shown<T>, Known, Gates>;
 
-/// One thread's way to the published versions. It may go to another thread. Contracts see its gate, and its list: the
-/// published versions up to the last one that it has seen or learnt.
+/// One thread's way to the published versions. It may go to another thread. Contracts see its gate,
+/// and its list: the published versions up to the last one that it has seen or learnt.
 #[derive(Drop)]
 pub struct Pass<T: Drop> {
     seat: Option<SeatOf<T>>,
@@ -85,8 +85,9 @@ impl<T: Drop> Pass<T> {
         }
     }
 
-    /// Gives the last version of a list that was published, and that begins with all that this pass has seen or learnt.
-    /// It takes no lock and waits for nobody. `NoEntry` and `Memory` leave the pass as it was: look again.
+    /// Gives the last version of a list that was published, and that begins with all that this pass
+    /// has seen or learnt. It takes no lock and waits for nobody. `NoEntry` and `Memory` leave the
+    /// pass as it was: look again.
     pub fn look(&mut self) -> Result<Snapshot<T>, LookFault>
         ensures gate { self.new.gate ≡ self.old.gate }
         ensures holds { IsPrefix self.old.list self.new.list }
@@ -103,7 +104,8 @@ impl<T: Drop> Pass<T> {
         Ok(snapshot)
     }
 
-    /// Takes in what a publisher told: from now on a look gives no version older than the last one of the note.
+    /// Takes in what a publisher told: from now on a look gives no version older than the last one
+    /// of the note.
     pub fn learn(&mut self, note: Note<T>)
         requires gate { note.gate ≡ self.old.gate }
         ensures gate { self.new.gate ≡ self.old.gate }

@@ -30,7 +30,8 @@ impl<T> Rule<Entry<T>, u64> for Law {
     ghost moves = { λ ask before after answer. Unit {0} };
 }
 
-/// The part of the published list that somebody has seen. It has no bytes, and no code can make one up.
+/// The part of the published list that somebody has seen. It has no bytes, and no code can make one
+/// up.
 pub type Reached<T> = Seen<Entry<T>, u64, Law>;
 
 /// The word that counts the publishes. Its publisher alone has it.
@@ -85,7 +86,8 @@ pub fn open<T: Drop>(opening: &Snapshot<T>) -> (Reached<T>, Head<T>)
     (seen, head)
 }
 
-/// Adds an entry to the published list, which was seen whole. Were the list longer, it would wait for ever.
+/// Adds an entry to the published list, which was seen whole. Were the list longer, it would wait
+/// for ever.
 pub fn add_entry<T: Drop, R: Wait>(
     rt: &R,
     head: &Head<T>,

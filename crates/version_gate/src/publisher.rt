@@ -17,8 +17,8 @@ use std::sync::{Arc, Wait};
 /// The writer of a gate's versions.
 pub type SideOf<T> = Side<Shown<T>, Gates>;
 
-/// The one that publishes. Contracts see its gate, the published list with the number of its last version, and the version
-/// that is staged. It is no `Drop`: end it by `close`.
+/// The one that publishes. Contracts see its gate, the published list with the number of its last
+/// version, and the version that is staged. It is no `Drop`: end it by `close`.
 pub struct Publisher<T: Drop> {
     side: Option<SideOf<T>>,
     head: Head<T>,
@@ -62,8 +62,8 @@ impl<T: Drop> Publisher<T> {
         }
     }
 
-    /// Makes a version ready to be published, in place of one that was staged and not published. Nobody sees it yet. It
-    /// takes no memory, and is always `Ok`.
+    /// Makes a version ready to be published, in place of one that was staged and not published.
+    /// Nobody sees it yet. It takes no memory, and is always `Ok`.
     pub fn stage(&mut self, number: u64, next: Arc<T>) -> Result<(), Memory>
         requires next { number ≡ self.old.number + 1 }
         ensures ok { result ≡ Ok tt }
@@ -76,8 +76,8 @@ impl<T: Drop> Publisher<T> {
         Ok(())
     }
 
-    /// Puts the staged version behind the published list, and shows it to the passes. It may wait for passes that still
-    /// read an older one, and tries again while memory is short.
+    /// Puts the staged version behind the published list, and shows it to the passes. It may wait
+    /// for passes that still read an older one, and tries again while memory is short.
     pub fn publish<R: Wait>(&mut self, rt: &R)
         requires { IsSome self.old.staged }
         ensures { IfSome self.old.staged (λ e. self.new ≡ record { gate = self.old.gate; list = self.old.list ++ e ∷ []; number = e.number; staged = None }) }
@@ -107,7 +107,8 @@ impl<T: Drop> Publisher<T> {
         self.number
     }
 
-    /// Ends the publisher. It may wait for passes that still read. What looks gave stays, and later looks give none.
+    /// Ends the publisher. It may wait for passes that still read. What looks gave stays, and later
+    /// looks give none.
     pub fn close<R: Wait>(self, rt: &R) {
         let Publisher {
             side,

@@ -1,9 +1,11 @@
-//! The rule of the two copies: each seat that was told a gate was told that of the versions that are shown.
+//! The rule of the two copies: each seat that was told a gate was told that of the versions that
+//! are shown.
 use crate::shown::Shown;
 use atomic_table::{Join, Split};
 use crossbeam_utils::rule::{Outcome, Protocol};
 
-/// What a seat knows: whether it was told a gate, and the gate's three numbers. No value of it is made.
+/// What a seat knows: whether it was told a gate, and the gate's three numbers. No value of it is
+/// made.
 pub struct Known {
     pub told: bool,
     pub number: u64,

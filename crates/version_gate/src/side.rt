@@ -10,7 +10,8 @@ use left_right::writer::Writer;
 use std::marker::Model;
 use std::sync::Wait;
 
-/// A writer with nothing pending. Contracts see the value that it shows. It is no `Drop`: end it by `close`.
+/// A writer with nothing pending. Contracts see the value that it shows. It is no `Drop`: end it by
+/// `close`.
 pub struct Side<S: Absorb<S> + Drop, P: Protocol<S, Known>> {
     writer: Writer<S, S, Known, P>,
 }
@@ -34,7 +35,8 @@ impl<S: Absorb<S> + Drop, P: Protocol<S, Known>> Side<S, P> {
         Side { writer }
     }
 
-    /// Shows the next value. It tries again while memory is short, and waits for those that read the other copy.
+    /// Shows the next value. It tries again while memory is short, and waits for those that read
+    /// the other copy.
     pub fn show<M: Outcome<S, Known>, R: Wait>(self, rt: &R, next: S) -> Side<S, P>
         requires { (seat : ℕ) (v : Known) (later : S) → S.state later ≡ S.applied (S.state self) next → TurnsAt P.holds seat v self later M.then }
         ensures { S.state result ≡ S.applied (S.state self) next }

@@ -1,4 +1,5 @@
-//! What looks give around a stage, a publish and a learnt note, on one thread and beside a publisher on another.
+//! What looks give around a stage, a publish and a learnt note, on one thread and beside a
+//! publisher on another.
 ghost use Rattle.std.specs.Prelude.{◌≡◌, IfOk};
 
 use crate::law::catch_up;
@@ -50,8 +51,8 @@ fn look(pass: &mut Pass<u64>) -> Option<(u64, u64, u64)>
     Some((found.number, *found.version, pass.seen()))
 }
 
-// What the looks give at the opening, after two stages of one number, and after the publish and what was learnt of it;
-// what the other pass then sees; and whether the first has caught up.
+// What the looks give at the opening, after two stages of one number, and after the publish and
+// what was learnt of it; what the other pass then sees; and whether the first has caught up.
 fn looks_around_a_publish<R: Wait>(
     rt: &R,
     alloc: Global,
@@ -142,8 +143,8 @@ fn publish_many<R: Wait>(
     Ok(())
 }
 
-// Looks until it finds a number, or an older one once the publisher has ended. Whether it found it, no look went back, and
-// each gave the version of its number.
+// Looks until it finds a number, or an older one once the publisher has ended. Whether it found it,
+// no look went back, and each gave the version of its number.
 fn look_up_to(pass: &mut Pass<u64>, last: u64, ended: &AtomicBool) -> bool {
     let mut before = 0;
     for _ in 0..u64::MAX {

@@ -11,6 +11,7 @@ returns-in-Closed-clause-ok c =
     let stands = front_closed c.args.bytes.now c.gates.rest.now c.gates.bodies c.gates.at stood.0 stood.1 front stood.2 stood.3 c.requires.fits in
     record {
       read = closed_read c.args.bytes.now c.gates.rest.now c.gates.bodies c.gates.at front stands;
+      places = front.places;
       sized = front.sized;
       end = front.place;
       small = omega (arith, front.place, ap length front.cut, length-append (start (texts_of c.gates.bodies)) c.gates.rest.now, c.requires.fits);

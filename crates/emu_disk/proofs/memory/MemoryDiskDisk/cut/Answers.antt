@@ -1,5 +1,5 @@
 use Rattle.std.proofs.Common.{Some, ap}
-use Rattle.emu_disk.proofs.Kept.{calls_failed, first_failed, image_by, time_adds, time_failed, bytes_by, scrambled_failed}
+use Rattle.emu_disk.proofs.Kept.{scrambled_reads, calls_failed, first_failed, image_by, time_adds, time_failed, bytes_by, scrambled_failed}
 use Rattle.emu_disk.proofs.memory.MemoryDiskDisk.cut.Goals as goal
 
 pub returns-in-Ok-clause-cut : goal.returns-in-Ok-clause-cut
@@ -36,3 +36,6 @@ returns-in-Err-clause-made c = record {
   stop = c.turn-done.ensures.stop;
   made = c.turn-done.ensures.made;
 }
+
+pub returns-in-Err-clause-left : goal.returns-in-Err-clause-left
+returns-in-Err-clause-left c = scrambled_reads _ _ _ c.in-Err.ensures.moves

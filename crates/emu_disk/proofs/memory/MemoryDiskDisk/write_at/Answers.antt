@@ -1,5 +1,5 @@
 use Rattle.std.proofs.Common.{Some, ap}
-use Rattle.emu_disk.proofs.Kept.{calls_failed, first_failed, image_by, time_adds, time_failed, bytes_by, torn_failed}
+use Rattle.emu_disk.proofs.Kept.{torn_reads, calls_failed, first_failed, image_by, time_adds, time_failed, bytes_by, torn_failed}
 use Rattle.emu_disk.proofs.memory.MemoryDiskDisk.write_at.Goals as goal
 
 pub returns-in-Ok-clause-written : goal.returns-in-Ok-clause-written
@@ -36,3 +36,6 @@ returns-in-Err-clause-made c = record {
   stop = c.turn-done.ensures.stop;
   made = c.turn-done.ensures.made;
 }
+
+pub returns-in-Err-clause-torn : goal.returns-in-Err-clause-torn
+returns-in-Err-clause-torn c = torn_reads _ _ _ _ c.in-Err.ensures.moves

@@ -1,5 +1,5 @@
 use Rattle.emu_disk.proofs.Kept.{noted_if}
-use Rattle.emu_disk.proofs.memory.Log.note.Goals as goal
+use Rattle.emu_disk.proofs.log.Log.note.Goals as goal
 
 pub invariant_of-self : goal.invariant_of-self
 invariant_of-self c = record {
