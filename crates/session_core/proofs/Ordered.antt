@@ -23,7 +23,7 @@ use Rattle.session_core.specs.Effects.{IsLegal, edited}
 use Rattle.session_core.specs.Steps.{Opened, State, slot, put_slot, session_places, start, is_full, opened_at, edit_step, look_step, finish_step, query_step, query_fails}
 use Rattle.session_core.specs.Worlds.{Turn, Trouble, untroubled, no_memory, store_full, disk_failed, is_disk_failed, Occurrence, World, query_line, query_answered, turns_of, happens, run, opening_world, Each, IsBehind, IsNext, RequestFits, same_command, passes_store, TroubleFits, OccurrenceFits, AllFit, disk_failures, Fits, is_waiting, is_done, lines_done}
 use Rattle.session_core.specs.Legal.{lines_in, replies_in, Legal}
-use Rattle.session_core.specs.InOrder.{Outage, fine, at_first, at_last, disk_fails, is_disk_outage, disk_outages, given, replied, query_begun, stored_trouble, accepted_trouble, made_trouble, edit_trouble, trouble_at, edit_outcome, request_turn, one_turn, in_turn, NamesEarlier, IsBelow, ComesNext, ComeInOrder}
+use Rattle.session_core.specs.InOrder.{Outage, fine, at_first, at_last, disk_fails, is_disk_outage, disk_outages, given, replied, query_begun, stored_trouble, made_trouble, edit_trouble, trouble_at, edit_outcome, request_turn, one_turn, in_turn, NamesEarlier, IsBelow, ComesNext, ComeInOrder}
 use Rattle.session_core.specs.Answers.{entry_of}
 use Rattle.emu_names.specs.declared.limits.TheConstants.{HISTORY_EDITS}
 use Rattle.fault_counts.specs.Count.{RoseBy}
@@ -82,14 +82,14 @@ stored_sound : (passes : Bool) → is_disk_failed (stored_trouble passes false) 
 stored_sound true = refl
 stored_sound false = refl
 
-accepted_sound : (store passes : Bool) → is_disk_failed (accepted_trouble store passes false) ≡ false
-accepted_sound false passes = refl
-accepted_sound true passes = stored_sound passes
+made_sound : (st : State) (l : Line) (edit : Edit) (full : Bool) (made : Result (List BundleParts) Broken) → is_disk_failed (made_trouble st l edit false full made) ≡ false
+made_sound st l edit true made = refl
+made_sound st l edit false (Err rule) = refl
+made_sound st l edit false (Ok bundles) = stored_sound (passes_store st.config st.entries (entry_of l edit))
 
-made_sound : (store : Bool) (st : State) (l : Line) (edit : Edit) (full : Bool) (made : Result (List BundleParts) Broken) → is_disk_failed (made_trouble store st l edit false full made) ≡ false
-made_sound store st l edit true made = refl
-made_sound store st l edit false (Err rule) = refl
-made_sound store st l edit false (Ok bundles) = accepted_sound store (passes_store st.config st.entries (entry_of l edit))
+edit_sound : (store : Bool) (st : State) (l : Line) (edit : Edit) → is_disk_failed (edit_trouble store st l edit false) ≡ false
+edit_sound false st l edit = refl
+edit_sound true st l edit = made_sound st l edit (is_full st.entries) (edited st.config st.entries edit)
 
 bit_low : (b : Bool) → cond b 1 0 ≤ 1
 bit_low true = omega arith
@@ -100,7 +100,7 @@ low_false b is = subst (λ (x : Bool). cond x 1 0 ≤ 0) (sym is) (omega arith)
 
 edit_failures : (store : Bool) (st : State) (l : Line) (edit : Edit) (outage : Outage) → cond (is_disk_failed (trouble_at store st l edit outage)) 1 0 ≤ cond (is_disk_outage outage) 1 0
 edit_failures store st l edit fine =
-    low_false (is_disk_failed (edit_trouble store st l edit false)) (made_sound store st l edit (is_full st.entries) (edited st.config st.entries edit))
+    low_false (is_disk_failed (edit_trouble store st l edit false)) (edit_sound store st l edit)
 edit_failures store st l edit at_first = omega arith
 edit_failures store st l edit at_last = omega arith
 edit_failures store st l edit disk_fails = bit_low (is_disk_failed (edit_trouble store st l edit true))
@@ -315,27 +315,30 @@ module _ (store : Bool) (before : List Line) (w : World) (b : Between before w) 
     edit_answers_at store_full may = record { fits = (record { event = edit_may; trouble = may }, tt); state = refl; lines = refl; turns = refl; count = b.count; idle = b.idle }
     edit_answers_at disk_failed may = record { fits = (record { event = edit_may; trouble = may }, tt); state = refl; lines = refl; turns = refl; count = b.count; idle = b.idle }
 
-    accepted_fits : (bundles : List BundleParts) (stored passes fails : Bool) → is_full w.state.entries ≡ false → edited w.state.config w.state.entries edit ≡ Ok bundles
-        → store ≡ stored → passes_store w.state.config w.state.entries (entry_of edit_line edit) ≡ passes
-        → TroubleFits store w.state (events.Edit edit_line) (accepted_trouble stored passes fails)
-    accepted_fits bundles false passes fails room made stored_is passes_is = tt
-    accepted_fits bundles true true fails room made stored_is passes_is =
-        record { stored = stored_is; room = room; bundles = bundles; made = made; passes = passes_is }
-    accepted_fits bundles true false true room made stored_is passes_is = stored_is
-    accepted_fits bundles true false false room made stored_is passes_is = tt
+    stored_fits : (bundles : List BundleParts) (passes fails : Bool) → is_full w.state.entries ≡ false → edited w.state.config w.state.entries edit ≡ Ok bundles
+        → store ≡ true → passes_store w.state.config w.state.entries (entry_of edit_line edit) ≡ passes
+        → TroubleFits store w.state (events.Edit edit_line) (stored_trouble passes fails)
+    stored_fits bundles true fails room made stored passes_is =
+        record { stored = stored; room = room; bundles = bundles; made = made; passes = passes_is }
+    stored_fits bundles false true room made stored passes_is = stored
+    stored_fits bundles false false room made stored passes_is = tt
 
-    made_fits : (fails full : Bool) (made : Result (List BundleParts) Broken) → is_full w.state.entries ≡ full → edited w.state.config w.state.entries edit ≡ made
-        → TroubleFits store w.state (events.Edit edit_line) (made_trouble store w.state edit_line edit fails full made)
-    made_fits fails true made full_is made_is = tt
-    made_fits fails false (Err rule) full_is made_is = tt
-    made_fits fails false (Ok bundles) full_is made_is =
-        accepted_fits bundles store (passes_store w.state.config w.state.entries (entry_of edit_line edit)) fails full_is made_is refl refl
+    made_fits : (fails full : Bool) (made : Result (List BundleParts) Broken) → is_full w.state.entries ≡ full → edited w.state.config w.state.entries edit ≡ made → store ≡ true
+        → TroubleFits store w.state (events.Edit edit_line) (made_trouble w.state edit_line edit fails full made)
+    made_fits fails true made full_is made_is stored = tt
+    made_fits fails false (Err rule) full_is made_is stored = tt
+    made_fits fails false (Ok bundles) full_is made_is stored =
+        stored_fits bundles (passes_store w.state.config w.state.entries (entry_of edit_line edit)) fails full_is made_is stored refl
+
+    edit_fits : (there : Bool) (fails : Bool) → store ≡ there → TroubleFits store w.state (events.Edit edit_line) (edit_trouble there w.state edit_line edit fails)
+    edit_fits false fails is = tt
+    edit_fits true fails is = made_fits fails (is_full w.state.entries) (edited w.state.config w.state.entries edit) refl refl is
 
     trouble_fits : (outage : Outage) → TroubleFits store w.state (events.Edit edit_line) (trouble_at store w.state edit_line edit outage)
-    trouble_fits fine = made_fits false (is_full w.state.entries) (edited w.state.config w.state.entries edit) refl refl
+    trouble_fits fine = edit_fits store false refl
     trouble_fits at_first = tt
     trouble_fits at_last = tt
-    trouble_fits disk_fails = made_fits true (is_full w.state.entries) (edited w.state.config w.state.entries edit) refl refl
+    trouble_fits disk_fails = edit_fits store true refl
 
     edit_answers : (outage : Outage) → Answers store w edit_line (request_moments store w.state edit_line (requests.Edit edit) outage) (request_turn store w.state edit_line (requests.Edit edit) outage)
     edit_answers outage = edit_answers_at (trouble_at store w.state edit_line edit outage) (trouble_fits outage)

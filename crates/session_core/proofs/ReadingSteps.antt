@@ -24,8 +24,7 @@ use Rattle.session_core.specs.Effects.{bundles_after}
 use Rattle.session_core.specs.Answers.{rows_over, query_answer, answer_at, memory, reply_to, entry_of}
 use Rattle.session_core.specs.Steps.{Opened, State, slot, put_slot, session_places, is_full, opened_at, with_look, with_query, with_entry, present, edit_step, look_step, finish_step, query_step}
 use Rattle.session_core.specs.Legal.{accepting, IsAcceptance, IsRightAt, IsRightUnnumbered, IsRight, Look, open_behind, LookReplyFits, FinishReplyFits, ReplyFits}
-use Rattle.session_core.specs.InOrder.{Outage, fine, replied, query_begun, query_turn, unless_outage, made_trouble, edit_outcome, request_turn}
-use Rattle.session_core.specs.Worlds.{Trouble, untroubled}
+use Rattle.session_core.specs.InOrder.{Outage, fine, replied, query_begun, query_turn, unless_outage, request_turn}
 use Rattle.emu_names.specs.declared.limits.TheConstants.{HISTORY_EDITS}
 use Rattle.session_core.specs.Readings.{IsStanding, outage_in}
 use Rattle.session_core.proofs.Places.{slot_put, slot_other, put_length}
@@ -165,17 +164,10 @@ module _ (c : Config) (m : ℕ) (H : List Entry) (k : ℕ) (st : State) (r : Sta
   abbrev edit_out : Edit → Bool → Result (List BundleParts) Broken → Reply × State
   edit_out edit full made = replied l (edit_step st l edit full made)
 
-  -- without a store nothing keeps an edit from its step
-  no_trouble : (edit : Edit) (fails full : Bool) (made : Result (List BundleParts) Broken) → untroubled ≡ made_trouble false st l edit fails full made
-  no_trouble edit fails true made = refl
-  no_trouble edit fails false (Ok bundles) = refl
-  no_trouble edit fails false (Err rule) = refl
-
   edit_made_is : (edit : Edit) (full : Bool) (made : Result (List BundleParts) Broken) → is_full st.entries ≡ full → edited st.config st.entries edit ≡ made
       → edit_out edit full made ≡ request_turn false st l (requests.Edit edit) fine
   edit_made_is edit full made full_is made_is =
       sym (ap (λ (b : Bool). edit_out edit b (edited st.config st.entries edit)) full_is ∙ ap (λ (found : Result (List BundleParts) Broken). edit_out edit full found) made_is)
-      ∙ ap (λ (t : Trouble). replied l (edit_outcome st l edit t)) (no_trouble edit false (is_full st.entries) (edited st.config st.entries edit))
 
   not_full : k < HISTORY_EDITS → is_full st.entries ≡ false
   not_full room =

@@ -58,21 +58,19 @@ stored_trouble true fails = store_full
 stored_trouble false true = disk_failed
 stored_trouble false false = untroubled
 
-abbrev pub accepted_trouble : Bool → Bool → Bool → Trouble
-accepted_trouble false passes fails = untroubled
-accepted_trouble true passes fails = stored_trouble passes fails
+abbrev pub made_trouble : State → Line → Edit → Bool → Bool → Result (List BundleParts) Broken → Trouble
+made_trouble st l edit fails true made = untroubled
+made_trouble st l edit fails false (Err rule) = untroubled
+made_trouble st l edit fails false (Ok bundles) =
+    stored_trouble (passes_store st.config st.entries (entry_of l edit)) fails
 
-abbrev pub made_trouble : Bool → State → Line → Edit → Bool → Bool → Result (List BundleParts) Broken → Trouble
-made_trouble store st l edit fails true made = untroubled
-made_trouble store st l edit fails false (Err rule) = untroubled
-made_trouble store st l edit fails false (Ok bundles) =
-    accepted_trouble store (passes_store st.config st.entries (entry_of l edit)) fails
-
--- `store` says whether there is a store, `fails` whether the disk fails
+-- the first flag says whether there is a store, the other whether the disk fails
 abbrev pub edit_trouble : Bool → State → Line → Edit → Bool → Trouble
-edit_trouble store st l edit fails =
-    made_trouble store st l edit fails (is_full st.entries) (edited st.config st.entries edit)
+edit_trouble false st l edit fails = untroubled
+edit_trouble true st l edit fails =
+    made_trouble st l edit fails (is_full st.entries) (edited st.config st.entries edit)
 
+-- what an outage does to the edit of a line
 abbrev pub trouble_at : Bool → State → Line → Edit → Outage → Trouble
 trouble_at store st l edit fine = edit_trouble store st l edit false
 trouble_at store st l edit at_first = no_memory
