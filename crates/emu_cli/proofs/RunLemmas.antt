@@ -27,8 +27,8 @@ use Rattle.emu_cli.proofs.ParseLemmas.{parse_push, parse_stop, front_stop, front
 use Rattle.emu_cli.proofs.TextLemmas.{turns_push, begun_text, text_begun, begun_push, front_all, front_more, front_none, whole_more}
 
 -- what the code reads behind a run is what the definition reads behind the script so far
-read_there : (running : Running) (config : Config) (p : Parsed) (outages : List Outage) (line : List ℕ) → IsAt running config p outages → line_at (p.number + 1) (is_none p.config) (numbers_of p.requests) line ≡ line_at (running.number + 1) false running.earlier line
-read_there running config p outages line at = rw (at.begun, at.number, at.earlier) refl
+read_there : (running : Running) (config : Config) (p : Parsed) (outages : List Outage) (line : List ℕ) → IsAt running config p outages → line_at (p.number + 1) p.wants (numbers_of p.requests) line ≡ line_at (running.number + 1) false running.earlier line
+read_there running config p outages line at = rw (at.wants, at.number, at.earlier) refl
 
 next_read : (running : Running) (config : Config) (p : Parsed) (outages : List Outage) (line : List ℕ) (read : ReadLine) → IsAt running config p outages → line_at (running.number + 1) false running.earlier line ≡ Ok read → parse_line p line ≡ Ok (with_read p read)
 next_read running config p outages line read at h = ap (λ r. r >>= λ x. Ok (with_read p x)) (read_there running config p outages line at ∙ h)
@@ -48,6 +48,7 @@ reached_blank config lines line running new before now r h core earlier number =
       outages = r.outages;
       at = record {
         begun = r.at.begun;
+      wants = r.at.wants;
         core = core ∙ r.at.core;
         earlier = earlier ∙ r.at.earlier;
         number = number ∙ ap (λ n. n + 1) r.at.number;
@@ -65,15 +66,16 @@ record Answered (config : Config) (p : Parsed) (outages : List Outage) (l : Line
 one_more : (os : List Outage) (ls : List Line) (o : Outage) (l : Line) → length os ≡ length ls → length (os ++ o ∷ []) ≡ length (ls ++ l ∷ [])
 one_more os ls o l h = omega (arith, length-append os (o ∷ []), length-append ls (l ∷ []))
 
-turn_there : (st mid : State) (l : Line) (o : Outage) (reply : Reply) (new : State) → mid ≡ st → one_turn mid l o ≡ (reply, new) → one_turn st l o ≡ (reply, new)
+turn_there : (st mid : State) (l : Line) (o : Outage) (reply : Reply) (new : State) → mid ≡ st → one_turn false mid l o ≡ (reply, new) → one_turn false st l o ≡ (reply, new)
 turn_there st mid l o reply new same h = rw (← same) h
 
 answered : (config : Config) (p : Parsed) (outages : List Outage) (running new : Running) (l : Line) (reply : Reply) (t : TakesLine running l reply new) → IsAt running config p outages → Answered config p outages l new reply t.outage
 answered config p outages running new l reply t at =
-    let here : one_turn (in_turn (start config []) p.requests outages).1 l t.outage ≡ (reply, new.core) = turn_there _ running.core l t.outage reply new.core at.core t.turn in
+    let here : one_turn false (in_turn false (start config []) p.requests outages).1 l t.outage ≡ (reply, new.core) = turn_there _ running.core l t.outage reply new.core at.core t.turn in
     record {
       at = record {
         begun = at.begun;
+        wants = at.wants;
         core = sym (ap (λ r. r.1) (turns_push (start config []) p.requests outages l t.outage at.each) ∙ ap (λ r. r.1) here);
         earlier = t.earlier ∙ ap (λ e. e ++ l.line ∷ []) at.earlier ∙ sym (map-append (λ (k : Line). k.line) p.requests (l ∷ []));
         number = t.number ∙ ap (λ n. n + 1) at.number;
@@ -199,6 +201,7 @@ lines_end config all running before now i =
       parsed = r.parsed;
       config = config;
       begun = r.at.begun;
+      wants = r.at.wants;
       script = ap (parse nothing_read) (i.split ∙ append-nil i.done) ∙ r.script;
       outages = r.outages;
       each = r.at.each;
@@ -222,7 +225,7 @@ begun config line running before now h core earlier number written = record {
   parsed = with_read nothing_read (reads.Config config);
   script = ap (λ r. r >>= λ n. parse n []) h;
   outages = [];
-  at = record { begun = refl; core = core; earlier = earlier; number = number; each = refl };
+  at = record { begun = refl; wants = refl; core = core; earlier = earlier; number = number; each = refl };
   output = subst (λ t. Appends before now t) (sym (append-nil (reply_text config_reply))) written;
 }
 
@@ -281,7 +284,7 @@ past_script lines before now r =
 pub whole_script : (lines : List (List ℕ)) (before now : Option (List ℕ)) → RanAll lines before now → RanScript false lines before now
 whole_script lines before now r = record {
   parsed = r.parsed;
-  script = ap (λ p. p >>= ended false) r.script ∙ ap (if_configured r.parsed) r.begun;
+  script = ap (λ p. p >>= ended false) r.script ∙ ap (if_configured r.parsed) r.wants;
   read = r.script;
   outages = r.outages;
   each = r.each;

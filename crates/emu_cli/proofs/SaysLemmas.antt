@@ -3,15 +3,16 @@ use Rattle.std.proofs.Common.{◌≡◌, ◌≢◌, ◌⊎◌, inl, inr, ◌↔�
 use Rattle.std.proofs.lemmas.Bool.{ltb-true, ltb-false}
 use Rattle.std.specs.Io.KnownBytes.{Appends, IsAtEnd, Consumes}
 use Rattle.std.proofs.KnownBytes.{Appends-nil, Appends-trans}
-use Rattle.emu_io.specs.Cause.{Rose}
+use Rattle.fault_counts.specs.Count.{Rose}
+use Rattle.emu_names.specs.declared.limits.TheConstants.{SCRIPT_BYTES}
 use Rattle.emu_io.specs.Fronts.{Tells, TakesFront, IsFrontOf, WritesFront}
 use Rattle.session_core.specs.InOrder.{Outage}
 use Rattle.script_lines.specs.declared.faults.LineFault.{LineFault}
 use Rattle.emu_cli.specs.declared.status.Status.{Status}
 use Rattle.emu_cli.specs.declared.status.Status.TheVariants as statuses
 use Rattle.emu_cli.specs.Cuts.{cut}
-use Rattle.emu_cli.specs.Scripts.{Parsed, nothing_read, parse, parsed_front, ended, is_past, lines_of, script_of, front_of, script_limit, Stop, limit, at_fault, ◌>>=◌}
-use Rattle.emu_cli.specs.Runs.{run_text, IsRun, usage_text, stop_text}
+use Rattle.emu_cli.specs.Scripts.{Parsed, nothing_read, parse, parsed_front, ended, is_past, lines_of, script_of, front_of, Stop, limit, at_fault, ◌>>=◌}
+use Rattle.emu_cli.specs.Runs.{run_text, history_of, IsRun, usage_text, stop_text}
 use Rattle.emu_cli.specs.Says.{Call, call_of, IsCommand, Says, RanWhole, EndedEarly, FoundFault, NoCommand, IsLastLine, Unfinished, UnfinishedUsage, BrokeOff, ReadFailed, WriteFailed, WritesLast, IsFaultless, code_of}
 use Rattle.emu_cli.specs.Reached.{Broke, BrokeIn, RanScript, StoppedScript}
 use Rattle.emu_cli.proofs.TextLemmas.{front_all, front_more, whole_more}
@@ -19,10 +20,10 @@ use Rattle.emu_cli.proofs.OrderedLemmas.{legal_run}
 
 -- The script that was read.
 
-past_cases : (text : List ℕ) (past test : Bool) → nat_lt script_limit (length text) ≡ test → IsTrue past ↔ (script_limit < length text) → test ≡ past
+past_cases : (text : List ℕ) (past test : Bool) → nat_lt SCRIPT_BYTES (length text) ≡ test → IsTrue past ↔ (SCRIPT_BYTES < length text) → test ≡ past
 past_cases text true true e h = refl
-past_cases text true false e h = let low : length text ≤ script_limit = ltb-false script_limit (length text) e in let high : script_limit < length text = h.0 refl in absurd (omega arith)
-past_cases text false true e h = let bad : false ≡ true = h.1 (ltb-true script_limit (length text) e) in cc
+past_cases text true false e h = let low : length text ≤ SCRIPT_BYTES = ltb-false SCRIPT_BYTES (length text) e in let high : SCRIPT_BYTES < length text = h.0 refl in absurd (omega arith)
+past_cases text false true e h = let bad : false ≡ true = h.1 (ltb-true SCRIPT_BYTES (length text) e) in cc
 past_cases text false false e h = refl
 
 -- what was read of a source: some text, which is the source's own where it tells it
@@ -32,7 +33,7 @@ record Script (left : Option (List ℕ)) (past : Bool) (bytes : List ℕ) : Type
   lines : lines_of text ≡ cut past bytes
   past_is : is_past text ≡ past
 
-script_read : (left : Option (List ℕ)) (past : Bool) (bytes : List ℕ) → IsFrontOf left script_limit bytes past → Script left past bytes
+script_read : (left : Option (List ℕ)) (past : Bool) (bytes : List ℕ) → IsFrontOf left SCRIPT_BYTES bytes past → Script left past bytes
 script_read left past bytes f =
     let same : is_past f.text ≡ past = past_cases f.text past (is_past f.text) refl f.longer in record {
       text = f.text;
@@ -61,7 +62,7 @@ end_of left after bytes false first q t h = t.1
 
 -- 0
 pub says_fine : (words : List (List ℕ)) (left left_after written written_after : Option (List ℕ)) (r rs w ws : ℕ) (past : Bool) (bytes : List ℕ) → IsCommand words →
-    IsFrontOf left script_limit bytes past → TakesFront left left_after bytes past → RanScript past (cut past bytes) written written_after →
+    IsFrontOf left SCRIPT_BYTES bytes past → TakesFront left left_after bytes past → RanScript past (cut past bytes) written written_after →
     Says statuses.Fine (call_of words left left_after written written_after r rs w ws)
 says_fine words left left_after written written_after r rs w ws past bytes command front taken ran =
     let s = script_read left past bytes front in record {
@@ -72,21 +73,22 @@ says_fine words left left_after written written_after r rs w ws past bytes comma
       parsed = ran.parsed;
       script = script_is left past bytes s ∙ ran.script;
       outages = ran.outages;
+      history = history_of ran.parsed ran.outages;
       run = legal_run (cut past bytes) ran.parsed ran.outages ran.read ran.each;
       output = ran.output;
     }
 
 -- the run of the lines before something that ends a script early
-early_run : (left : Option (List ℕ)) (past : Bool) (bytes : List ℕ) (stop : Stop) (before now : Option (List ℕ)) (s : Script left past bytes) (e : StoppedScript stop past (cut past bytes) before now) → IsRun (front_of s.text) e.outages
+early_run : (left : Option (List ℕ)) (past : Bool) (bytes : List ℕ) (stop : Stop) (before now : Option (List ℕ)) (s : Script left past bytes) (e : StoppedScript stop past (cut past bytes) before now) → IsRun (front_of s.text) e.outages (history_of (front_of s.text) e.outages)
 early_run left past bytes stop before now s e =
-    subst (λ p. IsRun p e.outages) (sym (front_is left past bytes s)) (legal_run (take e.done (cut past bytes)) (parsed_front nothing_read (cut past bytes)) e.outages e.read e.each)
+    subst (λ p. IsRun p e.outages (history_of p e.outages)) (sym (front_is left past bytes s)) (legal_run (take e.done (cut past bytes)) (parsed_front nothing_read (cut past bytes)) e.outages e.read e.each)
 
 early_output : (left : Option (List ℕ)) (past : Bool) (bytes : List ℕ) (stop : Stop) (before now : Option (List ℕ)) (s : Script left past bytes) (e : StoppedScript stop past (cut past bytes) before now) → Appends before now (run_text (front_of s.text) e.outages)
 early_output left past bytes stop before now s e = subst (λ p. Appends before now (run_text p e.outages)) (sym (front_is left past bytes s)) e.output
 
 -- 3 and 9, where the last line was written
 ended_early : (words : List (List ℕ)) (left left_after before mid after : Option (List ℕ)) (r rs w ws : ℕ) (past : Bool) (bytes : List ℕ) (stop : Stop) → IsCommand words →
-    IsFrontOf left script_limit bytes past → StoppedScript stop past (cut past bytes) before mid → Appends mid after (stop_text stop) →
+    IsFrontOf left SCRIPT_BYTES bytes past → StoppedScript stop past (cut past bytes) before mid → Appends mid after (stop_text stop) →
     EndedEarly (call_of words left left_after before after r rs w ws) stop
 ended_early words left left_after before mid after r rs w ws past bytes stop command front e last =
     let s = script_read left past bytes front in record {
@@ -95,13 +97,14 @@ ended_early words left left_after before mid after r rs w ws past bytes stop com
       told = s.told;
       script = script_is left past bytes s ∙ e.script;
       outages = e.outages;
+      history = history_of (front_of s.text) e.outages;
       run = early_run left past bytes stop before mid s e;
       output = whole_more before mid after (run_text (front_of s.text) e.outages) (stop_text stop) (early_output left past bytes stop before mid s e) last;
     }
 
 -- 5 and 8, where a front of the last line was written
 broke_early : (words : List (List ℕ)) (left left_after before mid after : Option (List ℕ)) (r rs w ws : ℕ) (past : Bool) (bytes : List ℕ) (stop : Stop) → IsCommand words →
-    IsFrontOf left script_limit bytes past → StoppedScript stop past (cut past bytes) before mid → WritesFront mid after (stop_text stop) →
+    IsFrontOf left SCRIPT_BYTES bytes past → StoppedScript stop past (cut past bytes) before mid → WritesFront mid after (stop_text stop) →
     BrokeOff (call_of words left left_after before after r rs w ws)
 broke_early words left left_after before mid after r rs w ws past bytes stop command front e last =
     let s = script_read left past bytes front in inl (record {
@@ -112,6 +115,7 @@ broke_early words left left_after before mid after r rs w ws past bytes stop com
       parsed = front_of s.text;
       script = ap (λ ls. parse nothing_read (take e.done ls)) s.lines ∙ e.read ∙ sym (ap ok_front (front_is left past bytes s));
       outages = e.outages;
+      history = history_of (front_of s.text) e.outages;
       run = early_run left past bytes stop before mid s e;
       last = stop_text stop;
       line = inr (record { stop = stop; script = script_is left past bytes s ∙ e.script; front = refl; line = refl });
@@ -120,7 +124,7 @@ broke_early words left left_after before mid after r rs w ws past bytes stop com
 
 -- 5 and 8, where the run broke off
 pub broke_off : (words : List (List ℕ)) (left left_after before after : Option (List ℕ)) (r rs w ws : ℕ) (past : Bool) (bytes : List ℕ) → IsCommand words →
-    IsFrontOf left script_limit bytes past → BrokeIn (cut past bytes) before after →
+    IsFrontOf left SCRIPT_BYTES bytes past → BrokeIn (cut past bytes) before after →
     BrokeOff (call_of words left left_after before after r rs w ws)
 broke_off words left left_after before after r rs w ws past bytes command front b =
     let s = script_read left past bytes front in inl (record {
@@ -131,6 +135,7 @@ broke_off words left left_after before after r rs w ws past bytes command front 
       parsed = b.broke.parsed;
       script = ap (λ ls. parse nothing_read (take b.done ls)) s.lines ∙ b.broke.script;
       outages = b.broke.outages;
+      history = history_of b.broke.parsed b.broke.outages;
       run = legal_run (take b.done (cut past bytes)) b.broke.parsed b.broke.outages b.broke.script b.broke.each;
       last = [];
       line = inl refl;
@@ -139,7 +144,7 @@ broke_off words left left_after before after r rs w ws past bytes command front 
 
 -- 9
 pub says_over : (words : List (List ℕ)) (left left_after before mid after : Option (List ℕ)) (r rs w mids ws : ℕ) (past : Bool) (bytes : List ℕ) (status : Status) → IsCommand words →
-    IsFrontOf left script_limit bytes past → StoppedScript limit past (cut past bytes) before mid → w ≤ mids → WritesLast status statuses.Limit mid after mids ws (stop_text limit) →
+    IsFrontOf left SCRIPT_BYTES bytes past → StoppedScript limit past (cut past bytes) before mid → w ≤ mids → WritesLast status statuses.Limit mid after mids ws (stop_text limit) →
     Says status (call_of words left left_after before after r rs w ws)
 says_over words left left_after before mid after r rs w mids ws past bytes status command front e later (inl h) =
     subst (λ st. Says st (call_of words left left_after before after r rs w ws)) (sym h.0) (ended_early words left left_after before mid after r rs w ws past bytes limit command front e h.1)
@@ -150,7 +155,7 @@ says_over words left left_after before mid after r rs w mids ws past bytes statu
 
 -- 3
 pub says_fault : (words : List (List ℕ)) (left left_after before mid after : Option (List ℕ)) (r rs w mids ws : ℕ) (past : Bool) (bytes : List ℕ) (number : ℕ) (fault : LineFault) (status : Status) → IsCommand words →
-    IsFrontOf left script_limit bytes past → StoppedScript (at_fault number fault) past (cut past bytes) before mid → w ≤ mids → WritesLast status statuses.Script mid after mids ws (stop_text (at_fault number fault)) →
+    IsFrontOf left SCRIPT_BYTES bytes past → StoppedScript (at_fault number fault) past (cut past bytes) before mid → w ≤ mids → WritesLast status statuses.Script mid after mids ws (stop_text (at_fault number fault)) →
     Says status (call_of words left left_after before after r rs w ws)
 says_fault words left left_after before mid after r rs w mids ws past bytes number fault status command front e later (inl h) =
     subst (λ st. Says st (call_of words left left_after before after r rs w ws)) (sym h.0) (record { number = number; fault = fault; stopped = ended_early words left left_after before mid after r rs w ws past bytes (at_fault number fault) command front e h.1 })
@@ -184,6 +189,7 @@ says_unread words left left_after now r rs w command = inl (record {
   parsed = nothing_read;
   script = refl;
   outages = [];
+  history = [];
   run = legal_run [] nothing_read [] refl refl;
   last = [];
   line = inl refl;

@@ -1,5 +1,5 @@
 -- The text of a run, reply after reply.
-use Rattle.std.proofs.Common.{◌≡◌, ℕ, ◌+◌, List, [], ◌∷◌, ◌++◌, length, take, Option, Some, None, refl, sym, ◌∙◌, ap, subst, arith, append_assoc, append-nil, length-append, flat_map}
+use Rattle.std.proofs.Common.{◌≡◌, ℕ, ◌+◌, List, [], ◌∷◌, ◌++◌, length, take, Option, Some, None, false, refl, sym, ◌∙◌, ap, subst, arith, append_assoc, append-nil, length-append, flat_map}
 use Rattle.std.proofs.Math.Seq.{take-length, take-append-add}
 use Rattle.std.proofs.KnownBytes.{Appends-trans, Appends-nil}
 use Rattle.std.specs.Io.KnownBytes.{Appends}
@@ -16,13 +16,13 @@ use Rattle.emu_cli.specs.Runs.{run_text, run_from, config_text, config_reply}
 
 -- a run in order goes on by one line
 pub turns_push : (st : State) (lines : List Line) (outages : List Outage) (l : Line) (o : Outage) → length outages ≡ length lines →
-    in_turn st (lines ++ l ∷ []) (outages ++ o ∷ []) ≡ ((in_turn st lines outages).0 ++ (one_turn (in_turn st lines outages).1 l o).0 ∷ [], (one_turn (in_turn st lines outages).1 l o).1)
+    in_turn false st (lines ++ l ∷ []) (outages ++ o ∷ []) ≡ ((in_turn false st lines outages).0 ++ (one_turn false (in_turn false st lines outages).1 l o).0 ∷ [], (one_turn false (in_turn false st lines outages).1 l o).1)
 turns_push st [] [] l o h = refl
 turns_push st [] (p ∷ os) l o h = absurd (omega arith)
 turns_push st (k ∷ ls) [] l o h = absurd (omega arith)
 turns_push st (k ∷ ls) (p ∷ os) l o h =
     let rest : length os ≡ length ls = omega arith in
-    ap (λ r. ((one_turn st k p).0 ∷ r.0, r.1)) (turns_push (one_turn st k p).1 ls os l o rest)
+    ap (λ r. ((one_turn false st k p).0 ∷ r.0, r.1)) (turns_push (one_turn false st k p).1 ls os l o rest)
 
 texts_push : (replies : List Reply) (r : Reply) → flat_map reply_text (replies ++ r ∷ []) ≡ flat_map reply_text replies ++ reply_text r
 texts_push [] r = append-nil (reply_text r)
@@ -30,19 +30,19 @@ texts_push (x ∷ xs) r = ap (λ t. reply_text x ++ t) (texts_push xs r) ∙ sym
 
 -- the text of a run under a configuration
 abbrev pub begun_text : Config → List Line → List Outage → List ℕ
-begun_text config requests outages = reply_text config_reply ++ flat_map reply_text (in_turn (start config []) requests outages).0
+begun_text config requests outages = reply_text config_reply ++ flat_map reply_text (in_turn false (start config []) requests outages).0
 
 pub text_begun : (p : Parsed) (config : Config) (outages : List Outage) → p.config ≡ Some config → run_text p outages ≡ begun_text config p.requests outages
-text_begun p config outages h = ap (λ c. config_text c ++ flat_map reply_text (run_from c p.requests outages).0) h
+text_begun p config outages h = ap (λ c. config_text c ++ flat_map reply_text (run_from [] false c p.requests outages).0) h
 
 pub begun_push : (config : Config) (requests : List Line) (outages : List Outage) (l : Line) (o : Outage) (reply : Reply) (st : State) → length outages ≡ length requests →
-    one_turn (in_turn (start config []) requests outages).1 l o ≡ (reply, st) →
+    one_turn false (in_turn false (start config []) requests outages).1 l o ≡ (reply, st) →
     begun_text config (requests ++ l ∷ []) (outages ++ o ∷ []) ≡ begun_text config requests outages ++ reply_text reply
 begun_push config requests outages l o reply st h turn =
     ap (λ r. reply_text config_reply ++ flat_map reply_text r.0) (turns_push (start config []) requests outages l o h)
-    ∙ ap (λ t. reply_text config_reply ++ flat_map reply_text ((in_turn (start config []) requests outages).0 ++ t.0 ∷ [])) turn
-    ∙ ap (λ t. reply_text config_reply ++ t) (texts_push (in_turn (start config []) requests outages).0 reply)
-    ∙ sym (append_assoc (reply_text config_reply) (flat_map reply_text (in_turn (start config []) requests outages).0) (reply_text reply))
+    ∙ ap (λ t. reply_text config_reply ++ flat_map reply_text ((in_turn false (start config []) requests outages).0 ++ t.0 ∷ [])) turn
+    ∙ ap (λ t. reply_text config_reply ++ t) (texts_push (in_turn false (start config []) requests outages).0 reply)
+    ∙ sym (append_assoc (reply_text config_reply) (flat_map reply_text (in_turn false (start config []) requests outages).0) (reply_text reply))
 
 -- What is written, in parts.
 

@@ -1,8 +1,8 @@
 -- How far a run has come, and how it ends.
-use Rattle.std.specs.Prelude.{◌≡◌, ◌≢◌, ◌⊎◌, ℕ, ◌+◌, ◌≤◌, Bool, List, [], ◌∷◌, ◌++◌, length, take, Option, Some, None, Result, Ok, Err}
+use Rattle.std.specs.Prelude.{false, ◌≡◌, ◌≢◌, ◌⊎◌, ℕ, ◌+◌, ◌≤◌, Bool, List, [], ◌∷◌, ◌++◌, length, take, Option, Some, None, Result, Ok, Err}
 use Rattle.std.specs.Io.KnownBytes.{Appends}
 use Rattle.emu_io.specs.Fronts.{WritesFront}
-use Rattle.emu_io.specs.Cause.{Rose}
+use Rattle.fault_counts.specs.Count.{Rose}
 use Rattle.session_core.specs.declared.config.Config.{Config}
 use Rattle.session_core.specs.Steps.{State, start}
 use Rattle.session_core.specs.declared.line.Line.{Line}
@@ -22,7 +22,8 @@ use Rattle.emu_cli.specs.Runs.{run_text}
 -- the run stands behind what was read of the script
 pub record IsAt (running : Running) (config : Config) (p : Parsed) (outages : List Outage) : Type 0 where
   pub begun : p.config ≡ Some config
-  pub core : running.core ≡ (in_turn (start config []) p.requests outages).1
+  pub wants : p.wants ≡ false
+  pub core : running.core ≡ (in_turn false (start config []) p.requests outages).1
   pub earlier : running.earlier ≡ numbers_of p.requests
   pub number : running.number ≡ p.number
   pub each : length outages ≡ length p.requests
@@ -75,6 +76,7 @@ pub record RanAll (lines : List (List ℕ)) (before now : Option (List ℕ)) : T
   pub parsed : Parsed
   pub config : Config
   pub begun : parsed.config ≡ Some config
+  pub wants : parsed.wants ≡ false
   pub script : parse nothing_read lines ≡ Ok parsed
   pub outages : List Outage
   pub each : length outages ≡ length parsed.requests

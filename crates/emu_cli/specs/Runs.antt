@@ -1,5 +1,5 @@
 -- The run of a script in order, and the text that it writes.
-use Rattle.std.specs.Prelude.{◌≡◌, ℕ, List, [], ◌∷◌, ◌++◌, length, flat_map, Option, Some, None, option_map, codes, false}
+use Rattle.std.specs.Prelude.{◌≡◌, ℕ, Bool, true, false, List, [], ◌∷◌, ◌++◌, length, take, flat_map, Option, Some, None, codes}
 use Rattle.emu_names.specs.declared.kinds.SessionNo.{SessionNo}
 use Rattle.session_core.specs.declared.config.Config.{Config}
 use Rattle.session_core.specs.declared.edit.Entry.{Entry}
@@ -8,7 +8,11 @@ use Rattle.session_core.specs.declared.line.Answer.TheVariants.{Done}
 use Rattle.session_core.specs.declared.line.Line.{Line}
 use Rattle.session_core.specs.declared.line.Reply.{Reply}
 use Rattle.session_core.specs.Steps.{State, start}
-use Rattle.session_core.specs.InOrder.{Outage, in_turn}
+use Rattle.session_core.specs.Configs.{is_valid_config}
+use Rattle.session_core.specs.Valid.{is_valid_state}
+use Rattle.session_core.specs.Effects.{bundles_after}
+use Rattle.session_core.specs.InOrder.{Outage, in_turn, ComeInOrder}
+use Rattle.session_core.specs.Readings.{IsInOrder}
 use Rattle.session_core.specs.Legal.{Legal}
 use Rattle.script_lines.specs.Texts.{reply_text, fault_text}
 use Rattle.script_lines.specs.LastLines.{last_text}
@@ -18,47 +22,80 @@ use Rattle.emu_cli.specs.Scripts.{Parsed, Stop, limit, at_fault}
 abbrev pub config_reply : Reply
 config_reply = record { line = 1; session = record { 0 = 0 }; n = Some 0; answer = Done commands.Config }
 
-abbrev pub run_from : Option Config → List Line → List Outage → List Reply × Option State
-run_from None requests outages = ([], None)
-run_from (Some config) requests outages =
-    ((in_turn (start config []) requests outages).0, Some (in_turn (start config []) requests outages).1)
+-- What a run is given beside its script: its configuration, once there is one; the history before it; whether
+-- there is a store; and the disk's count of faults before and after the run.
+pub record Setting : Type 0 where
+  pub config : Option Config
+  pub opening : List Entry
+  pub store : Bool
+  pub faults : ℕ
+  pub faults_after : ℕ
 
--- the replies to the requests of a script, where memory ran out at these places
-abbrev pub replies_of : Parsed → List Outage → List Reply
-replies_of p outages = (run_from p.config p.requests outages).0
+-- without a store a run has the script's configuration, no history before it and no disk
+abbrev pub alone : Parsed → Setting
+alone p = record { config = p.config; opening = []; store = false; faults = 0; faults_after = 0 }
 
--- the state behind them, once there is a configuration
-abbrev pub state_of : Parsed → List Outage → Option State
-state_of p outages = (run_from p.config p.requests outages).1
+-- the replies to requests, and the state behind them once there is a configuration
+abbrev pub run_from : List Entry → Bool → Option Config → List Line → List Outage → List Reply × Option State
+run_from opening store None requests outages = ([], None)
+run_from opening store (Some config) requests outages =
+    ((in_turn store (start config opening) requests outages).0, Some (in_turn store (start config opening) requests outages).1)
 
-abbrev pub history_in : Option State → List Entry
-history_in None = []
-history_in (Some st) = st.entries
+-- the replies to the requests of a script, where memory ran out or the disk failed at these places
+abbrev pub replies_from : Setting → Parsed → List Outage → List Reply
+replies_from setting p outages = (run_from setting.opening setting.store setting.config p.requests outages).0
 
--- the history that the run made
-abbrev pub history_of : Parsed → List Outage → List Entry
-history_of p outages = history_in (state_of p outages)
+abbrev pub history_in : List Entry → Option State → List Entry
+history_in opening None = opening
+history_in opening (Some st) = st.entries
+
+-- the history that a run leaves
+abbrev pub history_from : Setting → Parsed → List Outage → List Entry
+history_from setting p outages =
+    history_in setting.opening (run_from setting.opening setting.store setting.config p.requests outages).1
 
 abbrev pub config_text : Option Config → List ℕ
 config_text None = []
 config_text (Some config) = reply_text config_reply
 
--- what a run writes: the reply of the configuration, where there is one, and then the others
-abbrev pub run_text : Parsed → List Outage → List ℕ
-run_text p outages = config_text p.config ++ flat_map reply_text (replies_of p outages)
+-- what a run writes: the reply of the configuration, where the script gives one, and then the others
+abbrev pub text_from : Setting → Parsed → List Outage → List ℕ
+text_from setting p outages = config_text p.config ++ flat_map reply_text (replies_from setting p outages)
 
--- a run is legal: its replies to these requests may stand beside the history that it made
-abbrev pub LegalFor : Option Config → List Line → List Reply → List Entry → Type 0
-LegalFor None requests replies history = (requests ≡ []) × (replies ≡ [])
-LegalFor (Some config) requests replies history = Legal config [] requests replies history false 0
+-- A run under a configuration: its replies to these requests, beside the history that it leaves.
+pub record RunsUnder (setting : Setting) (config : Config) (requests : List Line) (replies : List Reply) (history : List Entry) : Type 0 where
+  -- the configuration keeps its rules
+  pub valid : is_valid_config config ≡ true
+  -- the numbers of the requests rise, and what they name stands before them
+  pub come : ComeInOrder [] requests
+  -- the replies are legal beside the history
+  pub legal : Legal config setting.opening requests replies history setting.store setting.faults setting.faults_after
+  -- each number but a `finish`'s is the number of the entries that stand when its line is done
+  pub in_order : IsInOrder setting.opening requests legal.turns
+  -- the state after each beginning of the history keeps the rules
+  pub states : (n : ℕ) → is_valid_state config (bundles_after config (take n history)) ≡ true
 
-abbrev pub IsLegalRun : Parsed → List Outage → Type 0
-IsLegalRun p outages = LegalFor p.config p.requests (replies_of p outages) (history_of p outages)
+-- before there is a configuration there is no request and no reply
+abbrev pub Runs : Setting → Option Config → List Line → List Reply → List Entry → Type 0
+Runs setting None requests replies history = (requests ≡ []) × (replies ≡ [])
+Runs setting (Some config) requests replies history = RunsUnder setting config requests replies history
 
--- a run of the requests of a script: each has its place among the outages
-pub record IsRun (p : Parsed) (outages : List Outage) : Type 0 where
+-- A run of the requests of a script: each has its place among the outages, and this is the history that it leaves.
+pub record IsRunFrom (setting : Setting) (p : Parsed) (outages : List Outage) (history : List Entry) : Type 0 where
   pub each : length outages ≡ length p.requests
-  pub legal : IsLegalRun p outages
+  pub made : history ≡ history_from setting p outages
+  pub run : Runs setting setting.config p.requests (replies_from setting p outages) history
+
+-- The same without a store.
+
+abbrev pub run_text : Parsed → List Outage → List ℕ
+run_text p outages = text_from (alone p) p outages
+
+abbrev pub history_of : Parsed → List Outage → List Entry
+history_of p outages = history_from (alone p) p outages
+
+abbrev pub IsRun : Parsed → List Outage → List Entry → Type 0
+IsRun p outages history = IsRunFrom (alone p) p outages history
 
 -- The last line of a run that ends early.
 

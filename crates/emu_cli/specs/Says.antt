@@ -1,8 +1,9 @@
 -- What the status of a run says.
 use Rattle.std.specs.Prelude.{◌≡◌, ◌⊎◌, ◌<◌, ◌-◌, ◌^◌, ℕ, List, [], ◌∷◌, ◌++◌, length, map, take, Option, Some, None, Result, Ok, Err, String, string_bytes, codes}
 use Rattle.std.specs.Io.KnownBytes.{Appends, IsAtEnd}
-use Rattle.emu_io.specs.Cause.{Rose}
+use Rattle.fault_counts.specs.Count.{Rose}
 use Rattle.emu_io.specs.Fronts.{Tells, WritesFront}
+use Rattle.session_core.specs.declared.edit.Entry.{Entry}
 use Rattle.session_core.specs.InOrder.{Outage}
 use Rattle.script_lines.specs.declared.faults.LineFault.{LineFault}
 use Rattle.emu_cli.specs.declared.status.Status.{Status}
@@ -61,7 +62,8 @@ pub record RanWhole (call : Call) : Type 0 where
   pub parsed : Parsed
   pub script : script_of text ≡ Ok parsed
   pub outages : List Outage
-  pub run : IsRun parsed outages
+  pub history : List Entry
+  pub run : IsRun parsed outages history
   pub output : Appends call.written call.written_after (run_text parsed outages)
 
 -- 3 and 9: a line at fault or a limit ends the script; the lines before it were run, and what was
@@ -72,7 +74,8 @@ pub record EndedEarly (call : Call) (stop : Stop) : Type 0 where
   pub told : Tells call.left text
   pub script : script_of text ≡ Err stop
   pub outages : List Outage
-  pub run : IsRun (front_of text) outages
+  pub history : List Entry
+  pub run : IsRun (front_of text) outages history
   pub output : Appends call.written call.written_after (run_text (front_of text) outages ++ stop_text stop)
 
 -- 3: the first line at fault
@@ -104,7 +107,8 @@ pub record Unfinished (call : Call) : Type 0 where
   pub parsed : Parsed
   pub script : parse nothing_read (take done (lines_of text)) ≡ Ok parsed
   pub outages : List Outage
-  pub run : IsRun parsed outages
+  pub history : List Entry
+  pub run : IsRun parsed outages history
   pub last : List ℕ
   pub line : (last ≡ []) ⊎ IsLastLine text parsed last
   pub output : WritesFront call.written call.written_after (run_text parsed outages ++ last)
@@ -149,6 +153,14 @@ pub record IsFaultless (call : Call) : Type 0 where
   pub writes : call.writes_after ≡ call.writes
   pub reads_room : call.reads < 2 ^ 64 - 1
   pub writes_room : call.writes < 2 ^ 64 - 1
+
+-- what the code that a call answers says of it
+abbrev pub CallSays : Call → ℕ → Type 0
+CallSays call code = (status : Status) × (code ≡ code_of status) × Says status call
+
+-- where nothing is wrong outside or in the script, only want of memory keeps a run from its end
+abbrev pub CallCompletes : Call → ℕ → Type 0
+CallCompletes call code = IsFaultless call → (code ≡ 0) ⊎ (code ≡ 8)
 
 -- a last line was written, and the run ends as it says; or a front of it, and a write failed or
 -- memory ran out

@@ -1,5 +1,6 @@
 -- A script: its configuration and its requests, or the limit or the line at fault that ends it.
-use Rattle.std.specs.Prelude.{◌≡◌, ℕ, ◌+◌, Bool, true, false, ◌||◌, List, [], ◌∷◌, ◌++◌, length, map, take, Option, Some, None, Result, Ok, Err, nat_lt, is_none, if◌then◌else◌}
+use Rattle.std.specs.Prelude.{◌≡◌, ℕ, ◌+◌, Bool, true, false, ◌||◌, List, [], ◌∷◌, ◌++◌, length, map, take, Option, Some, None, Result, Ok, Err, nat_lt, if◌then◌else◌}
+use Rattle.emu_names.specs.declared.limits.TheConstants.{LINE_BYTES, SCRIPT_BYTES, SCRIPT_LINES}
 use Rattle.session_core.specs.declared.config.Config.{Config}
 use Rattle.session_core.specs.declared.line.Line.{Line}
 use Rattle.script_lines.specs.declared.faults.LineFault.{LineFault}
@@ -9,14 +10,21 @@ use Rattle.script_lines.specs.declared.faults.ReadLine.TheVariants as reads
 use Rattle.script_lines.specs.Lines.{request_of}
 use Rattle.emu_cli.specs.Cuts.{cut}
 
--- what was read of a script: the number of its lines so far, its configuration, its requests
+-- what was read of a script: the number of its lines so far, whether it has to give a configuration next, the
+-- one that it gave, its requests
 pub record Parsed : Type 0 where
   pub number : ℕ
+  pub wants : Bool
   pub config : Option Config
   pub requests : List Line
 
+-- a script before its first line, which gives a configuration where one is wanted
+abbrev pub read_from : Bool → Parsed
+read_from wants = record { number = 0; wants = wants; config = None; requests = [] }
+
+-- without a store the first line gives the configuration
 abbrev pub nothing_read : Parsed
-nothing_read = record { number = 0; config = None; requests = [] }
+nothing_read = read_from true
 
 -- what ends a script early: a line, the number of lines or the script passes its limit, or a line,
 -- given by its number, is at fault
@@ -24,23 +32,17 @@ pub data Stop : Type 0 where
   limit : Stop
   at_fault : ℕ → LineFault → Stop
 
-abbrev pub line_limit : ℕ
-line_limit = 16777216
-
-abbrev pub lines_limit : ℕ
-lines_limit = 200000
-
-abbrev pub script_limit : ℕ
-script_limit = 268435456
-
+-- a line passes its limit, or its number that of the lines
 abbrev pub passes_limit : ℕ → List ℕ → Bool
-passes_limit number line = nat_lt lines_limit number || nat_lt line_limit (length line)
+passes_limit number line = nat_lt SCRIPT_LINES number || nat_lt LINE_BYTES (length line)
 
 -- one line more
 abbrev pub with_read : Parsed → ReadLine → Parsed
-with_read p reads.Blank = record { number = p.number + 1; config = p.config; requests = p.requests }
-with_read p (reads.Config config) = record { number = p.number + 1; config = Some config; requests = p.requests }
-with_read p (reads.Request l) = record { number = p.number + 1; config = p.config; requests = p.requests ++ l ∷ [] }
+with_read p reads.Blank = record { number = p.number + 1; wants = p.wants; config = p.config; requests = p.requests }
+with_read p (reads.Config config) =
+    record { number = p.number + 1; wants = false; config = Some config; requests = p.requests }
+with_read p (reads.Request l) =
+    record { number = p.number + 1; wants = p.wants; config = p.config; requests = p.requests ++ l ∷ [] }
 
 abbrev pub numbers_of : List Line → List ℕ
 numbers_of requests = map (λ (l : Line). l.line) requests
@@ -67,7 +69,7 @@ abbrev pub ◌>>=◌ : {A B : Type 0} → Result A Stop → (A → Result B Stop
 -- a line behind what was read
 abbrev pub parse_line : Parsed → List ℕ → Result Parsed Stop
 parse_line p line =
-    line_at (p.number + 1) (is_none p.config) (numbers_of p.requests) line >>= λ read. Ok (with_read p read)
+    line_at (p.number + 1) p.wants (numbers_of p.requests) line >>= λ read. Ok (with_read p read)
 
 abbrev pub parse : Parsed → List (List ℕ) → Result Parsed Stop
 parse p [] = Ok p
@@ -83,20 +85,20 @@ parsed_front p [] = p
 parsed_front p (line ∷ lines) = front_from (parse_line p line) p (λ next. parsed_front next lines)
 
 -- the end of a script: it passes its limit, or it is empty where a configuration is wanted
-abbrev pub if_configured : Parsed → Option Config → Result Parsed Stop
-if_configured p None = Err (at_fault (p.number + 1) faults.ConfigPlace)
-if_configured p (Some config) = Ok p
+abbrev pub if_configured : Parsed → Bool → Result Parsed Stop
+if_configured p true = Err (at_fault (p.number + 1) faults.ConfigPlace)
+if_configured p false = Ok p
 
 abbrev pub ended : Bool → Parsed → Result Parsed Stop
 ended true p = Err limit
-ended false p = if_configured p p.config
+ended false p = if_configured p p.wants
 
 -- the lines of a script, as far as its limit, and whether it passes it
 abbrev pub is_past : List ℕ → Bool
-is_past text = nat_lt script_limit (length text)
+is_past text = nat_lt SCRIPT_BYTES (length text)
 
 abbrev pub lines_of : List ℕ → List (List ℕ)
-lines_of text = cut (is_past text) (take script_limit text)
+lines_of text = cut (is_past text) (take SCRIPT_BYTES text)
 
 -- a script as a whole: what it is, or what ends it first
 abbrev pub script_of : List ℕ → Result Parsed Stop

@@ -10,4 +10,4 @@ mod status;
 mod top;
 
 pub use status::Status;
-pub use top::emu;
+pub use top::{emu, run_words};

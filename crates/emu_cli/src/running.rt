@@ -1,5 +1,6 @@
 //! A run between two lines: the core, the numbers of the requests so far, and the line's number.
-ghost use Rattle.std.specs.Prelude.{◌≡◌, ◌+◌, ◌<◌, ◌∷◌, [], IfOk, OnOk, OnErr};
+ghost use Rattle.std.specs.Prelude.{◌≡◌, ◌+◌, ◌<◌, ◌∷◌, [], IfOk, OnOk, OnErr, false};
+ghost use Rattle.emu_names.specs.declared.limits.TheConstants.{SCRIPT_LINES};
 ghost use Rattle.session_core.specs.declared.line.Ask.{Ask};
 ghost use Rattle.session_core.specs.InOrder.{Outage, one_turn};
 ghost use Rattle.session_core.specs.Answers.{memory};
@@ -9,16 +10,11 @@ ghost use Rattle.emu_cli.specs.Turns.{given_by, ReadsNext};
 ghost use Rattle.script_lines.specs.Known.{Known};
 
 use crate::ended::Ended;
+use emu_names::limits::{LINE_BYTES, SCRIPT_LINES};
 use emu_names::{Memory, SessionNo};
 use script_lines::{LineFault, LineSet, ReadLine, read_line};
 use session_core::{Answer, Command, Config, Core, Entries, Event, Line, Refusal, Reply, Request};
 use std::alloc::Global;
-
-/// The most bytes of a line.
-const LINE_LIMIT: usize = 16_777_216;
-
-/// The most lines of a script.
-const LINES_LIMIT: u32 = 200_000;
 
 /// A run between two lines.
 #[derive(Drop)]
@@ -57,7 +53,7 @@ fn out_of_memory(line: u32, session: SessionNo) -> Reply
 /// Answers a line: a query is looked at and finished at once, everything else is one event.
 fn answer(core: &mut Core, line: Line) -> Reply
     requires { line.session.0 < session_places }
-    ensures { (outage : Outage) × (one_turn core.old line outage ≡ (result, core.new)) }
+    ensures { (outage : Outage) × (one_turn false core.old line outage ≡ (result, core.new)) }
 {
     let number = line.line;
     let session = line.session;
@@ -84,7 +80,8 @@ fn answer(core: &mut Core, line: Line) -> Reply
 /// Answers the line of a query, by a look and its finish.
 fn query(core: &mut Core, line: Line) -> Reply
     requires { line.session.0 < session_places }
-    ensures { (ask : Ask) → line.request ≡ Request.Query ask → (outage : Outage) × (one_turn core.old line outage ≡ (result, core.new)) }
+    ensures { (ask : Ask) → line.request ≡ Request.Query ask →
+        (outage : Outage) × (one_turn false core.old line outage ≡ (result, core.new)) }
 {
     let number = line.line;
     let session = line.session;
@@ -116,9 +113,9 @@ pub(crate) fn read_next(
 ) -> Result<ReadLine, Ended>
     ensures next { ReadsNext result (line_at (number + 1) wants_config earlier.now line.now) }
     ensures known { IfOk result (Known (number + 1) wants_config earlier.now) }
-    ensures room { OnOk result (number < 200000) }
+    ensures room { OnOk result (number < SCRIPT_LINES) }
 {
-    if number >= LINES_LIMIT || line.len() > LINE_LIMIT {
+    if number >= SCRIPT_LINES || line.len() > LINE_BYTES {
         return Err(Ended::Limit);
     }
     match read_line(alloc, line, number + 1, wants_config, earlier) {
@@ -147,13 +144,14 @@ pub(crate) fn begin(alloc: Global, config: Config) -> Result<Running, Memory>
 
 impl Running {
     ghost use Rattle.std.specs.Prelude.{◌≡◌, ◌<◌, All, IfOk, OnErr};
+    ghost use Rattle.emu_names.specs.declared.limits.TheConstants.{SCRIPT_LINES};
     ghost use Rattle.emu_cli.specs.Taken.{TakesLine};
     ghost use Rattle.session_core.specs.Steps.{session_places};
 
     /// Answers a request. The only refusal is want of memory before the request is done, which
     /// changes nothing.
     pub(crate) fn take(&mut self, line: Line) -> Result<Reply, Memory>
-        requires room { self.old.number < 200000 }
+        requires room { self.old.number < SCRIPT_LINES }
         requires place { line.session.0 < session_places }
         requires rises { All (λ n. n < line.line) self.old.earlier }
         ensures ok { IfOk result (λ reply. TakesLine self.old line reply self.new) }

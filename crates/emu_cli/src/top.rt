@@ -1,7 +1,7 @@
 //! The top call.
-ghost use Rattle.std.specs.Prelude.{◌≡◌, ◌≢◌, ◌↔◌, ◌⊎◌, ℕ, List, IsTrue, map, string_bytes};
+ghost use Rattle.std.specs.Prelude.{◌≢◌, ◌↔◌, ℕ, List, IsTrue, map, string_bytes};
 ghost use Rattle.script_lines.specs.Texts.{fault_text};
-ghost use Rattle.emu_cli.specs.Says.{call_of, code_of, IsCommand, IsFaultless, Says, WritesLast};
+ghost use Rattle.emu_cli.specs.Says.{call_of, CallCompletes, CallSays, IsCommand, Says, WritesLast};
 ghost use Rattle.emu_cli.specs.Runs.{limit_text, usage_text};
 
 use crate::ended::Ended;
@@ -10,13 +10,11 @@ use crate::script::run_script;
 use crate::status::{Status, code};
 use emu_io::{ReadFault, Sink, Source, read_front};
 use emu_names::Text;
+use emu_names::limits::SCRIPT_BYTES;
 use script_lines::{LineFault, print_fault, print_last};
 use std::alloc::Global;
 use std::sync::Wait;
 use std::thread::Threads;
-
-/// The most bytes of a script.
-const SCRIPT_LIMIT: usize = 268_435_456;
 
 /// Whether the words are a command: exactly the one word `run`.
 fn is_command(words: &[String]) -> bool
@@ -30,7 +28,8 @@ fn is_command(words: &[String]) -> bool
 
 /// Writes the last line of a run that ends with `status`, and answers how the run ends.
 fn write_last<K: Sink>(out: &mut K, text: &Text, status: Status) -> Status
-    ensures last { WritesLast result status (K.written out.old) (K.written out.new) (K.faults out.old) (K.faults out.new) text.now }
+    ensures last { WritesLast result status (K.written out.old) (K.written out.new)
+        (K.faults out.old) (K.faults out.new) text.now }
 {
     match write_text(out, text) {
         Ok(()) => status,
@@ -41,7 +40,8 @@ fn write_last<K: Sink>(out: &mut K, text: &Text, status: Status) -> Status
 
 /// Writes that the words are no command.
 fn usage<K: Sink>(alloc: Global, out: &mut K) -> Status
-    ensures last { WritesLast result Status.Usage (K.written out.old) (K.written out.new) (K.faults out.old) (K.faults out.new) usage_text }
+    ensures last { WritesLast result Status.Usage (K.written out.old) (K.written out.new)
+        (K.faults out.old) (K.faults out.new) usage_text }
 {
     match print_last(alloc, "Usage", 2) {
         Ok(text) => write_last(out, &text, Status::Usage),
@@ -51,7 +51,8 @@ fn usage<K: Sink>(alloc: Global, out: &mut K) -> Status
 
 /// Writes that a limit is passed.
 fn over<K: Sink>(alloc: Global, out: &mut K) -> Status
-    ensures last { WritesLast result Status.Limit (K.written out.old) (K.written out.new) (K.faults out.old) (K.faults out.new) limit_text }
+    ensures last { WritesLast result Status.Limit (K.written out.old) (K.written out.new)
+        (K.faults out.old) (K.faults out.new) limit_text }
 {
     match print_last(alloc, "Limit", 9) {
         Ok(text) => write_last(out, &text, Status::Limit),
@@ -62,7 +63,8 @@ fn over<K: Sink>(alloc: Global, out: &mut K) -> Status
 /// Writes that a line is at fault.
 fn at_fault<K: Sink>(alloc: Global, line: u32, fault: &LineFault, out: &mut K) -> Status
     requires { fault.now ≢ LineFault.Memory }
-    ensures last { WritesLast result Status.Script (K.written out.old) (K.written out.new) (K.faults out.old) (K.faults out.new) (fault_text line fault.now) }
+    ensures last { WritesLast result Status.Script (K.written out.old) (K.written out.new)
+        (K.faults out.old) (K.faults out.new) (fault_text line fault.now) }
 {
     match print_fault(alloc, line, fault) {
         Ok(text) => write_last(out, &text, Status::Script),
@@ -72,10 +74,11 @@ fn at_fault<K: Sink>(alloc: Global, line: u32, fault: &LineFault, out: &mut K) -
 
 /// Runs the script of the source, and writes its replies and perhaps a last line.
 fn run_source<S: Source, K: Sink>(alloc: Global, script: &mut S, out: &mut K) -> Status
-    ensures says { (words : List (List ℕ)) → IsCommand words → Says result (call_of words (S.left script.old) (S.left script.new)
-        (K.written out.old) (K.written out.new) (S.faults script.old) (S.faults script.new) (K.faults out.old) (K.faults out.new)) }
+    ensures says { (words : List (List ℕ)) → IsCommand words → Says result (call_of words
+        (S.left script.old) (S.left script.new) (K.written out.old) (K.written out.new)
+        (S.faults script.old) (S.faults script.new) (K.faults out.old) (K.faults out.new)) }
 {
-    let front = match read_front(alloc, script, SCRIPT_LIMIT) {
+    let front = match read_front(alloc, script, SCRIPT_BYTES) {
         Ok(front) => front,
         Err(ReadFault::Failed) => return Status::Read,
         Err(ReadFault::Memory) => return Status::Memory,
@@ -96,8 +99,9 @@ fn perform<S: Source, K: Sink>(
     script: &mut S,
     out: &mut K,
 ) -> Status
-    ensures says { Says result (call_of (map (λ w. string_bytes w) words.now) (S.left script.old) (S.left script.new)
-        (K.written out.old) (K.written out.new) (S.faults script.old) (S.faults script.new) (K.faults out.old) (K.faults out.new)) }
+    ensures says { Says result (call_of (map (λ w. string_bytes w) words.now)
+        (S.left script.old) (S.left script.new) (K.written out.old) (K.written out.new)
+        (S.faults script.old) (S.faults script.new) (K.faults out.old) (K.faults out.new)) }
 {
     if is_command(words) {
         run_source(alloc, script, out)
@@ -106,8 +110,8 @@ fn perform<S: Source, K: Sink>(
     }
 }
 
-/// Runs the program on its words: `run` runs the script of the source, in its order; each reply is
-/// written before the next line is run. What it answers is the program's status:
+/// Runs the program on its words: `run` runs the script of the source, in its order. This call waits
+/// for nobody, and returns. What it answers is the program's status:
 ///
 /// - 0: the input was read to its end, and every request has its reply.
 /// - 2: the words are no command.
@@ -117,6 +121,25 @@ fn perform<S: Source, K: Sink>(
 /// - 8: memory ran out.
 /// - 9: a line has over 16,777,216 bytes, there are over 200,000 lines, or the script has over
 ///   268,435,456 bytes; the lines before were run.
+pub fn run_words<S: Source, K: Sink>(
+    alloc: Global,
+    words: &[String],
+    script: &mut S,
+    out: &mut K,
+) -> u8
+    ensures says { CallSays (call_of (map (λ w. string_bytes w) words.now)
+        (S.left script.old) (S.left script.new) (K.written out.old) (K.written out.new)
+        (S.faults script.old) (S.faults script.new) (K.faults out.old) (K.faults out.new)) result }
+    ensures complete { CallCompletes (call_of (map (λ w. string_bytes w) words.now)
+        (S.left script.old) (S.left script.new) (K.written out.old) (K.written out.new)
+        (S.faults script.old) (S.faults script.new) (K.faults out.old) (K.faults out.new)) result }
+{
+    let status = perform(alloc, words, script, out);
+    code(status)
+}
+
+/// Runs the program on its words with a handle of its own, as later commands need one: today every
+/// command is one of `run_words`, which says what the status means.
 pub fn emu<R: Threads + Wait + Sync, S: Source, K: Sink>(
     _rt: &R,
     alloc: Global,
@@ -124,13 +147,12 @@ pub fn emu<R: Threads + Wait + Sync, S: Source, K: Sink>(
     script: &mut S,
     out: &mut K,
 ) -> u8
-    ensures says { (status : Status) × (result ≡ code_of status) × Says status (call_of (map (λ w. string_bytes w) words.now) (S.left script.old) (S.left script.new)
-        (K.written out.old) (K.written out.new) (S.faults script.old) (S.faults script.new) (K.faults out.old) (K.faults out.new)) }
-    // Where nothing is wrong outside or in the script, only want of memory keeps a run from its end.
-    ensures complete { IsFaultless (call_of (map (λ w. string_bytes w) words.now) (S.left script.old) (S.left script.new)
-        (K.written out.old) (K.written out.new) (S.faults script.old) (S.faults script.new) (K.faults out.old) (K.faults out.new)) →
-        (result ≡ 0) ⊎ (result ≡ 8) }
+    ensures says { CallSays (call_of (map (λ w. string_bytes w) words.now)
+        (S.left script.old) (S.left script.new) (K.written out.old) (K.written out.new)
+        (S.faults script.old) (S.faults script.new) (K.faults out.old) (K.faults out.new)) result }
+    ensures complete { CallCompletes (call_of (map (λ w. string_bytes w) words.now)
+        (S.left script.old) (S.left script.new) (K.written out.old) (K.written out.new)
+        (S.faults script.old) (S.faults script.new) (K.faults out.old) (K.faults out.new)) result }
 {
-    let status = perform(alloc, words, script, out);
-    code(status)
+    run_words(alloc, words, script, out)
 }

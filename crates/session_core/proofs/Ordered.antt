@@ -1,5 +1,5 @@
 -- A run in order is a run of events that fit: each line's events come one after another.
-use Rattle.std.proofs.Common.{◌≡◌, ◌≢◌, ⊎_elim, ℕ, suc, ◌+◌, ◌<◌, ◌≤◌, Bool, true, false, cond, ◌||◌, not, List, [], ◌∷◌, ◌++◌, length, map, Option, Some, None, Result, Ok, Err, nat_eq, refl, sym, ◌∙◌, ap, subst, arith, rules, append_assoc}
+use Rattle.std.proofs.Common.{◌≡◌, ◌≢◌, ⊎_elim, ℕ, suc, ◌+◌, ◌<◌, ◌≤◌, Bool, true, false, cond, ◌&&◌, ◌||◌, not, List, [], ◌∷◌, ◌++◌, length, map, Option, Some, None, Result, Ok, Err, nat_eq, refl, sym, ◌∙◌, ap, subst, arith, rules, append_assoc}
 use Rattle.std.proofs.lemmas.Bool.{cases_eq, false≢true}
 use Rattle.std.proofs.lemmas.List.{append-nil}
 use Rattle.std.proofs.lemmas.List.Sums.{sum_by-cons}
@@ -91,58 +91,73 @@ edit_sound : (store : Bool) (st : State) (l : Line) (edit : Edit) → is_disk_fa
 edit_sound false st l edit = refl
 edit_sound true st l edit = made_sound st l edit (is_full st.entries) (edited st.config st.entries edit)
 
+low_false : (b : Bool) (most : ℕ) → b ≡ false → cond b 1 0 ≤ most
+low_false b most is = subst (λ (x : Bool). cond x 1 0 ≤ most) (sym is) (omega arith)
+
 bit_low : (b : Bool) → cond b 1 0 ≤ 1
 bit_low true = omega arith
 bit_low false = omega arith
 
-low_false : (b : Bool) → b ≡ false → cond b 1 0 ≤ 0
-low_false b is = subst (λ (x : Bool). cond x 1 0 ≤ 0) (sym is) (omega arith)
+-- how often the disk fails at a line at most
+abbrev failures_at : Bool → Outage → ℕ
+failures_at store outage = cond (store && is_disk_outage outage) 1 0
 
-edit_failures : (store : Bool) (st : State) (l : Line) (edit : Edit) (outage : Outage) → cond (is_disk_failed (trouble_at store st l edit outage)) 1 0 ≤ cond (is_disk_outage outage) 1 0
-edit_failures store st l edit fine =
-    low_false (is_disk_failed (edit_trouble store st l edit false)) (edit_sound store st l edit)
+edit_failures : (store : Bool) (st : State) (l : Line) (edit : Edit) (outage : Outage) → cond (is_disk_failed (trouble_at store st l edit outage)) 1 0 ≤ failures_at store outage
+edit_failures store st l edit fine = low_false (is_disk_failed (edit_trouble store st l edit false)) (failures_at store fine) (edit_sound store st l edit)
 edit_failures store st l edit at_first = omega arith
 edit_failures store st l edit at_last = omega arith
-edit_failures store st l edit disk_fails = bit_low (is_disk_failed (edit_trouble store st l edit true))
+edit_failures false st l edit disk_fails = omega arith
+edit_failures true st l edit disk_fails = bit_low (is_disk_failed (edit_trouble true st l edit true))
 
-memory_failures : (outage : Outage) → cond (is_disk_failed (memory_at outage)) 1 0 ≤ cond (is_disk_outage outage) 1 0
-memory_failures fine = omega arith
-memory_failures at_first = omega arith
-memory_failures at_last = omega arith
-memory_failures disk_fails = omega arith
+memory_failures : (most : ℕ) (outage : Outage) → cond (is_disk_failed (memory_at outage)) 1 0 ≤ most
+memory_failures most fine = omega arith
+memory_failures most at_first = omega arith
+memory_failures most at_last = omega arith
+memory_failures most disk_fails = omega arith
 
 one_failures : (m : Occurrence) (most : ℕ) → cond (is_disk_failed m.trouble) 1 0 ≤ most → disk_failures (m ∷ []) ≤ most
 one_failures m most low =
     let one : disk_failures (m ∷ []) ≡ cond (is_disk_failed m.trouble) 1 0 + 0 = failures_cons m [] in
     omega arith
 
-query_failures : (l : Line) (outage : Outage) → disk_failures (query_moments l outage) ≤ cond (is_disk_outage outage) 1 0
-query_failures l fine = omega arith
-query_failures l at_first = omega arith
-query_failures l at_last = omega arith
-query_failures l disk_fails = omega arith
+query_failures : (most : ℕ) (l : Line) (outage : Outage) → disk_failures (query_moments l outage) ≤ most
+query_failures most l fine = omega arith
+query_failures most l at_first = omega arith
+query_failures most l at_last = omega arith
+query_failures most l disk_fails = omega arith
 
-line_failures : (store : Bool) (st : State) (l : Line) (request : Request) (outage : Outage) → disk_failures (request_moments store st l request outage) ≤ cond (is_disk_outage outage) 1 0
+line_failures : (store : Bool) (st : State) (l : Line) (request : Request) (outage : Outage) → disk_failures (request_moments store st l request outage) ≤ failures_at store outage
 line_failures store st l (requests.Edit edit) outage =
-    one_failures (moment (events.Edit l) (trouble_at store st l edit outage)) (cond (is_disk_outage outage) 1 0) (edit_failures store st l edit outage)
-line_failures store st l (requests.Query ask) outage = query_failures l outage
+    one_failures (moment (events.Edit l) (trouble_at store st l edit outage)) (failures_at store outage) (edit_failures store st l edit outage)
+line_failures store st l (requests.Query ask) outage = query_failures (failures_at store outage) l outage
 line_failures store st l (requests.Look ask) outage =
-    one_failures (moment (events.Look l) (memory_at outage)) (cond (is_disk_outage outage) 1 0) (memory_failures outage)
+    one_failures (moment (events.Look l) (memory_at outage)) (failures_at store outage) (memory_failures (failures_at store outage) outage)
 line_failures store st l requests.Finish outage =
-    one_failures (moment (events.Finish l.line l.session commands.Finish) (memory_at outage)) (cond (is_disk_outage outage) 1 0) (memory_failures outage)
+    one_failures (moment (events.Finish l.line l.session commands.Finish) (memory_at outage)) (failures_at store outage) (memory_failures (failures_at store outage) outage)
 line_failures store st l (requests.After earlier) outage =
-    one_failures (moment (events.Look l) (memory_at outage)) (cond (is_disk_outage outage) 1 0) (memory_failures outage)
+    one_failures (moment (events.Look l) (memory_at outage)) (failures_at store outage) (memory_failures (failures_at store outage) outage)
 
-all_failures : (store : Bool) (st : State) (ls : List Line) (outages : List Outage) → disk_failures (moments_in_turn store st ls outages) ≤ disk_outages outages
+outages_cons : (store : Bool) (outage : Outage) (outages : List Outage) → disk_outages store (outage ∷ outages) ≡ failures_at store outage + disk_outages store outages
+outages_cons store outage outages = sum_by-cons (λ (o : Outage). cond (store && is_disk_outage o) 1 0) outage outages
+
+-- without a store the disk fails at no line
+pub none_out : (outages : List Outage) → disk_outages false outages ≡ 0
+none_out [] = refl
+none_out (outage ∷ outages) = outages_cons false outage outages ∙ ap (λ (k : ℕ). 0 + k) (none_out outages)
+
+pub none_rise : (k : ℕ) → k ≡ 0 → RoseBy k 0 0
+none_rise k none = omega arith
+
+all_failures : (store : Bool) (st : State) (ls : List Line) (outages : List Outage) → disk_failures (moments_in_turn store st ls outages) ≤ disk_outages store outages
 all_failures store st [] outages = omega arith
 all_failures store st (l ∷ ls) [] = omega arith
 all_failures store st (l ∷ ls) (outage ∷ outages) =
-    let here : disk_failures (request_moments store st l l.request outage) ≤ cond (is_disk_outage outage) 1 0 = line_failures store st l l.request outage in
-    let rest : disk_failures (moments_in_turn store (one_turn store st l outage).1 ls outages) ≤ disk_outages outages = all_failures store (one_turn store st l outage).1 ls outages in
+    let here : disk_failures (request_moments store st l l.request outage) ≤ failures_at store outage = line_failures store st l l.request outage in
+    let rest : disk_failures (moments_in_turn store (one_turn store st l outage).1 ls outages) ≤ disk_outages store outages = all_failures store (one_turn store st l outage).1 ls outages in
     let both : disk_failures (request_moments store st l l.request outage ++ moments_in_turn store (one_turn store st l outage).1 ls outages)
-    ≡ disk_failures (request_moments store st l l.request outage) + disk_failures (moments_in_turn store (one_turn store st l outage).1 ls outages) =
+        ≡ disk_failures (request_moments store st l l.request outage) + disk_failures (moments_in_turn store (one_turn store st l outage).1 ls outages) =
     failures_more (request_moments store st l l.request outage) (moments_in_turn store (one_turn store st l outage).1 ls outages) in
-    let sum : disk_outages (outage ∷ outages) ≡ cond (is_disk_outage outage) 1 0 + disk_outages outages = sum_by-cons (λ (o : Outage). cond (is_disk_outage o) 1 0) outage outages in
+    let sum : disk_outages store (outage ∷ outages) ≡ failures_at store outage + disk_outages store outages = outages_cons store outage outages in
     omega arith
 
 -- Runs of one list of events after another.
@@ -626,7 +641,7 @@ fewer_rise j k before now fewer rose = search rules
 
 module _ (c : Config) (opening : List Entry) (lines : List Line) (outages : List Outage) (store : Bool) (before now : ℕ)
     (legal : IsLegal c opening) (most : length opening ≤ HISTORY_EDITS) (comes : ComeInOrder [] lines) (long : length outages ≡ length lines)
-    (rose : RoseBy (disk_outages outages) before now) where
+    (rose : RoseBy (disk_outages store outages) before now) where
   abbrev went_through : List Occurrence
   went_through = moments_in_turn store (start c opening) lines outages
 
@@ -661,7 +676,7 @@ module _ (c : Config) (opening : List Entry) (lines : List Line) (outages : List
   run_in_order =
       let legal_turns : HasTurns c opening last store before now =
       run_legal_turns c opening went_through store before now legal most went.fits
-      (fewer_rise (disk_failures went_through) (disk_outages outages) before now (all_failures store (start c opening) lines outages) rose) in
+      (fewer_rise (disk_failures went_through) (disk_outages store outages) before now (all_failures store (start c opening) lines outages) rose) in
       (legal_turns.0, subst (λ (ts : List Turn). IsInOrder opening lines ts) (sym (legal_turns.1 ∙ went.turns)) told_in_order)
 
   pub in_turn_is_in_order : IsRunInOrder c opening lines lines out.0 out.1.entries store before now

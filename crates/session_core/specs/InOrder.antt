@@ -1,6 +1,6 @@
 -- A run in order: each line is answered before the next one is read. The replies follow from the
 -- lines, the history before them and the places where memory ran out.
-use Rattle.std.specs.Prelude.{◌≡◌, ℕ, ◌<◌, Bool, true, false, List, [], ◌∷◌, ◌++◌, count_by, Option, Some, None, Result, Ok, Err, nat_eq}
+use Rattle.std.specs.Prelude.{◌≡◌, ℕ, ◌<◌, Bool, true, false, ◌&&◌, List, [], ◌∷◌, ◌++◌, count_by, Option, Some, None, Result, Ok, Err, nat_eq}
 use Rattle.std.specs.List.{list_any}
 use Rattle.emu_names.specs.declared.rules.Broken.{Broken}
 use Rattle.session_core.specs.declared.bundle.BundleParts.{BundleParts}
@@ -110,13 +110,14 @@ in_turn store st (l ∷ ls) (outage ∷ outages) = (
   (in_turn store (one_turn store st l outage).1 ls outages).1,
 )
 
--- how often the disk fails
+-- the disk fails at a line
 abbrev pub is_disk_outage : Outage → Bool
 is_disk_outage disk_fails = true
 is_disk_outage outage = false
 
-abbrev pub disk_outages : List Outage → ℕ
-disk_outages outages = count_by is_disk_outage outages
+-- how often the disk may refuse an edit: never without a store
+abbrev pub disk_outages : Bool → List Outage → ℕ
+disk_outages store outages = count_by (λ outage. store && is_disk_outage outage) outages
 
 -- Which lists of lines come in order: numbers rise, sessions have a place, a line has the command of
 -- its request, and an `after` names a line before it.

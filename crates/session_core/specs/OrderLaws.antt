@@ -16,6 +16,6 @@ use Rattle.session_core.specs.InOrder.{Outage, disk_outages, in_turn, ComeInOrde
 abbrev pub InOrderIsLegal : Type 0
 InOrderIsLegal = (c : Config) (opening : List Entry) (lines : List Line) (outages : List Outage) (store : Bool) (before now : ℕ)
     → IsLegal c opening → length opening ≤ HISTORY_EDITS
-    → ComeInOrder [] lines → length outages ≡ length lines → RoseBy (disk_outages outages) before now
+    → ComeInOrder [] lines → length outages ≡ length lines → RoseBy (disk_outages store outages) before now
     → Legal c opening lines (in_turn store (start c opening) lines outages).0
     (in_turn store (start c opening) lines outages).1.entries store before now

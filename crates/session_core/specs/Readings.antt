@@ -87,7 +87,7 @@ OneReading = (c : Config) (opening : List Entry) (lines : List Line)
 abbrev pub InTurnIsInOrder : Type 0
 InTurnIsInOrder = (c : Config) (opening : List Entry) (lines : List Line) (outages : List Outage) (store : Bool) (before now : ℕ)
     → IsLegal c opening → length opening ≤ HISTORY_EDITS
-    → ComeInOrder [] lines → length outages ≡ length lines → RoseBy (disk_outages outages) before now
+    → ComeInOrder [] lines → length outages ≡ length lines → RoseBy (disk_outages store outages) before now
     → (run : Legal c opening lines (in_turn store (start c opening) lines outages).0
     (in_turn store (start c opening) lines outages).1.entries store before now)
     × IsInOrder opening lines run.turns
