@@ -155,7 +155,7 @@ all_failures store st (l ∷ ls) (outage ∷ outages) =
     let here : disk_failures (request_moments store st l l.request outage) ≤ failures_at store outage = line_failures store st l l.request outage in
     let rest : disk_failures (moments_in_turn store (one_turn store st l outage).1 ls outages) ≤ disk_outages store outages = all_failures store (one_turn store st l outage).1 ls outages in
     let both : disk_failures (request_moments store st l l.request outage ++ moments_in_turn store (one_turn store st l outage).1 ls outages)
-        ≡ disk_failures (request_moments store st l l.request outage) + disk_failures (moments_in_turn store (one_turn store st l outage).1 ls outages) =
+    ≡ disk_failures (request_moments store st l l.request outage) + disk_failures (moments_in_turn store (one_turn store st l outage).1 ls outages) =
     failures_more (request_moments store st l l.request outage) (moments_in_turn store (one_turn store st l outage).1 ls outages) in
     let sum : disk_outages store (outage ∷ outages) ≡ failures_at store outage + disk_outages store outages = outages_cons store outage outages in
     omega arith

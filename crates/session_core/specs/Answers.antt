@@ -38,6 +38,7 @@ answer_at c history n ask = answer_over c (bundles_after c (take n history)) ask
 abbrev pub memory : Answer
 memory = Refused refusals.Memory
 
+-- the reply to a line
 abbrev pub reply_to : Line → Option ℕ → Answer → Reply
 reply_to l n answer = record { line = l.line; session = l.session; n = n; answer = answer }
 

@@ -51,6 +51,7 @@ order_fault before (Span start dur) (Point at) = None
 order_fault before (Point at) NoTime = None
 order_fault before (Point at) (Span start dur) = None
 
+-- the rule that an item breaks beside the one before it in the file
 abbrev pub neighbour_fault : Option AnnotItem → AnnotItem → Option Broken
 neighbour_fault None item = None
 neighbour_fault (Some before) item = order_fault before.id before.time item.time
@@ -63,11 +64,13 @@ item_fault def taken before item =
     else if not (is_in_time item.time) then Some rules.TimeOut
     else or_else (labels_fault def.attributes [] item.labels) (neighbour_fault before item)
 
+-- the first rule that the items of a level break, behind these ids and this item
 abbrev pub items_fault : LevelDef → List ℕ → Option AnnotItem → List AnnotItem → Option Broken
 items_fault def taken before [] = None
 items_fault def taken before (item ∷ items) =
     or_else (item_fault def taken before item) (items_fault def (taken ++ item.id.0 ∷ []) (Some item) items)
 
+-- two levels are of one kind
 abbrev pub same_kind : LevelKind → LevelKind → Bool
 same_kind kinds.Item kinds.Item = true
 same_kind kinds.Segment kinds.Segment = true
@@ -86,25 +89,31 @@ known_level_fault def named taken level =
     else if not (same_kind def.kind level.kind) then Some (rules.LevelKind level.name)
     else items_fault def taken None level.items
 
+-- the first rule that a level of the annotation breaks, where this level of the configuration has its name
 abbrev pub found_level_fault : Option LevelDef → List (List ℕ) → List ℕ → AnnotLevel → Option Broken
 found_level_fault None named taken level = Some (rules.NoLevel level.name)
 found_level_fault (Some def) named taken level = known_level_fault def named taken level
 
+-- the first rule that a level of the annotation breaks
 abbrev pub level_fault : List LevelDef → List (List ℕ) → List ℕ → AnnotLevel → Option Broken
 level_fault defs named taken level = found_level_fault (level_named level.name defs) named taken level
 
+-- the ids of items
 abbrev pub ids_of : List AnnotItem → List ℕ
 ids_of items = map (λ i. i.id.0) items
 
+-- the first rule that the levels break, in the order of the file
 abbrev pub levels_fault : List LevelDef → List (List ℕ) → List ℕ → List AnnotLevel → Option Broken
 levels_fault defs named taken [] = None
 levels_fault defs named taken (level ∷ levels) =
     or_else (level_fault defs named taken level)
     (levels_fault defs (named ++ level.name ∷ []) (taken ++ ids_of level.items) levels)
 
+-- how many items the levels have together
 abbrev pub annot_items : List AnnotLevel → ℕ
 annot_items levels = sum_by (λ l. length l.items) levels
 
+-- the first rule that an annotation breaks
 abbrev pub build_fault : Config → Annot → Option Broken
 build_fault c annot =
     if not (is_rate annot.rate) then Some rules.RateOut
@@ -114,20 +123,25 @@ build_fault c annot =
 -- The bundle, where no rule is broken: a level that is not given is empty, a label that is not
 -- given is the empty text.
 
+-- the first label of a name, or the empty text
 abbrev pub label_named : List ℕ → List AnnotLabel → List ℕ
 label_named name [] = []
 label_named name (l ∷ ls) = if same_text l.name name then l.value else label_named name ls
 
+-- an item with one label an attribute, the empty one where it names none
 abbrev pub made_item : List AttributeDef → AnnotItem → Item
 made_item defs item = record { id = item.id; time = item.time; labels = map (λ def. label_named def.name item.labels) defs }
 
+-- the items of the level of a name, or none
 abbrev pub items_named : List ℕ → List AnnotLevel → List AnnotItem
 items_named name [] = []
 items_named name (l ∷ ls) = if same_text l.name name then l.items else items_named name ls
 
+-- the items of a level of the configuration
 abbrev pub made_level : List AnnotLevel → LevelDef → List Item
 made_level levels def = map (made_item def.attributes) (items_named def.name levels)
 
+-- the bundle that an annotation makes
 abbrev pub made_bundle : Config → BundleKey → Annot → BundleParts
 made_bundle c key annot = record {
   key = key;
@@ -136,6 +150,7 @@ made_bundle c key annot = record {
   levels = map (made_level annot.levels) c.levels;
 }
 
+-- a bundle, or the rule that is broken
 abbrev pub unless_broken : Option Broken → BundleParts → Result BundleParts Broken
 unless_broken (Some r) parts = Err r
 unless_broken None parts = Ok parts

@@ -29,6 +29,7 @@ abbrev pub are_distinct : List (List ℕ) → Bool
 are_distinct [] = true
 are_distinct (name ∷ names) = not (list_any (same_text name) names) && are_distinct names
 
+-- no name stands in both lists
 abbrev pub share_no_name : List (List ℕ) → List (List ℕ) → Bool
 share_no_name ours theirs = list_all (λ name. not (list_any (same_text name) theirs)) ours
 

@@ -17,11 +17,13 @@ use Rattle.session_core.specs.declared.edit.Entry.{Entry}
 use Rattle.session_core.specs.Build.{built}
 use Rattle.session_core.specs.Configs.{same_text}
 
+-- the first broken rule, or what follows
 infixl 10 ◌>>=◌
 abbrev pub ◌>>=◌ : {A B : Type 0} → Result A Broken → (A → Result B Broken) → Result B Broken
 (Ok x) >>= f = f x
 (Err r) >>= f = Err r
 
+-- two keys are the same two names
 abbrev pub same_key : BundleKey → BundleKey → Bool
 same_key a b = same_text a.session b.session && same_text a.bundle b.bundle
 
@@ -38,12 +40,15 @@ abbrev pub put_in_order : BundleParts → List BundleParts → List BundleParts
 put_in_order new [] = new ∷ []
 put_in_order new (b ∷ bs) = if is_before new.key b.key then new ∷ b ∷ bs else b ∷ put_in_order new bs
 
+-- how many items a bundle has
 abbrev pub item_count : BundleParts → ℕ
 item_count b = sum_by (λ (items : List Item). length items) b.levels
 
+-- how many items the bundles have together
 abbrev pub all_items : List BundleParts → ℕ
 all_items bundles = sum_by item_count bundles
 
+-- the bundles with one more, unless they would have too many items
 abbrev pub bundle_added : List BundleParts → BundleParts → Result (List BundleParts) Broken
 bundle_added bundles new =
     if nat_lt ALL_ITEMS (all_items bundles + item_count new) then Err (rules.TooMany counted.AllItems)
@@ -74,6 +79,7 @@ abbrev pub found_bundles : Result (List BundleParts) Broken → List BundleParts
 found_bundles (Ok bundles) = bundles
 found_bundles (Err r) = []
 
+-- the bundles after a history
 abbrev pub bundles_after : Config → List Entry → List BundleParts
 bundles_after c history = found_bundles (after c history)
 

@@ -29,9 +29,11 @@ phonetic_level = record {
   attributes = (record { name = codes "Phonetic" }) ∷ [];
 }
 
+-- a configuration of that level alone
 abbrev pub example_config : Config
 example_config = record { name = codes "t"; uuid = []; extension = []; levels = phonetic_level ∷ [] }
 
+-- a segment with one label
 abbrev pub segment : ℕ → ℕ → ℕ → List ℕ → AnnotItem
 segment id start dur label = record {
   id = record { 0 = id };
@@ -47,9 +49,11 @@ example_annot = record {
   levels = (record { name = codes "Phonetic"; kind = kinds.Segment; items = segment 1 3749 1389 (codes "V") ∷ segment 2 5139 1664 (codes "m") ∷ [] }) ∷ [];
 }
 
+-- that annotation as bundle b1 of session s1
 abbrev pub example_edit : Edit
 example_edit = edits.AddBundle (record { session = codes "s1"; bundle = codes "b1" }) example_annot
 
+-- the script's session 1
 abbrev pub first_session : SessionNo
 first_session = record { 0 = 1 }
 
@@ -57,6 +61,7 @@ first_session = record { 0 = 1 }
 abbrev pub add_line : Line
 add_line = record { line = 2; session = first_session; command = commands.AddBundle; request = requests.Edit example_edit }
 
+-- line 3 asks for m
 abbrev pub ask_line : Line
 ask_line = record {
   line = 3;
@@ -65,12 +70,15 @@ ask_line = record {
   request = requests.Query (record { name = codes "Phonetic"; label = codes "m" });
 }
 
+-- the lines behind the configuration
 abbrev pub example_lines : List Line
 example_lines = add_line ∷ ask_line ∷ []
 
+-- the lines as events of the core
 abbrev pub example_events : List Event
 example_events = events.Edit add_line ∷ events.Look ask_line ∷ events.Piece first_session ∷ events.Finish 3 first_session commands.Query ∷ []
 
+-- the one entry that they leave
 abbrev pub example_history : List Entry
 example_history = (record { session = first_session; line = 2; edit = example_edit }) ∷ []
 

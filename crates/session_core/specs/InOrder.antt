@@ -23,6 +23,7 @@ abbrev pub given : Line → Option Reply → Reply
 given l (Some reply) = reply
 given l None = reply_to l None memory
 
+-- a reply with its state
 abbrev pub replied : Line → Option Reply × State → Reply × State
 replied l (reply, st) = (given l reply, st)
 
@@ -38,6 +39,7 @@ pub data Outage : Type 0 where
 abbrev pub query_begun : State → Line → Ask → State
 query_begun st l ask = with_query st l.session.0 (Some (opened_at st l ask))
 
+-- the line of a query, over the present state
 abbrev pub query_turn : State → Line → Ask → Outage → Reply × State
 query_turn st l ask fine = replied l (finish_event (query_begun st l ask) l.line l.session commands.Query)
 query_turn st l ask at_first = (reply_to l None memory, st)
@@ -58,6 +60,7 @@ stored_trouble true fails = store_full
 stored_trouble false true = disk_failed
 stored_trouble false false = untroubled
 
+-- an edit that the history or a rule refuses meets neither the store nor the disk
 abbrev pub made_trouble : State → Line → Edit → Bool → Bool → Result (List BundleParts) Broken → Trouble
 made_trouble st l edit fails true made = untroubled
 made_trouble st l edit fails false (Err rule) = untroubled
@@ -77,6 +80,7 @@ trouble_at store st l edit at_first = no_memory
 trouble_at store st l edit at_last = no_memory
 trouble_at store st l edit disk_fails = edit_trouble store st l edit true
 
+-- the edit of a line, or what keeps it from its step
 abbrev pub edit_outcome : State → Line → Edit → Trouble → Option Reply × State
 edit_outcome st l edit untroubled = edit_event st l (requests.Edit edit)
 edit_outcome st l edit no_memory = (Some (reply_to l None memory), st)
@@ -122,6 +126,7 @@ disk_outages store outages = count_by (λ outage. store && is_disk_outage outage
 -- Which lists of lines come in order: numbers rise, sessions have a place, a line has the command of
 -- its request, and an `after` names a line before it.
 
+-- an `after` names a line that stands before it
 abbrev pub NamesEarlier : List Line → Request → Type 0
 NamesEarlier before (requests.After earlier) = list_any (λ (l : Line). nat_eq l.line earlier) before ≡ true
 NamesEarlier before (requests.Edit edit) = Unit {0}
@@ -129,15 +134,18 @@ NamesEarlier before (requests.Query ask) = Unit {0}
 NamesEarlier before (requests.Look ask) = Unit {0}
 NamesEarlier before requests.Finish = Unit {0}
 
+-- a line stands before this number
 abbrev pub IsBelow : ℕ → Line → Type 0
 IsBelow line other = other.line < line
 
+-- a line may stand behind these
 pub record ComesNext (before : List Line) (l : Line) : Type 0 where
   pub rises : Each (IsBelow l.line) before
   pub place : l.session.0 < session_places
   pub command : is_command_of l.command l.request ≡ true
   pub earlier : NamesEarlier before l.request
 
+-- each of these lines may stand behind those before it
 abbrev pub ComeInOrder : List Line → List Line → Type 0
 ComeInOrder before [] = Unit {0}
 ComeInOrder before (l ∷ ls) = ComesNext before l × ComeInOrder (before ++ l ∷ []) ls

@@ -22,12 +22,15 @@ use Rattle.session_core.specs.Steps.{Opened, State, slot, put_slot, is_full, ses
 
 -- The state that the parts of a core stand for.
 
+-- the query that is held, without its bundles
 abbrev pub opened_by : Held → Opened
 opened_by held = record { line = held.line; n = held.n; ask = held.ask }
 
+-- what the sessions hold, without the bundles
 abbrev pub opened_in : List (Option Held) → List (Option Opened)
 opened_in slots = map (option_map opened_by) slots
 
+-- the state that the parts stand for
 abbrev pub state_of : Config → List Entry → List (Option Held) → List (Option Held) → State
 state_of c history looks queries =
     record { config = c; entries = history; looks = opened_in looks; queries = opened_in queries }
@@ -37,6 +40,7 @@ pub record IsMoment (c : Config) (history : List Entry) (held : Held) : Type 0 w
   pub past : held.n ≤ length history
   pub bundles : after c (take held.n history) ≡ Ok held.bundles
 
+-- what is held, if anything is, is of its moment
 abbrev pub IsHeld : Config → List Entry → Option Held → Type 0
 IsHeld c history None = Unit {0}
 IsHeld c history (Some held) = IsMoment c history held
@@ -54,18 +58,22 @@ pub record IsKept (c : Config) (history : List Entry) (bundles : List BundlePart
 
 -- What one event does to the parts.
 
+-- the reply to a line of this head
 abbrev pub head_reply : Head → Option ℕ → Answer → Reply
 head_reply head n answer = reply_of head.line head.session n answer
 
+-- the entry of an edit of this head
 abbrev pub head_entry : Head → Edit → Entry
 head_entry head edit = record { session = head.session; line = head.line; edit = edit }
 
+-- an edit behind the rules: its entry is put last, or the rule is told
 abbrev pub edit_tried_made : Head → Edit → List Entry → List BundleParts → Result (List BundleParts) Broken → Reply × List Entry × List BundleParts
 edit_tried_made head edit history bundles (Ok next) =
     (head_reply head (Some (length history + 1)) (Done head.command), history ++ head_entry head edit ∷ [], next)
 edit_tried_made head edit history bundles (Err rule) =
     (head_reply head (Some (length history)) (Refused (refusals.Rule rule)), history, bundles)
 
+-- an edit behind the limit of the history
 abbrev pub edit_tried_step : Head → Edit → List Entry → List BundleParts → Bool → Result (List BundleParts) Broken → Reply × List Entry × List BundleParts
 edit_tried_step head edit history bundles true made =
     (head_reply head (Some (length history)) (Refused refusals.HistoryFull), history, bundles)
@@ -76,6 +84,7 @@ abbrev pub edit_tried : Config → Head → Edit → List Entry → List BundleP
 edit_tried c head edit history bundles =
     edit_tried_step head edit history bundles (is_full history) (effect c bundles edit)
 
+-- a query that holds these bundles
 abbrev pub held_at : Head → Ask → ℕ → List BundleParts → Held
 held_at head ask n bundles = record { line = head.line; n = n; ask = ask; bundles = bundles }
 

@@ -54,12 +54,15 @@ EveryCoreRunIsLegal = (c : Config) (opening : List Entry) (events : List Event)
 abbrev pub ExampleFits : Type 0
 ExampleFits = AllFit false (opening_world example_config []) (map taken example_events)
 
+-- the replies of the core's steps are those of the example
 abbrev pub ExampleReplies : Type 0
 ExampleReplies = (steps (start example_config []) example_events).0 ≡ example_replies
 
+-- and they leave its history
 abbrev pub ExampleHistory : Type 0
 ExampleHistory = (steps (start example_config []) example_events).1.entries ≡ example_history
 
+-- so the example is a legal run
 abbrev pub ExampleIsLegal : Type 0
 ExampleIsLegal = Legal example_config [] example_lines example_replies example_history false 0 0
 

@@ -23,25 +23,32 @@ use Rattle.emu_names.specs.declared.limits.TheConstants.{HISTORY_EDITS}
 -- 1. Lines and replies. Each line has one reply, and the replies of each session stand in the order
 -- of its lines.
 
+-- a reply names its line and its session
 pub record IsNamed (t : Turn) : Type 0 where
   pub line : t.reply.line ≡ t.line.line
   pub session : t.reply.session ≡ t.line.session
 
+-- a turn is of this session
 abbrev pub is_of : ℕ → Turn → Bool
 is_of s t = nat_eq t.line.session.0 s
 
+-- the turns of a session
 abbrev pub of_session : ℕ → List Turn → List Turn
 of_session s turns = filter (is_of s) turns
 
+-- a line is of this session
 abbrev pub is_line_of : ℕ → Line → Bool
 is_line_of s l = nat_eq l.session.0 s
 
+-- the lines of a session
 abbrev pub lines_of_session : ℕ → List Line → List Line
 lines_of_session s lines = filter (is_line_of s) lines
 
+-- the lines of turns
 abbrev pub lines_in : List Turn → List Line
 lines_in turns = map (λ t. t.line) turns
 
+-- the replies of turns
 abbrev pub replies_in : List Turn → List Reply
 replies_in turns = map (λ t. t.reply) turns
 
@@ -53,6 +60,7 @@ pub record NumberedEntry : Type 0 where
   pub n : ℕ
   pub entry : Entry
 
+-- the entry that an accepting reply tells, with its number
 abbrev pub accepting : Line → Request → Option ℕ → Answer → List NumberedEntry
 accepting l (requests.Edit edit) (Some n) (Done command) = record { n = n; entry = entry_of l edit } ∷ []
 accepting l (requests.Edit edit) (Some n) (Segments rows) = []
@@ -63,17 +71,21 @@ accepting l (requests.Look ask) n answer = []
 accepting l requests.Finish n answer = []
 accepting l (requests.After earlier) n answer = []
 
+-- the entries that all replies tell
 abbrev pub accepted : List Turn → List NumberedEntry
 accepted [] = []
 accepted (t ∷ ts) = accepting t.line t.line.request t.reply.n t.reply.answer ++ accepted ts
 
+-- entries with their numbers, from this one on
 abbrev pub numbered : ℕ → List Entry → List NumberedEntry
 numbered n [] = []
 numbered n (e ∷ es) = record { n = n; entry = e } ∷ numbered (n + 1) es
 
+-- an entry has this number
 abbrev pub has_number : ℕ → NumberedEntry → Bool
 has_number n m = nat_eq m.n n
 
+-- the entries of a number
 abbrev pub with_number : ℕ → List NumberedEntry → List NumberedEntry
 with_number n marks = filter (has_number n) marks
 
@@ -97,6 +109,7 @@ pub record IsStoreFull (c : Config) (H : List Entry) (store : Bool) (l : Line) (
   pub right : edited c (take n H) edit ≡ Ok bundles
   pub passes : passes_store c (take n H) (entry_of l edit) ≡ true
 
+-- a refusal of an edit at n is right
 abbrev pub IsRightRefusal : Config → List Entry → Bool → Line → Edit → ℕ → Refusal → Type 0
 IsRightRefusal c H store l edit n (refusals.Rule rule) = (n < HISTORY_EDITS) × (edited c (take n H) edit ≡ Err rule)
 IsRightRefusal c H store l edit n refusals.HistoryFull = n ≡ HISTORY_EDITS
@@ -107,6 +120,7 @@ IsRightRefusal c H store l edit n refusals.LookOpen = ⊥
 IsRightRefusal c H store l edit n refusals.Disk = ⊥
 IsRightRefusal c H store l edit n refusals.Memory = ⊥
 
+-- an answer to an edit at n is right
 abbrev pub IsRightEdit : Config → List Entry → Bool → Line → Edit → ℕ → Answer → Type 0
 IsRightEdit c H store l edit n (Done command) = IsAcceptance c H l edit n command
 IsRightEdit c H store l edit n (Refused refusal) = IsRightRefusal c H store l edit n refusal
@@ -130,6 +144,7 @@ IsDiskFor store (requests.Look ask) = ⊥
 IsDiskFor store requests.Finish = ⊥
 IsDiskFor store (requests.After earlier) = ⊥
 
+-- a request is a `look`
 abbrev pub IsLook : Request → Type 0
 IsLook (requests.Edit edit) = ⊥
 IsLook (requests.Query ask) = ⊥
@@ -137,6 +152,7 @@ IsLook (requests.Look ask) = Unit {0}
 IsLook requests.Finish = ⊥
 IsLook (requests.After earlier) = ⊥
 
+-- a request is a `finish`
 abbrev pub IsFinish : Request → Type 0
 IsFinish (requests.Edit edit) = ⊥
 IsFinish (requests.Query ask) = ⊥
@@ -144,6 +160,7 @@ IsFinish (requests.Look ask) = ⊥
 IsFinish requests.Finish = Unit {0}
 IsFinish (requests.After earlier) = ⊥
 
+-- a refusal without a number may answer the request
 abbrev pub IsRefusedUnnumbered : Bool → Request → Refusal → Type 0
 IsRefusedUnnumbered store request refusals.Memory = Unit {0}
 IsRefusedUnnumbered store request refusals.Disk = IsDiskFor store request
@@ -154,15 +171,18 @@ IsRefusedUnnumbered store request (refusals.Resolve fault) = ⊥
 IsRefusedUnnumbered store request refusals.HistoryFull = ⊥
 IsRefusedUnnumbered store request refusals.StoreFull = ⊥
 
+-- an answer without a number is one of these refusals
 abbrev pub IsRightUnnumbered : Bool → Request → Answer → Type 0
 IsRightUnnumbered store request (Refused refusal) = IsRefusedUnnumbered store request refusal
 IsRightUnnumbered store request (Done command) = ⊥
 IsRightUnnumbered store request (Segments rows) = ⊥
 
+-- an answer is right, with a number and without
 abbrev pub IsRight : Config → ℕ → List Entry → Bool → Line → Option ℕ → Answer → Type 0
 IsRight c m H store l None answer = IsRightUnnumbered store l.request answer
 IsRight c m H store l (Some n) answer = (m ≤ n) × (n ≤ length H) × IsRightAt c H store l l.request n answer
 
+-- the reply of a turn is right
 abbrev pub IsRightTurn : Config → ℕ → List Entry → Bool → Turn → Type 0
 IsRightTurn c m H store t = IsRight c m H store t.line t.reply.n t.reply.answer
 
@@ -180,6 +200,7 @@ low_behind low (requests.Query ask) (Some n) = n
 low_behind low (requests.Look ask) (Some n) = n
 low_behind low (requests.After earlier) (Some n) = n
 
+-- a reply's number is at least this one, that of a `finish` apart
 abbrev pub KeepsUp : ℕ → Request → Option ℕ → Type 0
 KeepsUp low request None = Unit {0}
 KeepsUp low requests.Finish (Some n) = Unit {0}
@@ -188,6 +209,7 @@ KeepsUp low (requests.Query ask) (Some n) = low ≤ n
 KeepsUp low (requests.Look ask) (Some n) = low ≤ n
 KeepsUp low (requests.After earlier) (Some n) = low ≤ n
 
+-- the numbers of a session's replies never fall
 abbrev pub NeverFalls : ℕ → List Turn → Type 0
 NeverFalls low [] = Unit {0}
 NeverFalls low (t ∷ ts) = KeepsUp low t.line.request t.reply.n × NeverFalls (low_behind low t.line.request t.reply.n) ts
@@ -203,10 +225,12 @@ look_behind held ask None = held
 look_behind None ask (Some n) = Some (record { n = n; ask = ask })
 look_behind (Some held) ask (Some n) = Some held
 
+-- the look that is open behind the reply to a `finish`
 abbrev pub finish_behind : Option Look → Option ℕ → Option Look
 finish_behind held None = held
 finish_behind held (Some n) = None
 
+-- the look that is open behind a reply
 abbrev pub open_behind : Option Look → Request → Option ℕ → Option Look
 open_behind held (requests.Look ask) n = look_behind held ask n
 open_behind held requests.Finish n = finish_behind held n
@@ -214,18 +238,21 @@ open_behind held (requests.Edit edit) n = held
 open_behind held (requests.Query ask) n = held
 open_behind held (requests.After earlier) n = held
 
+-- the reply to a `look` fits the look that is open before it
 abbrev pub LookReplyFits : Option Look → Option ℕ → Answer → Type 0
 LookReplyFits None (Some n) answer = Unit {0}
 LookReplyFits None None answer = answer ≡ memory
 LookReplyFits (Some held) (Some n) answer = ⊥
 LookReplyFits (Some held) None answer = (answer ≡ Refused refusals.LookOpen) ⊎ (answer ≡ memory)
 
+-- the reply to a `finish` fits the look that is open before it
 abbrev pub FinishReplyFits : Config → List Entry → Option Look → Option ℕ → Answer → Type 0
 FinishReplyFits c H None (Some n) answer = ⊥
 FinishReplyFits c H None None answer = (answer ≡ Refused refusals.NoLook) ⊎ (answer ≡ memory)
 FinishReplyFits c H (Some held) (Some n) answer = (n ≡ held.n) × (answer ≡ answer_at c H held.n held.ask)
 FinishReplyFits c H (Some held) None answer = answer ≡ memory
 
+-- a reply fits the look that is open before it
 abbrev pub ReplyFits : Config → List Entry → Option Look → Request → Option ℕ → Answer → Type 0
 ReplyFits c H held (requests.Look ask) n answer = LookReplyFits held n answer
 ReplyFits c H held requests.Finish n answer = FinishReplyFits c H held n answer
@@ -233,6 +260,7 @@ ReplyFits c H held (requests.Edit edit) n answer = Unit {0}
 ReplyFits c H held (requests.Query ask) n answer = Unit {0}
 ReplyFits c H held (requests.After earlier) n answer = Unit {0}
 
+-- the replies of a session fit its looks, one after another
 abbrev pub LooksFit : Config → List Entry → Option Look → List Turn → Type 0
 LooksFit c H held [] = Unit {0}
 LooksFit c H held (t ∷ ts) =
@@ -242,14 +270,17 @@ LooksFit c H held (t ∷ ts) =
 -- 5. What an `after` has seen: at least the greatest number among the replies of the named line's
 -- session up to that line, or the opening's where there is none.
 
+-- the session of the line of a number
 abbrev pub session_of : ℕ → List Turn → Option ℕ
 session_of line [] = None
 session_of line (t ∷ ts) = if nat_eq t.line.line line then Some t.line.session.0 else session_of line ts
 
+-- the greater of a number and that of a reply, where it has one
 abbrev pub number_or : ℕ → Option ℕ → ℕ
 number_or low None = low
 number_or low (Some n) = max low n
 
+-- the greatest number among the replies of a session up to a line
 abbrev pub seen_by : ℕ → ℕ → ℕ → List Turn → ℕ
 seen_by m session line [] = m
 seen_by m session line (t ∷ ts) =
@@ -257,13 +288,16 @@ seen_by m session line (t ∷ ts) =
     then number_or (seen_by m session line ts) t.reply.n
     else seen_by m session line ts
 
+-- the same, where the session is known
 abbrev pub seen_in : ℕ → ℕ → Option ℕ → List Turn → ℕ
 seen_in m line None turns = m
 seen_in m line (Some session) turns = seen_by m session line turns
 
+-- what the session of a line had seen up to it
 abbrev pub seen : ℕ → List Turn → ℕ → ℕ
 seen m turns line = seen_in m line (session_of line turns) turns
 
+-- the number of an `after` is at least what its line had seen
 abbrev pub HasSeen : ℕ → List Turn → Request → Option ℕ → Type 0
 HasSeen m turns (requests.After earlier) (Some n) = seen m turns earlier ≤ n
 HasSeen m turns (requests.After earlier) None = Unit {0}
@@ -272,6 +306,7 @@ HasSeen m turns (requests.Query ask) n = Unit {0}
 HasSeen m turns (requests.Look ask) n = Unit {0}
 HasSeen m turns requests.Finish n = Unit {0}
 
+-- the same of a turn
 abbrev pub HasSeenTurn : ℕ → List Turn → Turn → Type 0
 HasSeenTurn m turns t = HasSeen m turns t.line.request t.reply.n
 
@@ -282,6 +317,7 @@ abbrev pub is_disk_refusal : Refusal → Bool
 is_disk_refusal refusals.Disk = true
 is_disk_refusal refusal = false
 
+-- an answer is a refusal of the disk
 abbrev pub is_disk : Answer → Bool
 is_disk (Refused refusal) = is_disk_refusal refusal
 is_disk answer = false

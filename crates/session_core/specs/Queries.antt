@@ -27,10 +27,12 @@ attribute_from place [] name = None
 attribute_from place (def ∷ defs) name =
     if same_text def.name name then Some place else attribute_from (place + 1) defs name
 
+-- an attribute on a level
 abbrev pub place_on : ℕ → Option ℕ → Option Place
 place_on level None = None
 place_on level (Some attribute) = Some (record { level = level; attribute = attribute })
 
+-- the first place, or a later one
 abbrev pub or_place : Option Place → Option Place → Option Place
 or_place (Some place) later = Some place
 or_place None later = later
@@ -53,9 +55,11 @@ name_place c name = or_place (attribute_place 0 c.levels name) (level_place 0 c.
 
 -- The rows of one bundle.
 
+-- the items of a level
 abbrev pub items_at : BundleParts → ℕ → List Item
 items_at b level = unwrap_or (slice_get b.levels level) []
 
+-- the label of an attribute
 abbrev pub label_at : ℕ → Item → List ℕ
 label_at attribute item = unwrap_or (slice_get item.labels attribute) []
 
@@ -63,9 +67,11 @@ label_at attribute item = unwrap_or (slice_get item.labels attribute) []
 abbrev pub level_name : Config → ℕ → List ℕ
 level_name c level = unwrap_or (option_map (λ (def : LevelDef). def.name) (slice_get c.levels level)) []
 
+-- the attributes of a level
 abbrev pub attributes_at : Config → ℕ → List AttributeDef
 attributes_at c level = unwrap_or (option_map (λ (def : LevelDef). def.attributes) (slice_get c.levels level)) []
 
+-- the name of the attribute at a place
 abbrev pub attribute_name : Config → Place → List ℕ
 attribute_name c place = unwrap_or (option_map (λ (def : AttributeDef). def.name) (slice_get (attributes_at c place.level) place.attribute)) []
 
@@ -77,6 +83,7 @@ pub record RowTimes : Type 0 where
   pub sample_start : Option ℕ
   pub sample_end : Option ℕ
 
+-- the times of a row of one item
 abbrev pub times_of : ℕ → Time → RowTimes
 times_of rate NoTime = record { start = None; end = None; sample_start = None; sample_end = None }
 times_of rate (Span start dur) = record {
@@ -111,6 +118,7 @@ row_of c place b (position, item) = record {
   end_pos = position;
 }
 
+-- an item has the wanted label
 abbrev pub is_asked : ℕ → List ℕ → ℕ × Item → Bool
 is_asked attribute label (position, item) = same_text (label_at attribute item) label
 
@@ -133,6 +141,7 @@ segment_list c asked bundles = flat_map (rows_in c asked) bundles
 abbrev pub asked_by : ℕ → ℕ → List ℕ → Asked
 asked_by level attribute label = record { place = record { level = level; attribute = attribute }; label = label }
 
+-- a query at the place of its name, or the name that nothing has
 abbrev pub asked_at : Ask → Option Place → Result Asked AskFault
 asked_at ask None = Err (UnknownName ask.name)
 asked_at ask (Some place) = Ok (record { place = place; label = ask.label })

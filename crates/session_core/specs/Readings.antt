@@ -49,11 +49,13 @@ outage_at refusals.HistoryFull = fine
 outage_at refusals.StoreFull = fine
 outage_at refusals.Disk = disk_fails
 
+-- what failed at a line, as its answer tells it
 abbrev pub outage_in : Answer → Outage
 outage_in (Done command) = fine
 outage_in (Segments rows) = fine
 outage_in (Refused refusal) = outage_at refusal
 
+-- and as its reply tells it
 abbrev pub outage_of : Reply → Outage
 outage_of reply = outage_in reply.answer
 

@@ -16,6 +16,7 @@ use Rattle.session_core.specs.Configs.{level_named, has_attribute, are_distinct}
 use Rattle.session_core.specs.Build.{same_kind, ids_of, annot_items, build_fault}
 use Rattle.session_core.specs.Valid.{are_in_order, is_short, are_different}
 
+-- the names of labels
 abbrev pub label_names : List AnnotLabel → List (List ℕ)
 label_names labels = map (λ l. l.name) labels
 
@@ -31,6 +32,7 @@ are_labels_of def labels = list_all (is_label_of def) labels && are_distinct (la
 abbrev pub is_item_of : LevelDef → AnnotItem → Bool
 is_item_of def item = fits_kind def.kind item.time && is_in_time item.time && are_labels_of def item.labels
 
+-- the times of items
 abbrev pub times_in : List AnnotItem → List Time
 times_in items = map (λ i. i.time) items
 
@@ -50,6 +52,7 @@ is_level_of level (Some def) =
 abbrev pub is_level_in : List LevelDef → AnnotLevel → Bool
 is_level_in defs level = is_level_of level (level_named level.name defs)
 
+-- the names of levels
 abbrev pub level_names : List AnnotLevel → List (List ℕ)
 level_names levels = map (λ l. l.name) levels
 

@@ -18,6 +18,7 @@ pub record IsFree (key : BundleKey) (bundles : List BundleParts) (place : ℕ) :
   pub within : place ≤ length bundles
   pub put : (new : BundleParts) → new.key ≡ key → put_in_order new bundles ≡ insert bundles place new
 
+-- a bundle, if there is one, has the key
 abbrev pub is_of_key : BundleKey → Option BundleParts → Bool
 is_of_key key None = false
 is_of_key key (Some b) = same_key b.key key

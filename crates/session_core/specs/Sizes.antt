@@ -14,6 +14,7 @@ use Rattle.session_core.specs.declared.edit.Edit.{Edit}
 use Rattle.session_core.specs.declared.edit.Edit.TheVariants as edits
 use Rattle.session_core.specs.declared.edit.Entry.{Entry}
 
+-- a text is its length and its bytes
 abbrev pub text_size : List ℕ → ℕ
 text_size text = 4 + length text
 
@@ -21,6 +22,7 @@ text_size text = 4 + length text
 abbrev pub attribute_size : AttributeDef → ℕ
 attribute_size def = text_size def.name + 1 + 4
 
+-- a level: its name, its kind, its attributes
 abbrev pub level_size : LevelDef → ℕ
 level_size def = text_size def.name + 1 + (4 + sum_by attribute_size def.attributes)
 
@@ -28,17 +30,21 @@ level_size def = text_size def.name + 1 + (4 + sum_by attribute_size def.attribu
 abbrev pub head_size : Config → ℕ
 head_size c = 1 + text_size c.name + text_size c.uuid + text_size c.extension + 4 + (4 + sum_by level_size c.levels) + 4 + 4
 
+-- a time: none, a start and a duration, or a point
 abbrev pub time_size : Time → ℕ
 time_size NoTime = 1
 time_size (Span start dur) = 17
 time_size (Point at) = 9
 
+-- a label: its attribute's name and its text
 abbrev pub label_size : AnnotLabel → ℕ
 label_size l = text_size l.name + text_size l.value
 
+-- an item: its id, its time, its labels
 abbrev pub item_size : AnnotItem → ℕ
 item_size i = 4 + time_size i.time + (4 + sum_by label_size i.labels)
 
+-- a level of an annotation: its name, its kind, its items
 abbrev pub annot_level_size : AnnotLevel → ℕ
 annot_level_size l = text_size l.name + 1 + (4 + sum_by item_size l.items)
 
@@ -46,6 +52,7 @@ annot_level_size l = text_size l.name + 1 + (4 + sum_by item_size l.items)
 abbrev pub annot_size : Annot → ℕ
 annot_size a = text_size a.annotates + 8 + (4 + sum_by annot_level_size a.levels) + 4
 
+-- an edit without its number: its key, and what it adds
 abbrev pub edit_size : Edit → ℕ
 edit_size (edits.AddBundle key annot) = text_size key.session + text_size key.bundle + annot_size annot
 

@@ -60,12 +60,15 @@ put_slot [] s v = []
 put_slot (x ∷ xs) zero v = v ∷ xs
 put_slot (x ∷ xs) (suc s) v = x ∷ put_slot xs s v
 
+-- a state with this look at a session's place
 abbrev pub with_look : State → ℕ → Option Opened → State
 with_look st s v = record { config = st.config; entries = st.entries; looks = put_slot st.looks s v; queries = st.queries }
 
+-- a state with this query under way at a session's place
 abbrev pub with_query : State → ℕ → Option Opened → State
 with_query st s v = record { config = st.config; entries = st.entries; looks = st.looks; queries = put_slot st.queries s v }
 
+-- a state with one entry more
 abbrev pub with_entry : State → Entry → State
 with_entry st e = record { config = st.config; entries = st.entries ++ e ∷ []; looks = st.looks; queries = st.queries }
 
@@ -79,23 +82,28 @@ present st = length st.entries
 abbrev pub is_full : List Entry → Bool
 is_full history = nat_le HISTORY_EDITS (length history)
 
+-- an edit behind the limit of the history: it is accepted, or the rule that it breaks is told
 abbrev pub edit_made : State → Line → Edit → Result (List BundleParts) Broken → Option Reply × State
 edit_made st l edit (Ok bundles) = (Some (reply_to l (Some (present st + 1)) (Done l.command)), with_entry st (entry_of l edit))
 edit_made st l edit (Err rule) = (Some (reply_to l (Some (present st)) (Refused (refusals.Rule rule))), st)
 
+-- an edit: a full history comes before the rules
 abbrev pub edit_step : State → Line → Edit → Bool → Result (List BundleParts) Broken → Option Reply × State
 edit_step st l edit true made = (Some (reply_to l (Some (present st)) (Refused refusals.HistoryFull)), st)
 edit_step st l edit false made = edit_made st l edit made
 
 -- A look.
 
+-- a query over the present state
 abbrev pub opened_at : State → Line → Ask → Opened
 opened_at st l ask = record { line = l.line; n = present st; ask = ask }
 
+-- a `look` opens, unless one is open
 abbrev pub look_step : State → Line → Ask → Option Opened → Option Reply × State
 look_step st l ask None = (Some (reply_to l (Some (present st)) (Done l.command)), with_look st l.session.0 (Some (opened_at st l ask)))
 look_step st l ask (Some held) = (Some (reply_to l None (Refused refusals.LookOpen)), st)
 
+-- a Look of a line
 abbrev pub look_event : State → Line → Request → Option Reply × State
 look_event st l (requests.Look ask) = look_step st l ask (slot st.looks l.session.0)
 look_event st l (requests.Query ask) = (None, with_query st l.session.0 (Some (opened_at st l ask)))
@@ -103,6 +111,7 @@ look_event st l (requests.After earlier) = (Some (reply_to l (Some (present st))
 look_event st l (requests.Edit edit) = (None, st)
 look_event st l requests.Finish = (None, st)
 
+-- an Edit of a line
 abbrev pub edit_event : State → Line → Request → Option Reply × State
 edit_event st l (requests.Edit edit) = edit_step st l edit (is_full st.entries) (edited st.config st.entries edit)
 edit_event st l (requests.Query ask) = (None, st)
@@ -112,13 +121,16 @@ edit_event st l (requests.After earlier) = (None, st)
 
 -- The answer of an open look or of a query under way.
 
+-- a reply to a line of a session
 abbrev pub reply_of : ℕ → SessionNo → Option ℕ → Answer → Reply
 reply_of line session n answer = record { line = line; session = session; n = n; answer = answer }
 
+-- a `finish` answers the open look and closes it
 abbrev pub finish_step : State → ℕ → SessionNo → Option Opened → Option Reply × State
 finish_step st line s None = (Some (reply_of line s None (Refused refusals.NoLook)), st)
 finish_step st line s (Some held) = (Some (reply_of line s (Some held.n) (answer_at st.config st.entries held.n held.ask)), with_look st s.0 None)
 
+-- a query under way is answered and closed
 abbrev pub query_step : State → ℕ → SessionNo → Option Opened → Option Reply × State
 query_step st line s None = (None, st)
 query_step st line s (Some held) = (Some (reply_of line s (Some held.n) (answer_at st.config st.entries held.n held.ask)), with_query st s.0 None)
@@ -135,6 +147,7 @@ asker_of commands.Finish = by_look
 asker_of commands.Query = by_query
 asker_of command = by_none
 
+-- a Finish, by what it answers
 abbrev pub finish_by : State → ℕ → SessionNo → Asker → Option Reply × State
 finish_by st line s by_look = finish_step st line s (slot st.looks s.0)
 finish_by st line s by_query = query_step st line s (slot st.queries s.0)
@@ -154,10 +167,12 @@ core_step st (events.Finish line s command) = finish_event st line s command
 -- Where memory runs out at an event its line is answered so, and nothing changes, but that a query
 -- under way is closed.
 
+-- a query under way at whose answer memory runs out is closed
 abbrev pub query_fails : State → ℕ → SessionNo → Option Opened → Option Reply × State
 query_fails st line s None = (None, st)
 query_fails st line s (Some held) = (Some (reply_of line s None memory), with_query st s.0 None)
 
+-- a Finish at which memory runs out, by what it answers
 abbrev pub finish_fails_by : State → ℕ → SessionNo → Asker → Option Reply × State
 finish_fails_by st line s by_look = (Some (reply_of line s None memory), st)
 finish_fails_by st line s by_query = query_fails st line s (slot st.queries s.0)
@@ -167,6 +182,7 @@ finish_fails_by st line s by_none = (None, st)
 abbrev pub finish_fails : State → ℕ → SessionNo → Command → Option Reply × State
 finish_fails st line s command = finish_fails_by st line s (asker_of command)
 
+-- an event at which memory runs out
 abbrev pub core_fails : State → Event → Option Reply × State
 core_fails st (events.Edit l) = (Some (reply_to l None memory), st)
 core_fails st (events.Look l) = (Some (reply_to l None memory), st)
@@ -175,6 +191,7 @@ core_fails st (events.Finish line s command) = finish_fails st line s command
 
 -- Runs.
 
+-- a reply, if there is one, as a list
 abbrev pub option_list : Option Reply → List Reply
 option_list None = []
 option_list (Some reply) = reply ∷ []

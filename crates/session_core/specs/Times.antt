@@ -36,6 +36,7 @@ fits_kind kinds.Event (Span start dur) = false
 abbrev pub is_rate : ℕ → Bool
 is_rate rate = nat_le 1 rate && nat_le rate TOP_RATE
 
+-- an item ends in time
 abbrev pub is_item_in_time : Item → Bool
 is_item_in_time item = is_in_time item.time
 

@@ -25,11 +25,13 @@ are_in_order (Span start dur) (Point at) = true
 are_in_order (Point at) NoTime = true
 are_in_order (Point at) (Span start dur) = true
 
+-- each item stands behind the one before it
 abbrev pub are_rising : List Item → Bool
 are_rising [] = true
 are_rising (a ∷ []) = true
 are_rising (a ∷ b ∷ items) = are_in_order a.time b.time && are_rising (b ∷ items)
 
+-- a label has not too many bytes
 abbrev pub is_short : List ℕ → Bool
 is_short label = nat_le (length label) LABEL_BYTES
 
@@ -40,6 +42,7 @@ is_valid_item def item =
     fits_kind def.kind item.time && is_in_time item.time
     && (length item.labels == length def.attributes) && list_all is_short item.labels
 
+-- the items of a level keep the level rule
 abbrev pub is_valid_list : LevelDef → List Item → Bool
 is_valid_list def items = list_all (is_valid_item def) items && are_rising items
 
@@ -50,9 +53,11 @@ are_valid_lists (def ∷ defs) (items ∷ lists) = is_valid_list def items && ar
 are_valid_lists [] (items ∷ lists) = false
 are_valid_lists (def ∷ defs) [] = false
 
+-- the ids of a level
 abbrev pub ids_on : List Item → List ℕ
 ids_on items = map (λ i. i.id.0) items
 
+-- the ids of all levels
 abbrev pub ids_in : List (List Item) → List ℕ
 ids_in [] = []
 ids_in (items ∷ lists) = ids_on items ++ ids_in lists

@@ -53,6 +53,7 @@ abbrev pub edit_kept_out : State → Event → Option ℕ → Refusal → Option
 edit_kept_out st (events.Edit l) n refusal = (Some (reply_to l n (Refused refusal)), st)
 edit_kept_out st e n refusal = (None, st)
 
+-- what an event makes of a state, or what keeps it from its step
 abbrev pub outcome_of : State → Event → Trouble → Option Reply × State
 outcome_of st e untroubled = core_step st e
 outcome_of st e no_memory = core_fails st e
@@ -130,6 +131,7 @@ turns_of [] reply = []
 turns_of (l ∷ ls) None = []
 turns_of (l ∷ ls) (Some reply) = record { line = l; reply = reply } ∷ []
 
+-- one event more
 abbrev pub happens : World → Occurrence → World
 happens w m = record {
   state = (outcome w.state m).1;
@@ -137,16 +139,19 @@ happens w m = record {
   turns = w.turns ++ turns_of (answered w.state m.event) (outcome w.state m).0;
 }
 
+-- one event after another
 abbrev pub run : World → List Occurrence → World
 run w [] = w
 run w (m ∷ ms) = run (happens w m) ms
 
+-- before the first event
 abbrev pub opening_world : Config → List Entry → World
 opening_world c history = record { state = start c history; lines = []; turns = [] }
 
 -- Which events fit. The lines of a session rise, no number stands in two sessions, a query under
 -- way is answered before its session's next line, and an `after` stands behind the reply of its line.
 
+-- P holds of each element
 abbrev pub Each : {A : Type 0} → (A → Type 0) → List A → Type 0
 Each P [] = Unit {0}
 Each P (x ∷ xs) = P x × Each P xs
@@ -162,9 +167,11 @@ pub record IsNext (w : World) (line session : ℕ) : Type 0 where
   pub idle : slot w.state.queries session ≡ None
   pub behind : Each (IsBehind line session) w.lines
 
+-- the line of a number is answered
 abbrev pub is_answered : ℕ → List Turn → Bool
 is_answered line turns = list_any (λ t. nat_eq t.line.line line) turns
 
+-- an `after` names an answered line
 abbrev pub RequestFits : World → Request → Type 0
 RequestFits w (requests.After earlier) = is_answered earlier w.turns ≡ true
 RequestFits w (requests.Edit edit) = Unit {0}
@@ -172,6 +179,7 @@ RequestFits w (requests.Query ask) = Unit {0}
 RequestFits w (requests.Look ask) = Unit {0}
 RequestFits w requests.Finish = Unit {0}
 
+-- a request is an edit
 abbrev pub is_edit : Request → Bool
 is_edit (requests.Edit edit) = true
 is_edit (requests.Query ask) = false
@@ -187,11 +195,13 @@ is_looking (requests.Look ask) = true
 is_looking requests.Finish = false
 is_looking (requests.After line) = true
 
+-- an Edit may come next
 pub record EditFits (w : World) (l : Line) : Type 0 where
   pub next : IsNext w l.line l.session.0
   pub kind : is_edit l.request ≡ true
   pub command : is_command_of l.command l.request ≡ true
 
+-- a Look may come next
 pub record LookFits (w : World) (l : Line) : Type 0 where
   pub next : IsNext w l.line l.session.0
   pub kind : is_looking l.request ≡ true
@@ -203,6 +213,7 @@ abbrev pub IsUnderWay : ℕ → Option Opened → Type 0
 IsUnderWay line None = ⊥
 IsUnderWay line (Some held) = held.line ≡ line
 
+-- the query under way may be answered
 pub record QueryFits (w : World) (line session : ℕ) : Type 0 where
   pub place : session < session_places
   pub held : IsUnderWay line (slot w.state.queries session)
@@ -233,6 +244,7 @@ pub record IsOverStore (store : Bool) (st : State) (l : Line) (edit : Edit) : Ty
   pub made : edited st.config st.entries edit ≡ Ok bundles
   pub passes : passes_store st.config st.entries (entry_of l edit) ≡ true
 
+-- the store refuses the request
 abbrev pub StoreRefusesRequest : Bool → State → Line → Request → Type 0
 StoreRefusesRequest store st l (requests.Edit edit) = IsOverStore store st l edit
 StoreRefusesRequest store st l request = ⊥
@@ -273,6 +285,7 @@ abbrev pub is_disk_failed : Trouble → Bool
 is_disk_failed disk_failed = true
 is_disk_failed trouble = false
 
+-- how many of them the disk kept from their step
 abbrev pub disk_failures : List Occurrence → ℕ
 disk_failures ms = count_by (λ (m : Occurrence). is_disk_failed m.trouble) ms
 
@@ -281,8 +294,10 @@ abbrev pub is_waiting : Line → Option Opened → Bool
 is_waiting l None = false
 is_waiting l (Some held) = nat_eq held.line l.line
 
+-- a line is answered, or is no query under way
 abbrev pub is_done : State → Line → Bool
 is_done st l = not (is_waiting l (slot st.queries l.session.0))
 
+-- the lines that came, but for queries under way
 abbrev pub lines_done : World → List Line
 lines_done w = filter (is_done w.state) w.lines
