@@ -38,7 +38,8 @@ impl<T: Drop> Model for Pass<T> {
 
     ghost view = { λ p. record { gate = p.seen.book; list = p.seen.log } };
 
-    ghost invariant = { λ p. IsSomeAnd p.seat (λ r. Knows p.seen.book (seat_view r.place)) × (p.seen.names ≡ []) × Numbered p.number p.seen.log };
+    ghost invariant = { λ p. IsSomeAnd p.seat (λ r. Knows p.seen.book (seat_view r.place)) × (p.seen.names ≡ [])
+        × Numbered p.number p.seen.log };
 }
 
 /// What a publisher told: the published list of that moment, which a pass may learn in any thread.

@@ -36,10 +36,16 @@ impl<T: Drop> Model for Publisher<T> {
 
     ghost Value = { Board T };
 
-    ghost view = { λ p. record { gate = p.seen.book; list = p.seen.log; number = p.number; staged = option_map entry_of p.staged } };
+    ghost view = { λ p. record {
+      gate = p.seen.book;
+      list = p.seen.log;
+      number = p.number;
+      staged = option_map entry_of p.staged;
+    } };
 
-    ghost invariant = { λ p. (p.side ≡ Some (front p.seen.book p.seen.log)) × (p.head ≡ word_of p.seen.book) × (p.seen.names ≡ [])
-        × (length p.seen.log ≡ p.published + 1) × Numbered p.number p.seen.log × IfSome p.staged (λ s. s.number ≡ p.number + 1) };
+    ghost invariant = { λ p. (p.side ≡ Some (front p.seen.book p.seen.log)) × (p.head ≡ word_of p.seen.book)
+        × (p.seen.names ≡ []) × (length p.seen.log ≡ p.published + 1)
+        × Numbered p.number p.seen.log × IfSome p.staged (λ s. s.number ≡ p.number + 1) };
 }
 
 impl<T: Drop> Publisher<T> {
@@ -80,7 +86,12 @@ impl<T: Drop> Publisher<T> {
     /// for passes that still read an older one, and tries again while memory is short.
     pub fn publish<R: Wait>(&mut self, rt: &R)
         requires { IsSome self.old.staged }
-        ensures { IfSome self.old.staged (λ e. self.new ≡ record { gate = self.old.gate; list = self.old.list ++ e ∷ []; number = e.number; staged = None }) }
+        ensures { IfSome self.old.staged (λ e. self.new ≡ record {
+          gate = self.old.gate;
+          list = self.old.list ++ e ∷ [];
+          number = e.number;
+          staged = None;
+        }) }
     {
         let Some(next) = self.staged.take() else {
             unreachable!()
