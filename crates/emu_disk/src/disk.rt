@@ -5,8 +5,11 @@ ghost use Rattle.fault_counts.specs.Count.{HasCause};
 ghost use Rattle.emu_disk.specs.Disk.{put, told, IsReadOf, HasPlace, TornBy, Shorter, Scrambled};
 ghost use Rattle.emu_disk.specs.Disk.{Becomes, Follows, Within, Only, GoesOn};
 
+use thiserror::Error;
+
 /// A call of the disk failed. What it left is said at each call of [`Disk`].
-#[derive(Clone, Copy, Debug, PartialEq, Eq)]
+#[derive(Clone, Copy, Debug, PartialEq, Eq, Error)]
+#[error("the disk failed")]
 pub struct Failed;
 
 /// A disk of bytes, at places that count from 0. What was written is safe from a crash once a later
