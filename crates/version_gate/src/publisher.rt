@@ -43,7 +43,8 @@ impl<T: Drop> Model for Publisher<T> {
       staged = option_map entry_of p.staged;
     } };
 
-    ghost invariant = { λ p. (p.side ≡ Some (front p.seen.book p.seen.log)) × (p.head ≡ word_of p.seen.book)
+    ghost invariant = { λ p. (p.side ≡ Some (front p.seen.book p.seen.log))
+        × (p.head ≡ word_of p.seen.book)
         × (p.seen.names ≡ []) × (length p.seen.log ≡ p.published + 1)
         × Numbered p.number p.seen.log × IfSome p.staged (λ s. s.number ≡ p.number + 1) };
 }
@@ -56,7 +57,12 @@ impl<T: Drop> Publisher<T> {
         requires shown { side ≡ front seen.book seen.log }
         requires alone { length seen.log ≡ 1 }
         requires numbered { Numbered number seen.log }
-        ensures { result ≡ record { gate = seen.book; list = seen.log; number = number; staged = None } }
+        ensures { result ≡ record {
+          gate = seen.book;
+          list = seen.log;
+          number = number;
+          staged = None;
+        } }
     {
         Publisher {
             side: Some(side),
@@ -73,7 +79,9 @@ impl<T: Drop> Publisher<T> {
     pub fn stage(&mut self, number: u64, next: Arc<T>) -> Result<(), Memory>
         requires next { number ≡ self.old.number + 1 }
         ensures ok { result ≡ Ok tt }
-        ensures staged { self.new ≡ record self.old { staged = Some (entry number (arc_value next)) } }
+        ensures staged { self.new ≡ record self.old {
+          staged = Some (entry number (arc_value next));
+        } }
     {
         self.staged = Some(Snapshot {
             number,

@@ -38,7 +38,8 @@ impl<S: Absorb<S> + Drop, P: Protocol<S, Known>> Side<S, P> {
     /// Shows the next value. It tries again while memory is short, and waits for those that read
     /// the other copy.
     pub fn show<M: Outcome<S, Known>, R: Wait>(self, rt: &R, next: S) -> Side<S, P>
-        requires { (seat : ℕ) (v : Known) (later : S) → S.state later ≡ S.applied (S.state self) next
+        requires { (seat : ℕ) (v : Known) (later : S) →
+            S.state later ≡ S.applied (S.state self) next
             → TurnsAt P.holds seat v self later M.then }
         ensures { S.state result ≡ S.applied (S.state self) next }
     {
