@@ -1,7 +1,7 @@
 //! The bodies of a store.
 ghost use Rattle.std.specs.Prelude.{◌≡◌, ◌≤◌, ◌++◌, [], ◌∷◌, List, ℕ, length, OnOk, OnErr, IfOk, MatchOption, Some, slice_get};
 
-use crate::fault::Memory;
+use emu_names::Memory;
 use std::alloc::Global;
 use std::marker::Model;
 

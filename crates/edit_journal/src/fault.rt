@@ -3,24 +3,9 @@ ghost use Rattle.std.specs.Prelude.{◌≡◌};
 ghost use Rattle.edit_journal.specs.declared.fault.JournalFault.TheVariants as Fault;
 
 use emu_disk::Disk;
-use std::alloc::{AllocError, AllocFailed};
+use emu_names::Memory;
+use std::alloc::AllocError;
 use thiserror::Error;
-
-/// Want of memory.
-#[derive(Clone, Copy, Debug, PartialEq, Eq)]
-pub struct Memory;
-
-impl From<AllocError> for Memory {
-    fn from(_: AllocError) -> Self {
-        Memory
-    }
-}
-
-impl<T: Drop> From<AllocFailed<T>> for Memory {
-    fn from(_: AllocFailed<T>) -> Self {
-        Memory
-    }
-}
 
 /// A journal's refusal.
 #[derive(Clone, Copy, Debug, PartialEq, Eq, Error)]
@@ -37,6 +22,15 @@ pub enum JournalFault {
     /// Want of memory.
     #[error("out of memory")]
     Memory,
+}
+
+impl JournalFault {
+    /// The same again.
+    pub fn copy(&self) -> JournalFault
+        ensures { result ≡ self.now }
+    {
+        *self
+    }
 }
 
 impl From<Memory> for JournalFault {

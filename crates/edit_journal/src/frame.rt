@@ -3,7 +3,7 @@ ghost use Rattle.std.specs.Prelude.{◌≡◌, ◌^◌, ◌≤◌, length, IfOk}
 ghost use Rattle.edit_journal.specs.Staged.{staged_of};
 ghost use Rattle.edit_journal.specs.Store.{IsSized};
 
-use crate::fault::Memory;
+use emu_names::Memory;
 use std::alloc::Global;
 use std::marker::Model;
 

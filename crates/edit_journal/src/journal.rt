@@ -228,7 +228,8 @@ impl<D: Disk> Journal<D> {
 
         ensures full { ForHeld D.may_leave self.old (λ texts lost.
             IsErrOf result JournalFault.StoreFull ↔ PassesLimit texts frame.now) }
-        ensures untouched { IsErrOf result JournalFault.StoreFull → disk_of self.new ≡ disk_of self.old }
+        ensures untouched { IsErrOf result JournalFault.StoreFull →
+            disk_of self.new ≡ disk_of self.old }
         ensures full_same { IsErrOf result JournalFault.StoreFull →
             ForHeld D.may_leave self.old (λ texts lost. Holds D.may_leave texts lost self.new) }
         ensures disk { IsErrOf result JournalFault.Disk →

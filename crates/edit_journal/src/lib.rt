@@ -12,7 +12,8 @@ mod next;
 mod recovery;
 
 pub use body::{Bodies, Body, BodyBytes};
-pub use fault::{JournalFault, Memory, NoJournal};
+pub use emu_names::Memory;
+pub use fault::{JournalFault, NoJournal};
 pub use frame::Frame;
 pub use journal::Journal;
 pub use recovery::Recovered;

@@ -59,7 +59,8 @@ impl<D: Disk> Journal<D> {
         ensures same_err { IfErr result (λ e. D.reads e.disk ≡ D.reads disk) }
         ensures any_moment { IfOk result (λ r.
             LeavesOnly D.moment D.left_since disk (disk_of r.journal) (D.may_leave disk)) }
-        ensures any_moment_err { IfErr result (λ e. LeavesOnly D.moment D.left_since disk e.disk (D.may_leave disk)) }
+        ensures any_moment_err { IfErr result (λ e.
+            LeavesOnly D.moment D.left_since disk e.disk (D.may_leave disk)) }
         ensures later { IfOk result (λ r. D.faults disk ≤ D.faults (disk_of r.journal)) }
         ensures later_err { IfErr result (λ e. D.faults disk ≤ D.faults e.disk) }
     {

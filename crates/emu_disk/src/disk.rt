@@ -5,8 +5,11 @@ ghost use Rattle.fault_counts.specs.Count.{HasCause};
 ghost use Rattle.emu_disk.specs.Disk.{put, told, IsReadOf, HasPlace, TornBy, Shorter, Scrambled};
 ghost use Rattle.emu_disk.specs.Disk.{Becomes, Follows, Within, Only, GoesOn};
 
+use thiserror::Error;
+
 /// A call of the disk failed. What it left is said at each call of [`Disk`].
-#[derive(Clone, Copy, Debug, PartialEq, Eq)]
+#[derive(Clone, Copy, Debug, PartialEq, Eq, Error)]
+#[error("the disk failed")]
 pub struct Failed;
 
 /// A disk of bytes, at places that count from 0. What was written is safe from a crash once a later
@@ -46,7 +49,8 @@ pub trait Disk {
     fn write_at(&mut self, at: u64, bytes: &[u8]) -> Result<(), Failed>
         requires { HasPlace (reads self.old) at }
         ensures written { OnOk result (reads self.new ≡ told (put at bytes.now) (reads self.old)) }
-        ensures torn { OnErr result (Becomes (TornBy at bytes.now) (reads self.old) (reads self.new)) }
+        ensures torn { OnErr result (
+            Becomes (TornBy at bytes.now) (reads self.old) (reads self.new)) }
         ensures crash { Follows (TornBy at bytes.now) (may_leave self.old) (may_leave self.new) }
         ensures time { GoesOn moment left_since may_leave self.old self.new }
         ensures cause { HasCause (faults self.old) (faults self.new) result };
@@ -56,8 +60,10 @@ pub trait Disk {
     fn cut(&mut self, len: u64) -> Result<(), Failed>
         ensures cut { OnOk result (reads self.new ≡ told (take len) (reads self.old)) }
         ensures left { OnErr result (Becomes (Scrambled len) (reads self.old) (reads self.new)) }
-        ensures crash { OnOk result (Follows (Shorter len) (may_leave self.old) (may_leave self.new)) }
-        ensures scrambled { OnErr result (Follows (Scrambled len) (may_leave self.old) (may_leave self.new)) }
+        ensures crash { OnOk result (
+            Follows (Shorter len) (may_leave self.old) (may_leave self.new)) }
+        ensures scrambled { OnErr result (
+            Follows (Scrambled len) (may_leave self.old) (may_leave self.new)) }
         ensures time { GoesOn moment left_since may_leave self.old self.new }
         ensures cause { HasCause (faults self.old) (faults self.new) result };
 
@@ -79,5 +85,6 @@ pub trait Disk {
         → left_since disk t c };
 
     /// Since this moment there is no other.
-    ghost only_now: { (disk : Self) (c : List ℕ) → left_since disk (moment disk) c → may_leave disk c };
+    ghost only_now: { (disk : Self) (c : List ℕ) →
+        left_since disk (moment disk) c → may_leave disk c };
 }

@@ -59,7 +59,8 @@ impl Log {
     pub(crate) fn read(&mut self, at: u64, buf: &mut [u8], done: bool) -> Result<usize, Failed>
         ensures due { OnOk result (done ≡ true) }
         ensures bytes { IfOk result (λ n. IsRead self.old.bytes.items at n buf.new) }
-        ensures moves { Keeps (λ done. Call.Read at (length buf.old) done) result self.old self.new }
+        ensures moves { Keeps (λ done. Call.Read at (length buf.old) done)
+            result self.old self.new }
     {
         self.note(Call::Read {
             at,

@@ -134,12 +134,14 @@ impl Disk for MemoryDisk {
     ghost as_read = { λ m xs is.
         as_read_of m.log.first.items m.log.calls.items m.log.bytes.items xs m.log.replays is };
 
-    ghost counts_now = { λ m t c le image. image_now m.log.first.items m.log.calls.items t c le image };
+    ghost counts_now = { λ m t c le image.
+        image_now m.log.first.items m.log.calls.items t c le image };
 
     ghost only_now = { λ m c was. image_only_now m.log.first.items m.log.calls.items c was };
 
     fn read(&mut self, at: u64, buf: &mut [u8]) -> Result<usize, Failed>
-        ensures made { IsMade (λ done. Call.Read at (length buf.old) done) result self.old self.new }
+        ensures made { IsMade (λ done. Call.Read at (length buf.old) done)
+            result self.old self.new }
         ensures bound { IfOk result (λ n. n ≤ length buf.new) }
         ensures bytes { IfOk result (λ n. IsReadOf (reads_of self.old) at n buf.new) }
         ensures same { reads_of self.new ≡ reads_of self.old }
@@ -158,8 +160,10 @@ impl Disk for MemoryDisk {
     fn write_at(&mut self, at: u64, bytes: &[u8]) -> Result<(), Failed>
         requires { HasPlace (reads_of self.old) at }
         ensures made { IsMade (λ done. Call.Write at bytes.now done) result self.old self.new }
-        ensures written { OnOk result (reads_of self.new ≡ told (put at bytes.now) (reads_of self.old)) }
-        ensures torn { OnErr result (Becomes (TornBy at bytes.now) (reads_of self.old) (reads_of self.new)) }
+        ensures written { OnOk result (
+            reads_of self.new ≡ told (put at bytes.now) (reads_of self.old)) }
+        ensures torn { OnErr result (
+            Becomes (TornBy at bytes.now) (reads_of self.old) (reads_of self.new)) }
         ensures crash { Follows (TornBy at bytes.now) (images_of self.old) (images_of self.new) }
         ensures time { GoesOn moment_of past_of images_of self.old self.new }
         ensures cause { HasCause (faults_of self.old) (faults_of self.new) result }
@@ -174,9 +178,12 @@ impl Disk for MemoryDisk {
     fn cut(&mut self, len: u64) -> Result<(), Failed>
         ensures made { IsMade (λ done. Call.Cut len done) result self.old self.new }
         ensures cut { OnOk result (reads_of self.new ≡ told (take len) (reads_of self.old)) }
-        ensures left { OnErr result (Becomes (Scrambled len) (reads_of self.old) (reads_of self.new)) }
-        ensures crash { OnOk result (Follows (Shorter len) (images_of self.old) (images_of self.new)) }
-        ensures scrambled { OnErr result (Follows (Scrambled len) (images_of self.old) (images_of self.new)) }
+        ensures left { OnErr result (
+            Becomes (Scrambled len) (reads_of self.old) (reads_of self.new)) }
+        ensures crash { OnOk result (
+            Follows (Shorter len) (images_of self.old) (images_of self.new)) }
+        ensures scrambled { OnErr result (
+            Follows (Scrambled len) (images_of self.old) (images_of self.new)) }
         ensures time { GoesOn moment_of past_of images_of self.old self.new }
         ensures cause { HasCause (faults_of self.old) (faults_of self.new) result }
     {

@@ -63,8 +63,10 @@ impl Replay {
         done: bool,
         fates: &[Fate],
     ) -> Result<(), AllocError>
-        ensures bytes { OnOk result (self.new.bytes.items ≡ put at (landed done bytes.now) self.old.bytes.items) }
-        ensures image { OnOk result (TornBy at bytes.now self.old.image.items self.new.image.items) }
+        ensures bytes { OnOk result (
+            self.new.bytes.items ≡ put at (landed done bytes.now) self.old.bytes.items) }
+        ensures image { OnOk result (
+            TornBy at bytes.now self.old.image.items self.new.image.items) }
     {
         write_over(&mut self.bytes, at, part(bytes, done))?;
         let fate = fates.get(self.changes).copied().unwrap_or(Fate::Whole);

@@ -97,9 +97,11 @@ impl Disk for SureDisk {
 
     ghost as_read = { λ m xs is. some_same (bytes_of m) xs is };
 
-    ghost counts_now = { λ m t c le is. held_now m.marks.items m.written.items m.bytes.items m.replays t c le is };
+    ghost counts_now = { λ m t c le is.
+        held_now m.marks.items m.written.items m.bytes.items m.replays t c le is };
 
-    ghost only_now = { λ m c held. held_only_now m.marks.items m.written.items m.bytes.items m.replays c held };
+    ghost only_now = { λ m c held.
+        held_only_now m.marks.items m.written.items m.bytes.items m.replays c held };
 
     fn read(&mut self, at: u64, buf: &mut [u8]) -> Result<usize, Failed>
         ensures sure { IsOk result }
@@ -122,8 +124,10 @@ impl Disk for SureDisk {
         ensures room { OnOk result (room_of self.new + length bytes.now ≡ room_of self.old) }
         ensures kept { OnErr result (room_of self.new ≡ room_of self.old) }
         ensures same { OnErr result (bytes_of self.new ≡ bytes_of self.old) }
-        ensures written { OnOk result (reads_of self.new ≡ told (put at bytes.now) (reads_of self.old)) }
-        ensures torn { OnErr result (Becomes (TornBy at bytes.now) (reads_of self.old) (reads_of self.new)) }
+        ensures written { OnOk result (
+            reads_of self.new ≡ told (put at bytes.now) (reads_of self.old)) }
+        ensures torn { OnErr result (
+            Becomes (TornBy at bytes.now) (reads_of self.old) (reads_of self.new)) }
         ensures crash { Follows (TornBy at bytes.now) (images_of self.old) (images_of self.new) }
         ensures time { GoesOn moment_of past_of images_of self.old self.new }
         ensures cause { HasCause (faults_of self.old) (faults_of self.new) result }
@@ -148,9 +152,12 @@ impl Disk for SureDisk {
         ensures sure { IsOk result }
         ensures room { room_of self.new ≡ room_of self.old }
         ensures cut { OnOk result (reads_of self.new ≡ told (take len) (reads_of self.old)) }
-        ensures left { OnErr result (Becomes (Scrambled len) (reads_of self.old) (reads_of self.new)) }
-        ensures crash { OnOk result (Follows (Shorter len) (images_of self.old) (images_of self.new)) }
-        ensures scrambled { OnErr result (Follows (Scrambled len) (images_of self.old) (images_of self.new)) }
+        ensures left { OnErr result (
+            Becomes (Scrambled len) (reads_of self.old) (reads_of self.new)) }
+        ensures crash { OnOk result (
+            Follows (Shorter len) (images_of self.old) (images_of self.new)) }
+        ensures scrambled { OnErr result (
+            Follows (Scrambled len) (images_of self.old) (images_of self.new)) }
         ensures time { GoesOn moment_of past_of images_of self.old self.new }
         ensures cause { HasCause (faults_of self.old) (faults_of self.new) result }
     {

@@ -164,7 +164,8 @@ impl Sink for ListSink {
     fn write(&mut self, buf: &[u8]) -> Result<usize, Failed>
         ensures bound { WritesAtMost result buf.now }
         ensures some { IfOk result (λ n. 0 < length buf.now → 0 < n) }
-        ensures bytes { WriteAppends (Some self.old.written) (Some self.new.written) result buf.now }
+        ensures bytes { WriteAppends (Some self.old.written) (Some self.new.written)
+            result buf.now }
         ensures cause { HasCause self.old.faults self.new.faults result }
 
         // It fails at the listed calls, and else, unless memory runs out, takes all.

@@ -127,7 +127,8 @@ impl Sink for SureSink {
     fn write(&mut self, buf: &[u8]) -> Result<usize, Failed>
         ensures bound { WritesAtMost result buf.now }
         ensures some { IfOk result (λ n. 0 < length buf.now → 0 < n) }
-        ensures bytes { WriteAppends (Some self.old.written) (Some self.new.written) result buf.now }
+        ensures bytes { WriteAppends (Some self.old.written) (Some self.new.written)
+            result buf.now }
         ensures cause { HasCause self.old.faults self.new.faults result }
 
         // It fails exactly where the room is passed, and else takes all.

@@ -26,11 +26,14 @@ pub struct Front {
 pub fn read_front<S: Source>(alloc: Global, source: &mut S, most: usize) -> Result<Front, ReadFault>
     ensures taken { IfOk result (λ front.
         TakesFront (S.left source.old) (S.left source.new) front.bytes.items front.past) }
-    ensures front { IfOk result (λ front. IsFrontOf (S.left source.old) most front.bytes.items front.past) }
+    ensures front { IfOk result (λ front.
+        IsFrontOf (S.left source.old) most front.bytes.items front.past) }
     ensures fits { IfOk result (λ front. length front.bytes.items ≤ most) }
     ensures full { IfOk result (λ front. IsTrue front.past → length front.bytes.items ≡ most) }
-    ensures lost { OnErr result ((bytes : List ℕ) × Consumes (S.left source.old) (S.left source.new) bytes) }
-    ensures failed { IsErrOf result ReadFault.Failed → Rose (S.faults source.old) (S.faults source.new) }
+    ensures lost { OnErr result (
+        (bytes : List ℕ) × Consumes (S.left source.old) (S.left source.new) bytes) }
+    ensures failed { IsErrOf result ReadFault.Failed →
+        Rose (S.faults source.old) (S.faults source.new) }
     ensures later { S.faults source.old ≤ S.faults source.new }
 {
     let mut bytes = Vec::new(alloc);

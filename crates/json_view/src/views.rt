@@ -83,7 +83,8 @@ impl<'a> View<'a> {
     /// this view's path and the form `List`.
     #[tactic(auto, unfolding(crate::specs::Parts::elements_at))]
     pub fn list_len(&self) -> Result<usize, ViewFault>
-        ensures list { Gives (λ _. list_in (seen_at self.now).value) result (elements_at (seen_at self.now)) }
+        ensures list { Gives (λ _. list_in (seen_at self.now).value)
+            result (elements_at (seen_at self.now)) }
         ensures count { IfOk result (λ n. n ≡ length (list_in (seen_at self.now).value)) }
     {
         if !self.value.is_array() {
@@ -96,7 +97,8 @@ impl<'a> View<'a> {
     #[tactic(auto, using(crate::proofs::Elements::element_listed))]
     pub fn at(&self, place: usize) -> Result<View<'a>, ViewFault>
         requires { place < length (list_in (seen_at self.now).value) }
-        ensures element { IfOk result (λ v. element_of place (seen_at self.now) ≡ Some (seen_at v)) }
+        ensures element { IfOk result (λ v.
+            element_of place (seen_at self.now) ≡ Some (seen_at v)) }
         ensures memory { IfErr result (λ e. e ≡ ViewFault.Memory) }
     {
         let path = format!(in self.alloc; "{}[{}]", self.path, place)?;

@@ -12,7 +12,12 @@ stranger = record { told = false; number = 0; log_name = 0; cells_name = 0 }
 
 -- told this gate
 abbrev pub told_of : Book → Known
-told_of gate = record { told = true; number = gate.number; log_name = gate.log_name; cells_name = gate.cells_name }
+told_of gate = record {
+  told = true;
+  number = gate.number;
+  log_name = gate.log_name;
+  cells_name = gate.cells_name;
+}
 
 -- the gate that it was told
 abbrev pub named : Known → Book

@@ -39,7 +39,8 @@ pub fn new_gate<T: Drop, R: Wait>(
     ensures list { IfOk result (λ m. m.publisher.list ≡ entry number (arc_value opening) ∷ []) }
     ensures number { IfOk result (λ m. m.publisher.number ≡ number) }
     ensures staged { IfOk result (λ m. m.publisher.staged ≡ None) }
-    ensures passes { IfOk result (λ m. All (λ p. p ≡ front m.publisher.gate m.publisher.list) m.passes) }
+    ensures passes { IfOk result (λ m.
+        All (λ p. p ≡ front m.publisher.gate m.publisher.list) m.passes) }
     ensures count { IfOk result (λ m. (0 < length m.passes) × (length m.passes ≤ readers)) }
 {
     let first = Snapshot {
@@ -115,7 +116,8 @@ fn take_seats<T: Drop>(
     ensures passes { All (λ p. p ≡ front seen.now.book seen.now.log) result }
     ensures count { length result ≤ readers }
     ensures shown { writer.new.desk.shown.value ≡ writer.old.desk.shown.value }
-    ensures pending { drop writer.new.behind writer.new.log.items ≡ drop writer.old.behind writer.old.log.items }
+    ensures pending { drop writer.new.behind writer.new.log.items
+        ≡ drop writer.old.behind writer.old.log.items }
 {
     let mut passes = Passes::new(alloc);
     for _ in 0..readers {

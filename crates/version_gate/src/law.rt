@@ -14,7 +14,8 @@ pub fn catch_up<T: Drop>(publisher: &mut Publisher<T>, pass: &mut Pass<T>) -> bo
     ensures gate { pass.new.gate ≡ pass.old.gate }
     ensures own { IsPrefix pass.old.list pass.new.list }
     ensures whole { IsPrefix publisher.old.list pass.new.list }
-    ensures caught { IsTrue result → (pass.new.list ≡ publisher.old.list) × IsPrefix pass.old.list publisher.old.list }
+    ensures caught { IsTrue result →
+        (pass.new.list ≡ publisher.old.list) × IsPrefix pass.old.list publisher.old.list }
 {
     pass.learn(publisher.tell());
     pass.seen() == publisher.number()

@@ -38,7 +38,9 @@ impl<T: Drop> Model for Pass<T> {
 
     ghost view = { λ p. record { gate = p.seen.book; list = p.seen.log } };
 
-    ghost invariant = { λ p. IsSomeAnd p.seat (λ r. Knows p.seen.book (seat_view r.place)) × (p.seen.names ≡ []) × Numbered p.number p.seen.log };
+    ghost invariant = { λ p. IsSomeAnd p.seat (λ r. Knows p.seen.book (seat_view r.place))
+        × (p.seen.names ≡ [])
+        × Numbered p.number p.seen.log };
 }
 
 /// What a publisher told: the published list of that moment, which a pass may learn in any thread.
@@ -91,7 +93,8 @@ impl<T: Drop> Pass<T> {
     pub fn look(&mut self) -> Result<Snapshot<T>, LookFault>
         ensures gate { self.new.gate ≡ self.old.gate }
         ensures holds { IsPrefix self.old.list self.new.list }
-        ensures last { IfOk result (λ s. EndsIn self.new.list (entry s.number (arc_value s.version))) }
+        ensures last { IfOk result (λ s.
+            EndsIn self.new.list (entry s.number (arc_value s.version))) }
         ensures number { IfOk result (λ s. Numbered s.number self.new.list) }
         ensures refused { OnErr result (self.new ≡ self.old) }
     {

@@ -42,7 +42,8 @@ impl<T: Drop> Passes<T> {
 
     /// Takes the last pass.
     pub fn pop(&mut self) -> Option<Pass<T>>
-        ensures { MatchOption result ((self.old ≡ []) × (self.new ≡ [])) (λ pass. self.old ≡ self.new ++ pass ∷ []) }
+        ensures { MatchOption result ((self.old ≡ []) × (self.new ≡ [])) (λ pass.
+            self.old ≡ self.new ++ pass ∷ []) }
     {
         self.items.pop()
     }
@@ -56,7 +57,8 @@ impl<T: Drop> Passes<T> {
 
     /// The pass at a place.
     pub fn get(&self, place: usize) -> Option<&Pass<T>>
-        ensures { MatchOption result (length self.now ≤ place) (λ pass. slice_get self.now place ≡ Some pass.now) }
+        ensures { MatchOption result (length self.now ≤ place) (λ pass.
+            slice_get self.now place ≡ Some pass.now) }
     {
         self.items.get(place)
     }

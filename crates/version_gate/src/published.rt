@@ -99,7 +99,8 @@ pub fn add_entry<T: Drop, R: Wait>(
     requires names { seen.old.names ≡ [] }
     requires counted { length seen.old.log ≡ published + 1 }
     requires room { published + 1 < 2 ^ 64 }
-    requires rises { (first : ℕ) × Rises first seen.old.log × (next.now.number ≡ first + length seen.old.log) }
+    requires rises { (first : ℕ) × Rises first seen.old.log
+        × (next.now.number ≡ first + length seen.old.log) }
     ensures gate { (seen.new.book ≡ seen.old.book) × (seen.new.names ≡ []) }
     ensures list { seen.new.log ≡ seen.old.log ++ entry_of next.now ∷ [] }
 {
@@ -123,7 +124,8 @@ pub fn add_entry<T: Drop, R: Wait>(
 /// Of two parts of one published list, the one that ends with the lower number begins the other.
 pub fn begins<T>(lower: &Reached<T>, higher: &Reached<T>)
     requires gate { higher.now.book ≡ lower.now.book }
-    requires order { (n : ℕ) × (m : ℕ) × Numbered n lower.now.log × Numbered m higher.now.log × (n ≤ m) }
+    requires order { (n : ℕ) × (m : ℕ) × Numbered n lower.now.log × Numbered m higher.now.log
+        × (n ≤ m) }
     ensures { IsPrefix lower.now.log higher.now.log }
 {
     let mut both = lower.again();

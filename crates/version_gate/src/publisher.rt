@@ -36,10 +36,17 @@ impl<T: Drop> Model for Publisher<T> {
 
     ghost Value = { Board T };
 
-    ghost view = { λ p. record { gate = p.seen.book; list = p.seen.log; number = p.number; staged = option_map entry_of p.staged } };
+    ghost view = { λ p. record {
+      gate = p.seen.book;
+      list = p.seen.log;
+      number = p.number;
+      staged = option_map entry_of p.staged;
+    } };
 
-    ghost invariant = { λ p. (p.side ≡ Some (front p.seen.book p.seen.log)) × (p.head ≡ word_of p.seen.book) × (p.seen.names ≡ [])
-        × (length p.seen.log ≡ p.published + 1) × Numbered p.number p.seen.log × IfSome p.staged (λ s. s.number ≡ p.number + 1) };
+    ghost invariant = { λ p. (p.side ≡ Some (front p.seen.book p.seen.log))
+        × (p.head ≡ word_of p.seen.book)
+        × (p.seen.names ≡ []) × (length p.seen.log ≡ p.published + 1)
+        × Numbered p.number p.seen.log × IfSome p.staged (λ s. s.number ≡ p.number + 1) };
 }
 
 impl<T: Drop> Publisher<T> {
@@ -50,7 +57,12 @@ impl<T: Drop> Publisher<T> {
         requires shown { side ≡ front seen.book seen.log }
         requires alone { length seen.log ≡ 1 }
         requires numbered { Numbered number seen.log }
-        ensures { result ≡ record { gate = seen.book; list = seen.log; number = number; staged = None } }
+        ensures { result ≡ record {
+          gate = seen.book;
+          list = seen.log;
+          number = number;
+          staged = None;
+        } }
     {
         Publisher {
             side: Some(side),
@@ -67,7 +79,9 @@ impl<T: Drop> Publisher<T> {
     pub fn stage(&mut self, number: u64, next: Arc<T>) -> Result<(), Memory>
         requires next { number ≡ self.old.number + 1 }
         ensures ok { result ≡ Ok tt }
-        ensures staged { self.new ≡ record self.old { staged = Some (entry number (arc_value next)) } }
+        ensures staged { self.new ≡ record self.old {
+          staged = Some (entry number (arc_value next));
+        } }
     {
         self.staged = Some(Snapshot {
             number,
@@ -80,7 +94,12 @@ impl<T: Drop> Publisher<T> {
     /// for passes that still read an older one, and tries again while memory is short.
     pub fn publish<R: Wait>(&mut self, rt: &R)
         requires { IsSome self.old.staged }
-        ensures { IfSome self.old.staged (λ e. self.new ≡ record { gate = self.old.gate; list = self.old.list ++ e ∷ []; number = e.number; staged = None }) }
+        ensures { IfSome self.old.staged (λ e. self.new ≡ record {
+          gate = self.old.gate;
+          list = self.old.list ++ e ∷ [];
+          number = e.number;
+          staged = None;
+        }) }
     {
         let Some(next) = self.staged.take() else {
             unreachable!()

@@ -26,7 +26,8 @@ impl<T: Drop> Model for Shown<T> {
 
     ghost view = { λ s. record { gate = s.seen.book; list = s.seen.log } };
 
-    ghost invariant = { λ s. (s.seen.names ≡ []) × EndsIn s.seen.log (entry_of s.snapshot) × Numbered s.snapshot.number s.seen.log };
+    ghost invariant = { λ s. (s.seen.names ≡ []) × EndsIn s.seen.log (entry_of s.snapshot)
+        × Numbered s.snapshot.number s.seen.log };
 }
 
 impl<T: Drop> Shown<T> {

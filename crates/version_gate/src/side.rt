@@ -38,7 +38,9 @@ impl<S: Absorb<S> + Drop, P: Protocol<S, Known>> Side<S, P> {
     /// Shows the next value. It tries again while memory is short, and waits for those that read
     /// the other copy.
     pub fn show<M: Outcome<S, Known>, R: Wait>(self, rt: &R, next: S) -> Side<S, P>
-        requires { (seat : ℕ) (v : Known) (later : S) → S.state later ≡ S.applied (S.state self) next → TurnsAt P.holds seat v self later M.then }
+        requires { (seat : ℕ) (v : Known) (later : S) →
+            S.state later ≡ S.applied (S.state self) next
+            → TurnsAt P.holds seat v self later M.then }
         ensures { S.state result ≡ S.applied (S.state self) next }
     {
         let Side { mut writer } = self;
@@ -62,7 +64,8 @@ fn put<S: Absorb<S> + Drop, P: Protocol<S, Known>, R: Wait>(
     next: S,
 )
     ensures desk { writer.new.desk ≡ writer.old.desk }
-    ensures pending { drop writer.new.behind writer.new.log.items ≡ drop writer.old.behind writer.old.log.items ++ next ∷ [] }
+    ensures pending { drop writer.new.behind writer.new.log.items
+        ≡ drop writer.old.behind writer.old.log.items ++ next ∷ [] }
 {
     let mut left = next;
     for _ in rt.forever() {
@@ -79,8 +82,12 @@ fn push<S: Absorb<S> + Drop, P: Protocol<S, Known>, M: Outcome<S, Known>, R: Wai
     rt: &R,
     writer: Writer<S, S, Known, P>,
 ) -> Writer<S, S, Known, P>
-    requires { (seat : ℕ) (v : Known) (later : S) → S.state later ≡ fold S.applied (S.state writer.desk.shown.value) (drop writer.behind writer.log.items) → TurnsAt P.holds seat v writer.desk.shown.value later M.then }
-    ensures state { S.state result.desk.shown.value ≡ fold S.applied (S.state writer.desk.shown.value) (drop writer.behind writer.log.items) }
+    requires { let shown = writer.desk.shown.value in
+        (seat : ℕ) (v : Known) (later : S)
+        → S.state later ≡ fold S.applied (S.state shown) (drop writer.behind writer.log.items)
+        → TurnsAt P.holds seat v shown later M.then }
+    ensures state { S.state result.desk.shown.value
+        ≡ fold S.applied (S.state writer.desk.shown.value) (drop writer.behind writer.log.items) }
     ensures pending { drop result.behind result.log.items ≡ [] }
 {
     let mut writer = writer;

@@ -1,6 +1,7 @@
 use Rattle.std.proofs.Common.{◌≡◌, ◌∙◌, ◌++◌, length, take, Err, sym, subst, arith}
 use Rattle.std.proofs.lemmas.Grind.{common_steps}
 use Rattle.emu_disk.proofs.Moments.{goes_on}
+use Rattle.edit_journal.specs.Store.{limit}
 use Rattle.edit_journal.specs.Held.{Reads}
 use Rattle.edit_journal.proofs.Found.{FrontOf, front_more, front_all, front_long}
 use Rattle.edit_journal.proofs.recovery.read_all.Goals as goal
@@ -28,5 +29,5 @@ reads-preserved g c =
 
 pub returns-clause-damaged : goal.returns-clause-damaged
 returns-clause-damaged g c = λ at is.
-    let same : 268435456 ≡ at = cc in
+    let same : limit ≡ at = cc in
     subst (λ n. Reads (g.D.Disk.reads c.args.disk.now) (Err n)) same (front_long (g.D.Disk.reads c.args.disk.now) c.reads.bytes.items c.reads.invariant.front (omega (arith, c.reads.bytes.ok.0)))
