@@ -36,13 +36,16 @@ order_rule kinds.Item named = None
 order_rule kinds.Segment named = Some (rules.Overlap named)
 order_rule kinds.Event named = Some (rules.NotRising named)
 
+-- two neighbours out of order
 abbrev pub order_fault : LevelKind → ItemId → Time → Time → Option Broken
 order_fault kind named earlier later = if is_before earlier later then None else order_rule kind named
 
+-- a time behind this item, which is named
 abbrev pub behind_fault : LevelKind → Option Item → Time → Option Broken
 behind_fault kind None time = None
 behind_fault kind (Some previous) time = order_fault kind previous.id previous.time time
 
+-- a time before this item, which is named
 abbrev pub ahead_fault : LevelKind → Time → Option Item → Option Broken
 ahead_fault kind time None = None
 ahead_fault kind time (Some next) = order_fault kind next.id time next.time
@@ -59,6 +62,12 @@ insert_fault kind items position item =
     else or_else (time_fault kind item.time) (or_else (position_fault kind (length items) position)
     (let place = new_place kind items position item.time in
     neighbour_fault kind (take place items) item.time (drop place items)))
+
+-- a new item that is put last
+abbrev pub append_fault : LevelKind → List Item → Item → Option Broken
+append_fault kind items item =
+    if list_any (nat_eq item.id.0) (ids_of items) then Some (rules.IdTaken item.id)
+    else or_else (time_fault kind item.time) (behind_fault kind (last_of items) item.time)
 
 -- another time for the item at this position
 abbrev pub retime_fault : LevelKind → List Item → ℕ → Time → Option Broken

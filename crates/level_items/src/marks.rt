@@ -38,6 +38,15 @@ impl Marks {
         Ok(())
     }
 
+    /// Sets the mark of an id that has one. This takes no memory.
+    pub(crate) fn renew(&mut self, id: ItemId, mark: u64)
+        ensures { (q : ℕ) → is_marked self.new q ≡ is_marked self.old q }
+    {
+        if let Some(old) = self.marks.get_mut(&id.0) {
+            *old = mark;
+        }
+    }
+
     /// Takes the mark of an id away.
     pub(crate) fn take_away(&mut self, id: ItemId)
         ensures { (q : ℕ) → is_marked self.new q ≡ (not (nat_eq q id.0) && is_marked self.old q) }
