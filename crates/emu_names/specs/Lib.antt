@@ -1,3 +1,4 @@
+pub mod Gives
 pub mod Name
 pub mod Order
 pub mod Rule

@@ -2,6 +2,7 @@
 #![tactic(auto)]
 
 mod kinds;
+pub mod limits;
 mod names;
 mod rules;
 mod shortage;

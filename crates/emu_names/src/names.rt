@@ -10,15 +10,13 @@ ghost use Rattle.emu_names.specs.Name.{is_clean, is_name};
 ghost use Rattle.emu_names.specs.Order.{key_cmp};
 ghost use Rattle.std.specs.declared.cmp.Ordering.TheVariants.{Equal};
 
+use crate::limits::NAME_BYTES;
 use crate::shortage::Memory;
 use std::alloc::{AllocError, AllocFailed, Global};
 use std::cmp::Ordering;
 use std::fmt;
 use std::marker::Model;
 use thiserror::Error;
-
-/// The most bytes of a name.
-const MOST_BYTES: usize = 255;
 
 /// Why a text is no name.
 #[derive(Clone, Copy, Debug, PartialEq, Eq, Error)]
@@ -86,7 +84,7 @@ fn are_clean(bytes: &[u8]) -> bool
 pub fn is_name(text: &str) -> bool
     ensures { result ≡ is_name text.now }
 {
-    1 <= text.len() && text.len() <= MOST_BYTES && are_clean(text.as_bytes())
+    1 <= text.len() && text.len() <= NAME_BYTES && are_clean(text.as_bytes())
 }
 
 /// A name of a database, session, bundle, level or attribute, which contracts see as the list of
