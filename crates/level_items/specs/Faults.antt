@@ -26,7 +26,8 @@ time_fault kind time =
 -- a position is for a level without times, and at most the number of its items
 abbrev pub position_fault : LevelKind → ℕ → Option ℕ → Option Broken
 position_fault kind count None = None
-position_fault kinds.Item count (Some position) = if nat_le position count then None else Some rules.PositionOut
+position_fault kinds.Item count (Some position) =
+    if nat_le position count then None else Some rules.PositionOut
 position_fault kinds.Segment count (Some position) = Some rules.PositionOut
 position_fault kinds.Event count (Some position) = Some rules.PositionOut
 
@@ -38,7 +39,8 @@ order_rule kinds.Event named = Some (rules.NotRising named)
 
 -- two neighbours out of order
 abbrev pub order_fault : LevelKind → ItemId → Time → Time → Option Broken
-order_fault kind named earlier later = if is_before earlier later then None else order_rule kind named
+order_fault kind named earlier later =
+    if is_before earlier later then None else order_rule kind named
 
 -- a time behind this item, which is named
 abbrev pub behind_fault : LevelKind → Option Item → Time → Option Broken
@@ -72,4 +74,5 @@ append_fault kind items item =
 -- another time for the item at this position
 abbrev pub retime_fault : LevelKind → List Item → ℕ → Time → Option Broken
 retime_fault kind items position time =
-    or_else (time_fault kind time) (neighbour_fault kind (take position items) time (drop (suc position) items))
+    or_else (time_fault kind time)
+    (neighbour_fault kind (take position items) time (drop (suc position) items))

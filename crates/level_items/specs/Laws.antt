@@ -24,18 +24,21 @@ InsertRefusesExactly =
     ↔ (position_fault kind (length items) position ≡ None)
     × KeepsLevelRule (level_of kind attributes (put_at_place kind items position item))
 
--- an item with whole labels is taken at the end exactly where the level keeps the level rule with it
+-- an item with whole labels is taken at the end exactly where the level keeps the level rule with
+-- it
 abbrev pub AppendRefusesExactly : Type 0
 AppendRefusesExactly =
     (kind : LevelKind) (attributes : ℕ) (items : List Item) (item : Item) →
     KeepsLevelRule (level_of kind attributes items) →
     IsTrue (are_labels_for attributes item.labels) →
-    append_fault kind items item ≡ None ↔ KeepsLevelRule (level_of kind attributes (items ++ item ∷ []))
+    append_fault kind items item ≡ None
+    ↔ KeepsLevelRule (level_of kind attributes (items ++ item ∷ []))
 
 -- another time of an item is taken exactly where the level keeps the level rule with it
 abbrev pub RetimeRefusesExactly : Type 0
 RetimeRefusesExactly =
-    (kind : LevelKind) (attributes : ℕ) (items : List Item) (position : ℕ) (item : Item) (time : Time) →
+    (kind : LevelKind) (attributes : ℕ) (items : List Item)
+    (position : ℕ) (item : Item) (time : Time) →
     KeepsLevelRule (level_of kind attributes items) →
     slice_get items position ≡ Some item →
     retime_fault kind items position time ≡ None
@@ -48,6 +51,7 @@ PlaceSplitsItems =
     (kind : LevelKind) (items : List Item) (position : Option ℕ) (time : Time) →
     kind ≢ kinds.Item →
     IsTrue (are_in_order kind items) →
-    (take (new_place kind items position time) items ≡ filter (λ i. starts_before i.time time) items)
+    (take (new_place kind items position time) items
+    ≡ filter (λ i. starts_before i.time time) items)
     × (drop (new_place kind items position time) items
     ≡ filter (λ i. not (starts_before i.time time)) items)

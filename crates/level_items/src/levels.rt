@@ -8,7 +8,7 @@
 ghost use Rattle.std.specs.Prelude.{◌≡◌, ℕ, ◌<◌, ◌≤◌, ◌++◌, ◌∷◌, [], length, nat_eq, insert, remove, position, slice_get, Some, IsTrue, ◌↔◌, IfOk, OnOk, OnErr};
 ghost use Rattle.level_items.specs.Levels.{Level, KeepsLevelRule, are_labels_for, change_at, is_short, level_of, new_place, relabelled, retimed, with_items};
 ghost use Rattle.level_items.specs.Faults.{append_fault, insert_fault, retime_fault};
-ghost use Rattle.level_items.specs.Gives.{FindsFault};
+ghost use Rattle.emu_names.specs.Gives.{FindsFault};
 
 use crate::items::Item;
 use crate::marks::Marks;
@@ -182,7 +182,8 @@ impl LevelList {
         requires position { position < length self.old.items }
         requires attribute { attribute < self.old.attributes }
         requires label { IsTrue (is_short label) }
-        ensures { self.new ≡ with_items self.old (change_at (relabelled attribute label) position self.old.items) }
+        ensures { self.new ≡ with_items self.old
+            (change_at (relabelled attribute label) position self.old.items) }
     {
         set_label_in(&mut self.items, position, attribute, label);
     }
@@ -196,7 +197,8 @@ impl LevelList {
     pub fn retime(&mut self, position: usize, time: Time) -> Result<(), Fault>
         requires { position < length self.old.items }
         ensures fault { FindsFault result (retime_fault self.old.kind self.old.items position time) }
-        ensures retimed { OnOk result (self.new ≡ with_items self.old (change_at (retimed time) position self.old.items)) }
+        ensures retimed { OnOk result
+            (self.new ≡ with_items self.old (change_at (retimed time) position self.old.items)) }
         ensures kept { OnErr result (self.new ≡ self.old) }
     {
         retime_passes(self.kind, &self.items, position, time)?;

@@ -2,7 +2,7 @@
 ghost use Rattle.std.specs.Prelude.{◌≡◌, ℕ, ◌+◌, ◌<◌, ◌≤◌, ◌++◌, ◌∷◌, [], length, nat_eq, insert, position, slice_get, Some, vec_len, vec_capacity, IfOk, IsTrue};
 ghost use Rattle.level_items.specs.Levels.{change_at, relabelled, retimed, are_different, ids_of};
 ghost use Rattle.level_items.specs.Faults.{retime_fault};
-ghost use Rattle.level_items.specs.Gives.{FindsFault};
+ghost use Rattle.emu_names.specs.Gives.{FindsFault};
 ghost use Rattle.level_items.specs.Kept.{AreMarksOf};
 ghost use Rattle.level_items.specs.Marked.{is_marked};
 ghost use Rattle.level_items.specs.declared.items.Item.{Item};

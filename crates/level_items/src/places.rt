@@ -5,7 +5,7 @@ ghost use Rattle.std.specs.Option.{option_copied};
 ghost use Rattle.level_items.specs.Times.{starts_before};
 ghost use Rattle.level_items.specs.Levels.{are_apart, are_in_order, first_of, last_of, new_place};
 ghost use Rattle.level_items.specs.Faults.{time_fault, position_fault, order_fault, behind_fault, ahead_fault, neighbour_fault, append_fault, insert_fault};
-ghost use Rattle.level_items.specs.Gives.{FindsFault};
+ghost use Rattle.emu_names.specs.Gives.{FindsFault};
 ghost use Rattle.level_items.specs.Kept.{AreMarksOf};
 
 use crate::items::Item;

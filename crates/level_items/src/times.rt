@@ -3,11 +3,9 @@ ghost use Rattle.std.specs.Prelude.{◌≡◌, ◌+◌, ◌^◌, ◌<◌, MatchO
 ghost use Rattle.level_items.specs.Times.{first_sample, last_sample, ends_in_time, fits_kind, is_before, starts_before};
 
 use emu_lists::PlainData;
+use emu_names::limits::SAMPLES;
 use emu_names::{LevelKind, Memory};
 use std::alloc::Global;
-
-/// The first sample that is too late.
-const END_OF_TIME: u64 = 1 << 40;
 
 /// When an item is, in samples of its bundle's rate, counted from 0 (EMU-SDMS Manual, "The emuDB
 /// format": `sampleStart`, `sampleDur` and `samplePoint`).
@@ -85,8 +83,8 @@ impl Time {
     {
         match self {
             Time::NoTime => true,
-            Time::Span { start, dur } => start < END_OF_TIME && dur < END_OF_TIME - start,
-            Time::Point { at } => at < END_OF_TIME,
+            Time::Span { start, dur } => start < SAMPLES && dur < SAMPLES - start,
+            Time::Point { at } => at < SAMPLES,
         }
     }
 }
