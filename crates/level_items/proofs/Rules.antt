@@ -12,7 +12,7 @@ use Rattle.level_items.specs.declared.items.Item.{Item}
 use Rattle.level_items.specs.Times.{is_before}
 use Rattle.level_items.specs.Levels.{level_of, KeepsLevelRule, ids_of, are_different, fits_level, is_before_first, are_apart, are_in_order, first_of, last_of, change_at, relabelled}
 use Rattle.emu_names.specs.declared.rules.Fault.{Fault}
-use Rattle.level_items.specs.Gives.{FindsFault}
+use Rattle.emu_names.specs.Gives.{FindsFault}
 use Rattle.level_items.specs.Faults.{retime_fault, or_else, time_fault, order_rule, behind_fault, ahead_fault, neighbour_fault}
 use Rattle.level_items.proofs.Lists.{any_parts, all_parts, different_with, different_without}
 use Rattle.level_items.proofs.Apart.{ends_before, split, halves, join, join_with, across}

@@ -26,7 +26,8 @@ time_fault kind time =
 -- a position is for a level without times, and at most the number of its items
 abbrev pub position_fault : LevelKind → ℕ → Option ℕ → Option Broken
 position_fault kind count None = None
-position_fault kinds.Item count (Some position) = if nat_le position count then None else Some rules.PositionOut
+position_fault kinds.Item count (Some position) =
+    if nat_le position count then None else Some rules.PositionOut
 position_fault kinds.Segment count (Some position) = Some rules.PositionOut
 position_fault kinds.Event count (Some position) = Some rules.PositionOut
 
@@ -36,13 +37,17 @@ order_rule kinds.Item named = None
 order_rule kinds.Segment named = Some (rules.Overlap named)
 order_rule kinds.Event named = Some (rules.NotRising named)
 
+-- two neighbours out of order
 abbrev pub order_fault : LevelKind → ItemId → Time → Time → Option Broken
-order_fault kind named earlier later = if is_before earlier later then None else order_rule kind named
+order_fault kind named earlier later =
+    if is_before earlier later then None else order_rule kind named
 
+-- a time behind this item, which is named
 abbrev pub behind_fault : LevelKind → Option Item → Time → Option Broken
 behind_fault kind None time = None
 behind_fault kind (Some previous) time = order_fault kind previous.id previous.time time
 
+-- a time before this item, which is named
 abbrev pub ahead_fault : LevelKind → Time → Option Item → Option Broken
 ahead_fault kind time None = None
 ahead_fault kind time (Some next) = order_fault kind next.id time next.time
@@ -60,7 +65,14 @@ insert_fault kind items position item =
     (let place = new_place kind items position item.time in
     neighbour_fault kind (take place items) item.time (drop place items)))
 
+-- a new item that is put last
+abbrev pub append_fault : LevelKind → List Item → Item → Option Broken
+append_fault kind items item =
+    if list_any (nat_eq item.id.0) (ids_of items) then Some (rules.IdTaken item.id)
+    else or_else (time_fault kind item.time) (behind_fault kind (last_of items) item.time)
+
 -- another time for the item at this position
 abbrev pub retime_fault : LevelKind → List Item → ℕ → Time → Option Broken
 retime_fault kind items position time =
-    or_else (time_fault kind time) (neighbour_fault kind (take position items) time (drop (suc position) items))
+    or_else (time_fault kind time)
+    (neighbour_fault kind (take position items) time (drop (suc position) items))

@@ -2,6 +2,7 @@
 -- items of an annotation; that gaps between segments are allowed is this project's choice).
 use Rattle.std.specs.Prelude.{ℕ, Bool, true, ◌&&◌, not, List, [], ◌∷◌, length, map, nat_eq, nat_le, ◌==◌, IsTrue, Option, Some, None, zero, suc, slice_set, count_by, unwrap_or}
 use Rattle.std.specs.List.{list_all, list_any}
+use Rattle.emu_names.specs.declared.limits.TheConstants.{LABEL_BYTES}
 use Rattle.emu_names.specs.declared.kinds.LevelKind.{LevelKind}
 use Rattle.emu_names.specs.declared.kinds.LevelKind.TheVariants as kinds
 use Rattle.level_items.specs.declared.times.Time.{Time}
@@ -14,12 +15,15 @@ pub record Level : Type 0 where
   pub attributes : ℕ
   pub items : List Item
 
+-- a level of these parts
 abbrev pub level_of : LevelKind → ℕ → List Item → Level
 level_of kind attributes items = record { kind = kind; attributes = attributes; items = items }
 
+-- the level with other items
 abbrev pub with_items : Level → List Item → Level
 with_items level items = level_of level.kind level.attributes items
 
+-- the ids of items, in order
 abbrev pub ids_of : List Item → List ℕ
 ids_of items = map (λ i. i.id.0) items
 
@@ -28,8 +32,9 @@ abbrev pub are_different : List ℕ → Bool
 are_different [] = true
 are_different (n ∷ ns) = not (list_any (nat_eq n) ns) && are_different ns
 
+-- a label of at most 4,096 bytes
 abbrev pub is_short : List ℕ → Bool
-is_short label = nat_le (length label) 4096
+is_short label = nat_le (length label) LABEL_BYTES
 
 -- one label for each attribute, each of at most 4,096 bytes
 abbrev pub are_labels_for : ℕ → List (List ℕ) → Bool
@@ -62,10 +67,12 @@ pub record KeepsLevelRule (level : Level) : Type 0 where
   pub fitting : IsTrue (list_all (fits_level level.kind level.attributes) level.items)
   pub ordered : IsTrue (are_in_order level.kind level.items)
 
+-- the first of these items
 abbrev pub first_of : List Item → Option Item
 first_of [] = None
 first_of (item ∷ items) = Some item
 
+-- the last of these items
 abbrev pub last_of : List Item → Option Item
 last_of [] = None
 last_of (item ∷ []) = Some item
@@ -78,11 +85,14 @@ new_place kinds.Item items position time = unwrap_or position (length items)
 new_place kinds.Segment items position time = count_by (λ i. starts_before i.time time) items
 new_place kinds.Event items position time = count_by (λ i. starts_before i.time time) items
 
+-- the item with another time
 abbrev pub retimed : Time → Item → Item
 retimed time item = record { id = item.id; time = time; labels = item.labels }
 
+-- the item with another label at this place of its labels
 abbrev pub relabelled : ℕ → List ℕ → Item → Item
-relabelled attribute label item = record { id = item.id; time = item.time; labels = slice_set item.labels attribute label }
+relabelled attribute label item =
+    record { id = item.id; time = item.time; labels = slice_set item.labels attribute label }
 
 -- the item at this position changed, and all others as they are
 abbrev pub change_at : (Item → Item) → ℕ → List Item → List Item

@@ -1,7 +1,6 @@
 pub mod Times
 pub mod Levels
 pub mod Faults
-pub mod Gives
 pub mod Marked
 pub mod Kept
 pub mod Laws

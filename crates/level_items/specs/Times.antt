@@ -1,11 +1,13 @@
 -- When items are, in samples (EMU-SDMS Manual, "The emuDB format": sampleStart and sampleDur of a
 -- segment, samplePoint of an event).
-use Rattle.std.specs.Prelude.{ℕ, ◌+◌, ◌^◌, Bool, true, false, nat_lt}
+use Rattle.std.specs.Prelude.{ℕ, ◌+◌, Bool, true, false, nat_lt}
+use Rattle.emu_names.specs.declared.limits.TheConstants.{SAMPLES}
 use Rattle.emu_names.specs.declared.kinds.LevelKind.{LevelKind}
 use Rattle.emu_names.specs.declared.kinds.LevelKind.TheVariants as kinds
 use Rattle.level_items.specs.declared.times.Time.{Time}
 use Rattle.level_items.specs.declared.times.Time.TheVariants.{NoTime, Span, Point}
 
+-- the first sample of a time, 0 where there is none
 abbrev pub first_sample : Time → ℕ
 first_sample NoTime = 0
 first_sample (Span start dur) = start
@@ -19,7 +21,7 @@ last_sample (Point at) = at
 
 -- samples are below 2^40
 abbrev pub ends_in_time : Time → Bool
-ends_in_time time = nat_lt (last_sample time) (2 ^ 40)
+ends_in_time time = nat_lt (last_sample time) SAMPLES
 
 -- an item of an ITEM level has no time, one of a SEGMENT level a span, one of an EVENT level a point
 abbrev pub fits_kind : LevelKind → Time → Bool

@@ -3,6 +3,7 @@ ghost use Rattle.std.specs.Prelude.{◌≡◌, IfOk};
 
 use crate::labels::Labels;
 use crate::times::Time;
+use emu_lists::PlainData;
 use emu_names::{ItemId, Memory};
 use std::alloc::Global;
 
@@ -28,5 +29,11 @@ impl Item {
             time: self.time,
             labels,
         })
+    }
+}
+
+impl PlainData for Item {
+    fn copy(&self, alloc: Global) -> Result<Item, Memory> {
+        Item::copy(self, alloc)
     }
 }

@@ -1,6 +1,7 @@
 //! The labels of an item, which contracts see as a list of texts.
 ghost use Rattle.std.specs.Prelude.{◌≡◌, ◌<◌, ◌==◌, [], ◌∷◌, ◌++◌, length, IfOk, OnOk, OnErr, slice_get, slice_set, Some};
 
+use emu_lists::PlainData;
 use emu_names::{Memory, Text};
 use std::alloc::Global;
 use std::marker::Model;
@@ -60,6 +61,13 @@ impl Labels {
         &self.labels[place]
     }
 
+    /// All labels, in order.
+    pub fn as_slice(&self) -> &[Text]
+        ensures { result.now ≡ self.now }
+    {
+        self.labels.as_slice()
+    }
+
     /// Puts `label` in the place of the label that stands there.
     pub fn set(&mut self, place: usize, label: Text)
         requires { place < length self.old }
@@ -74,6 +82,12 @@ impl Labels {
     {
         let labels = copied(alloc, self.labels.as_slice())?;
         Ok(Labels { labels })
+    }
+}
+
+impl PlainData for Labels {
+    fn copy(&self, alloc: Global) -> Result<Labels, Memory> {
+        Labels::copy(self, alloc)
     }
 }
 

@@ -3,22 +3,24 @@
 //! Beside its items, which stand in one vector, a list has an ordered map from ids to marks. A new id is
 //! looked up in that map. The place of a new segment or point is found by halving the list, since the
 //! items stand in the order of their first samples. An item is found by its mark: that of a segment or
-//! point is its first sample, by which the list is halved, and that of an item without time the place at
-//! which it was put in. Only where an item without time has moved since is the list walked.
-ghost use Rattle.std.specs.Prelude.{◌≡◌, ℕ, ◌<◌, ◌≤◌, [], length, nat_eq, insert, remove, position, slice_get, Some, IsTrue, ◌↔◌, IfOk, OnOk, OnErr};
+//! point is its first sample, by which the list is halved, and that of an item without time its place.
+//! Where an item without time is put in or taken out, those behind it are marked anew.
+ghost use Rattle.std.specs.Prelude.{◌≡◌, ℕ, ◌<◌, ◌≤◌, ◌++◌, ◌∷◌, [], length, nat_eq, insert, remove, position, slice_get, Some, IsTrue, ◌↔◌, IfOk, OnOk, OnErr};
 ghost use Rattle.level_items.specs.Levels.{Level, KeepsLevelRule, are_labels_for, change_at, is_short, level_of, new_place, relabelled, retimed, with_items};
-ghost use Rattle.level_items.specs.Faults.{insert_fault, retime_fault};
-ghost use Rattle.level_items.specs.Gives.{FindsFault};
+ghost use Rattle.level_items.specs.Faults.{append_fault, insert_fault, retime_fault};
+ghost use Rattle.emu_names.specs.Gives.{FindsFault};
 
 use crate::items::Item;
 use crate::marks::Marks;
 use crate::moves::{
-    copied, mark_of, place_of_mark, position_near, put_in, retime_passes, set_label_in, set_time_in,
+    copied, mark_behind, mark_of, marks_of, place_of_mark, position_near, put_in, put_last,
+    retime_passes, set_label_in, set_time_in,
 };
-use crate::places::place_for;
+use crate::places::{append_passes, place_for};
 use crate::times::Time;
+use emu_lists::PlainData;
 use emu_names::{Fault, ItemId, LevelKind, Memory, Text};
-use std::alloc::Global;
+use std::alloc::{AllocError, Global};
 use std::marker::Model;
 
 /// The items of a level, which contracts see as the level's kind, its number of attributes and the list
@@ -62,6 +64,25 @@ impl LevelList {
         }
     }
 
+    /// The list of these items, which keep the level rule. The only refusal is want of memory.
+    pub fn from_items(
+        alloc: Global,
+        kind: LevelKind,
+        attributes: usize,
+        items: Vec<Item>,
+    ) -> Result<LevelList, Memory>
+        requires { KeepsLevelRule (level_of kind attributes items.items) }
+        ensures { IfOk result (λ list. list ≡ level_of kind attributes items.items) }
+    {
+        let marks = marks_of(alloc, items.as_slice())?;
+        Ok(LevelList {
+            kind,
+            attributes,
+            items,
+            marks,
+        })
+    }
+
     /// How many items there are. Whoever asks may rely on the level rule.
     pub fn len(&self) -> usize
         ensures length { result ≡ length self.now.items }
@@ -83,6 +104,13 @@ impl LevelList {
         ensures { slice_get self.now.items position ≡ Some result.now }
     {
         &self.items[position]
+    }
+
+    /// All items, in order.
+    pub fn as_slice(&self) -> &[Item]
+        ensures { result.now ≡ self.now.items }
+    {
+        self.items.as_slice()
     }
 
     /// The position of the item with this id, where there is one.
@@ -113,7 +141,28 @@ impl LevelList {
         self.items.reserve(1)?;
         self.marks.put(item.id, mark_of(place, item.time))?;
         put_in(&mut self.items, place, item);
+        mark_behind(&mut self.marks, self.kind, &self.items, place);
         Ok(place)
+    }
+
+    /// Puts an item last, as a level is read in order.
+    ///
+    /// Refused are, in this order: an id that is there (`IdTaken`), a time of another form than the
+    /// level's (`TimeKind`), one that ends past sample 2^40 - 1 (`TimeOut`), and one that does not lie
+    /// past that of the last item (`Overlap` on a SEGMENT level, `NotRising` on an EVENT level), with
+    /// that item's id. A refusal, or want of memory, changes nothing.
+    pub fn append(&mut self, item: Item) -> Result<(), Fault>
+        requires { IsTrue (are_labels_for self.old.attributes item.labels) }
+        ensures fault { FindsFault result (append_fault self.old.kind self.old.items item) }
+        ensures appended { OnOk result (self.new ≡ with_items self.old (self.old.items ++ item ∷ [])) }
+        ensures kept { OnErr result (self.new ≡ self.old) }
+    {
+        append_passes(self.kind, &self.items, &self.marks, &item)?;
+        self.items.reserve(1)?;
+        self.marks
+            .put(item.id, mark_of(self.items.len(), item.time))?;
+        put_last(&mut self.items, item);
+        Ok(())
     }
 
     /// Takes the item at a position out, and closes up.
@@ -124,6 +173,7 @@ impl LevelList {
     {
         let item = self.items.remove(position);
         self.marks.take_away(item.id);
+        mark_behind(&mut self.marks, self.kind, &self.items, position);
         item
     }
 
@@ -132,7 +182,8 @@ impl LevelList {
         requires position { position < length self.old.items }
         requires attribute { attribute < self.old.attributes }
         requires label { IsTrue (is_short label) }
-        ensures { self.new ≡ with_items self.old (change_at (relabelled attribute label) position self.old.items) }
+        ensures { self.new ≡ with_items self.old
+            (change_at (relabelled attribute label) position self.old.items) }
     {
         set_label_in(&mut self.items, position, attribute, label);
     }
@@ -146,7 +197,8 @@ impl LevelList {
     pub fn retime(&mut self, position: usize, time: Time) -> Result<(), Fault>
         requires { position < length self.old.items }
         ensures fault { FindsFault result (retime_fault self.old.kind self.old.items position time) }
-        ensures retimed { OnOk result (self.new ≡ with_items self.old (change_at (retimed time) position self.old.items)) }
+        ensures retimed { OnOk result
+            (self.new ≡ with_items self.old (change_at (retimed time) position self.old.items)) }
         ensures kept { OnErr result (self.new ≡ self.old) }
     {
         retime_passes(self.kind, &self.items, position, time)?;
@@ -168,5 +220,24 @@ impl LevelList {
             items,
             marks,
         })
+    }
+}
+
+impl PlainData for LevelList {
+    fn copy(&self, alloc: Global) -> Result<LevelList, Memory> {
+        LevelList::copy(self, alloc)
+    }
+}
+
+impl Clone for LevelList {
+    ghost use Rattle.std.specs.Prelude.{◌≡◌};
+
+    ghost is_clone = { λ s t. t ≡ s };
+
+    fn clone(&self) -> Result<LevelList, AllocError> {
+        match self.copy(*self.items.allocator()) {
+            Ok(list) => Ok(list),
+            Err(Memory) => Err(AllocError),
+        }
     }
 }

@@ -31,11 +31,21 @@ impl Marks {
 
     /// Marks an id anew. The only refusal is want of memory, which changes nothing.
     pub(crate) fn put(&mut self, id: ItemId, mark: u64) -> Result<(), Memory>
-        ensures ok { OnOk result ((q : ℕ) → is_marked self.new q ≡ (nat_eq q id.0 || is_marked self.old q)) }
+        ensures ok { OnOk result
+            ((q : ℕ) → is_marked self.new q ≡ (nat_eq q id.0 || is_marked self.old q)) }
         ensures err { OnErr result ((q : ℕ) → is_marked self.new q ≡ is_marked self.old q) }
     {
         self.marks.insert(id.0, mark)?;
         Ok(())
+    }
+
+    /// Sets the mark of an id that has one. This takes no memory.
+    pub(crate) fn renew(&mut self, id: ItemId, mark: u64)
+        ensures { (q : ℕ) → is_marked self.new q ≡ is_marked self.old q }
+    {
+        if let Some(old) = self.marks.get_mut(&id.0) {
+            *old = mark;
+        }
     }
 
     /// Takes the mark of an id away.

@@ -1,11 +1,14 @@
 //! Work on the items of a level list, and the marks by which they are found.
-ghost use Rattle.std.specs.Prelude.{◌≡◌, ◌+◌, ◌<◌, ◌≤◌, length, nat_eq, insert, position, slice_get, Some, vec_len, vec_capacity, IfOk, IsTrue};
+ghost use Rattle.std.specs.Prelude.{◌≡◌, ℕ, ◌+◌, ◌<◌, ◌≤◌, ◌++◌, ◌∷◌, [], length, nat_eq, insert, position, slice_get, Some, vec_len, vec_capacity, IfOk, IsTrue};
 ghost use Rattle.level_items.specs.Levels.{change_at, relabelled, retimed, are_different, ids_of};
 ghost use Rattle.level_items.specs.Faults.{retime_fault};
-ghost use Rattle.level_items.specs.Gives.{FindsFault};
+ghost use Rattle.emu_names.specs.Gives.{FindsFault};
+ghost use Rattle.level_items.specs.Kept.{AreMarksOf};
+ghost use Rattle.level_items.specs.Marked.{is_marked};
 ghost use Rattle.level_items.specs.declared.items.Item.{Item};
 
 use crate::items::Item;
+use crate::marks::Marks;
 use crate::places::{neighbours_pass, time_passes};
 use crate::times::Time;
 use emu_names::{Fault, ItemId, LevelKind, Memory, Text};
@@ -20,7 +23,7 @@ pub(crate) fn mark_of(place: usize, time: Time) -> u64 {
     }
 }
 
-/// Where an item with this mark is, if no item without time was put in or taken out before it.
+/// Where an item with this mark is.
 pub(crate) fn place_of_mark(kind: LevelKind, items: &[Item], mark: u64) -> usize {
     match kind {
         LevelKind::Item => mark as usize,
@@ -41,6 +44,30 @@ pub(crate) fn position_near(items: &[Item], guess: usize, id: ItemId) -> Option<
     }
 }
 
+/// The marks of these items. The only refusal is want of memory.
+pub(crate) fn marks_of(alloc: Global, items: &[Item]) -> Result<Marks, Memory>
+    ensures { IfOk result (λ marks. AreMarksOf items.now marks) }
+{
+    let mut marks = Marks::new(alloc);
+    for place in 0..items.len() {
+        let item = &items[place];
+        marks.put(item.id, mark_of(place, item.time))?;
+    }
+    Ok(marks)
+}
+
+/// Marks the items of an ITEM level from a place on by where they stand now. The marks of items with
+/// times do not depend on their places.
+pub(crate) fn mark_behind(marks: &mut Marks, kind: LevelKind, items: &[Item], place: usize)
+    ensures { (q : ℕ) → is_marked marks.new q ≡ is_marked marks.old q }
+{
+    if kind == LevelKind::Item {
+        for at in place..items.len() {
+            marks.renew(items[at].id, at as u64);
+        }
+    }
+}
+
 /// Puts an item in at a place, where there is room.
 pub(crate) fn put_in(items: &mut Vec<Item>, place: usize, item: Item)
     requires within { place ≤ vec_len items.old }
@@ -48,6 +75,14 @@ pub(crate) fn put_in(items: &mut Vec<Item>, place: usize, item: Item)
     ensures { items.new.items ≡ insert items.old.items place item }
 {
     items.insert(place, item).unwrap();
+}
+
+/// Puts an item last, where there is room.
+pub(crate) fn put_last(items: &mut Vec<Item>, item: Item)
+    requires { vec_len items.old < vec_capacity items.old }
+    ensures { items.new.items ≡ items.old.items ++ item ∷ [] }
+{
+    items.push(item).unwrap();
 }
 
 /// Tests another time for the item at a position.

@@ -4,8 +4,8 @@ ghost use Rattle.std.specs.List.{list_any};
 ghost use Rattle.std.specs.Option.{option_copied};
 ghost use Rattle.level_items.specs.Times.{starts_before};
 ghost use Rattle.level_items.specs.Levels.{are_apart, are_in_order, first_of, last_of, new_place};
-ghost use Rattle.level_items.specs.Faults.{time_fault, position_fault, order_fault, behind_fault, ahead_fault, neighbour_fault, insert_fault};
-ghost use Rattle.level_items.specs.Gives.{FindsFault};
+ghost use Rattle.level_items.specs.Faults.{time_fault, position_fault, order_fault, behind_fault, ahead_fault, neighbour_fault, append_fault, insert_fault};
+ghost use Rattle.emu_names.specs.Gives.{FindsFault};
 ghost use Rattle.level_items.specs.Kept.{AreMarksOf};
 
 use crate::items::Item;
@@ -13,8 +13,9 @@ use crate::marks::Marks;
 use crate::times::Time;
 use emu_names::{Broken, Fault, ItemId, LevelKind};
 
-/// Tests the form and the end of a time on a level of this kind.
-pub(crate) fn time_passes(kind: LevelKind, time: Time) -> Result<(), Fault>
+/// Tests a time on a level of this kind: first its form (`TimeKind`), then its end, which lies below
+/// sample 2^40 (`TimeOut`).
+pub fn time_passes(kind: LevelKind, time: Time) -> Result<(), Fault>
     ensures { FindsFault result (time_fault kind time) }
 {
     if !time.fits_kind(kind) {
@@ -51,8 +52,10 @@ fn order_passes(kind: LevelKind, named: ItemId, earlier: Time, later: Time) -> R
     }
 }
 
-/// Tests a time behind the last of these items.
-fn behind_passes(kind: LevelKind, before: &[Item], time: Time) -> Result<(), Fault>
+/// Tests a time behind the last of these items: a segment starts past that item's last sample, else it
+/// is refused as `Overlap`, and a point lies past that item's, else it is `NotRising`, each with the
+/// id of that item.
+pub fn behind_passes(kind: LevelKind, before: &[Item], time: Time) -> Result<(), Fault>
     ensures { FindsFault result (behind_fault kind (last_of before.now) time) }
 {
     match before.last() {
@@ -102,6 +105,23 @@ fn new_place(kind: LevelKind, items: &[Item], position: Option<u32>, time: Time)
         (LevelKind::Item, None) => items.len(),
         _ => place_in_time(items, time),
     }
+}
+
+/// Tests an item that is to be put last, whose id is tested by the marks of the items.
+pub(crate) fn append_passes(
+    kind: LevelKind,
+    items: &[Item],
+    marks: &Marks,
+    item: &Item,
+) -> Result<(), Fault>
+    requires { AreMarksOf items.now marks.now }
+    ensures { FindsFault result (append_fault kind items.now item.now) }
+{
+    if marks.get(item.id).is_some() {
+        return Err(Fault::Broken(Broken::IdTaken(item.id)));
+    }
+    time_passes(kind, item.time)?;
+    behind_passes(kind, items, item.time)
 }
 
 /// The place of a new item, whose id is tested by the marks of the items.

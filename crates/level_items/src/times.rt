@@ -2,10 +2,10 @@
 ghost use Rattle.std.specs.Prelude.{◌≡◌, ◌+◌, ◌^◌, ◌<◌, MatchOption, ◌≤◌};
 ghost use Rattle.level_items.specs.Times.{first_sample, last_sample, ends_in_time, fits_kind, is_before, starts_before};
 
-use emu_names::LevelKind;
-
-/// The first sample that is too late.
-const END_OF_TIME: u64 = 1 << 40;
+use emu_lists::PlainData;
+use emu_names::limits::SAMPLES;
+use emu_names::{LevelKind, Memory};
+use std::alloc::Global;
 
 /// When an item is, in samples of its bundle's rate, counted from 0 (EMU-SDMS Manual, "The emuDB
 /// format": `sampleStart`, `sampleDur` and `samplePoint`).
@@ -36,7 +36,7 @@ impl Time {
     }
 
     /// The first sample; 0 where there is no time.
-    pub(crate) fn first_sample(self) -> u64
+    pub fn first_sample(self) -> u64
         ensures { result ≡ first_sample self }
     {
         match self {
@@ -47,7 +47,7 @@ impl Time {
     }
 
     /// Whether the time is over before `later` begins.
-    pub(crate) fn is_before(self, later: Time) -> bool
+    pub fn is_before(self, later: Time) -> bool
         ensures { result ≡ is_before self later }
     {
         let next = later.first_sample();
@@ -66,7 +66,7 @@ impl Time {
     }
 
     /// Whether the time has the form that a level of this kind asks for.
-    pub(crate) fn fits_kind(self, kind: LevelKind) -> bool
+    pub fn fits_kind(self, kind: LevelKind) -> bool
         ensures { result ≡ fits_kind kind self }
     {
         match (kind, self) {
@@ -78,13 +78,19 @@ impl Time {
     }
 
     /// Whether the last sample is below 2^40.
-    pub(crate) fn ends_in_time(self) -> bool
+    pub fn ends_in_time(self) -> bool
         ensures { result ≡ ends_in_time self }
     {
         match self {
             Time::NoTime => true,
-            Time::Span { start, dur } => start < END_OF_TIME && dur < END_OF_TIME - start,
-            Time::Point { at } => at < END_OF_TIME,
+            Time::Span { start, dur } => start < SAMPLES && dur < SAMPLES - start,
+            Time::Point { at } => at < SAMPLES,
         }
+    }
+}
+
+impl PlainData for Time {
+    fn copy(&self, _alloc: Global) -> Result<Time, Memory> {
+        Ok(*self)
     }
 }

@@ -1,5 +1,5 @@
 //! Lists worked by hand from the level rule, and each call that allocates on its happy path.
-ghost use Rattle.std.specs.Prelude.{◌≡◌};
+ghost use Rattle.std.specs.Prelude.{◌≡◌, IfOk};
 
 use emu_names::{Broken, Fault, ItemId, LevelKind, Memory, Text};
 use level_items::Time::{NoTime, Point, Span};
@@ -346,7 +346,9 @@ fn lists_keep_the_level_rule(rt: HostRuntime) -> Result<(), Fail> {
 }
 
 /// A list of so many items, put in one after the other.
-fn row_of(rt: &impl Abort, alloc: Global, kind: LevelKind, count: u32) -> Result<LevelList, Fail> {
+fn row_of(rt: &impl Abort, alloc: Global, kind: LevelKind, count: u32) -> Result<LevelList, Fail>
+    ensures { IfOk result (λ list. list.attributes ≡ 0) }
+{
     let mut list = LevelList::new(alloc, kind, 0);
     for number in 0..count {
         let start = u64::from(number) * 2;
@@ -374,6 +376,37 @@ fn many_items_are_built_and_found(rt: HostRuntime) -> Result<(), Fail> {
             let place = list.find(ItemId(count - number));
             assert_eq!(rt; place, Some(number as usize));
         }
+    }
+    Ok(())
+}
+
+/// Puts two items first and takes one of them out, so that all others stand one place further.
+fn change_front(rt: &impl Abort, list: &mut LevelList, alloc: Global) -> Result<(), Fault>
+    requires { list.old.attributes ≡ 0 }
+    ensures { list.new.attributes ≡ 0 }
+{
+    for id in [1_000_000, 1_000_001] {
+        let labels = Labels::new(alloc);
+        let id = ItemId(id);
+        let time = NoTime;
+        list.insert(Some(0), Item { id, time, labels })?;
+    }
+    assert!(rt; list.len() > 0);
+    let taken = list.remove(0);
+    assert_eq!(rt; taken.id, ItemId(1_000_001));
+    Ok(())
+}
+
+/// Whether items without time are found in far less time than a walk takes, also where items before
+/// them were put in and taken out.
+#[test]
+fn items_are_found_behind_a_change(rt: HostRuntime) -> Result<(), Fail> {
+    let count = 65_536;
+    let mut list = row_of(&rt, rt.alloc(), LevelKind::Item, count)?;
+    change_front(&rt, &mut list, rt.alloc())?;
+    for number in 0..count {
+        let place = list.find(ItemId(count - number));
+        assert_eq!(rt; place, Some(number as usize + 1));
     }
     Ok(())
 }

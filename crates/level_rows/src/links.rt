@@ -140,3 +140,15 @@ fn many_links_are_soon_there(rt: HostRuntime) -> Result<(), Fail> {
     }
     Ok(())
 }
+
+/// Whether links are taken out one by one in far less time than the square of their number takes.
+#[test]
+fn many_links_are_soon_taken_out(rt: HostRuntime) -> Result<(), Fail> {
+    let mut links = full(rt.alloc(), 512)?;
+    for number in 0..65_536 {
+        let removed = links.remove(ItemId(number / 512), ItemId(1_000_000 + number % 512));
+        assert!(rt; removed.is_ok());
+    }
+    assert_eq!(rt; links.len(), 196_608);
+    Ok(())
+}

@@ -5,6 +5,7 @@ use Rattle.std.specs.Cmp.{IsEquivalence}
 use Rattle.std.proofs.lemmas.Bool.Decides.{nat_tests}
 use Rattle.std.proofs.lemmas.List.Filters.{length-filter_both}
 use Rattle.std.proofs.lemmas.Map.Keys.{IsDistinct-push}
+use Rattle.emu_names.specs.declared.limits.TheConstants.{BUNDLE_LINKS}
 use Rattle.link_graph.specs.declared.index.Index.{Index}
 use Rattle.link_graph.specs.declared.link.Link.{Link}
 use Rattle.link_graph.specs.Index.{Indexes}
@@ -24,7 +25,7 @@ joins_like = record {
   congr = λ x y z e. grind (arith, nat_tests);
 }
 
-pub push_kept : (link : Link) (links after : List Link) (old new : Index) → AreLinks links old → length links < 262144 →
+pub push_kept : (link : Link) (links after : List Link) (old new : Index) → AreLinks links old → length links < BUNDLE_LINKS →
     list_any (joins link.from link.to) links ≡ false → after ≡ links ++ link ∷ [] → Indexes new (links ++ link ∷ []) → AreLinks after new
 push_kept link links after old new h room apart is indexed =
     rw is

@@ -1,20 +1,21 @@
 -- Links that are added under a kind, and links that are taken out, keep it.
-use Rattle.std.proofs.Common.{◌≡◌, ◌≢◌, ℕ, Bool, true, false, List, [], ◌∷◌, ◌++◌, Option, None, Some, refl, ◌∙◌, cond, arith, option_map, eqb, leb, length}
-use Rattle.std.specs.List.{filter, list_any, IsDistinct, AllByRecursion}
+use Rattle.std.proofs.Common.{◌≡◌, ◌≢◌, ◌<◌, ◌&&◌, sym, ap, ℕ, Bool, true, false, List, [], ◌∷◌, ◌++◌, Option, None, Some, refl, ◌∙◌, cond, arith, option_map, eqb, leb, length}
+use Rattle.std.specs.List.{filter, find, list_any, IsDistinct, AllByRecursion}
 use Rattle.std.specs.Option.{option_or}
-use Rattle.std.proofs.lemmas.Bool.{cond_both, eq-eqb, ne_eqb, cond-true, cond-false}
+use Rattle.std.proofs.lemmas.Bool.{cond_both, eq-eqb, ne_eqb, cond-true, cond-false, or_from, or_parts, lt-leb}
 use Rattle.std.proofs.lemmas.Bool.Decides.{nat_tests}
 use Rattle.std.proofs.lemmas.Cmp.{nat_eq_equiv, on_equiv}
 use Rattle.std.proofs.lemmas.Map.Keys.{IsDistinct-push}
+use Rattle.emu_names.specs.declared.limits.TheConstants.{BUNDLE_LINKS}
 use Rattle.emu_names.specs.declared.kinds.LinkKind.{LinkKind}
 use Rattle.emu_names.specs.declared.kinds.LinkKind.TheVariants.{OneToOne, OneToMany, ManyToMany}
 use Rattle.emu_names.specs.declared.rules.Broken.{Broken}
-use Rattle.emu_names.specs.declared.rules.Broken.TheVariants.{LinkExists, TooMany}
+use Rattle.emu_names.specs.declared.rules.Broken.TheVariants.{LinkExists, TooMany, OneParent, OneChild}
 use Rattle.emu_names.specs.declared.rules.What.TheVariants.{BundleLinks}
 use Rattle.link_graph.specs.declared.link.Link.{Link}
 use Rattle.link_graph.specs.Kind.{KeepKind, HaveOneParent, HaveOneChild, of_definition}
 use Rattle.link_graph.specs.Link.{joins, add_fault, kind_fault, parent_fault, child_fault}
-use Rattle.link_graph.proofs.Filters.{filter_push, filter_swap, none_found}
+use Rattle.link_graph.proofs.Filters.{filter_push, filter_swap, none_found, find_both}
 
 all_filter : {X : Type 0} (P : X → Type 0) (p : X → Bool) (xs : List X) → AllByRecursion P xs → AllByRecursion P (filter p xs)
 all_filter P p [] h = h
@@ -95,10 +96,65 @@ pub keep_added : (kind : LinkKind) (link : Link) (links : List Link) → add_fau
     KeepKind kind link.definition links → KeepKind kind link.definition (links ++ link ∷ [])
 keep_added kind link links h =
     keep_same kind link links
-    (later (leb 262144 (length links)) (TooMany BundleLinks) _ (later (list_any (joins link.from link.to) links) LinkExists _ h))
+    (later (leb BUNDLE_LINKS (length links)) (TooMany BundleLinks) _ (later (list_any (joins link.from link.to) links) LinkExists _ h))
 
 pub keep_none : (kind : LinkKind) (definition : ℕ) → KeepKind kind definition []
 unfolding IsDistinct
 keep_none OneToOne definition = (tt, tt)
 keep_none OneToMany definition = tt
 keep_none ManyToMany definition = tt
+
+-- ---- a link with which the kind is kept breaks no rule
+
+all_last : {X : Type 0} (P : X → Type 0) (xs : List X) (y : X) → AllByRecursion P (xs ++ y ∷ []) → P y
+all_last P [] y h = h.0
+all_last P (x ∷ xs) y h = all_last P xs y h.1
+
+-- the last of a list of different elements differs from those before it
+last_differs : {X : Type 0} (e : X → X → Bool) (xs : List X) (y : X) → IsDistinct e (xs ++ y ∷ []) → list_any (λ x. e x y) xs ≡ false
+unfolding IsDistinct
+last_differs e [] y h = refl
+last_differs e (x ∷ xs) y h = or_from (e x y) (list_any (λ z. e z y) xs) (all_last _ xs y h.0) (last_differs e xs y h.1)
+
+unfound : {X : Type 0} (q : X → Bool) (xs : List X) → list_any q xs ≡ false → find q xs ≡ None
+unfound q [] k = refl
+unfound q (x ∷ xs) k =
+    let parts = or_parts (q x) (list_any q xs) k in
+    cond-false (q x) (Some x) (find q xs) parts.0 ∙ unfound q xs parts.1
+
+and_as_cond : (a b : Bool) → (a && b) ≡ cond a b false
+and_as_cond true b = refl
+and_as_cond false b = refl
+
+free_of : (q : Link → Bool) (definition : ℕ) (links : List Link) → list_any q (of_definition definition links) ≡ false →
+    find (λ l. eqb l.definition definition && q l) links ≡ None
+free_of q definition links none =
+    sym (find_both (λ l. eqb l.definition definition) q (λ l. eqb l.definition definition && q l) (λ l. and_as_cond (eqb l.definition definition) (q l)) links)
+    ∙ unfound q (of_definition definition links) none
+
+parent_free : (link : Link) (links : List Link) → HaveOneParent (of_definition link.definition (links ++ link ∷ [])) →
+    parent_fault link.definition link.to links ≡ None
+parent_free link links h =
+    ap (option_map (λ l. OneParent l.from))
+    (free_of (λ l. eqb l.to.0 link.to.0) link.definition links
+    (last_differs (λ (a b : Link). eqb a.to.0 b.to.0) (of_definition link.definition links) link (rw (of_push link links) at h)))
+
+child_free : (link : Link) (links : List Link) → HaveOneChild (of_definition link.definition (links ++ link ∷ [])) →
+    child_fault link.definition link.from links ≡ None
+child_free link links h =
+    ap (option_map (λ l. OneChild l.to))
+    (free_of (λ l. eqb l.from.0 link.from.0) link.definition links
+    (last_differs (λ (a b : Link). eqb a.from.0 b.from.0) (of_definition link.definition links) link (rw (of_push link links) at h)))
+
+kind_free : (kind : LinkKind) (link : Link) (links : List Link) → KeepKind kind link.definition (links ++ link ∷ []) →
+    kind_fault kind link.definition link.from link.to links ≡ None
+kind_free OneToOne link links h = ap (λ o. option_or o (child_fault link.definition link.from links)) (parent_free link links h.0) ∙ child_free link links h.1
+kind_free OneToMany link links h = parent_free link links h
+kind_free ManyToMany link links h = refl
+
+pub free_added : (kind : LinkKind) (link : Link) (links : List Link) → list_any (joins link.from link.to) links ≡ false → length links < BUNDLE_LINKS →
+    KeepKind kind link.definition (links ++ link ∷ []) → add_fault kind link.definition link.from link.to links ≡ None
+free_added kind link links apart room h =
+    cond-false (list_any (joins link.from link.to) links) (Some LinkExists) _ apart
+    ∙ cond-false (leb BUNDLE_LINKS (length links)) (Some (TooMany BundleLinks)) _ (lt-leb BUNDLE_LINKS (length links) room)
+    ∙ kind_free kind link links h

@@ -24,7 +24,8 @@ links_at by_item id = elements (get nat_cmp by_item.lists id)
 
 -- the links without those that name an item, where that is wanted
 abbrev pub forgotten : Bool → ItemId → List Link → List Link
-forgotten wanted id links = if wanted then filter (λ link. not (names_item id link)) links else links
+forgotten wanted id links =
+    if wanted then filter (λ link. not (names_item id link)) links else links
 
 -- by the first ids, and then by the second
 abbrev pub pair_cmp : ℕ × ℕ → ℕ × ℕ → Ordering
@@ -38,4 +39,6 @@ has_pair pairs from to = contains pair_cmp pairs.pairs (from, to)
 pub record Indexes (index : Index) (links : List Link) : Type 0 where
   pub down : (id : ℕ) → links_at index.down id ≡ filter (λ link. link.from.0 == id) links
   pub up : (id : ℕ) → links_at index.up id ≡ filter (λ link. link.to.0 == id) links
-  pub pairs : (from to : ℕ) → has_pair index.pairs from to ≡ list_any (λ link. (link.from.0 == from) && (link.to.0 == to)) links
+  pub pairs : (from to : ℕ) →
+      has_pair index.pairs from to
+      ≡ list_any (λ link. (link.from.0 == from) && (link.to.0 == to)) links

@@ -19,6 +19,7 @@ HaveOneChild links = IsDistinct (λ a b. a.from.0 == b.from.0) links
 
 -- the links of the definition are as its kind asks
 abbrev pub KeepKind : LinkKind → ℕ → List Link → Type 0
-KeepKind OneToOne definition links = HaveOneParent (of_definition definition links) × HaveOneChild (of_definition definition links)
+KeepKind OneToOne definition links =
+    HaveOneParent (of_definition definition links) × HaveOneChild (of_definition definition links)
 KeepKind OneToMany definition links = HaveOneParent (of_definition definition links)
 KeepKind ManyToMany definition links = Unit {0}

@@ -11,6 +11,8 @@ mod pairs;
 mod taken;
 
 pub use ends::Ends;
-pub use laws::{added_links_keep_kinds, kept_links_keep_kinds, no_links_keep_kinds};
+pub use laws::{
+    added_links_keep_kinds, kept_links_keep_kinds, links_that_fit_are_added, no_links_keep_kinds,
+};
 pub use link::Link;
 pub use links::Links;

@@ -2,18 +2,16 @@
 ghost use Rattle.std.specs.Prelude.{◌≡◌, ◌<◌, ◌≤◌, ◌↔◌, ◌==◌, ◌++◌, ◌∷◌, [], length, slice_get, Some, None, not, true, false, IfOk, OnOk, OnErr, IsOk, IsErrOf, ◌+◌, vec_len, vec_capacity};
 ghost use Rattle.std.specs.List.{filter, find, list_any};
 ghost use Rattle.emu_names.specs.declared.rules.Broken.{Broken as Rule};
-ghost use Rattle.link_graph.specs.Link.{ArePairsApart, joins, names_item, parents_of, children_of, parent_fault, child_fault, add_fault};
+ghost use Rattle.link_graph.specs.Link.{ArePairsApart, joins, names_item, parents_of, children_of, parent_fault, child_fault, add_fault, link_of};
 
 use crate::ends::Ends;
 use crate::index::Index;
 use crate::link::Link;
 use crate::taken::{take_item, take_pair};
+use emu_names::limits::BUNDLE_LINKS;
 use emu_names::{Broken, Fault, ItemId, LinkKind, Memory, What};
-use std::alloc::Global;
+use std::alloc::{AllocError, Global};
 use std::marker::Model;
-
-/// The most links of a bundle.
-const MOST_LINKS: usize = 262_144;
 
 /// The links of a bundle, at most 262,144, which contracts see as a list in the order of adding.
 #[derive(Drop)]
@@ -49,7 +47,7 @@ impl Links {
     /// How many links there are, at most 262,144.
     pub fn len(&self) -> usize
         ensures count { result ≡ length self.now }
-        ensures limit { length self.now ≤ 262144 }
+        ensures limit { length self.now ≤ BUNDLE_LINKS }
         ensures apart { ArePairsApart self.now }
     {
         self.links.len()
@@ -61,6 +59,13 @@ impl Links {
         ensures { slice_get self.now place ≡ Some result.now }
     {
         &self.links[place]
+    }
+
+    /// Whether an item is linked to another, in this direction.
+    pub fn has(&self, from: ItemId, to: ItemId) -> bool
+        ensures { result ≡ list_any (joins from to) self.now }
+    {
+        self.index.pairs.has(from, to)
     }
 
     /// The items that link to `id`, in the order of adding.
@@ -88,9 +93,10 @@ impl Links {
         from: ItemId,
         to: ItemId,
     ) -> Result<(), Fault>
-        ensures ok { OnOk result (self.new ≡ self.old ++ record { definition = definition; from = from; to = to } ∷ []) }
+        ensures ok { OnOk result (self.new ≡ self.old ++ link_of definition from to ∷ []) }
         ensures fits { OnOk result (add_fault kind definition from to self.old ≡ None) }
-        ensures broken { (rule : Rule) → result ≡ Err (Fault.Broken rule) → add_fault kind definition from to self.old ≡ Some rule }
+        ensures broken { (rule : Rule) → result ≡ Err (Fault.Broken rule)
+            → add_fault kind definition from to self.old ≡ Some rule }
         ensures err { OnErr result (self.new ≡ self.old) }
     {
         match self.fault(definition, kind, from, to) {
@@ -143,7 +149,7 @@ impl Links {
         if self.index.pairs.has(from, to) {
             return Some(Broken::LinkExists);
         }
-        if self.links.len() >= MOST_LINKS {
+        if self.links.len() >= BUNDLE_LINKS {
             return Some(Broken::TooMany(What::BundleLinks));
         }
         match kind {
@@ -176,7 +182,7 @@ impl Links {
     /// changes nothing.
     fn put(&mut self, link: Link) -> Result<(), Memory>
         requires apart { list_any (joins link.from link.to) self.old ≡ false }
-        requires room { length self.old < 262144 }
+        requires room { length self.old < BUNDLE_LINKS }
         ensures ok { OnOk result (self.new ≡ self.old ++ link ∷ []) }
         ensures err { OnErr result (self.new ≡ self.old) }
     {
@@ -184,6 +190,19 @@ impl Links {
         self.index.add(self.links.as_slice(), link)?;
         push_last(&mut self.links, link);
         Ok(())
+    }
+}
+
+impl Clone for Links {
+    ghost use Rattle.std.specs.Prelude.{◌≡◌};
+
+    ghost is_clone = { λ s t. t ≡ s };
+
+    fn clone(&self) -> Result<Links, AllocError> {
+        match self.copy(*self.links.allocator()) {
+            Ok(links) => Ok(links),
+            Err(Memory) => Err(AllocError),
+        }
     }
 }
 

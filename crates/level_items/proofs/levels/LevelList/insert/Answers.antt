@@ -1,4 +1,4 @@
-use Rattle.std.proofs.Common.{sym, ◌∙◌, ap, subst}
+use Rattle.std.proofs.Common.{ℕ, sym, ◌∙◌, ap, subst}
 use Rattle.std.specs.List.{insert}
 use Rattle.level_items.specs.Levels.{Level, level_of, are_labels_for, new_place}
 use Rattle.level_items.specs.Faults.{insert_fault}
@@ -15,5 +15,6 @@ invariant_of-self-2 c =
     let free = ap (λ zs. insert_fault inside.kind zs c.args.position c.args.item) (sym c.deref.ensures.value) ∙ c.in_ok-place.ensures.fault in
     let is = c.in_ok-place.ensures.place ∙ ap (λ zs. new_place inside.kind zs c.args.position c.args.item.time) c.deref.ensures.value in
     let new = c.put_in.ensures ∙ ap (λ zs. insert zs place c.args.item) c.in_ok-reserve.ensures.items in
-    subst (λ zs. IsKept (level_of inside.kind inside.attributes zs) c.put.new.self) (sym new)
-    (kept_insert inside.kind inside.attributes items c.args.position place c.args.item inside.marks c.put.new.self c.self.invariant free is labels c.in_ok-put.ensures.ok)
+    let marked = λ (q : ℕ). c.mark_behind.ensures q ∙ c.in_ok-put.ensures.ok q in
+    subst (λ zs. IsKept (level_of inside.kind inside.attributes zs) c.mark_behind.new.marks) (sym new)
+    (kept_insert inside.kind inside.attributes items c.args.position place c.args.item inside.marks c.mark_behind.new.marks c.self.invariant free is labels marked)
