@@ -1,5 +1,5 @@
-//! EQL, the query language of emuDB: the tokens of a text, the query that they spell, and the text of a
-//! query. (EMU-SDMS Manual, "The EMU Query Language version 2".)
+//! EQL, the query language of emuDB: the tokens of a text, the query that they spell, and the text of
+//! a query. (EMU-SDMS Manual, "The EMU Query Language version 2".)
 #![tactic(auto)]
 
 mod lexer;

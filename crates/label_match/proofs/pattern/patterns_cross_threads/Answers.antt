@@ -1,0 +1,10 @@
+use Rattle.std.proofs.Common.{rules}
+use denote.Param.Send.{arg_send, arg_sync, sendable}
+use Rattle.label_match.proofs.Crossing.{pattern_send, pattern_sync}
+use Rattle.label_match.proofs.pattern.patterns_cross_threads.Goals as goal
+
+pub crosses-requires-send-T : goal.crosses-requires-send-T
+crosses-requires-send-T c κs = search (sendable, pattern_send)
+
+pub crosses-requires-sync-T : goal.crosses-requires-sync-T
+crosses-requires-sync-T c κs = search (sendable, pattern_sync)
