@@ -2,6 +2,7 @@
 //! a query. (EMU-SDMS Manual, "The EMU Query Language version 2".)
 #![tactic(auto)]
 
+mod crossing;
 mod lexer;
 mod machine;
 mod print;
@@ -10,6 +11,7 @@ mod reader;
 mod token;
 mod words;
 
+pub use crossing::queries_cross_threads;
 pub use lexer::read_tokens;
 pub use print::print_query;
 pub use query::{Compare, Op, Place, Query, QueryFault, Term, Terms, Words};

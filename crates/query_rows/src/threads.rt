@@ -35,7 +35,6 @@ fn all_match(alloc: Global, question: &Question, label: &str) -> Option<bool> {
 }
 
 #[test]
-#[tactic(auto, using(label_match::proofs::Crossing::pattern_send, label_match::proofs::Crossing::pattern_sync))]
 fn questions_go_to_a_thread(rt: HostRuntime) -> Result<(), Fail> {
     let alloc = rt.alloc();
     let sent = make_question(alloc, "[Phonetic =~ '[Vm]']", "[Vm]")?;
@@ -45,7 +44,6 @@ fn questions_go_to_a_thread(rt: HostRuntime) -> Result<(), Fail> {
 }
 
 #[test]
-#[tactic(auto, using(label_match::proofs::Crossing::pattern_send, label_match::proofs::Crossing::pattern_sync))]
 fn threads_share_a_question(rt: HostRuntime) -> Result<(), Fail> {
     let alloc = rt.alloc();
     let shared = make_question(alloc, "[Phonetic =~ '[Vm]']", "[Vm]")?;

@@ -1,6 +1,6 @@
 use Rattle.std.proofs.Common.{rules}
 use denote.Param.Send.{arg_send, arg_sync, sendable}
-use Rattle.label_match.proofs.Crossing.{pattern_send, pattern_sync}
+use Rattle.label_match.proofs.Threads.{pattern_send, pattern_sync}
 use Rattle.label_match.proofs.pattern.patterns_cross_threads.Goals as goal
 
 pub crosses-requires-send-T : goal.crosses-requires-send-T

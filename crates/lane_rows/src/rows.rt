@@ -1,0 +1,1 @@
+//! Rows of bits at lengths round those of words and vectors.
