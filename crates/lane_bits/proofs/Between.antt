@@ -1,8 +1,7 @@
 -- What a vector's comparison says of its lanes.
-use Rattle.std.proofs.Common.{◌≡◌, ◌+◌, ◌-◌, ◌*◌, ◌%◌, ◌^◌, ◌<◌, ◌≤◌, ◌⊎◌, inl, inr, ℕ, Bool, true, false, cond, List, [], ◌∷◌, ◌++◌, length, map, take, drop, leb, nat_le, ◌&&◌, Fits, refl, ap, sym, ◌∙◌, add_assoc, arith}
-use Rattle.std.proofs.lemmas.Bool.{le-leb, lt-leb}
+use Rattle.std.proofs.Common.{◌≡◌, ◌+◌, ◌-◌, ◌%◌, ◌^◌, ◌<◌, ◌≤◌, ℕ, cond, List, [], ◌∷◌, length, map, leb, Fits, refl, ap, ◌∙◌, arith}
 use Rattle.std.proofs.lemmas.Bool.Decides.{nat_tests}
-use Rattle.std.proofs.lemmas.Simd.{mask_l-lt, map-map, zip2_splat, bitmask_splat, length-zip2, length-chunk}
+use Rattle.std.proofs.lemmas.Simd.{zip2_splat, bitmask_splat, length-zip2}
 use lib.Lanes.{Each1, mask_l, zip2, top}
 use lib.ListN.{replicate}
 use mir.Syntax.{w64}

@@ -20,3 +20,9 @@ pub record AreFor (n : ℕ) (words : List ℕ) : Type 0 where
 pub record Hold (words : List ℕ) (bits : List Bool) : Type 0 where
   pub enough : AreFor (length bits) words
   pub each : (i : ℕ) → bit_in words i ≡ get_or bits i false
+
+-- the words from one place to another are joined with the others, and all else is as before
+pub record JoinedIn (op : ℕ → ℕ → ℕ) (old other new : List ℕ) (from to : ℕ) : Type 0 where
+  pub inside : (i : ℕ) → from ≤ i → i < to → get_or new i 0 ≡ op (get_or old i 0) (get_or other i 0)
+  pub before : (i : ℕ) → i < from → get_or new i 0 ≡ get_or old i 0
+  pub behind : (i : ℕ) → to ≤ i → get_or new i 0 ≡ get_or old i 0

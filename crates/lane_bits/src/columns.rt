@@ -35,6 +35,13 @@ pub fn eq_words(words: &mut [u64], column: &[u32], label: u32)
     }
 }
 
+/// Whether the number is from `low` to `high`.
+fn is_between(low: u64, high: u64, number: u64) -> bool
+    ensures { result ≡ is_between low high number }
+{
+    low <= number && number <= high
+}
+
 /// Which of the fewer than 64 numbers from `from` on are from `low` to `high`.
 fn range_rest(column: &[u64], from: usize, low: u64, high: u64) -> u64
     requires near { from ≤ length column.now }
@@ -45,7 +52,7 @@ fn range_rest(column: &[u64], from: usize, low: u64, high: u64) -> u64
     let mut at = column.len();
     while at > from {
         at -= 1;
-        word = word * 2 + (low <= column[at] && column[at] <= high) as u64;
+        word = word * 2 + is_between(low, high, column[at]) as u64;
     }
     word
 }

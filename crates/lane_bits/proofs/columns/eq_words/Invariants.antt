@@ -1,5 +1,4 @@
 use Rattle.std.proofs.Common.{◌==◌}
-use Rattle.lane_bits.specs.Row.{is_between}
 use Rattle.lane_bits.proofs.Masks.{AreMasks}
 use Rattle.lane_bits.proofs.columns.eq_words.Given as goal
 

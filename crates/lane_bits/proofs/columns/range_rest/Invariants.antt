@@ -1,4 +1,4 @@
-use Rattle.std.proofs.Common.{◌≡◌, ◌≤◌, ◌==◌, length, map, drop}
+use Rattle.std.proofs.Common.{◌≡◌, ◌≤◌, length, map, drop}
 use Rattle.std.specs.Simd.Lanes.{mask_l}
 use Rattle.lane_bits.specs.Row.{is_between}
 use Rattle.lane_bits.proofs.columns.range_rest.Given as goal

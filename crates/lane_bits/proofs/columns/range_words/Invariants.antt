@@ -1,4 +1,3 @@
-use Rattle.std.proofs.Common.{◌==◌}
 use Rattle.lane_bits.specs.Row.{is_between}
 use Rattle.lane_bits.proofs.Masks.{AreMasks}
 use Rattle.lane_bits.proofs.columns.range_words.Given as goal

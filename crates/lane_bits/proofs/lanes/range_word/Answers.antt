@@ -1,5 +1,4 @@
-use Rattle.std.proofs.Common.{◌+◌, ◌-◌, ◌*◌, ◌^◌, ◌≡◌, ◌<◌, ◌≤◌, ℕ, List, length, map, take, drop, arith, sym, ◌∙◌, ap, subst, Fits}
-use Rattle.std.proofs.lemmas.List.{length-take}
+use Rattle.std.proofs.Common.{◌+◌, ◌-◌, ◌*◌, ◌^◌, ◌≡◌, ◌<◌, ℕ, map, take, drop, arith, ◌∙◌, ap}
 use lib.Lanes.{mask_l}
 use Rattle.lane_bits.specs.Row.{is_between}
 use Rattle.lane_bits.proofs.Masks.{taken_few, eight_more}
@@ -22,8 +21,8 @@ loop-done-preserved c =
     let k : ℕ = 8 * c.loop-done.done in
     let p = is_between c.args.low c.args.high in
     let behind : c.loop-done.word ≡ mask_l (map p (take k (drop (from + 8) c.args.column.now))) =
-        c.loop-done.invariant
-        ∙ ap (λ n. mask_l (map p (take k (drop n c.args.column.now)))) (omega arith) in
+    c.loop-done.invariant
+    ∙ ap (λ n. mask_l (map p (take k (drop n c.args.column.now)))) (omega arith) in
     let more = eight_more p c.args.column.now from k c.loop-done.word c.range_eight-eight.result (omega arith) c.range_eight-eight.ensures behind in
     let count : 8 + k ≡ 8 * (c.loop-done.done + 1) = omega arith in
     let place : from ≡ c.args.at + (64 - 8 * (c.loop-done.done + 1)) = omega arith in
