@@ -1,6 +1,6 @@
 -- What may be sent to a thread, and what threads may share.
 use denote.Param.Send.{IsSend, IsSync, sendable, view_send, view_sync}
-use denote.Param.SendFields.{FieldsHave, declared_send, declared_sync}
+use denote.Param.SendFields.{declared_send, declared_sync}
 use Rattle.std.proofs.Crossing.{crosses}
 use Rattle.std.proofs.MapsCrossing.{String-send, String-sync}
 use Rattle.std.proofs.option.Option.TheSendSync as option
@@ -49,25 +49,51 @@ signs_sync = search (hir_sync, caseless.the_sync, crosses, sendable) depth 30
 
 program_send : IsSend program.the_row
 program_send = declared_send program.the_type (
-    hir_send,
-    (search (dfa.the_field_send, sendable) depth 30,
-      (plans_send,
-        (search (signs_send, option.the_field_send, crosses, sendable) depth 30,
-          (search (byte_set.the_send, option.the_field_send, sendable) depth 30,
-            (search sendable depth 30,
-              (search sendable depth 30,
-                (search (option.the_field_send, sendable) depth 30, tt))))))))
+  hir_send,
+  (
+    search (dfa.the_field_send, sendable) depth 30,
+    (
+      plans_send,
+      (
+        search (signs_send, option.the_field_send, crosses, sendable) depth 30,
+        (
+          search (byte_set.the_send, option.the_field_send, sendable) depth 30,
+          (
+            search sendable depth 30,
+            (
+              search sendable depth 30,
+              (search (option.the_field_send, sendable) depth 30, tt),
+            ),
+          ),
+        ),
+      ),
+    ),
+  ),
+)
 
 program_sync : IsSync program.the_row
 program_sync = declared_sync program.the_type (
-    hir_sync,
-    (search (dfa.the_field_sync, sendable) depth 30,
-      (plans_sync,
-        (search (signs_sync, option.the_field_sync, crosses, sendable) depth 30,
-          (search (byte_set.the_sync, option.the_field_sync, sendable) depth 30,
-            (search sendable depth 30,
-              (search sendable depth 30,
-                (search (option.the_field_sync, sendable) depth 30, tt))))))))
+  hir_sync,
+  (
+    search (dfa.the_field_sync, sendable) depth 30,
+    (
+      plans_sync,
+      (
+        search (signs_sync, option.the_field_sync, crosses, sendable) depth 30,
+        (
+          search (byte_set.the_sync, option.the_field_sync, sendable) depth 30,
+          (
+            search sendable depth 30,
+            (
+              search sendable depth 30,
+              (search (option.the_field_sync, sendable) depth 30, tt),
+            ),
+          ),
+        ),
+      ),
+    ),
+  ),
+)
 
 inner_send : IsSend inner.the_row
 inner_send = declared_send inner.the_type (String-send, (search sendable depth 20, (search (crosses, String-send, sendable) depth 20, (program_send, tt))))

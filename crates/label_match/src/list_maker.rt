@@ -22,7 +22,8 @@ impl Model for ListMaker {
 
     ghost Value = { ListedMaker };
 
-    ghost view = { λ m. record { calls = m.calls; refuses = m.refuses.items; refusals = m.refusals } };
+    ghost view = { λ m.
+        record { calls = m.calls; refuses = m.refuses.items; refusals = m.refusals } };
 }
 
 impl ListMaker {

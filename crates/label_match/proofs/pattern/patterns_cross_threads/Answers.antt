@@ -1,5 +1,4 @@
-use Rattle.std.proofs.Common.{rules}
-use denote.Param.Send.{arg_send, arg_sync, sendable}
+use denote.Param.Send.{sendable}
 use Rattle.label_match.proofs.Threads.{pattern_send, pattern_sync}
 use Rattle.label_match.proofs.pattern.patterns_cross_threads.Goals as goal
 
