@@ -12,3 +12,4 @@ mod Residual
 mod Respells
 mod Shapes
 mod Stack
+pub mod Threads

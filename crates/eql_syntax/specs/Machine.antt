@@ -23,10 +23,12 @@ pub data Function : Type 0 where
   Placing : Place → Function
   Counting : Function
 
+-- the function of a place, or else the one that counts, where the word is its name
 abbrev pub placing_or : Option Place → Bool → Option Function
 placing_or (Some place) counts = Some (Placing place)
 placing_or None counts = if counts then Some Counting else None
 
+-- the function that a word names: only a bare word names one
 abbrev pub function_of : Bool → List ℕ → Option Function
 function_of bare word = if bare then placing_or (place_of word) (is_count word) else None
 
@@ -54,6 +56,7 @@ pub record State : Type 0 where
   pub brackets : List Bracket
   pub spot : Spot
 
+-- the state in these brackets at this spot
 abbrev pub at : List Bracket → Spot → Option State
 at bs spot = Some (record { brackets = bs; spot = spot })
 
@@ -71,30 +74,41 @@ abbrev pub after_terms : List Bracket → List Term → Token → Option State
 after_terms bs ts And = at bs (Another ts)
 after_terms bs ts t = after bs (Conjunction ts) t
 
+-- at the first token of a condition
 abbrev pub first_of : List Bracket → List Term → Token → Option State
 first_of bs ts Hash = at bs (Marked ts)
 first_of bs ts (Word bare name) = at bs (Named ts false bare name)
 first_of bs ts _ = None
 
+-- behind the sign of a label test, where it has an operator
 abbrev pub tested : List Bracket → List Term → Bool → List ℕ → Option Op → Option State
 tested bs ts m name None = None
 tested bs ts m name (Some op) = at bs (Tested ts m name op)
 
+-- behind the bracket of a function, where the word names one
 abbrev pub called : List Bracket → List Term → Bool → Option Function → Option State
 called bs ts m None = None
 called bs ts m (Some f) = at bs (Called ts m f)
 
-abbrev pub placed : List Bracket → List Term → Bool → Place → List ℕ → List ℕ → Option Bool → Option State
+-- behind the bit of a test of a place, where it is one
+abbrev pub placed :
+  List Bracket → List Term → Bool → Place → List ℕ → List ℕ → Option Bool → Option State
 placed bs ts m p upper lower None = None
-placed bs ts m p upper lower (Some wanted) = at bs (Ended (ts ++ terms.Place m p upper lower wanted ∷ []))
+placed bs ts m p upper lower (Some wanted) =
+    at bs (Ended (ts ++ terms.Place m p upper lower wanted ∷ []))
 
-abbrev pub compared : List Bracket → List Term → Bool → List ℕ → List ℕ → Option Compare → Option State
+-- behind the sign of a test of a number, where it is a comparison
+abbrev pub compared :
+  List Bracket → List Term → Bool → List ℕ → List ℕ → Option Compare → Option State
 compared bs ts m upper lower None = None
 compared bs ts m upper lower (Some compare) = at bs (Counted ts m upper lower compare)
 
-abbrev pub counted : List Bracket → List Term → Bool → List ℕ → List ℕ → Compare → Option ℕ → Option State
+-- behind the digits of a test of a number, where they are a number
+abbrev pub counted :
+  List Bracket → List Term → Bool → List ℕ → List ℕ → Compare → Option ℕ → Option State
 counted bs ts m upper lower compare None = None
-counted bs ts m upper lower compare (Some number) = at bs (Ended (ts ++ terms.Num m upper lower compare number ∷ []))
+counted bs ts m upper lower compare (Some number) =
+    at bs (Ended (ts ++ terms.Num m upper lower compare number ∷ []))
 
 -- the state behind one token more, where there is one
 abbrev pub step : List Bracket → Spot → Token → Option State
@@ -106,31 +120,38 @@ step bs (Named ts m bare name) (Between sign) = tested bs ts m name (op_of sign)
 step bs (Named ts m bare name) LeftParen = called bs ts m (function_of bare name)
 step bs (Tested ts m name op) (Word bare label) = at bs (Labelled ts m name op (label ∷ []))
 step bs (Labelled ts m name op labels) Or = at bs (Parted ts m name op labels)
-step bs (Labelled ts m name op labels) t = after_terms bs (ts ++ terms.Test m name op labels ∷ []) t
-step bs (Parted ts m name op labels) (Word bare label) = at bs (Labelled ts m name op (labels ++ label ∷ []))
+step bs (Labelled ts m name op labels) t =
+    after_terms bs (ts ++ terms.Test m name op labels ∷ []) t
+step bs (Parted ts m name op labels) (Word bare label) =
+    at bs (Labelled ts m name op (labels ++ label ∷ []))
 step bs (Called ts m f) (Word bare upper) = at bs (Upper ts m f upper)
 step bs (Upper ts m f upper) Comma = at bs (Split ts m f upper)
 step bs (Split ts m f upper) (Word bare lower) = at bs (Lower ts m f upper lower)
 step bs (Lower ts m f upper lower) RightParen = at bs (Sided ts m f upper lower)
 step bs (Sided ts m (Placing p) upper lower) (Between signs.Is) = at bs (Asked ts m p upper lower)
-step bs (Sided ts m Counting upper lower) (Between sign) = compared bs ts m upper lower (compare_of sign)
+step bs (Sided ts m Counting upper lower) (Between sign) =
+    compared bs ts m upper lower (compare_of sign)
 step bs (Asked ts m p upper lower) (Word true bit) = placed bs ts m p upper lower (bit_of bit)
-step bs (Counted ts m upper lower compare) (Word true digits) = counted bs ts m upper lower compare (number_of digits)
+step bs (Counted ts m upper lower compare) (Word true digits) =
+    counted bs ts m upper lower compare (number_of digits)
 step bs (Ended ts) t = after_terms bs ts t
 step bs (Closed q) t = after bs q t
 step _ _ _ = None
 
+-- the state behind one token more, where there was a state
 abbrev pub step_on : Option State → Token → Option State
 step_on None t = None
 step_on (Some s) t = step s.brackets s.spot t
 
+-- the state behind all the tokens, where there is one
 abbrev pub steps : Option State → List Token → Option State
 steps o [] = o
 steps o (t ∷ ts) = steps (step_on o t) ts
 
 -- the query that ends at the spot, where no bracket is open
 abbrev pub ended_at : Spot → Option Tree
-ended_at (Labelled ts m name op labels) = Some (Conjunction (ts ++ terms.Test m name op labels ∷ []))
+ended_at (Labelled ts m name op labels) =
+    Some (Conjunction (ts ++ terms.Test m name op labels ∷ []))
 ended_at (Ended ts) = Some (Conjunction ts)
 ended_at (Closed q) = Some q
 ended_at _ = None

@@ -17,6 +17,7 @@ pub record Reading : Type 0 where
   pub depth : ℕ
   pub marked : Bool
 
+-- the reading before the first token
 abbrev pub at_start : Reading
 at_start = record { brackets = []; spot = Beginning; depth = 0; marked = false }
 
@@ -25,21 +26,29 @@ abbrev pub limit_at : Token → ℕ → QueryFault
 limit_at Open at = TooDeep at
 limit_at _ at = TwoMarks at
 
+-- the reading behind a token that moves the reader to this state, where there is one
 abbrev pub moved : Reading → Token → ℕ → Option State → Result Reading QueryFault
 moved r t at None = Err (Syntax at)
 moved r t at (Some s) =
     if fits r.depth r.marked t
-    then Ok (record { brackets = s.brackets; spot = s.spot; depth = depth_step r.depth t; marked = mark_step r.marked t })
+    then Ok (record {
+      brackets = s.brackets;
+      spot = s.spot;
+      depth = depth_step r.depth t;
+      marked = mark_step r.marked t;
+    })
     else Err (limit_at t at)
 
 -- the reading behind one token more
 unfoldable pub taken : Reading → Token → ℕ → Result Reading QueryFault
 taken r t at = moved r t at (step r.brackets r.spot t)
 
+-- the query, or a fault at the text's length, where there is none
 abbrev pub query_or : Option Tree → ℕ → Result Tree QueryFault
 query_or (Some q) length = Ok q
 query_or None length = Err (Syntax length)
 
+-- the query that ends at the spot, where no bracket is open
 abbrev pub closed_at : List Bracket → Spot → Option Tree
 closed_at [] spot = ended_at spot
 closed_at (b ∷ bs) spot = None
@@ -48,10 +57,12 @@ closed_at (b ∷ bs) spot = None
 abbrev pub finished : Reading → ℕ → Result Tree QueryFault
 finished r length = query_or (closed_at r.brackets r.spot) length
 
+-- what is read where the tokens end, or the fault that came before
 abbrev pub finish : Result Reading QueryFault → ℕ → Result Tree QueryFault
 finish (Err fault) length = Err fault
 finish (Ok r) length = finished r length
 
+-- the reading behind one token more, or the fault that came before
 abbrev pub take_on : Result Reading QueryFault → Placed → Result Reading QueryFault
 take_on (Err fault) x = Err fault
 take_on (Ok r) x = taken r x.token x.at
@@ -61,5 +72,6 @@ abbrev pub reads : Result Reading QueryFault → List Placed → ℕ → Result 
 reads r [] length = finish r length
 reads r (x ∷ xs) length = reads (take_on r x) xs length
 
+-- the query of the tokens of a text of this length, or the first fault
 abbrev pub read : List Placed → ℕ → Result Tree QueryFault
 read xs length = reads (Ok at_start) xs length

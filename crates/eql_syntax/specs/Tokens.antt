@@ -1,6 +1,6 @@
--- The tokens of an EQL text with the places in bytes at which they begin. (EMU-SDMS Manual, "The EMU
--- Query Language version 2".)
-use Rattle.std.specs.Prelude.{ℕ, zero, suc, ◌+◌, ◌-◌, ◌==◌, nat_lt, ◌||◌, ◌&&◌, not, Bool, true, false, List, [], ◌∷◌, length, take, if◌then◌else◌, Option, Some, None}
+-- The tokens of an EQL text with the places in bytes at which they begin. (EMU-SDMS Manual, "The
+-- EMU Query Language version 2".)
+use Rattle.std.specs.Prelude.{◌≡◌, ℕ, zero, suc, ◌+◌, ◌-◌, ◌==◌, nat_lt, ◌||◌, ◌&&◌, not, Bool, true, false, List, [], ◌∷◌, length, take, if◌then◌else◌, Option, Some, None}
 use Rattle.std.specs.List.{prefix_len}
 use Rattle.eql_syntax.specs.declared.token.Sign.TheVariants as signs
 use Rattle.eql_syntax.specs.declared.token.Placed.{Placed}
@@ -22,6 +22,7 @@ abbrev pub front : List ℕ → ℕ
 front [] = 0
 front (b ∷ bs) = b
 
+-- the two bytes are an arrow
 abbrev pub is_arrow : ℕ → ℕ → Bool
 is_arrow b next = b == 45 && next == 62
 
@@ -59,10 +60,11 @@ symbol b next =
     else (if b == 62 then Some (Between signs.Gt, 1)
     else None)))))))))))))))))))
 
--- how many bytes stand before the next quote
+-- the byte is no quote
 abbrev pub is_unquoted : ℕ → Bool
 is_unquoted b = not (b == 39)
 
+-- how many bytes stand before the next quote
 abbrev pub quoted_len : List ℕ → ℕ
 quoted_len bs = prefix_len is_unquoted bs
 
@@ -70,13 +72,15 @@ quoted_len bs = prefix_len is_unquoted bs
 -- closed, a token that no query has and that takes the rest
 unfoldable pub quoted : List ℕ → Token × ℕ
 quoted bs =
-    if nat_lt (quoted_len bs) (length bs) then (Word false (take (quoted_len bs) bs), quoted_len bs + 2)
+    if nat_lt (quoted_len bs) (length bs)
+    then (Word false (take (quoted_len bs) bs), quoted_len bs + 2)
     else (Wrong, length bs + 1)
 
 -- a bare word and its length
 unfoldable pub bare : ℕ → List ℕ → Token × ℕ
 bare b bs = (Word true (take (word_len bs + 1) (b ∷ bs)), word_len bs + 1)
 
+-- the symbol, where there is one, or else the word
 abbrev pub symbol_or_word : Option (Token × ℕ) → ℕ → List ℕ → Token × ℕ
 symbol_or_word (Some found) b bs = found
 symbol_or_word None b bs = if b == 39 then quoted bs else bare b bs
@@ -91,8 +95,13 @@ tokens_from [] skip place = []
 tokens_from (b ∷ bs) (suc skip) place = tokens_from bs skip (place + 1)
 tokens_from (b ∷ bs) zero place =
     if is_space b then tokens_from bs 0 (place + 1)
-    else (record { at = place; token = (token_at b bs).0 } ∷ tokens_from bs ((token_at b bs).1 - 1) (place + 1))
+    else (record { at = place; token = (token_at b bs).0 }
+      ∷ tokens_from bs ((token_at b bs).1 - 1) (place + 1))
 
 -- the tokens of a text
 unfoldable pub tokens_of : List ℕ → List Placed
 tokens_of text = tokens_from text 0 0
+
+-- the token that was found, with its length, is the one that there is
+abbrev pub IsToken : Token × ℕ → Token → ℕ → Type 0
+IsToken there token len = there ≡ (token, len)

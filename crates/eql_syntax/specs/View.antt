@@ -10,21 +10,25 @@ use Rattle.eql_syntax.specs.declared.machine.Spot.TheVariants as spots
 use Rattle.eql_syntax.specs.declared.machine.State.{State as CodeState}
 use Rattle.eql_syntax.specs.declared.reader.Reading.{Reading as CodeReading}
 use Rattle.eql_syntax.specs.declared.query.Query.{Query}
+use Rattle.eql_syntax.specs.declared.token.Token.{Token}
 use Rattle.eql_syntax.specs.declared.query.QueryFault.{QueryFault}
 use Rattle.eql_syntax.specs.declared.query.QueryFault.TheVariants as faults
 use Rattle.eql_syntax.specs.Tree.{Tree, tree_of}
 use Rattle.eql_syntax.specs.Reading.{Reading}
-use Rattle.eql_syntax.specs.Machine.{Bracket, Opened, Before, Over, Function, Placing, Counting, Spot, Beginning, Another, Marked, Named, Tested, Labelled, Parted, Called, Upper, Split, Lower, Sided, Asked, Counted, Ended, Closed, State}
+use Rattle.eql_syntax.specs.Machine.{Bracket, Opened, Before, Over, Function, Placing, Counting, Spot, Beginning, Another, Marked, Named, Tested, Labelled, Parted, Called, Upper, Split, Lower, Sided, Asked, Counted, Ended, Closed, State, step}
 
+-- the function that the one in memory is
 abbrev pub function_view : CodeFunction → Function
 function_view (functions.Placing place) = Placing place
 function_view functions.Counting = Counting
 
+-- the bracket that the one in memory is
 abbrev pub bracket_view : CodeBracket → Bracket
 bracket_view code_brackets.Opened = Opened
 bracket_view (code_brackets.Before left) = Before (tree_of left)
 bracket_view (code_brackets.Over left) = Over (tree_of left)
 
+-- the spot that the one in memory is
 abbrev pub spot_view : CodeSpot → Spot
 spot_view spots.Beginning = Beginning
 spot_view (spots.Another ts) = Another ts
@@ -43,25 +47,38 @@ spot_view (spots.Counted ts m upper lower compare) = Counted ts m upper lower co
 spot_view (spots.Ended ts) = Ended ts
 spot_view (spots.Closed q) = Closed (tree_of q)
 
--- the open brackets, the innermost first
+-- the open brackets, the innermost first, with those below them
 abbrev pub stack_on : List Bracket → List CodeBracket → List Bracket
 stack_on below [] = below
 stack_on below (b ∷ bs) = stack_on (bracket_view b ∷ below) bs
 
+-- the open brackets of those in memory, the innermost first
 abbrev pub stack : List CodeBracket → List Bracket
 stack bs = stack_on [] bs
 
+-- the state that the one in memory is
 abbrev pub state_view : CodeState → State
 state_view s = record { brackets = stack s.brackets.items; spot = spot_view s.spot }
 
--- an answer of the program is the state that there is, or that there is none; want of memory is free
+-- an answer of the program is the state that there is, or that there is none; want of memory is
+-- free
 abbrev pub Moves : Result (Option CodeState) Memory → Option State → Type 0
 Moves (Ok None) there = there ≡ None
 Moves (Ok (Some s)) there = there ≡ Some (state_view s)
 Moves (Err _) there = Unit {0}
 
+-- the reading that the one in memory is
 abbrev pub reading_view : CodeReading → Reading
-reading_view r = record { brackets = stack r.brackets.items; spot = spot_view r.spot; depth = r.depth; marked = r.marked }
+reading_view r = record {
+  brackets = stack r.brackets.items;
+  spot = spot_view r.spot;
+  depth = r.depth;
+  marked = r.marked;
+}
+
+-- an answer of the program is the state behind one token more, in these brackets and at this spot
+abbrev pub Steps : Result (Option CodeState) Memory → List CodeBracket → Spot → Token → Type 0
+Steps answer brackets spot token = Moves answer (step (stack brackets) spot token)
 
 -- a reading of the program is the one that there is, or its fault is the one that there is
 abbrev pub Takes : Result CodeReading QueryFault → Result Reading QueryFault → Type 0

@@ -1,4 +1,5 @@
--- What single words and signs stand for in EQL. (EMU-SDMS Manual, "The EMU Query Language version 2".)
+-- What single words and signs stand for in EQL. (EMU-SDMS Manual, "The EMU Query Language version
+-- 2".)
 use Rattle.std.specs.Prelude.{ℕ, ◌||◌, ◌&&◌, Bool, true, false, List, length, if◌then◌else◌, nat_le, nat_eq, codes, Option, Some, None}
 use Rattle.std.specs.Cmp.Lexicographic.{pointwise}
 use Rattle.std.specs.Str.{all_ascii_digits}
@@ -48,8 +49,10 @@ is_count word = is_text word (codes "Num")
 -- what is wanted of a place; this list of words is this project's own
 abbrev pub bit_of : List ℕ → Option Bool
 bit_of word =
-    if is_text word (codes "1") || is_text word (codes "TRUE") || is_text word (codes "T") then Some true
-    else (if is_text word (codes "0") || is_text word (codes "FALSE") || is_text word (codes "F") then Some false else None)
+    if is_text word (codes "1") || is_text word (codes "TRUE") || is_text word (codes "T")
+    then Some true
+    else (if is_text word (codes "0") || is_text word (codes "FALSE") || is_text word (codes "F")
+    then Some false else None)
 
 -- a number of 1 to 9 digits
 abbrev pub number_of : List ℕ → Option ℕ

@@ -1,7 +1,7 @@
 //! The token at the front of a text.
 ghost use Rattle.std.specs.Prelude.{◌≡◌, ℕ, ◌+◌, ◌<◌, ◌≤◌, length, drop, slice_index, IfOk, IfSome, MatchOption, None, Some, true, false, [], ◌∷◌, ◌++◌, ◌^◌};
 ghost use Rattle.std.specs.Str.{IsCharBoundary};
-ghost use Rattle.eql_syntax.specs.Tokens.{is_space, is_mark, is_arrow, ends_word, word_len, symbol, quoted_len, is_unquoted, quoted, bare, token_at, front, tokens_from, tokens_of};
+ghost use Rattle.eql_syntax.specs.Tokens.{is_space, is_mark, is_arrow, ends_word, word_len, symbol, quoted_len, is_unquoted, quoted, bare, token_at, front, tokens_from, tokens_of, IsToken};
 
 use crate::token::{Placed, Sign, Token, Tokens};
 use emu_names::{Memory, Text};
@@ -87,7 +87,10 @@ fn quoted_len(text: &[u8]) -> usize
 
 /// The symbol at the front, by the first byte and the one behind it, and its length.
 fn symbol(byte: u8, next: u8) -> Option<(Token, usize)>
-    ensures { MatchOption result (symbol byte next ≡ None) (λ found. symbol byte next ≡ Some (found.0, found.1)) }
+    ensures {
+        let there = symbol byte next in
+        MatchOption result (there ≡ None) (λ found. there ≡ Some (found.0, found.1))
+    }
 {
     match byte {
         b'[' => Some((Token::Open, 1)),
@@ -114,12 +117,12 @@ fn symbol(byte: u8, next: u8) -> Option<(Token, usize)>
     }
 }
 
-/// The quoted word at the front, and the length that it takes with its quotes; where it is not closed,
-/// what no query has.
+/// The quoted word at the front, and the length that it takes with its quotes; where it is not
+/// closed, what no query has.
 #[tactic(auto, using(crate::proofs::Cuts::quote_cut, crate::proofs::Cuts::behind_quote, crate::proofs::Cuts::whole_cut), unfolding(crate::specs::Tokens::quoted))]
 fn quoted_word(alloc: Global, text: &str) -> Result<(Token, usize), Memory>
     requires { front text.now ≡ 39 }
-    ensures value { IfOk result (λ found. quoted (drop 1 text.now) ≡ (found.0, found.1)) }
+    ensures value { IfOk result (λ found. IsToken (quoted (drop 1 text.now)) found.0 found.1) }
     ensures cut { IfOk result (λ found. IsCharBoundary text.now found.1) }
 {
     let inner = &text[1..];
@@ -141,7 +144,10 @@ fn quoted_word(alloc: Global, text: &str) -> Result<(Token, usize), Memory>
 #[tactic(auto, unfolding(crate::specs::Tokens::bare))]
 fn bare_word(alloc: Global, text: &str) -> Result<(Token, usize), Memory>
     requires { 0 < length text.now }
-    ensures value { IfOk result (λ found. bare (front text.now) (drop 1 text.now) ≡ (found.0, found.1)) }
+    ensures value {
+        let there = bare (front text.now) (drop 1 text.now) in
+        IfOk result (λ found. IsToken there found.0 found.1)
+    }
     ensures cut { IfOk result (λ found. IsCharBoundary text.now found.1) }
 {
     let len = word_len(&text.as_bytes()[1..]) + 1;
@@ -159,7 +165,10 @@ fn bare_word(alloc: Global, text: &str) -> Result<(Token, usize), Memory>
 #[tactic(auto, unfolding(crate::specs::Tokens::token_at))]
 fn token(alloc: Global, text: &str) -> Result<(Token, usize), Memory>
     requires { 0 < length text.now }
-    ensures value { IfOk result (λ found. token_at (front text.now) (drop 1 text.now) ≡ (found.0, found.1)) }
+    ensures value {
+        let there = token_at (front text.now) (drop 1 text.now) in
+        IfOk result (λ found. IsToken there found.0 found.1)
+    }
     ensures cut { IfOk result (λ found. IsCharBoundary text.now found.1) }
 {
     let bytes = text.as_bytes();
@@ -174,8 +183,8 @@ fn token(alloc: Global, text: &str) -> Result<(Token, usize), Memory>
     }
 }
 
-/// Takes what stands at the front: white space, or a token, which is put behind the others. Gives the
-/// length of what it took.
+/// Takes what stands at the front: white space, or a token, which is put behind the others. Gives
+/// the length of what it took.
 #[tactic(auto, using(crate::proofs::Cuts::space_cut, crate::proofs::Behind::token_len))]
 fn take_front(alloc: Global, tokens: &mut Tokens, at: u32, text: &str) -> Result<usize, Memory>
     requires { 0 < length text.now }

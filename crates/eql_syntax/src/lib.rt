@@ -1,7 +1,8 @@
-//! EQL, the query language of emuDB: the tokens of a text, the query that they spell, and the text of a
-//! query. (EMU-SDMS Manual, "The EMU Query Language version 2".)
+//! EQL, the query language of emuDB: the tokens of a text, the query that they spell, and the text of
+//! a query. (EMU-SDMS Manual, "The EMU Query Language version 2".)
 #![tactic(auto)]
 
+mod crossing;
 mod lexer;
 mod machine;
 mod print;
@@ -10,6 +11,7 @@ mod reader;
 mod token;
 mod words;
 
+pub use crossing::queries_cross_threads;
 pub use lexer::read_tokens;
 pub use print::print_query;
 pub use query::{Compare, Op, Place, Query, QueryFault, Term, Terms, Words};

@@ -2,9 +2,9 @@
 ghost use Rattle.std.specs.Prelude.{◌≡◌, ℕ, [], ◌∷◌, ◌++◌, IfOk, MatchOption, None, Some};
 ghost use Rattle.eql_syntax.specs.Tree.{tree_of, Conjunction};
 ghost use Rattle.eql_syntax.specs.Words.{op_of, compare_of, place_of, is_count, bit_of, number_of};
-ghost use Rattle.eql_syntax.specs.Machine.{function_of, after, after_terms, first_of, tested, called, placed, compared, counted, step};
+ghost use Rattle.eql_syntax.specs.Machine.{function_of, after, after_terms, first_of, tested, called, placed, compared, counted};
 ghost use Rattle.eql_syntax.specs.Machine.{Beginning, Marked, Named, Tested, Labelled, Parted, Called, Upper, Split, Lower, Sided, Asked, Counted};
-ghost use Rattle.eql_syntax.specs.View.{function_view, bracket_view, spot_view, stack, Moves};
+ghost use Rattle.eql_syntax.specs.View.{function_view, bracket_view, spot_view, stack, Moves, Steps};
 
 use crate::query::{Compare, Op, Place, Query, Term, Terms, Words};
 use crate::token::{Sign, Token};
@@ -120,7 +120,10 @@ fn after(
 
 /// Behind the first query in a bracket, of which `outer` are those round it.
 fn opened(outer: Vec<Bracket>, query: Query, token: &Token) -> Result<Option<State>, Memory>
-    ensures { Moves result (after (bracket_view Bracket.Opened ∷ stack outer.items) (tree_of query) token.now) }
+    ensures {
+        let opened = bracket_view Bracket.Opened ∷ stack outer.items in
+        Moves result (after opened (tree_of query) token.now)
+    }
 {
     match token {
         Token::Arrow => {
@@ -198,7 +201,7 @@ fn named(
     name: Text,
     token: &Token,
 ) -> Result<Option<State>, Memory>
-    ensures { Moves result (step (stack brackets.items) (Named terms marked bare name) token.now) }
+    ensures { Steps result brackets.items (Named terms marked bare name) token.now }
 {
     match token {
         Token::Sign(sign) => match op_of(*sign) {
@@ -229,7 +232,7 @@ fn tested(
     op: Op,
     token: &Token,
 ) -> Result<Option<State>, Memory>
-    ensures { Moves result (step (stack brackets.items) (Tested terms marked name op) token.now) }
+    ensures { Steps result brackets.items (Tested terms marked name op) token.now }
 {
     match token {
         Token::Word { bare, text } => {
@@ -255,7 +258,7 @@ fn labelled(
     labels: Words,
     token: &Token,
 ) -> Result<Option<State>, Memory>
-    ensures { Moves result (step (stack brackets.items) (Labelled terms marked name op labels) token.now) }
+    ensures { Steps result brackets.items (Labelled terms marked name op labels) token.now }
 {
     match token {
         Token::Or => Ok(Some(State {
@@ -285,7 +288,7 @@ fn parted(
     labels: Words,
     token: &Token,
 ) -> Result<Option<State>, Memory>
-    ensures { Moves result (step (stack brackets.items) (Parted terms marked name op labels) token.now) }
+    ensures { Steps result brackets.items (Parted terms marked name op labels) token.now }
 {
     match token {
         Token::Word { bare, text } => {
@@ -310,7 +313,10 @@ fn sided(
     lower: Text,
     token: &Token,
 ) -> Result<Option<State>, Memory>
-    ensures { Moves result (step (stack brackets.items) (Sided terms marked (function_view function) upper lower) token.now) }
+    ensures {
+        let spot = Sided terms marked (function_view function) upper lower in
+        Steps result brackets.items spot token.now
+    }
 {
     match function {
         Function::Placing(place) => match token {
@@ -343,7 +349,7 @@ fn asked(
     lower: Text,
     token: &Token,
 ) -> Result<Option<State>, Memory>
-    ensures { Moves result (step (stack brackets.items) (Asked terms marked place upper lower) token.now) }
+    ensures { Steps result brackets.items (Asked terms marked place upper lower) token.now }
 {
     match token {
         Token::Word { bare: true, text } => match bit_of(text.as_str()) {
@@ -376,7 +382,7 @@ fn counted(
     compare: Compare,
     token: &Token,
 ) -> Result<Option<State>, Memory>
-    ensures { Moves result (step (stack brackets.items) (Counted terms marked upper lower compare) token.now) }
+    ensures { Steps result brackets.items (Counted terms marked upper lower compare) token.now }
 {
     match token {
         Token::Word { bare: true, text } => match number_of(text.as_str()) {
@@ -406,7 +412,7 @@ fn marked(
     terms: Terms,
     token: &Token,
 ) -> Result<Option<State>, Memory>
-    ensures { Moves result (step (stack brackets.items) (Marked terms) token.now) }
+    ensures { Steps result brackets.items (Marked terms) token.now }
 {
     match token {
         Token::Word { bare, text } => {
@@ -429,7 +435,7 @@ fn called(
     function: Function,
     token: &Token,
 ) -> Result<Option<State>, Memory>
-    ensures { Moves result (step (stack brackets.items) (Called terms marked (function_view function)) token.now) }
+    ensures { Steps result brackets.items (Called terms marked (function_view function)) token.now }
 {
     match token {
         Token::Word { bare, text } => {
@@ -454,7 +460,10 @@ fn split(
     upper: Text,
     token: &Token,
 ) -> Result<Option<State>, Memory>
-    ensures { Moves result (step (stack brackets.items) (Split terms marked (function_view function) upper) token.now) }
+    ensures {
+        let spot = Split terms marked (function_view function) upper in
+        Steps result brackets.items spot token.now
+    }
 {
     match token {
         Token::Word { bare, text } => {
@@ -471,7 +480,7 @@ fn split(
 
 /// Where a query begins: a bracket, or a condition.
 fn beginning(alloc: Global, brackets: Vec<Bracket>, token: &Token) -> Result<Option<State>, Memory>
-    ensures { Moves result (step (stack brackets.items) Beginning token.now) }
+    ensures { Steps result brackets.items Beginning token.now }
 {
     match token {
         Token::Open => {
@@ -494,7 +503,10 @@ fn upper(
     upper: Text,
     token: &Token,
 ) -> Result<Option<State>, Memory>
-    ensures { Moves result (step (stack brackets.items) (Upper terms marked (function_view function) upper) token.now) }
+    ensures {
+        let spot = Upper terms marked (function_view function) upper in
+        Steps result brackets.items spot token.now
+    }
 {
     match token {
         Token::Comma => Ok(Some(State {
@@ -515,7 +527,10 @@ fn lower(
     lower: Text,
     token: &Token,
 ) -> Result<Option<State>, Memory>
-    ensures { Moves result (step (stack brackets.items) (Lower terms marked (function_view function) upper lower) token.now) }
+    ensures {
+        let spot = Lower terms marked (function_view function) upper lower in
+        Steps result brackets.items spot token.now
+    }
 {
     match token {
         Token::RightParen => Ok(Some(State {
@@ -533,7 +548,7 @@ pub fn step(
     spot: Spot,
     token: &Token,
 ) -> Result<Option<State>, Memory>
-    ensures { Moves result (step (stack brackets.items) (spot_view spot) token.now) }
+    ensures { Steps result brackets.items (spot_view spot) token.now }
 {
     match spot {
         Spot::Beginning => beginning(alloc, brackets, token),

@@ -3,12 +3,13 @@ ghost use Rattle.std.specs.Prelude.{◌≡◌, ℕ, ◌++◌, ◌≤◌, List, l
 ghost use Rattle.std.specs.List.{join_by, flat_map};
 ghost use Rattle.eql_syntax.specs.Tree.{tree_of};
 ghost use Rattle.eql_syntax.specs.Answer.{IsQuery};
-ghost use Rattle.eql_syntax.specs.Print.{op_text, compare_text, place_text, mark_text, bit_text, quoted_text, labels_text, names_text, term_text, query_text};
+ghost use Rattle.eql_syntax.specs.Print.{op_text, compare_text, place_text, mark_text, bit_text, quoted_text, labels_text, names_text, term_text, query_text, Gains};
 ghost use Rattle.eql_syntax.specs.Grammar.{Spells};
 ghost use Rattle.eql_syntax.specs.Tokens.{tokens_of};
 ghost use Rattle.eql_syntax.specs.Fault.{kinds};
 
 use crate::query::{Compare, Op, Place, Query, Term};
+use emu_names::limits::QUERY_BYTES;
 use emu_names::{Memory, Text};
 use std::alloc::Global;
 
@@ -65,7 +66,7 @@ fn bit_text(wanted: bool) -> &'static str
 
 /// Writes the word between quotes.
 fn push_quoted(out: &mut String, word: &Text) -> Result<(), Memory>
-    ensures { IfOk result (λ _. string_bytes out.new ≡ string_bytes out.old ++ quoted_text word.now) }
+    ensures { IfOk result (λ _. Gains out.old out.new (quoted_text word.now)) }
 {
     write!(out, "'{word}'")?;
     Ok(())
@@ -73,7 +74,7 @@ fn push_quoted(out: &mut String, word: &Text) -> Result<(), Memory>
 
 /// Writes the labels with `|` between them.
 fn push_labels(out: &mut String, labels: &[Text]) -> Result<(), Memory>
-    ensures { IfOk result (λ _. string_bytes out.new ≡ string_bytes out.old ++ labels_text labels.now) }
+    ensures { IfOk result (λ _. Gains out.old out.new (labels_text labels.now)) }
 {
     let [first, others @ ..] = labels else {
         return Ok(());
@@ -87,7 +88,7 @@ fn push_labels(out: &mut String, labels: &[Text]) -> Result<(), Memory>
 
 /// Writes the two names of a function.
 fn push_names(out: &mut String, upper: &Text, lower: &Text) -> Result<(), Memory>
-    ensures { IfOk result (λ _. string_bytes out.new ≡ string_bytes out.old ++ names_text upper.now lower.now) }
+    ensures { IfOk result (λ _. Gains out.old out.new (names_text upper.now lower.now)) }
 {
     write!(out, "('{upper}', '{lower}')")?;
     Ok(())
@@ -95,7 +96,7 @@ fn push_names(out: &mut String, upper: &Text, lower: &Text) -> Result<(), Memory
 
 /// Writes a condition.
 fn push_term(out: &mut String, term: &Term) -> Result<(), Memory>
-    ensures { IfOk result (λ _. string_bytes out.new ≡ string_bytes out.old ++ term_text term.now) }
+    ensures { IfOk result (λ _. Gains out.old out.new (term_text term.now)) }
 {
     match term {
         Term::Test {
@@ -143,8 +144,7 @@ fn push_term(out: &mut String, term: &Term) -> Result<(), Memory>
 
 /// Writes the conditions with `&` between them.
 fn push_terms(out: &mut String, terms: &[Term]) -> Result<(), Memory>
-    ensures { IfOk result (λ _. string_bytes out.new
-        ≡ string_bytes out.old ++ join_by term_text (codes " & ") terms.now) }
+    ensures { IfOk result (λ _. Gains out.old out.new (join_by term_text (codes " & ") terms.now)) }
 {
     let [first, others @ ..] = terms else {
         return Ok(());
@@ -159,7 +159,7 @@ fn push_terms(out: &mut String, terms: &[Term]) -> Result<(), Memory>
 
 /// Writes the query.
 fn push_query(out: &mut String, query: &Query) -> Result<(), Memory>
-    ensures { IfOk result (λ _. string_bytes out.new ≡ string_bytes out.old ++ query_text (tree_of query.now)) }
+    ensures { IfOk result (λ _. Gains out.old out.new (query_text (tree_of query.now))) }
 {
     match query {
         Query::Terms(terms) => push_terms(out, terms.as_slice()),
@@ -182,18 +182,18 @@ fn push_query(out: &mut String, query: &Query) -> Result<(), Memory>
     }
 }
 
-/// The text of the query: every name and label in quotes, single spaces round operators, `&`, `->` and
-/// `^` and behind commas, bits as 0 and 1, a sequence or a dominance in brackets. The only refusal is
-/// want of memory. (EMU-SDMS Manual, "The EMU Query Language version 2".)
+/// The text of the query: every name and label in quotes, single spaces round operators, `&`, `->`
+/// and `^` and behind commas, bits as 0 and 1, a sequence or a dominance in brackets. The only
+/// refusal is want of memory. (EMU-SDMS Manual, "The EMU Query Language version 2".)
 ///
-/// The text of a query that was read spells that query, and is read as that query where it has at most
-/// 4,096 bytes.
+/// Where some text spells the query, within the limits, the text of the query spells it too, and is
+/// read as that query where it has at most `QUERY_BYTES` bytes.
 pub fn print_query(alloc: Global, query: &Query) -> Result<Text, Memory>
     ensures text { IfOk result (λ print. print ≡ query_text (tree_of query.now)) }
     ensures spells { (text : List ℕ) → IsQuery text (tree_of query.now)
         → IfOk result (λ print. Spells (kinds (tokens_of print)) (tree_of query.now)) }
     ensures back { (text : List ℕ) → IsQuery text (tree_of query.now)
-        → IfOk result (λ print. length print ≤ 4096 → IsQuery print (tree_of query.now)) }
+        → IfOk result (λ print. length print ≤ QUERY_BYTES → IsQuery print (tree_of query.now)) }
 {
     let mut out = String::new(alloc);
     push_query(&mut out, query)?;

@@ -354,13 +354,13 @@ impl Query {
 /// Why a text is no query. Places count the bytes of the text from 0.
 #[derive(Clone, Copy, Debug, PartialEq, Eq, Error)]
 pub enum QueryFault {
-    /// The text has over 4,096 bytes.
-    #[error("the query has over 4096 bytes")]
+    /// The text has more bytes than a query may have.
+    #[error("the query is too long")]
     TextTooLong,
     /// No query begins with the text up to and with the token at this place.
     #[error("the query has a fault at byte {0}")]
     Syntax(u32),
-    /// At this place a bracket is opened inside 32 others.
+    /// At this place a bracket is opened inside as many as may be open at once.
     #[error("a bracket too many is opened at byte {0}")]
     TooDeep(u32),
     /// At this place a second mark stands.

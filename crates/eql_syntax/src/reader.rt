@@ -13,13 +13,8 @@ use crate::machine::{Bracket, Spot, State, pop, step};
 use crate::query::{Query, QueryFault, Term};
 use crate::token::{Placed, Token};
 use emu_names::Memory;
+use emu_names::limits::{OPEN_BRACKETS, QUERY_BYTES};
 use std::alloc::Global;
-
-/// The most brackets that may be open.
-const MOST_BRACKETS: u32 = 32;
-
-/// The most bytes of a text.
-const MOST_BYTES: usize = 4096;
 
 /// The state of the reader, how many brackets are open, and whether a mark stands.
 #[derive(Drop)]
@@ -35,7 +30,7 @@ fn fits(depth: u32, marked: bool, token: &Token) -> bool
     ensures { result ≡ fits depth marked token.now }
 {
     match token {
-        Token::Open => depth < MOST_BRACKETS,
+        Token::Open => (depth as usize) < OPEN_BRACKETS,
         Token::Hash => !marked,
         _ => true,
     }
@@ -53,7 +48,7 @@ fn limit_at(token: &Token, at: u32) -> QueryFault
 
 /// How many brackets are open behind the token.
 fn depth_behind(depth: u32, token: &Token) -> u32
-    requires { depth ≤ 32 }
+    requires { depth ≤ OPEN_BRACKETS }
     ensures { result ≡ depth_step depth token.now }
 {
     match token {
@@ -76,9 +71,9 @@ fn mark_behind(marked: bool, token: &Token) -> bool
 /// The reading behind one token more, or the fault at it.
 #[tactic(auto, unfolding(crate::specs::Reading::taken))]
 fn take(alloc: Global, reading: Reading, placed: &Placed) -> Result<Reading, QueryFault>
-    requires { reading.depth ≤ 32 }
+    requires { reading.depth ≤ OPEN_BRACKETS }
     ensures value { Takes result (taken (reading_view reading) placed.now.token placed.now.at) }
-    ensures depth { IfOk result (λ next. next.depth ≤ 32) }
+    ensures depth { IfOk result (λ next. next.depth ≤ OPEN_BRACKETS) }
 {
     let fitting = fits(reading.depth, reading.marked, &placed.token);
     let depth = depth_behind(reading.depth, &placed.token);
@@ -169,7 +164,7 @@ fn read_all(alloc: Global, tokens: &[Placed], length: u32) -> Result<Query, Quer
 
 /// The query of a text that is not too long, or its first fault.
 fn read_short(alloc: Global, text: &str) -> Result<Query, QueryFault>
-    requires { length text.now ≤ 4096 }
+    requires { length text.now ≤ QUERY_BYTES }
     ensures { Gives result (read (tokens_of text.now) (length text.now)) }
 {
     let tokens = read_tokens(alloc, text)?;
@@ -178,17 +173,17 @@ fn read_short(alloc: Global, text: &str) -> Result<Query, QueryFault>
 
 /// The query that the text is. (EMU-SDMS Manual, "The EMU Query Language version 2".)
 ///
-/// A text of over 4,096 bytes is `TextTooLong`. Else the first token from the left is refused which no
-/// query goes on with (`Syntax`, at the text's length where it ends too early), which opens a bracket
-/// inside 32 others (`TooDeep`), or which is a second mark (`TwoMarks`); tested in this order. Places
-/// count bytes from 0.
+/// A text of over `QUERY_BYTES` bytes is `TextTooLong`. Else the first token from the left is refused
+/// which no query goes on with (`Syntax`, at the text's length where it ends too early), which opens
+/// a bracket inside `OPEN_BRACKETS` others (`TooDeep`), or which is a second mark (`TwoMarks`); tested
+/// in this order. Places count bytes from 0.
 pub fn read_query(alloc: Global, text: &str) -> Result<Query, QueryFault>
     ensures found { IfOk result (λ q. IsQuery text.now (tree_of q)) }
     ensures only { (q : Tree) → IsQuery text.now q → Gives result (Ok q) }
     ensures fault { IfErr result (λ e. e ≢ QueryFault.Memory → IsFault text.now e) }
     ensures told { (e : QueryFault) → IsFault text.now e → Gives result (Err e) }
 {
-    if text.len() > MOST_BYTES {
+    if text.len() > QUERY_BYTES {
         return Err(QueryFault::TextTooLong);
     }
     read_short(alloc, text)

@@ -1,4 +1,3 @@
-pub mod Cause
 pub mod Kept
 pub mod Maker
 pub mod Pattern

@@ -1,7 +1,7 @@
 //! A maker that refuses the calls that it is told to refuse.
 ghost use Rattle.std.specs.Prelude.{◌≡◌, ◌≢◌, ◌≤◌, true, false, Contains, Err, IfOk, OnOk};
 ghost use Rattle.label_match.specs.Pattern.{are_patterns};
-ghost use Rattle.label_match.specs.Cause.{Rose, next_count};
+ghost use Rattle.fault_counts.specs.Count.{Rose, next_count};
 
 use crate::faults::PatternFault;
 use crate::maker::PatternMaker;
@@ -22,7 +22,8 @@ impl Model for ListMaker {
 
     ghost Value = { ListedMaker };
 
-    ghost view = { λ m. record { calls = m.calls; refuses = m.refuses.items; refusals = m.refusals } };
+    ghost view = { λ m.
+        record { calls = m.calls; refuses = m.refuses.items; refusals = m.refusals } };
 }
 
 impl ListMaker {

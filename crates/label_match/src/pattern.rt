@@ -5,6 +5,7 @@ ghost use Rattle.regex.specs.Strings.{regex_source, regex_config, IsReadFromSour
 ghost use Rattle.label_match.specs.Pattern.{are_patterns, is_shallow, matches_label, read_in};
 
 use crate::faults::{Memory, PatternFault};
+use crate::matching::Matching;
 use regex::{Error, Regex};
 use std::alloc::Global;
 use std::marker::Model;
@@ -54,8 +55,20 @@ impl Pattern {
     pub fn matches(&self, alloc: Global, label: &str) -> Result<bool, Memory>
         ensures { IfOk result (λ found. found ≡ matches_label self.now label.now) }
     {
-        let mut matcher = self.whole.matcher(alloc)?;
-        Ok(matcher.is_match(label))
+        let mut matching = self.matcher(alloc)?;
+        Ok(matching.matches(label))
+    }
+
+    /// What asks label after label whether the pattern matches it. The only refusal is want of
+    /// memory.
+    pub fn matcher(&self, alloc: Global) -> Result<Matching<'_>, Memory>
+        ensures { IfOk result (λ made. made ≡ self.now) }
+    {
+        let matcher = self.whole.matcher(alloc)?;
+        Ok(Matching {
+            pattern: self,
+            matcher,
+        })
     }
 }
 
@@ -74,4 +87,12 @@ fn regex_of(alloc: Global, source: &str) -> Result<Regex, PatternFault>
         Err(Error::CompiledTooBig) => Err(PatternFault::Size),
         Err(Error::Internal) => Err(PatternFault::Size),
     }
+}
+
+/// What may be sent to a thread and shared by threads.
+fn crosses<T: Send + Sync>() {}
+
+/// A pattern may be sent to a thread and shared by threads.
+pub fn patterns_cross_threads() {
+    crosses::<Pattern>();
 }

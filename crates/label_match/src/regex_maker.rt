@@ -1,7 +1,7 @@
 //! The maker that the program uses.
 ghost use Rattle.std.specs.Prelude.{◌≡◌, ◌≢◌, ◌≤◌, true, false, Err, IfOk, OnOk};
 ghost use Rattle.label_match.specs.Pattern.{are_patterns};
-ghost use Rattle.label_match.specs.Cause.{Rose};
+ghost use Rattle.fault_counts.specs.Count.{Rose};
 
 use crate::faults::PatternFault;
 use crate::maker::PatternMaker;

@@ -5,3 +5,5 @@
 mod patterns;
 #[cfg(test)]
 mod queries;
+#[cfg(test)]
+mod threads;

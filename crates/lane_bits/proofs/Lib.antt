@@ -1,0 +1,6 @@
+mod Between
+mod Counted
+mod Joined
+mod Masks
+mod Places
+mod Rows

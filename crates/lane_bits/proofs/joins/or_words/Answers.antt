@@ -1,0 +1,13 @@
+use Rattle.std.proofs.Common.{◌≡◌, ◌*◌, ◌/◌, ℕ, length, subst, arith}
+use Rattle.std.specs.Int.Bits.{bit_or}
+use Rattle.lane_bits.specs.Words.{JoinedIn}
+use Rattle.lane_bits.proofs.Joined.{all_joined}
+use Rattle.lane_bits.proofs.joins.or_words.Goals as goal
+
+pub returns : goal.returns
+returns c =
+    let old = c.args.into.now in
+    let count : c.loop-block.block ≡ length old / 8 = omega arith in
+    let at : ℕ → Type 0 = λ b. JoinedIn bit_or old c.args.other.now c.loop-block.into 0 (8 * b) in
+    all_joined bit_or old c.args.other.now c.loop-block.into c.or_rest.new.into (8 * (length old / 8)) c.requires c.loop-block.auto.into c.or_rest.auto.into
+    (subst at count c.loop-block.invariant) c.or_rest.ensures
