@@ -1,5 +1,5 @@
 -- A name stands twice exactly where the names are not distinct.
-use Rattle.std.proofs.Common.{◌≡◌, ℕ, Bool, true, false, not, ◌&&◌, ◌||◌, cond, List, [], ◌∷◌, ◌++◌, refl, sym, ap, ◌∙◌, Option, Some, None, is_none, option_map, arith}
+use Rattle.std.proofs.Common.{◌≡◌, ℕ, Bool, true, false, not, ◌&&◌, ◌||◌, cond, List, [], ◌∷◌, ◌++◌, refl, sym, ap, ◌∙◌, Option, Some, None, is_none, arith}
 use Rattle.std.specs.List.{list_any}
 use Rattle.std.proofs.lemmas.List.Folds.{list_any-append}
 use Rattle.std.proofs.lemmas.List.{append_assoc}
@@ -72,11 +72,6 @@ away_nothing (n ∷ ns) = away_nothing ns
 pub doubles_found : DoublesAreFound
 doubles_found names = doubles [] names ∙ ap (λ b. b && are_distinct names) (away_nothing names)
 
--- the same of a first double that is looked at through a reference
-pub distinct_found : {A : Type 0} (f : A → List ℕ) (found : Option A) (names : List (List ℕ)) → option_map f found ≡ first_double [] names →
-    is_none found ≡ are_distinct names
-distinct_found {A = A} f found names is = seen found ∙ ap is_none is ∙ doubles_found names
-  where
-    seen : (o : Option A) → is_none o ≡ is_none (option_map f o)
-    seen None = refl
-    seen (Some x) = refl
+-- without a double the names are distinct
+pub no_double : (names : List (List ℕ)) (found : Option (List ℕ)) → found ≡ first_double [] names → found ≡ None → are_distinct names ≡ true
+no_double names found is none = sym (doubles_found names) ∙ ap is_none (sym is ∙ none)

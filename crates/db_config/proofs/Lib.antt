@@ -5,3 +5,4 @@ pub mod Placed
 pub mod Tables
 pub mod Above
 pub mod Stops
+pub mod Sound

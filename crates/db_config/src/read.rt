@@ -2,9 +2,9 @@
 ghost use Rattle.std.specs.Prelude.{◌≡◌, [], IfOk, true};
 ghost use Rattle.json_view.specs.Seen.{seen_at};
 ghost use Rattle.db_config.specs.Faults.{Reads};
-ghost use Rattle.db_config.specs.Names.{all_names, first_double};
+ghost use Rattle.db_config.specs.Names.{all_names, are_distinct, first_double};
 ghost use Rattle.db_config.specs.Valid.{keeps_rules};
-ghost use Rattle.db_config.specs.Read.{AreBounded, named_parts, unless_cycle, sound_parts, parts_with, config_of};
+ghost use Rattle.db_config.specs.Read.{AreBounded, named_parts, unless_cycle, linked_parts, sound_parts, parts_with, config_of};
 
 use crate::config::Config;
 use crate::faults::ConfigFault;
@@ -81,20 +81,30 @@ fn uncycled(alloc: Global, parts: ConfigParts) -> Result<Config, ConfigFault>
     }
 }
 
-// The configuration of these parts, or the first rule that they break.
-#[tactic(auto, unfolding(crate::specs::Read::sound_parts))]
-fn sound_parts(alloc: Global, parts: NamedParts) -> Result<Config, ConfigFault>
-    requires { AreBounded parts }
-    ensures { Reads result (sound_parts parts) }
+// The configuration of parts whose names are distinct, or the first rule on link definitions that they
+// break.
+fn linked_parts(alloc: Global, parts: NamedParts) -> Result<Config, ConfigFault>
+    requires bounded { AreBounded parts }
+    requires distinct { are_distinct (all_names parts.levels) ≡ true }
+    ensures { Reads result (linked_parts parts) }
 {
-    if let Some(name) = double_in(alloc, parts.levels.as_slice())? {
-        return Err(ConfigFault::DoubleName(name));
-    }
     let links = all_placed(alloc, parts.levels.as_slice(), parts.links.as_slice())?;
     if !are_apart(links.as_slice()) {
         return Err(ConfigFault::DoubleLink);
     }
     uncycled(alloc, with_links(parts, links))
+}
+
+// The configuration of these parts, or the first rule that they break.
+#[tactic(auto, using(crate::proofs::Doubles::no_double), unfolding(crate::specs::Read::sound_parts))]
+fn sound_parts(alloc: Global, parts: NamedParts) -> Result<Config, ConfigFault>
+    requires { AreBounded parts }
+    ensures { Reads result (sound_parts parts) }
+{
+    match double_in(alloc, parts.levels.as_slice())? {
+        Some(name) => Err(ConfigFault::DoubleName(name)),
+        None => linked_parts(alloc, parts),
+    }
 }
 
 /// The configuration of a value (EMU-SDMS Manual, "The emuDB format": `_DBconfig.json`), or its first
