@@ -1,5 +1,5 @@
 -- The requests of a script come in order, so that their run is legal.
-use Rattle.std.proofs.Common.{◌≡◌, ◌≢◌, ℕ, ◌+◌, ◌<◌, ◌≤◌, Bool, true, false, List, [], ◌∷◌, ◌++◌, length, map, Option, Some, None, Result, Ok, Err, refl, sym, ◌∙◌, ap, subst, arith, nat_eq, is_none, ◌||◌, append-nil, append_assoc}
+use Rattle.std.proofs.Common.{◌≡◌, ℕ, ◌+◌, Bool, true, false, List, [], ◌∷◌, ◌++◌, length, Option, Some, None, Result, Ok, Err, refl, sym, ◌∙◌, subst, arith, nat_eq, is_none, append-nil, append_assoc}
 use Rattle.std.specs.List.{list_any}
 use Rattle.session_core.specs.declared.config.Config.{Config}
 use Rattle.session_core.specs.declared.line.Line.{Line}
@@ -16,7 +16,7 @@ use Rattle.script_lines.specs.declared.faults.LineFault.{LineFault}
 use Rattle.script_lines.specs.declared.faults.ReadLine.{ReadLine}
 use Rattle.script_lines.specs.declared.faults.ReadLine.TheVariants as reads
 use Rattle.script_lines.specs.Lines.{request_of}
-use Rattle.script_lines.specs.Known.{Known, IsRequestLine, NamesOneOf}
+use Rattle.script_lines.specs.Known.{Known, NamesOneOf}
 use Rattle.script_lines.proofs.KnownLines.{known}
 use Rattle.emu_cli.specs.Scripts.{Parsed, nothing_read, with_read, parse, parse_line, line_at, unless_over, as_stop, passes_limit, numbers_of, Stop, ◌>>=◌}
 use Rattle.emu_cli.specs.Runs.{IsRun, Runs, alone, run_from, history_in, history_of}

@@ -1,7 +1,6 @@
 -- Scripts, line after line.
-use Rattle.std.proofs.Common.{◌≡◌, ℕ, ◌+◌, Bool, true, false, List, [], ◌∷◌, ◌++◌, length, take, Option, Some, None, Result, Ok, Err, refl, sym, ◌∙◌, ap, subst, arith, is_none}
-use Rattle.script_lines.specs.declared.faults.ReadLine.{ReadLine}
-use Rattle.emu_cli.specs.Scripts.{Parsed, nothing_read, with_read, parse, parse_line, parsed_front, front_from, line_at, numbers_of, Stop, ◌>>=◌}
+use Rattle.std.proofs.Common.{◌≡◌, ℕ, List, [], ◌∷◌, ◌++◌, Result, Ok, Err, refl}
+use Rattle.emu_cli.specs.Scripts.{Parsed, parse, parse_line, parsed_front, front_from, Stop, ◌>>=◌}
 
 abbrev ok_parsed : Parsed → Result Parsed Stop
 ok_parsed p = Ok p

@@ -1,5 +1,5 @@
 -- One line more of a run: what was read, the core behind it, and what was written.
-use Rattle.std.proofs.Common.{◌≡◌, ◌≢◌, ◌⊎◌, inl, inr, ℕ, ◌+◌, ◌<◌, Bool, true, false, cond, List, [], ◌∷◌, ◌++◌, length, map, take, Option, Some, None, Result, Ok, Err, refl, sym, ◌∙◌, ap, subst, arith, append_assoc, append-nil, length-append, is_none}
+use Rattle.std.proofs.Common.{◌≡◌, ◌⊎◌, inl, inr, ℕ, ◌+◌, Bool, true, false, cond, List, [], ◌∷◌, ◌++◌, length, take, Option, Result, Ok, Err, refl, sym, ◌∙◌, ap, subst, arith, append_assoc, append-nil, length-append}
 use Rattle.std.proofs.lemmas.List.{map-append}
 use Rattle.std.proofs.Math.Seq.{take-length, take-append_seam}
 use Rattle.std.specs.Io.KnownBytes.{Appends}
@@ -10,7 +10,6 @@ use Rattle.session_core.specs.declared.line.Line.{Line}
 use Rattle.session_core.specs.declared.line.Reply.{Reply}
 use Rattle.session_core.specs.Steps.{State, start}
 use Rattle.session_core.specs.InOrder.{Outage, in_turn, one_turn}
-use Rattle.script_lines.specs.declared.faults.LineFault.{LineFault}
 use Rattle.script_lines.specs.declared.faults.LineFault.TheVariants as faults
 use Rattle.script_lines.specs.declared.faults.ReadLine.{ReadLine}
 use Rattle.script_lines.specs.declared.faults.ReadLine.TheVariants as reads
@@ -24,7 +23,7 @@ use Rattle.emu_cli.specs.Turns.{ReadsNext}
 use Rattle.emu_cli.specs.Taken.{TakesLine}
 use Rattle.emu_cli.specs.Reached.{IsAt, Reached, Broke, Stopped, EndsOnLine, RanAll, StoppedIn, BrokeIn, EndsIn, WritesText, InLines, RunsLine, RunsScript, RanScript, StoppedScript}
 use Rattle.emu_cli.proofs.ParseLemmas.{parse_push, parse_stop, front_stop, front_whole}
-use Rattle.emu_cli.proofs.TextLemmas.{turns_push, begun_text, text_begun, begun_push, front_all, front_more, front_none, whole_more}
+use Rattle.emu_cli.proofs.TextLemmas.{turns_push, text_begun, begun_push, front_all, front_more, whole_more}
 
 -- what the code reads behind a run is what the definition reads behind the script so far
 read_there : (running : Running) (config : Config) (p : Parsed) (outages : List Outage) (line : List ℕ) → IsAt running config p outages → line_at (p.number + 1) p.wants (numbers_of p.requests) line ≡ line_at (running.number + 1) false running.earlier line
@@ -48,7 +47,7 @@ reached_blank config lines line running new before now r h core earlier number =
       outages = r.outages;
       at = record {
         begun = r.at.begun;
-      wants = r.at.wants;
+        wants = r.at.wants;
         core = core ∙ r.at.core;
         earlier = earlier ∙ r.at.earlier;
         number = number ∙ ap (λ n. n + 1) r.at.number;

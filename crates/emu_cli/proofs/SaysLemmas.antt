@@ -1,21 +1,20 @@
 -- What a status says, from what was read, run and written.
-use Rattle.std.proofs.Common.{◌≡◌, ◌≢◌, ◌⊎◌, inl, inr, ◌↔◌, ℕ, ◌+◌, ◌<◌, ◌≤◌, ◌-◌, ◌^◌, Bool, true, false, IsTrue, List, [], ◌∷◌, ◌++◌, length, take, Option, Some, None, Result, Ok, Err, refl, sym, ◌∙◌, ap, subst, arith, nat_lt, append-nil}
+use Rattle.std.proofs.Common.{◌≡◌, ◌⊎◌, inl, inr, ◌↔◌, ℕ, ◌<◌, ◌≤◌, ◌-◌, ◌^◌, Bool, true, false, IsTrue, List, [], length, take, Option, Some, None, Result, Ok, Err, refl, sym, ◌∙◌, ap, subst, arith, nat_lt, append-nil}
 use Rattle.std.proofs.lemmas.Bool.{ltb-true, ltb-false}
-use Rattle.std.specs.Io.KnownBytes.{Appends, IsAtEnd, Consumes}
-use Rattle.std.proofs.KnownBytes.{Appends-nil, Appends-trans}
+use Rattle.std.specs.Io.KnownBytes.{Appends, IsAtEnd}
+use Rattle.std.proofs.KnownBytes.{Appends-nil}
 use Rattle.fault_counts.specs.Count.{Rose}
 use Rattle.emu_names.specs.declared.limits.TheConstants.{SCRIPT_BYTES}
 use Rattle.emu_io.specs.Fronts.{Tells, TakesFront, IsFrontOf, WritesFront}
-use Rattle.session_core.specs.InOrder.{Outage}
 use Rattle.script_lines.specs.declared.faults.LineFault.{LineFault}
 use Rattle.emu_cli.specs.declared.status.Status.{Status}
 use Rattle.emu_cli.specs.declared.status.Status.TheVariants as statuses
 use Rattle.emu_cli.specs.Cuts.{cut}
 use Rattle.emu_cli.specs.Scripts.{Parsed, nothing_read, parse, parsed_front, ended, is_past, lines_of, script_of, front_of, Stop, limit, at_fault, ◌>>=◌}
 use Rattle.emu_cli.specs.Runs.{run_text, history_of, IsRun, usage_text, stop_text}
-use Rattle.emu_cli.specs.Says.{Call, call_of, IsCommand, Says, RanWhole, EndedEarly, FoundFault, NoCommand, IsLastLine, Unfinished, UnfinishedUsage, BrokeOff, ReadFailed, WriteFailed, WritesLast, IsFaultless, code_of}
-use Rattle.emu_cli.specs.Reached.{Broke, BrokeIn, RanScript, StoppedScript}
-use Rattle.emu_cli.proofs.TextLemmas.{front_all, front_more, whole_more}
+use Rattle.emu_cli.specs.Says.{Call, call_of, IsCommand, Says, EndedEarly, BrokeOff, WritesLast, IsFaultless, code_of}
+use Rattle.emu_cli.specs.Reached.{BrokeIn, RanScript, StoppedScript}
+use Rattle.emu_cli.proofs.TextLemmas.{front_more, whole_more}
 use Rattle.emu_cli.proofs.OrderedLemmas.{legal_run}
 
 -- The script that was read.

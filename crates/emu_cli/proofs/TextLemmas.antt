@@ -1,7 +1,7 @@
 -- The text of a run, reply after reply.
-use Rattle.std.proofs.Common.{◌≡◌, ℕ, ◌+◌, List, [], ◌∷◌, ◌++◌, length, take, Option, Some, None, false, refl, sym, ◌∙◌, ap, subst, arith, append_assoc, append-nil, length-append, flat_map}
+use Rattle.std.proofs.Common.{◌≡◌, ℕ, ◌+◌, List, [], ◌∷◌, ◌++◌, length, take, Option, Some, false, refl, sym, ◌∙◌, ap, subst, arith, append_assoc, append-nil, flat_map}
 use Rattle.std.proofs.Math.Seq.{take-length, take-append-add}
-use Rattle.std.proofs.KnownBytes.{Appends-trans, Appends-nil}
+use Rattle.std.proofs.KnownBytes.{Appends-trans}
 use Rattle.std.specs.Io.KnownBytes.{Appends}
 use Rattle.emu_io.specs.Fronts.{WritesFront}
 use Rattle.session_core.specs.declared.config.Config.{Config}
@@ -10,8 +10,7 @@ use Rattle.session_core.specs.declared.line.Reply.{Reply}
 use Rattle.session_core.specs.Steps.{State, start}
 use Rattle.session_core.specs.InOrder.{Outage, in_turn, one_turn}
 use Rattle.script_lines.specs.Texts.{reply_text}
-use Rattle.script_lines.specs.declared.faults.ReadLine.TheVariants as reads
-use Rattle.emu_cli.specs.Scripts.{Parsed, with_read}
+use Rattle.emu_cli.specs.Scripts.{Parsed}
 use Rattle.emu_cli.specs.Runs.{run_text, run_from, config_text, config_reply}
 
 -- a run in order goes on by one line

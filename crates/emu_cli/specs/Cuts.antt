@@ -1,5 +1,5 @@
 -- How a script is cut into lines, as far as it was read.
-use Rattle.std.specs.Prelude.{◌≡◌, ℕ, suc, Bool, true, false, List, [], ◌∷◌, ◌==◌, if◌then◌else◌}
+use Rattle.std.specs.Prelude.{ℕ, suc, Bool, true, false, List, [], ◌∷◌, ◌==◌, if◌then◌else◌}
 
 -- a byte before the lines that follow it; where the script goes on past what was read, a last line
 -- without its line feed is left out

@@ -1,18 +1,12 @@
 -- How far a run has come, and how it ends.
-use Rattle.std.specs.Prelude.{false, ◌≡◌, ◌≢◌, ◌⊎◌, ℕ, ◌+◌, ◌≤◌, Bool, List, [], ◌∷◌, ◌++◌, length, take, Option, Some, None, Result, Ok, Err}
+use Rattle.std.specs.Prelude.{false, ◌≡◌, ◌≢◌, ◌⊎◌, ℕ, Bool, List, [], ◌∷◌, ◌++◌, length, take, Option, Some, Result, Ok, Err}
 use Rattle.std.specs.Io.KnownBytes.{Appends}
 use Rattle.emu_io.specs.Fronts.{WritesFront}
 use Rattle.fault_counts.specs.Count.{Rose}
 use Rattle.session_core.specs.declared.config.Config.{Config}
-use Rattle.session_core.specs.Steps.{State, start}
-use Rattle.session_core.specs.declared.line.Line.{Line}
-use Rattle.session_core.specs.declared.line.Reply.{Reply}
-use Rattle.session_core.specs.InOrder.{Outage, in_turn, one_turn}
-use Rattle.script_lines.specs.declared.faults.LineFault.{LineFault}
+use Rattle.session_core.specs.Steps.{start}
+use Rattle.session_core.specs.InOrder.{Outage, in_turn}
 use Rattle.script_lines.specs.declared.faults.LineFault.TheVariants as faults
-use Rattle.script_lines.specs.declared.faults.ReadLine.{ReadLine}
-use Rattle.script_lines.specs.declared.faults.ReadLine.TheVariants as reads
-use Rattle.script_lines.specs.Texts.{reply_text}
 use Rattle.emu_cli.specs.declared.ended.Ended.{Ended}
 use Rattle.emu_cli.specs.declared.ended.Ended.TheVariants as ends
 use Rattle.emu_cli.specs.declared.running.Running.{Running}

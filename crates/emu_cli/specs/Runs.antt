@@ -1,6 +1,5 @@
 -- The run of a script in order, and the text that it writes.
-use Rattle.std.specs.Prelude.{◌≡◌, ℕ, Bool, true, false, List, [], ◌∷◌, ◌++◌, length, take, flat_map, Option, Some, None, codes}
-use Rattle.emu_names.specs.declared.kinds.SessionNo.{SessionNo}
+use Rattle.std.specs.Prelude.{◌≡◌, ℕ, Bool, true, false, List, [], ◌++◌, length, take, flat_map, Option, Some, None, codes}
 use Rattle.session_core.specs.declared.config.Config.{Config}
 use Rattle.session_core.specs.declared.edit.Entry.{Entry}
 use Rattle.session_core.specs.declared.line.Command.TheVariants as commands

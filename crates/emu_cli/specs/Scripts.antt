@@ -1,5 +1,5 @@
 -- A script: its configuration and its requests, or the limit or the line at fault that ends it.
-use Rattle.std.specs.Prelude.{◌≡◌, ℕ, ◌+◌, Bool, true, false, ◌||◌, List, [], ◌∷◌, ◌++◌, length, map, take, Option, Some, None, Result, Ok, Err, nat_lt, if◌then◌else◌}
+use Rattle.std.specs.Prelude.{ℕ, ◌+◌, Bool, true, false, ◌||◌, List, [], ◌∷◌, ◌++◌, length, map, take, Option, Some, None, Result, Ok, Err, nat_lt}
 use Rattle.emu_names.specs.declared.limits.TheConstants.{LINE_BYTES, SCRIPT_BYTES, SCRIPT_LINES}
 use Rattle.session_core.specs.declared.config.Config.{Config}
 use Rattle.session_core.specs.declared.line.Line.{Line}

@@ -1,18 +1,12 @@
 -- What the core's events give to the lines of a run in order.
-use Rattle.std.specs.Prelude.{◌≡◌, ◌≢◌, ℕ, ◌<◌, Bool, true, false, List, nat_eq, Option, Some, None, Result, Ok, Err}
-use Rattle.std.specs.List.{list_any}
+use Rattle.std.specs.Prelude.{◌≡◌, ◌≢◌, ℕ, Option, Some, None, Result, Ok, Err}
 use Rattle.emu_names.specs.declared.kinds.SessionNo.{SessionNo}
 use Rattle.emu_names.specs.declared.shortage.Memory.{Memory}
-use Rattle.session_core.specs.declared.line.Line.{Line}
-use Rattle.session_core.specs.declared.line.Request.{Request}
-use Rattle.session_core.specs.declared.line.Request.TheVariants as requests
 use Rattle.session_core.specs.declared.line.Reply.{Reply}
-use Rattle.session_core.specs.Worlds.{is_command_of}
 use Rattle.session_core.specs.Answers.{memory}
-use Rattle.session_core.specs.Steps.{reply_of, session_places}
+use Rattle.session_core.specs.Steps.{reply_of}
 use Rattle.script_lines.specs.declared.faults.LineFault.TheVariants as faults
 use Rattle.script_lines.specs.declared.faults.ReadLine.{ReadLine}
-use Rattle.script_lines.specs.declared.faults.ReadLine.TheVariants as reads
 use Rattle.emu_cli.specs.declared.ended.Ended.{Ended}
 use Rattle.emu_cli.specs.declared.ended.Ended.TheVariants as ends
 use Rattle.emu_cli.specs.Scripts.{Stop, limit, at_fault}

@@ -62,4 +62,4 @@ FirstFault done [] length fault = (fault ≡ Syntax length) × ((q : Tree) → �
 FirstFault done (x ∷ xs) length fault =
     FaultHere done x fault
     ⊎ (((other : QueryFault) → ¬ FaultHere done x other)
-      × FirstFault (done ++ x.token ∷ []) xs length fault)
+    × FirstFault (done ++ x.token ∷ []) xs length fault)

@@ -37,14 +37,14 @@ pub data SpellsBody (marked : Bool) : List Token → Term → List Token → Typ
       place_of function ≡ Some at → bit_of bit ≡ Some wanted →
       SpellsBody marked
       (Word true function ∷ LeftParen ∷ Word upper_bare upper ∷ Comma ∷ Word lower_bare lower
-        ∷ RightParen ∷ Between signs.Is ∷ Word true bit ∷ rest)
+      ∷ RightParen ∷ Between signs.Is ∷ Word true bit ∷ rest)
       (terms.Place marked at upper lower wanted) rest
   count : {function : List ℕ} {upper_bare : Bool} {upper : List ℕ} {lower_bare : Bool}
       {lower digits : List ℕ} {sign : Sign} {compare : Compare} {number : ℕ} {rest : List Token} →
       is_count function ≡ true → compare_of sign ≡ Some compare → number_of digits ≡ Some number →
       SpellsBody marked
       (Word true function ∷ LeftParen ∷ Word upper_bare upper ∷ Comma ∷ Word lower_bare lower
-        ∷ RightParen ∷ Between sign ∷ Word true digits ∷ rest)
+      ∷ RightParen ∷ Between sign ∷ Word true digits ∷ rest)
       (terms.Num marked upper lower compare number) rest
 
 -- a condition, with or without a mark

@@ -92,20 +92,20 @@ called bs ts m (Some f) = at bs (Called ts m f)
 
 -- behind the bit of a test of a place, where it is one
 abbrev pub placed :
-  List Bracket → List Term → Bool → Place → List ℕ → List ℕ → Option Bool → Option State
+    List Bracket → List Term → Bool → Place → List ℕ → List ℕ → Option Bool → Option State
 placed bs ts m p upper lower None = None
 placed bs ts m p upper lower (Some wanted) =
     at bs (Ended (ts ++ terms.Place m p upper lower wanted ∷ []))
 
 -- behind the sign of a test of a number, where it is a comparison
 abbrev pub compared :
-  List Bracket → List Term → Bool → List ℕ → List ℕ → Option Compare → Option State
+    List Bracket → List Term → Bool → List ℕ → List ℕ → Option Compare → Option State
 compared bs ts m upper lower None = None
 compared bs ts m upper lower (Some compare) = at bs (Counted ts m upper lower compare)
 
 -- behind the digits of a test of a number, where they are a number
 abbrev pub counted :
-  List Bracket → List Term → Bool → List ℕ → List ℕ → Compare → Option ℕ → Option State
+    List Bracket → List Term → Bool → List ℕ → List ℕ → Compare → Option ℕ → Option State
 counted bs ts m upper lower compare None = None
 counted bs ts m upper lower compare (Some number) =
     at bs (Ended (ts ++ terms.Num m upper lower compare number ∷ []))

@@ -96,7 +96,7 @@ tokens_from (b ∷ bs) (suc skip) place = tokens_from bs skip (place + 1)
 tokens_from (b ∷ bs) zero place =
     if is_space b then tokens_from bs 0 (place + 1)
     else (record { at = place; token = (token_at b bs).0 }
-      ∷ tokens_from bs ((token_at b bs).1 - 1) (place + 1))
+    ∷ tokens_from bs ((token_at b bs).1 - 1) (place + 1))
 
 -- the tokens of a text
 unfoldable pub tokens_of : List ℕ → List Placed

@@ -87,10 +87,8 @@ fn quoted_len(text: &[u8]) -> usize
 
 /// The symbol at the front, by the first byte and the one behind it, and its length.
 fn symbol(byte: u8, next: u8) -> Option<(Token, usize)>
-    ensures {
-        let there = symbol byte next in
-        MatchOption result (there ≡ None) (λ found. there ≡ Some (found.0, found.1))
-    }
+    ensures { let there = symbol byte next in
+        MatchOption result (there ≡ None) (λ found. there ≡ Some (found.0, found.1)) }
 {
     match byte {
         b'[' => Some((Token::Open, 1)),
@@ -144,10 +142,8 @@ fn quoted_word(alloc: Global, text: &str) -> Result<(Token, usize), Memory>
 #[tactic(auto, unfolding(crate::specs::Tokens::bare))]
 fn bare_word(alloc: Global, text: &str) -> Result<(Token, usize), Memory>
     requires { 0 < length text.now }
-    ensures value {
-        let there = bare (front text.now) (drop 1 text.now) in
-        IfOk result (λ found. IsToken there found.0 found.1)
-    }
+    ensures value { let there = bare (front text.now) (drop 1 text.now) in
+        IfOk result (λ found. IsToken there found.0 found.1) }
     ensures cut { IfOk result (λ found. IsCharBoundary text.now found.1) }
 {
     let len = word_len(&text.as_bytes()[1..]) + 1;
@@ -165,10 +161,8 @@ fn bare_word(alloc: Global, text: &str) -> Result<(Token, usize), Memory>
 #[tactic(auto, unfolding(crate::specs::Tokens::token_at))]
 fn token(alloc: Global, text: &str) -> Result<(Token, usize), Memory>
     requires { 0 < length text.now }
-    ensures value {
-        let there = token_at (front text.now) (drop 1 text.now) in
-        IfOk result (λ found. IsToken there found.0 found.1)
-    }
+    ensures value { let there = token_at (front text.now) (drop 1 text.now) in
+        IfOk result (λ found. IsToken there found.0 found.1) }
     ensures cut { IfOk result (λ found. IsCharBoundary text.now found.1) }
 {
     let bytes = text.as_bytes();

@@ -120,10 +120,8 @@ fn after(
 
 /// Behind the first query in a bracket, of which `outer` are those round it.
 fn opened(outer: Vec<Bracket>, query: Query, token: &Token) -> Result<Option<State>, Memory>
-    ensures {
-        let opened = bracket_view Bracket.Opened ∷ stack outer.items in
-        Moves result (after opened (tree_of query) token.now)
-    }
+    ensures { let opened = bracket_view Bracket.Opened ∷ stack outer.items in
+        Moves result (after opened (tree_of query) token.now) }
 {
     match token {
         Token::Arrow => {
@@ -313,10 +311,8 @@ fn sided(
     lower: Text,
     token: &Token,
 ) -> Result<Option<State>, Memory>
-    ensures {
-        let spot = Sided terms marked (function_view function) upper lower in
-        Steps result brackets.items spot token.now
-    }
+    ensures { let spot = Sided terms marked (function_view function) upper lower in
+        Steps result brackets.items spot token.now }
 {
     match function {
         Function::Placing(place) => match token {
@@ -460,10 +456,8 @@ fn split(
     upper: Text,
     token: &Token,
 ) -> Result<Option<State>, Memory>
-    ensures {
-        let spot = Split terms marked (function_view function) upper in
-        Steps result brackets.items spot token.now
-    }
+    ensures { let spot = Split terms marked (function_view function) upper in
+        Steps result brackets.items spot token.now }
 {
     match token {
         Token::Word { bare, text } => {
@@ -503,10 +497,8 @@ fn upper(
     upper: Text,
     token: &Token,
 ) -> Result<Option<State>, Memory>
-    ensures {
-        let spot = Upper terms marked (function_view function) upper in
-        Steps result brackets.items spot token.now
-    }
+    ensures { let spot = Upper terms marked (function_view function) upper in
+        Steps result brackets.items spot token.now }
 {
     match token {
         Token::Comma => Ok(Some(State {
@@ -527,10 +519,8 @@ fn lower(
     lower: Text,
     token: &Token,
 ) -> Result<Option<State>, Memory>
-    ensures {
-        let spot = Lower terms marked (function_view function) upper lower in
-        Steps result brackets.items spot token.now
-    }
+    ensures { let spot = Lower terms marked (function_view function) upper lower in
+        Steps result brackets.items spot token.now }
 {
     match token {
         Token::RightParen => Ok(Some(State {

@@ -112,16 +112,15 @@ fn ended(spot: Spot, length: u32) -> Result<Query, QueryFault>
         Spot::Ended(terms) => Ok(Query::Terms(terms)),
         Spot::Closed(query) => Ok(query),
         Spot::Beginning => Err(QueryFault::Syntax(length)),
-        Spot::Another(_terms) => Err(QueryFault::Syntax(length)),
-        Spot::Marked(_terms) => Err(QueryFault::Syntax(length)),
+        Spot::Another(_terms) | Spot::Marked(_terms) => Err(QueryFault::Syntax(length)),
         Spot::Named(_terms, _mark, _bare, _name) => Err(QueryFault::Syntax(length)),
         Spot::Tested(_terms, _mark, _name, _op) => Err(QueryFault::Syntax(length)),
         Spot::Parted(_terms, _mark, _name, _op, _labels) => Err(QueryFault::Syntax(length)),
         Spot::Called(_terms, _mark, _function) => Err(QueryFault::Syntax(length)),
-        Spot::Upper(_terms, _mark, _function, _upper) => Err(QueryFault::Syntax(length)),
-        Spot::Split(_terms, _mark, _function, _upper) => Err(QueryFault::Syntax(length)),
-        Spot::Lower(_terms, _mark, _function, _upper, _lower) => Err(QueryFault::Syntax(length)),
-        Spot::Sided(_terms, _mark, _function, _upper, _lower) => Err(QueryFault::Syntax(length)),
+        Spot::Upper(_terms, _mark, _function, _upper)
+        | Spot::Split(_terms, _mark, _function, _upper) => Err(QueryFault::Syntax(length)),
+        Spot::Lower(_terms, _mark, _function, _upper, _lower)
+        | Spot::Sided(_terms, _mark, _function, _upper, _lower) => Err(QueryFault::Syntax(length)),
         Spot::Asked(_terms, _mark, _place, _upper, _lower) => Err(QueryFault::Syntax(length)),
         Spot::Counted(_terms, _mark, _upper, _lower, _compare) => Err(QueryFault::Syntax(length)),
     }

@@ -1,5 +1,5 @@
 //! What no clause says: which patterns match which labels, and that calls succeed with memory.
-use label_match::{ListMaker, PatternFault, PatternMaker, RegexMaker};
+use label_match::{ListMaker, Memory, Pattern, PatternFault, PatternMaker, RegexMaker};
 use std::alloc::Global;
 use std::process::Abort;
 use std::test::Fail;
@@ -136,5 +136,33 @@ fn listed_calls_are_refused(rt: HostRuntime) -> Result<(), Fail> {
         let found = tried(&mut maker, rt.alloc(), text, "V");
         assert!(rt; found == wanted && maker.refusals() == refusals, "{text}");
     }
+    Ok(())
+}
+
+/// How many of the first `count` labels of a list that says `V`, `Vm`, `V`, `m`, `V`, `Vm` again and
+/// again the pattern matches, asked by one search.
+fn matched(alloc: Global, pattern: &Pattern, count: u32) -> Result<u32, Memory> {
+    let mut matching = pattern.matcher(alloc)?;
+    let mut found: u32 = 0;
+    for at in 0..count {
+        let label = if at % 2 == 0 {
+            "V"
+        } else if at % 3 == 0 {
+            "m"
+        } else {
+            "Vm"
+        };
+        if matching.matches(label) {
+            found = found.saturating_add(1);
+        }
+    }
+    Ok(found)
+}
+
+#[test]
+fn one_search_asks_many_labels(rt: HostRuntime) -> Result<(), Fail> {
+    let mut maker = RegexMaker::new();
+    let pattern = maker.compile(rt.alloc(), "[Vm]")?;
+    assert_eq!(rt; matched(rt.alloc(), &pattern, 200_000)?, 133_333);
     Ok(())
 }

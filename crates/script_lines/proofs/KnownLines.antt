@@ -1,5 +1,5 @@
 -- What is known of a line that was read: the kind that was wanted, and a request that the core takes.
-use Rattle.std.proofs.Common.{◌≡◌, ℕ, ◌<◌, ◌≤◌, Bool, true, false, cond, List, Option, Some, None, Result, Ok, Err, refl, sym, ◌∙◌, ap, subst, arith, nat_eq, nat_le, codes}
+use Rattle.std.proofs.Common.{◌≡◌, ℕ, ◌<◌, ◌≤◌, Bool, true, false, cond, List, Option, Some, None, Result, Ok, Err, refl, ap, subst, arith, nat_eq, nat_le, codes}
 use Rattle.std.proofs.lemmas.Bool.{leb-true}
 use Rattle.std.specs.List.{list_any}
 use Rattle.std.specs.Prelude.{ok_or, option_and_then}
@@ -32,7 +32,7 @@ use Rattle.script_lines.specs.Faults.{form}
 use Rattle.script_lines.specs.Forms.{or_shape, name_at, whole_member, id_limit}
 use Rattle.script_lines.specs.Thin.{thin_config, thin_annot}
 use Rattle.script_lines.specs.Lines.{request_of, blank_line, json_line, value_line, placed_line, config_line, line_in, if_command, command_named, session_at, session_in, if_session, members_of, bundle_request, query_request, look_request, after_request, if_earlier, ask_in, is_blank, json_of, word_of_line}
-use Rattle.script_lines.specs.Known.{Known, IsRequestLine, NamesOneOf}
+use Rattle.script_lines.specs.Known.{Known, NamesOneOf}
 use Rattle.script_lines.proofs.ValidConfigs.{thin_valid}
 
 abbrev ok_shape : Request → Result Request Shape

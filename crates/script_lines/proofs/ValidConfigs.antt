@@ -1,16 +1,16 @@
 -- A configuration that was read keeps the rules of configurations.
-use Rattle.std.proofs.Common.{◌≡◌, ℕ, Bool, true, List, [], ◌∷◌, ◌&&◌, length, Result, Ok, Err, nat_le, codes, refl, sym, ◌∙◌, ap, subst}
+use Rattle.std.proofs.Common.{◌≡◌, Bool, true, List, [], ◌∷◌, ◌&&◌, length, Result, Ok, Err, nat_le, codes, refl, sym, ◌∙◌, ap, subst}
 use Rattle.std.specs.List.{list_all}
 use Rattle.json_view.specs.declared.faults.Shape.{Shape}
 use Rattle.json_view.specs.declared.wants.Wanted.TheVariants as wanted
 use Rattle.json_view.specs.Seen.{Seen}
-use Rattle.json_view.specs.Parts.{shape, member_of}
+use Rattle.json_view.specs.Parts.{member_of}
 use Rattle.json_view.specs.Steps.{◌>>=◌}
 use Rattle.session_core.specs.declared.config.AttributeDef.{AttributeDef}
 use Rattle.session_core.specs.declared.config.LevelDef.{LevelDef}
 use Rattle.session_core.specs.declared.config.Config.{Config}
 use Rattle.session_core.specs.Configs.{is_valid_level, is_valid_config, levels_differ}
-use Rattle.script_lines.specs.Forms.{or_shape, name_at, optional_text, optional_word, no_member, only_element, word_member}
+use Rattle.script_lines.specs.Forms.{or_shape, name_at, optional_text, only_element, word_member}
 use Rattle.script_lines.specs.Thin.{attribute_in, attributes_in, level_def_in, level_defs_in, config_parts, nothing_more, config_in, thin_config}
 
 -- a reading that goes on to the end was taken at its first step

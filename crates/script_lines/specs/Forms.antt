@@ -1,6 +1,6 @@
 -- Members of the forms that a script's lines have (RFC 8259), each read as what it has to be, or the
 -- fault that says at which path which form was wanted.
-use Rattle.std.specs.Prelude.{◌≡◌, ℕ, ◌-◌, ◌^◌, Bool, true, false, List, [], ◌∷◌, Option, Some, None, Result, Ok, Err, if◌then◌else◌}
+use Rattle.std.specs.Prelude.{ℕ, ◌-◌, ◌^◌, Bool, true, List, [], ◌∷◌, Option, Some, None, Result, Ok, Err, if◌then◌else◌}
 use Rattle.serde_json.specs.Data.{Data}
 use Rattle.json_view.specs.declared.wants.Wanted.{Wanted}
 use Rattle.json_view.specs.declared.wants.Wanted.TheVariants as wanted

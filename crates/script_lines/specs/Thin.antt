@@ -1,16 +1,14 @@
 -- The forms of a configuration, an annotation and a query that are read so far (EMU-SDMS Manual, "The
 -- emuDB format" and "The EMU Query Language"): one SEGMENT level with one attribute, an annotation
 -- of this level, and one test of a label. Every other form is refused where it stands.
-use Rattle.std.specs.Prelude.{◌≡◌, ℕ, suc, Bool, true, false, ◌&&◌, ◌||◌, List, [], ◌∷◌, length, map, take, drop, Option, Some, None, Result, Ok, Err, nat_eq, nat_le, ◌==◌, if◌then◌else◌, codes}
+use Rattle.std.specs.Prelude.{ℕ, suc, Bool, true, false, ◌&&◌, ◌||◌, List, [], ◌∷◌, length, map, take, drop, Option, Some, None, Result, Ok, Err, nat_eq, nat_le, ◌==◌, if◌then◌else◌, codes}
 use Rattle.std.specs.List.{list_all, list_any, starts_with}
 use Rattle.json_view.specs.declared.wants.Wanted.TheVariants as wanted
 use Rattle.json_view.specs.declared.faults.Shape.{Shape}
 use Rattle.json_view.specs.Seen.{Seen}
 use Rattle.json_view.specs.Parts.{shape, member_of, optional_of}
-use Rattle.json_view.specs.Lists.{each_of}
 use Rattle.json_view.specs.Steps.{◌>>=◌}
 use Rattle.emu_names.specs.declared.kinds.LevelKind.TheVariants as kinds
-use Rattle.emu_names.specs.declared.kinds.ItemId.{ItemId}
 use Rattle.emu_names.specs.declared.limits.TheConstants.{BUNDLE_ITEMS, LABEL_BYTES, QUERY_BYTES}
 use Rattle.session_core.specs.declared.annot.Time.{Time}
 use Rattle.session_core.specs.declared.annot.Time.TheVariants.{Span}

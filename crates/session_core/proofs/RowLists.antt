@@ -1,10 +1,10 @@
 -- A bundle that has no list of items for a level gives no row.
-use Rattle.std.proofs.Common.{◌≡◌, ◌≤◌, ℕ, List, [], length, ap, ◌∙◌, sym, refl, None, slice_get}
+use Rattle.std.proofs.Common.{◌≡◌, ◌≤◌, List, [], length, ap, ◌∙◌, sym, refl, None, slice_get}
 use Rattle.std.proofs.lemmas.Option.{slice_get_past}
 use Rattle.session_core.specs.declared.bundle.Item.{Item}
 use Rattle.session_core.specs.declared.bundle.BundleParts.{BundleParts}
 use Rattle.session_core.specs.declared.config.Config.{Config}
-use Rattle.session_core.specs.Queries.{Place, Asked, rows_in}
+use Rattle.session_core.specs.Queries.{Asked, rows_in}
 
 pub no_rows : (c : Config) (asked : Asked) (b : BundleParts) (levels : List (List Item)) →
     levels ≡ b.levels → length levels ≤ asked.place.level → rows_in c asked b ≡ []

@@ -1,6 +1,6 @@
 -- When items are, in samples (EMU-SDMS Manual, "The emuDB format": sampleStart and sampleDur of a
 -- segment, samplePoint of an event).
-use Rattle.std.specs.Prelude.{ℕ, ◌+◌, ◌^◌, Bool, true, false, ◌&&◌, List, length, nat_lt, nat_le}
+use Rattle.std.specs.Prelude.{ℕ, ◌+◌, Bool, true, false, ◌&&◌, List, length, nat_lt, nat_le}
 use Rattle.emu_names.specs.declared.limits.TheConstants.{TOP_RATE, BUNDLE_ITEMS, SAMPLES}
 use Rattle.std.specs.List.{list_all}
 use Rattle.emu_names.specs.declared.kinds.LevelKind.{LevelKind}

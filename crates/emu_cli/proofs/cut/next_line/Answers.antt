@@ -1,4 +1,4 @@
-use Rattle.std.proofs.Common.{◌≡◌, ◌<◌, ◌∷◌, [], length, ℕ, true, false, ◌==◌, List, take, drop, refl, sym, ◌∙◌, ap, arith}
+use Rattle.std.proofs.Common.{◌≡◌, ◌<◌, ◌∷◌, [], length, ℕ, true, false, ◌==◌, List, take, drop, ◌∙◌, arith}
 use Rattle.emu_cli.specs.Cuts.{cut, line_len}
 use Rattle.emu_cli.proofs.CutLemmas.{cut_at, cut_past, cut_last, one_line}
 use Rattle.emu_cli.proofs.cut.next_line.Goals as goal

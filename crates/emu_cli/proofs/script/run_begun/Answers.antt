@@ -1,4 +1,4 @@
-use Rattle.std.proofs.Common.{List, ℕ, [], ◌∷◌}
+use Rattle.std.proofs.Common.{[], ◌∷◌}
 use Rattle.emu_cli.specs.Cuts.{cut}
 use Rattle.emu_cli.proofs.RunLemmas.{begun, ends_unbegun, ends_script, past_end, whole_end}
 use Rattle.emu_cli.proofs.script.run_begun.Goals as goal

@@ -1,8 +1,5 @@
-use Rattle.std.proofs.Common.{◌≡◌, List, ℕ, [], ◌∷◌, ◌++◌, Option, ap, ◌∙◌, subst, arith}
-use Rattle.session_core.specs.declared.config.Config.{Config}
+use Rattle.std.proofs.Common.{◌++◌, arith}
 use Rattle.emu_cli.specs.Cuts.{cut}
-use Rattle.emu_cli.specs.Reached.{InLines}
-use Rattle.emu_cli.specs.declared.running.Running.{Running}
 use Rattle.emu_cli.proofs.RunLemmas.{ends_in, lines_more, lines_end, split_more, rest_is}
 use Rattle.emu_cli.proofs.script.run_rest.Goals as goal
 

@@ -1,0 +1,146 @@
+//! What the names and numbers of a configuration stand for.
+ghost use Rattle.std.specs.Prelude.{◌≡◌, ◌<◌, length, IsSome};
+ghost use Rattle.db_config.specs.Lookups.{attribute_at};
+
+use db_config::{AttributePlace, Config, PartsFault, read_config};
+use emu_names::{LevelKind, LinkKind, Memory};
+use json_view::View;
+use serde_json::Value;
+use std::alloc::Global;
+use std::process::Abort;
+use std::test::Fail;
+
+/// A database with nine levels, in which two ways lead from one level to another.
+static NINE: &str =
+    "{\"name\":\"ae\",\"ssffTrackDefinitions\":[{\"name\":\"dft\"},{\"name\":\"fm\"}],\"levelDefinitions\":[{\"name\":\"Utterance\",\"type\":\"ITEM\",\"attributeDefinitions\":[{\"name\":\"Utterance\"}]},{\"name\":\"Intonational\",\"type\":\"ITEM\",\"attributeDefinitions\":[{\"name\":\"Intonational\"}]},{\"name\":\"Intermediate\",\"type\":\"ITEM\",\"attributeDefinitions\":[{\"name\":\"Intermediate\"}]},{\"name\":\"Word\",\"type\":\"ITEM\",\"attributeDefinitions\":[{\"name\":\"Word\"}]},{\"name\":\"Syllable\",\"type\":\"ITEM\",\"attributeDefinitions\":[{\"name\":\"Syllable\"}]},{\"name\":\"Phoneme\",\"type\":\"ITEM\",\"attributeDefinitions\":[{\"name\":\"Phoneme\"}]},{\"name\":\"Foot\",\"type\":\"ITEM\",\"attributeDefinitions\":[{\"name\":\"Foot\"}]},{\"name\":\"Phonetic\",\"type\":\"SEGMENT\",\"attributeDefinitions\":[{\"name\":\"Phonetic\"}]},{\"name\":\"Tone\",\"type\":\"EVENT\",\"attributeDefinitions\":[{\"name\":\"Tone\"}]}],\"linkDefinitions\":[{\"type\":\"ONE_TO_MANY\",\"superlevelName\":\"Utterance\",\"sublevelName\":\"Intonational\"},{\"type\":\"ONE_TO_MANY\",\"superlevelName\":\"Intonational\",\"sublevelName\":\"Intermediate\"},{\"type\":\"ONE_TO_MANY\",\"superlevelName\":\"Intermediate\",\"sublevelName\":\"Word\"},{\"type\":\"ONE_TO_MANY\",\"superlevelName\":\"Word\",\"sublevelName\":\"Syllable\"},{\"type\":\"ONE_TO_MANY\",\"superlevelName\":\"Syllable\",\"sublevelName\":\"Phoneme\"},{\"type\":\"MANY_TO_MANY\",\"superlevelName\":\"Phoneme\",\"sublevelName\":\"Phonetic\"},{\"type\":\"ONE_TO_MANY\",\"superlevelName\":\"Syllable\",\"sublevelName\":\"Tone\"},{\"type\":\"ONE_TO_MANY\",\"superlevelName\":\"Intonational\",\"sublevelName\":\"Foot\"},{\"type\":\"ONE_TO_MANY\",\"superlevelName\":\"Foot\",\"sublevelName\":\"Syllable\"}],\"EMUwebAppConfig\":{\"zoom\":0.5}}";
+
+/// The pairs of levels of which the first is above the second; of no other pair it is.
+static ABOVE: [(&str, &str); 32] = [
+    ("Utterance", "Intonational"),
+    ("Utterance", "Intermediate"),
+    ("Utterance", "Word"),
+    ("Utterance", "Syllable"),
+    ("Utterance", "Phoneme"),
+    ("Utterance", "Foot"),
+    ("Utterance", "Phonetic"),
+    ("Utterance", "Tone"),
+    ("Intonational", "Intermediate"),
+    ("Intonational", "Word"),
+    ("Intonational", "Syllable"),
+    ("Intonational", "Phoneme"),
+    ("Intonational", "Foot"),
+    ("Intonational", "Phonetic"),
+    ("Intonational", "Tone"),
+    ("Intermediate", "Word"),
+    ("Intermediate", "Syllable"),
+    ("Intermediate", "Phoneme"),
+    ("Intermediate", "Phonetic"),
+    ("Intermediate", "Tone"),
+    ("Word", "Syllable"),
+    ("Word", "Phoneme"),
+    ("Word", "Phonetic"),
+    ("Word", "Tone"),
+    ("Syllable", "Phoneme"),
+    ("Syllable", "Phonetic"),
+    ("Syllable", "Tone"),
+    ("Phoneme", "Phonetic"),
+    ("Foot", "Syllable"),
+    ("Foot", "Phoneme"),
+    ("Foot", "Phonetic"),
+    ("Foot", "Tone"),
+];
+
+/// A database with legal labels and label groups.
+static GROUPS: &str =
+    "{\"name\":\"t\",\"levelDefinitions\":[{\"name\":\"Phonetic\",\"type\":\"SEGMENT\",\"attributeDefinitions\":[{\"name\":\"Phonetic\",\"type\":\"STRING\",\"legalLabels\":[\"V\",\"m\"],\"labelGroups\":[{\"name\":\"vowel\",\"values\":[\"V\",\"E\"]},{\"name\":\"vowel\",\"values\":[]}]},{\"name\":\"Tone\"}]},{\"name\":\"Word\",\"type\":\"ITEM\",\"attributeDefinitions\":[{\"name\":\"Text\"},{\"name\":\"Accent\"}]}],\"labelGroups\":[{\"name\":\"vowel\",\"values\":[\"a\"]},{\"name\":\"stop\",\"values\":[\"t\",\"k\"]}]}";
+
+fn config_of(alloc: Global, text: &str) -> Result<Config, Fail> {
+    let value = Value::from_str(alloc, text)?;
+    let view = View::root(alloc, &value)?;
+    Ok(read_config(alloc, &view)?)
+}
+
+/// Values that go to other threads and are shared among them.
+fn crosses_threads<T: Send + Sync>(_value: &T) {}
+
+/// Whether the table says that the one level is above the other.
+fn is_listed(upper: &str, lower: &str) -> bool {
+    ABOVE.iter().any(|pair| pair.0 == upper && pair.1 == lower)
+}
+
+/// Compares each two levels with the table.
+fn check_above(rt: &impl Abort, config: &Config) {
+    for upper in 0..config.level_count() {
+        for lower in 0..config.level_count() {
+            let above = config.parts().levels.get(upper).name.as_str();
+            let below = config.parts().levels.get(lower).name.as_str();
+            assert_eq!(rt;
+                config.is_above(upper, lower),
+                is_listed(above, below),
+                "{above} {below}"
+            );
+        }
+    }
+}
+
+#[test]
+fn levels_are_above_levels(rt: HostRuntime) -> Result<(), Fail> {
+    let config = config_of(rt.alloc(), NINE)?;
+    crosses_threads(&config);
+    check_above(&rt, &config);
+    let copied = config.copy(rt.alloc())?;
+    check_above(&rt, &copied);
+    Ok(())
+}
+
+/// A link definition by the numbers of its levels, its place, and its type where it is there.
+static DEFINITIONS: [(usize, usize, Option<u32>); 5] = [
+    (0, 1, Some(0)),
+    (5, 7, Some(5)),
+    (6, 4, Some(8)),
+    (0, 2, None),
+    (7, 5, None),
+];
+
+#[test]
+fn definitions_are_found(rt: HostRuntime) -> Result<(), Fail> {
+    let config = config_of(rt.alloc(), NINE)?;
+    for &(upper, lower, wanted) in &DEFINITIONS {
+        assert_eq!(rt;
+            config.link_definition(upper, lower),
+            wanted,
+            "{upper} {lower}"
+        );
+    }
+    assert_eq!(rt; config.parts().links.len(), 9);
+    assert!(rt; config.link_kind(5) == LinkKind::ManyToMany);
+    assert!(rt; config.level_count() == 9 && config.kind(8) == LevelKind::Event);
+    assert_eq!(rt; config.parts().tracks.len(), 2);
+    assert_eq!(rt; config.parts().tracks.get(1).as_str(), "fm");
+    Ok(())
+}
+
+/// A name, the number of its level, and the place that it stands for.
+type Named = (&'static str, Option<usize>, Option<(usize, usize)>);
+
+static NAMES: [Named; 6] = [
+    ("Phonetic", Some(0), Some((0, 0))),
+    ("Tone", None, Some((0, 1))),
+    ("Word", Some(1), Some((1, 0))),
+    ("Text", None, Some((1, 0))),
+    ("Accent", None, Some((1, 1))),
+    ("word", None, None),
+];
+
+#[test]
+fn names_stand_for_places(rt: HostRuntime) -> Result<(), Fail> {
+    let config = config_of(rt.alloc(), GROUPS)?;
+    for &(name, level, place) in &NAMES {
+        let found = config.name_place(name).map(|p| (p.level, p.attribute));
+        assert!(rt;
+            config.level_named(name) == level && found == place,
+            "{name}"
+        );
+    }
+    Ok(())
+}

@@ -1,0 +1,74 @@
+//! The names that the levels of a configuration take.
+ghost use Rattle.std.specs.Prelude.{◌≡◌, ◌++◌, ℕ, [], IfOk, OnOk, option_map, is_none};
+ghost use Rattle.std.specs.List.{list_any, flat_map};
+ghost use Rattle.db_config.specs.Names.{same_text, names_of, all_names, first_double, are_distinct};
+
+use crate::parts::LevelDef;
+use emu_lists::Series;
+use emu_names::{Memory, Text};
+use std::alloc::Global;
+
+/// Puts the names that a level takes last. The only refusal is want of memory.
+fn put_names(alloc: Global, names: &mut Series<Text>, def: &LevelDef) -> Result<(), Memory>
+    ensures { OnOk result (names.new ≡ names.old ++ names_of def.now) }
+{
+    names.push(Text::new(alloc, def.name.as_str())?)?;
+    let mut own = false;
+    for attribute in def.attributes.as_slice() {
+        if !own && attribute.name == def.name {
+            own = true;
+        } else {
+            names.push(Text::new(alloc, attribute.name.as_str())?)?;
+        }
+    }
+    Ok(())
+}
+
+/// The names that the levels take, in reading order. The only refusal is want of memory.
+pub(crate) fn all_names(alloc: Global, levels: &[LevelDef]) -> Result<Series<Text>, Memory>
+    ensures { IfOk result (λ names. names ≡ all_names levels.now) }
+{
+    let mut names = Series::new(alloc);
+    for level in levels {
+        put_names(alloc, &mut names, level)?;
+    }
+    Ok(names)
+}
+
+/// Whether a text is among some texts.
+pub(crate) fn is_among(text: &str, texts: &[Text]) -> bool
+    ensures { result ≡ list_any (same_text text.now) texts.now }
+{
+    for other in texts {
+        if text == other.as_str() {
+            return true;
+        }
+    }
+    false
+}
+
+/// Whether no name stands twice.
+pub(crate) fn are_distinct(names: &[Text]) -> bool
+    ensures { result ≡ are_distinct names.now }
+{
+    let mut rest = names;
+    while let [first, after @ ..] = rest {
+        if is_among(first.as_str(), after) {
+            return false;
+        }
+        rest = after;
+    }
+    true
+}
+
+/// The first name that stands earlier.
+pub(crate) fn first_double(names: &[Text]) -> Option<&Text>
+    ensures { option_map (λ name. name.now) result ≡ first_double [] names.now }
+{
+    for place in 0..names.len() {
+        if is_among(names[place].as_str(), &names[..place]) {
+            return Some(&names[place]);
+        }
+    }
+    None
+}

@@ -1,0 +1,125 @@
+//! The configuration of a JSON value: its parts are read, and then its rules are tested.
+ghost use Rattle.std.specs.Prelude.{◌≡◌, [], IfOk, true};
+ghost use Rattle.json_view.specs.Seen.{seen_at};
+ghost use Rattle.db_config.specs.Faults.{Reads};
+ghost use Rattle.db_config.specs.Names.{all_names, are_distinct, first_double};
+ghost use Rattle.db_config.specs.Valid.{keeps_rules};
+ghost use Rattle.db_config.specs.Read.{AreBounded, named_parts, unless_cycle, linked_parts, sound_parts, parts_with, config_of};
+
+use crate::config::Config;
+use crate::faults::ConfigFault;
+use crate::forms::{name_at, object_in, optional_text};
+use crate::named::NamedParts;
+use crate::names::{all_names, first_double};
+use crate::parts::{ConfigParts, LevelDef, LinkDefs};
+use crate::places::all_placed;
+use crate::read_parts::{groups_member, levels_member, links_member, tracks_member};
+use crate::rules::are_apart;
+use emu_names::{Memory, Text};
+use json_view::View;
+use std::alloc::Global;
+
+// The members, with the link definitions by the names of their levels.
+#[tactic(auto, unfolding(crate::specs::Read::named_parts))]
+fn named_parts(alloc: Global, view: &View) -> Result<NamedParts, ConfigFault>
+    ensures parts { Reads result (named_parts (seen_at view.now)) }
+    ensures limits { IfOk result AreBounded }
+{
+    object_in(view)?;
+    let name = name_at(alloc, view, "name")?;
+    let uuid = optional_text(alloc, view, "UUID")?;
+    let extension = optional_text(alloc, view, "mediafileExtension")?;
+    let tracks = tracks_member(alloc, view)?;
+    let levels = levels_member(alloc, view)?;
+    let links = links_member(alloc, view)?;
+    let groups = groups_member(alloc, view)?;
+    Ok(NamedParts {
+        name,
+        uuid,
+        extension,
+        tracks,
+        levels,
+        links,
+        groups,
+    })
+}
+
+// The first name that stands twice. The only refusal is want of memory.
+fn double_in(alloc: Global, levels: &[LevelDef]) -> Result<Option<Text>, Memory>
+    ensures { IfOk result (λ found. found ≡ first_double [] (all_names levels.now)) }
+{
+    let names = all_names(alloc, levels)?;
+    match first_double(names.as_slice()) {
+        Some(name) => Ok(Some(name.copy(alloc)?)),
+        None => Ok(None),
+    }
+}
+
+// The parts with the link definitions by numbers.
+fn with_links(parts: NamedParts, links: LinkDefs) -> ConfigParts
+    ensures { result ≡ parts_with parts links }
+{
+    ConfigParts {
+        name: parts.name,
+        uuid: parts.uuid,
+        extension: parts.extension,
+        tracks: parts.tracks,
+        levels: parts.levels,
+        groups: parts.groups,
+        links,
+    }
+}
+
+// The configuration of parts that keep all rules, unless a path of link definitions leads round.
+fn uncycled(alloc: Global, parts: ConfigParts) -> Result<Config, ConfigFault>
+    requires { keeps_rules parts ≡ true }
+    ensures { Reads result (unless_cycle parts) }
+{
+    match Config::from_kept(alloc, parts)? {
+        Some(config) => Ok(config),
+        None => Err(ConfigFault::LevelCycle),
+    }
+}
+
+// The configuration of parts whose names are distinct, or the first rule on link definitions that they
+// break.
+fn linked_parts(alloc: Global, parts: NamedParts) -> Result<Config, ConfigFault>
+    requires bounded { AreBounded parts }
+    requires distinct { are_distinct (all_names parts.levels) ≡ true }
+    ensures { Reads result (linked_parts parts) }
+{
+    let links = all_placed(alloc, parts.levels.as_slice(), parts.links.as_slice())?;
+    if !are_apart(links.as_slice()) {
+        return Err(ConfigFault::DoubleLink);
+    }
+    uncycled(alloc, with_links(parts, links))
+}
+
+// The configuration of these parts, or the first rule that they break.
+#[tactic(auto, using(crate::proofs::Doubles::no_double), unfolding(crate::specs::Read::sound_parts))]
+fn sound_parts(alloc: Global, parts: NamedParts) -> Result<Config, ConfigFault>
+    requires { AreBounded parts }
+    ensures { Reads result (sound_parts parts) }
+{
+    match double_in(alloc, parts.levels.as_slice())? {
+        Some(name) => Err(ConfigFault::DoubleName(name)),
+        None => linked_parts(alloc, parts),
+    }
+}
+
+/// The configuration of a value (EMU-SDMS Manual, "The emuDB format": `_DBconfig.json`), or its first
+/// fault.
+///
+/// The members are read in this order: `name`, `UUID`, `mediafileExtension`, `ssffTrackDefinitions`,
+/// `levelDefinitions`, `linkDefinitions`, `labelGroups`; the first part that has another form is the
+/// fault (`Shape`), or the first list that passes its limit (`TooMany`), which is tested before its
+/// elements are read. Then come, each the first of its kind: a name that stands twice (`DoubleName`), a
+/// link definition that names a level that is not there (`UnknownLevel`), two link definitions of the
+/// same levels (`DoubleLink`), and a path of link definitions from a level to itself (`LevelCycle`).
+#[tactic(auto, unfolding(crate::specs::Read::config_of))]
+pub fn read_config(alloc: Global, view: &View) -> Result<Config, ConfigFault>
+    ensures { Reads result (config_of (seen_at view.now)) }
+{
+    let parts = named_parts(alloc, view)?;
+    sound_parts(alloc, parts)
+}
