@@ -2,11 +2,27 @@
 # check.sh [BINARY]: runs the program on each script NAME.jsonl beside this file, and compares what it writes with NAME.stdout and
 # its status with that of the last line, or 0 where the last line has none. NAME.args has further words of the command line.
 # BINARY is crates/emu/out/emu where it is not given. The last line says how many agreed; the status is 0 where all did.
+# check.sh --try compares what 'rt try' gives, in a minute or two: nothing is built and nothing is proved, and statuses are not looked at.
+begun=$PWD
 cd "$(dirname "$0")" || exit 2
-binary=${1:-../crates/emu/out/emu}
-case $binary in /* | ../*) ;; *) binary=$OLDPWD/$binary ;; esac
+if [ "$1" = --try ]; then
+    cases=$(mktemp -d) || exit 2
+    trap 'rm -rf "$cases"' EXIT
+    for script in *.jsonl; do
+        name=${script%.jsonl}
+        cp "$script" "$cases/$name" && cp "$name.stdout" "$cases" || exit 2
+        if [ -f "$name.args" ]; then cp "$name.args" "$cases"; fi
+    done
+    cd ../crates/emu && rt try --cases "$cases" -- run
+    exit
+fi
+if [ $# -gt 0 ]; then
+    binary=$(cd "$begun" && realpath -- "$1")
+else
+    binary=$(realpath -- ../crates/emu/out/emu 2>/dev/null)
+fi
 if [ ! -x "$binary" ]; then
-    echo "check.sh: no program at $binary: build it by 'rt run -- run' in crates/emu" >&2
+    echo "check.sh: there is no program yet: build it by 'rt run -- run' in crates/emu" >&2
     exit 2
 fi
 wrote=$(mktemp) || exit 2
