@@ -20,8 +20,10 @@ fn line_len(bytes: &[u8]) -> usize
 /// The first line of these bytes without its line feed, and the bytes behind it. There is none at
 /// the end, nor where a last line has no line feed and the script goes on `past` these bytes.
 pub(crate) fn next_line(past: bool, bytes: &[u8]) -> Option<(&[u8], &[u8])>
-    ensures lines { MatchOption result (cut past bytes.now ≡ []) (λ next. cut past bytes.now ≡ next.0.now ∷ cut past next.1.now) }
-    ensures shorter { MatchOption result (0 ≤ length bytes.now) (λ next. length next.1.now < length bytes.now) }
+    ensures lines { MatchOption result (cut past bytes.now ≡ []) (λ next. cut past bytes.now ≡
+        next.0.now ∷ cut past next.1.now) }
+    ensures shorter { MatchOption result (0 ≤ length bytes.now)
+        (λ next. length next.1.now < length bytes.now) }
 {
     if bytes.is_empty() {
         return None;

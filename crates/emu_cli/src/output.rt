@@ -24,7 +24,8 @@ pub(crate) fn write_text<K: Sink>(out: &mut K, text: &Text) -> Result<(), Ended>
 
 /// Writes a reply.
 pub(crate) fn write_reply<K: Sink>(alloc: Global, out: &mut K, reply: &Reply) -> Result<(), Ended>
-    ensures output { WritesText result (K.written out.old) (K.written out.new) (reply_text reply.now) }
+    ensures output { WritesText result (K.written out.old) (K.written out.new)
+        (reply_text reply.now) }
     ensures cause { IfErr result (λ end. EndHasCause end (K.faults out.old) (K.faults out.new)) }
     ensures later { K.faults out.old ≤ K.faults out.new }
 {

@@ -78,7 +78,8 @@ fn run_rest<K: Sink>(
 
 /// Writes the reply to the line of the configuration.
 fn write_config<K: Sink>(alloc: Global, out: &mut K) -> Result<(), Ended>
-    ensures output { WritesText result (K.written out.old) (K.written out.new) (reply_text config_reply) }
+    ensures output { WritesText result (K.written out.old) (K.written out.new)
+        (reply_text config_reply) }
     ensures cause { IfErr result (λ end. EndHasCause end (K.faults out.old) (K.faults out.new)) }
     ensures later { K.faults out.old ≤ K.faults out.new }
 {
@@ -98,7 +99,8 @@ pub(crate) fn run_script<K: Sink>(
     bytes: &[u8],
     out: &mut K,
 ) -> Result<(), Ended>
-    ensures ran { RunsScript result past (cut past bytes.now) (K.written out.old) (K.written out.new) }
+    ensures ran { RunsScript result past (cut past bytes.now) (K.written out.old)
+        (K.written out.new) }
     ensures cause { IfErr result (λ end. EndHasCause end (K.faults out.old) (K.faults out.new)) }
     ensures later { K.faults out.old ≤ K.faults out.new }
 {
@@ -123,7 +125,8 @@ fn run_configured<K: Sink>(
     rest: &[u8],
     out: &mut K,
 ) -> Result<(), Ended>
-    ensures ran { (line : List ℕ) → parse_line nothing_read line ≡ Ok (with_read nothing_read (ReadLine.Config config)) →
+    ensures ran { (line : List ℕ) → parse_line nothing_read line ≡
+        Ok (with_read nothing_read (ReadLine.Config config)) →
         RunsScript result past (line ∷ cut past rest.now) (K.written out.old) (K.written out.new) }
     ensures cause { IfErr result (λ end. EndHasCause end (K.faults out.old) (K.faults out.new)) }
     ensures later { K.faults out.old ≤ K.faults out.new }

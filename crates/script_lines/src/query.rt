@@ -40,7 +40,8 @@ fn is_mark(byte: u8) -> bool
 
 // Whether a bare word ends before these bytes, the first of which is there.
 fn ends_word(first: u8, bytes: &[u8]) -> bool
-    ensures { result ≡ (is_white first || is_mark first || starts_with nat_eq bytes.now (codes "->")) }
+    ensures { result ≡
+        (is_white first || is_mark first || starts_with nat_eq bytes.now (codes "->")) }
 {
     is_white(first) || is_mark(first) || bytes.starts_with(b"->")
 }
@@ -115,7 +116,8 @@ fn equal_at(text: &str) -> Option<&str>
 
 #[tactic(auto, using(crate::proofs::Cuts::something_left), unfolding(crate::specs::Thin::label_test))]
 fn label_test(text: &str) -> Option<LabelTest>
-    ensures { option_map (λ t. record { name = t.name.now; label = t.label.now }) result ≡ label_test text.now }
+    ensures { option_map (λ t. record { name = t.name.now; label = t.label.now }) result ≡
+        label_test text.now }
 {
     let name = word_at(text)?;
     let rest = equal_at(name.rest)?;

@@ -64,7 +64,8 @@ fn json_of(alloc: Global, line: &[u8]) -> Result<Value, LineFault>
 // A request, once the line's word is known: the command, the session, the members.
 #[tactic(auto, unfolding(crate::specs::Lines::line_in))]
 fn line_in(alloc: Global, place: &Place, word: &str, view: &View) -> Result<ReadLine, LineFault>
-    ensures { Reads result (line_in place.now.number place.now.earlier.now word.now (seen_at view.now)) }
+    ensures { Reads result (line_in place.now.number place.now.earlier.now word.now
+        (seen_at view.now)) }
 {
     let Some(command) = command_named(word) else {
         return Err(LineFault::NoSuchCommand);
@@ -97,7 +98,8 @@ fn placed_line(
     word: &str,
     view: &View,
 ) -> Result<ReadLine, LineFault>
-    ensures { Reads result (placed_line place.now.wants_config is_config place.now.number place.now.earlier.now word.now (seen_at view.now)) }
+    ensures { Reads result (placed_line place.now.wants_config is_config place.now.number
+        place.now.earlier.now word.now (seen_at view.now)) }
 {
     match (place.wants_config, is_config) {
         (true, true) => config_line(alloc, view),
@@ -118,7 +120,8 @@ fn word_of_line<'a>(view: &View<'a>) -> Result<&'a str, ViewFault>
 
 #[tactic(auto, unfolding(crate::specs::Lines::value_line))]
 fn value_line(alloc: Global, place: &Place, view: &View) -> Result<ReadLine, LineFault>
-    ensures { Reads result (value_line place.now.number place.now.wants_config place.now.earlier.now (seen_at view.now)) }
+    ensures { Reads result (value_line place.now.number place.now.wants_config
+        place.now.earlier.now (seen_at view.now)) }
 {
     let word = word_of_line(view)?;
     placed_line(alloc, place, word == "config", word, view)
@@ -126,7 +129,8 @@ fn value_line(alloc: Global, place: &Place, view: &View) -> Result<ReadLine, Lin
 
 // The request of a line that is not blank.
 fn json_line(alloc: Global, place: &Place, line: &[u8]) -> Result<ReadLine, LineFault>
-    ensures { Reads result (json_line place.now.number place.now.wants_config place.now.earlier.now (json_of line.now)) }
+    ensures { Reads result (json_line place.now.number place.now.wants_config
+        place.now.earlier.now (json_of line.now)) }
 {
     let value = json_of(alloc, line)?;
     let view = View::root(alloc, &value)?;

@@ -3,6 +3,7 @@
 use Rattle.std.specs.Prelude.{ℕ, Bool, true, ◌&&◌, not, List, [], ◌∷◌, length, map, Option, Some, None, nat_le, nat_eq, if◌then◌else◌}
 use Rattle.std.specs.List.{list_all, list_any}
 use Rattle.std.specs.Cmp.Lexicographic.{pointwise}
+use Rattle.emu_names.specs.declared.limits.TheConstants.{ATTRIBUTES, LEVELS}
 use Rattle.session_core.specs.declared.config.AttributeDef.{AttributeDef}
 use Rattle.session_core.specs.declared.config.LevelDef.{LevelDef}
 use Rattle.session_core.specs.declared.config.Config.{Config}
@@ -42,10 +43,10 @@ abbrev pub levels_differ : List LevelDef → Bool
 levels_differ [] = true
 levels_differ (def ∷ defs) = list_all (λ other. share_no_name (names_of def) (names_of other)) defs && levels_differ defs
 
--- a level has 1 to 16 attributes, whose names are distinct; one of them may be the level's own
+-- a level has an attribute and not too many, whose names are distinct; one of them may be the level's own
 abbrev pub is_valid_level : LevelDef → Bool
-is_valid_level def = nat_le 1 (length def.attributes) && nat_le (length def.attributes) 16 && are_distinct (attribute_names def)
+is_valid_level def = nat_le 1 (length def.attributes) && nat_le (length def.attributes) ATTRIBUTES && are_distinct (attribute_names def)
 
--- at most 64 levels, each of them valid, and no name in two of them
+-- not too many levels, each of them valid, and no name in two of them
 abbrev pub is_valid_config : Config → Bool
-is_valid_config c = nat_le (length c.levels) 64 && list_all is_valid_level c.levels && levels_differ c.levels
+is_valid_config c = nat_le (length c.levels) LEVELS && list_all is_valid_level c.levels && levels_differ c.levels

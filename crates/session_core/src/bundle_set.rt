@@ -90,7 +90,8 @@ impl BundleSet {
     /// How many bundles have a key before this one.
     fn place_of(&self, key: &BundleKey) -> usize
         ensures within { result ≤ length self.now }
-        ensures splits { IsPartitionPoint (λ b. is_before b.key key.now ≡ true) (λ b. is_before b.key key.now ≡ false) self.now result }
+        ensures splits { IsPartitionPoint (λ b. is_before b.key key.now ≡ true)
+            (λ b. is_before b.key key.now ≡ false) self.now result }
     {
         let bundles = self.list.as_ref().as_slice();
         bundles.partition_point(|bundle| is_before(&bundle.as_ref().parts().key, key))
@@ -109,7 +110,8 @@ impl BundleSet {
     /// The place of a new bundle with this key in the order of keys; none where the key is taken.
     #[tactic(auto, using(crate::proofs::KeyPlaces::taken_at))]
     fn free_place(&self, key: &BundleKey) -> Option<usize>
-        ensures { MatchOption result (has_key key.now self.now ≡ true) (λ place. IsFree key.now self.now place) }
+        ensures { MatchOption result (has_key key.now self.now ≡ true)
+            (λ place. IsFree key.now self.now place) }
     {
         let _ = &self.list;
         let place = self.place_of(key);
@@ -127,8 +129,11 @@ impl BundleSet {
         key: &BundleKey,
         annot: &Annot,
     ) -> Result<(), Fault>
-        ensures ok { OnOk result (effect config.now self.old (AddBundle key.now annot.now) ≡ Ok self.new) }
-        ensures broken { IfErr result (λ fault. IsFirstFault fault (effect config.now self.old (AddBundle key.now annot.now))) }
+        ensures ok { OnOk result (effect config.now self.old (AddBundle key.now annot.now) ≡
+            Ok self.new) }
+        ensures broken { IfErr result
+            (λ fault. IsFirstFault fault (effect config.now self.old (AddBundle key.now
+            annot.now))) }
         ensures err { OnErr result (self.new ≡ self.old) }
     {
         let Some(place) = self.free_place(key) else {
@@ -151,7 +156,8 @@ impl BundleSet {
     /// and after want of memory, they are as before.
     pub fn apply(&mut self, alloc: Global, config: &Config, edit: &Edit) -> Result<(), Fault>
         ensures ok { OnOk result (effect config.now self.old edit.now ≡ Ok self.new) }
-        ensures broken { IfErr result (λ fault. IsFirstFault fault (effect config.now self.old edit.now)) }
+        ensures broken { IfErr result
+            (λ fault. IsFirstFault fault (effect config.now self.old edit.now)) }
         ensures err { OnErr result (self.new ≡ self.old) }
     {
         match edit {

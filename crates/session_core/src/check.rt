@@ -49,7 +49,8 @@ fn label_passes(
     before: &[AnnotLabel],
     label: &AnnotLabel,
 ) -> Result<(), Fault>
-    ensures { FindsFault result (labels_fault defs.now (map (λ (l : AnnotLabel). l.name) before.now) (label.now ∷ [])) }
+    ensures { FindsFault result (labels_fault defs.now
+        (map (λ (l : AnnotLabel). l.name) before.now) (label.now ∷ [])) }
 {
     if !has_attribute(defs, &label.name) {
         return Err(Fault::Broken(Broken::NoAttribute(label.name.copy(alloc)?)));
@@ -146,7 +147,8 @@ fn items_pass(
     items: &AnnotItems,
 ) -> Result<(), Fault>
     ensures fault { FindsFault result (items_fault def.now taken.old None items.now) }
-    ensures taken { OnOk result ((q : ℕ) → list_any (nat_eq q) taken.new ≡ list_any (nat_eq q) (taken.old ++ ids_of items.now)) }
+    ensures taken { OnOk result ((q : ℕ) → list_any (nat_eq q) taken.new ≡
+        list_any (nat_eq q) (taken.old ++ ids_of items.now)) }
 {
     let mut before: Option<&AnnotItem> = None;
     for item in items.as_slice() {
@@ -202,8 +204,10 @@ fn known_level_passes(
     taken: &mut TakenIds,
     level: &AnnotLevel,
 ) -> Result<(), Fault>
-    ensures fault { FindsFault result (known_level_fault def.now (map (λ (l : AnnotLevel). l.name) before.now) taken.old level.now) }
-    ensures taken { OnOk result ((q : ℕ) → list_any (nat_eq q) taken.new ≡ list_any (nat_eq q) (taken.old ++ ids_of level.now.items)) }
+    ensures fault { FindsFault result (known_level_fault def.now
+        (map (λ (l : AnnotLevel). l.name) before.now) taken.old level.now) }
+    ensures taken { OnOk result ((q : ℕ) → list_any (nat_eq q) taken.new ≡
+        list_any (nat_eq q) (taken.old ++ ids_of level.now.items)) }
 {
     if are_given(before, &level.name) {
         return Err(Fault::Broken(Broken::TwoLevels(level.name.copy(alloc)?)));
@@ -222,8 +226,10 @@ fn level_passes(
     taken: &mut TakenIds,
     level: &AnnotLevel,
 ) -> Result<(), Fault>
-    ensures fault { FindsFault result (level_fault defs.now (map (λ (l : AnnotLevel). l.name) before.now) taken.old level.now) }
-    ensures taken { OnOk result ((q : ℕ) → list_any (nat_eq q) taken.new ≡ list_any (nat_eq q) (taken.old ++ ids_of level.now.items)) }
+    ensures fault { FindsFault result (level_fault defs.now
+        (map (λ (l : AnnotLevel). l.name) before.now) taken.old level.now) }
+    ensures taken { OnOk result ((q : ℕ) → list_any (nat_eq q) taken.new ≡
+        list_any (nat_eq q) (taken.old ++ ids_of level.now.items)) }
 {
     match level_named(defs, &level.name) {
         Some(def) => known_level_passes(alloc, def, before, taken, level),

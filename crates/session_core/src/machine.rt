@@ -90,7 +90,8 @@ impl Core {
 
     /// Tries an edit.
     fn edit(&mut self, line: Line) -> Result<Option<Reply>, Memory>
-        ensures ok { IfOk result (λ reply. edit_event self.old line line.request ≡ (reply, self.new)) }
+        ensures ok { IfOk result (λ reply. edit_event self.old line line.request ≡
+            (reply, self.new)) }
         ensures err { OnErr result (self.new ≡ self.old) }
     {
         let head = Head {
@@ -120,7 +121,8 @@ impl Core {
     /// Looks at the present state: for a `look`, for a query or for an `after`.
     fn look(&mut self, line: Line) -> Result<Option<Reply>, Memory>
         requires { line.session.0 < session_places }
-        ensures ok { IfOk result (λ reply. look_event self.old line line.request ≡ (reply, self.new)) }
+        ensures ok { IfOk result (λ reply. look_event self.old line line.request ≡
+            (reply, self.new)) }
         ensures err { OnErr result (self.new ≡ self.old) }
     {
         let head = Head {
@@ -147,7 +149,9 @@ impl Core {
     /// Answers the session's open look.
     fn finish(&mut self, line: u32, session: SessionNo) -> Result<Option<Reply>, Memory>
         requires { session.0 < session_places }
-        ensures ok { IfOk result (λ reply. finish_step self.old line session (slot self.old.looks session.0) ≡ (reply, self.new)) }
+        ensures ok { IfOk result
+            (λ reply. finish_step self.old line session (slot self.old.looks session.0) ≡
+            (reply, self.new)) }
         ensures err { OnErr result (self.new ≡ self.old) }
     {
         let reply = close_look(self.alloc, &self.config, &mut self.looks, line, session)?;
@@ -157,8 +161,11 @@ impl Core {
     /// Answers the session's query under way.
     fn query(&mut self, line: u32, session: SessionNo) -> Result<Option<Reply>, Memory>
         requires { session.0 < session_places }
-        ensures ok { IfOk result (λ reply. query_step self.old line session (slot self.old.queries session.0) ≡ (reply, self.new)) }
-        ensures err { OnErr result (self.new ≡ (query_fails self.old line session (slot self.old.queries session.0)).1) }
+        ensures ok { IfOk result
+            (λ reply. query_step self.old line session (slot self.old.queries session.0) ≡
+            (reply, self.new)) }
+        ensures err { OnErr result (self.new ≡
+            (query_fails self.old line session (slot self.old.queries session.0)).1) }
     {
         close_query(self.alloc, &self.config, &mut self.queries, line, session)
     }
@@ -193,8 +200,10 @@ impl Core {
     fn turn(&mut self, event: Event, replies: &mut Replies) -> Result<(), Memory>
         requires { place_of event < session_places }
         ensures state { OnOk result (self.new ≡ (core_step self.old event).1) }
-        ensures replies { OnOk result (replies.new ≡ replies.old ++ option_list (core_step self.old event).0) }
-        ensures err { OnErr result ((self.new ≡ (core_step self.old event).1) ⊎ (self.new ≡ (core_fails self.old event).1)) }
+        ensures replies { OnOk result (replies.new ≡ replies.old ++
+            option_list (core_step self.old event).0) }
+        ensures err { OnErr result ((self.new ≡ (core_step self.old event).1) ⊎ (self.new ≡
+            (core_fails self.old event).1)) }
     {
         if let Some(reply) = self.step(event)? {
             replies.push(reply)?;

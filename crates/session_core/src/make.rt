@@ -25,7 +25,8 @@ fn label_named<'a>(def: &AttributeDef, labels: &'a AnnotLabels) -> &'a str
 
 /// The labels of an item, one for each attribute. The only refusal is want of memory.
 fn made_labels(alloc: Global, defs: &AttributeDefs, labels: &AnnotLabels) -> Result<Labels, Memory>
-    ensures { IfOk result (λ made. made ≡ map (λ (def : AttributeDef). label_named def.name labels.now) defs.now) }
+    ensures { IfOk result (λ made. made ≡ map
+        (λ (def : AttributeDef). label_named def.name labels.now) defs.now) }
 {
     let mut made = Series::new(alloc);
     for def in defs.as_slice() {

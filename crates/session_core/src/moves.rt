@@ -68,7 +68,8 @@ pub fn try_edit(
     head: Head,
     edit: Edit,
 ) -> Result<Reply, Memory>
-    ensures ok { IfOk result (λ reply. (reply, entries.new, bundles.new) ≡ edit_tried config.now head edit entries.old bundles.old) }
+    ensures ok { IfOk result (λ reply. (reply, entries.new, bundles.new) ≡
+        edit_tried config.now head edit entries.old bundles.old) }
     ensures history { OnErr result (entries.new ≡ entries.old) }
     ensures present { OnErr result (bundles.new ≡ bundles.old) }
 {
@@ -119,7 +120,8 @@ pub fn open_look(
     ask: Ask,
 ) -> Result<Reply, Memory>
     requires { head.session.0 < length looks.old }
-    ensures ok { IfOk result (λ reply. (reply, looks.new) ≡ looked head ask n bundles.now looks.old (slot looks.old head.session.0)) }
+    ensures ok { IfOk result (λ reply. (reply, looks.new) ≡
+        looked head ask n bundles.now looks.old (slot looks.old head.session.0)) }
     ensures err { OnErr result (looks.new ≡ looks.old) }
 {
     let place = head.session.0 as usize;
@@ -143,7 +145,8 @@ pub fn begin_query(
     ask: Ask,
 ) -> Result<(), Memory>
     requires { head.session.0 < length queries.old }
-    ensures ok { OnOk result (queries.new ≡ put_slot queries.old head.session.0 (Some (held_at head ask n bundles.now))) }
+    ensures ok { OnOk result (queries.new ≡
+        put_slot queries.old head.session.0 (Some (held_at head ask n bundles.now))) }
     ensures err { OnErr result (queries.new ≡ queries.old) }
 {
     let held = hold(alloc, bundles, n, head, ask)?;
@@ -167,7 +170,8 @@ pub fn close_look(
     session: SessionNo,
 ) -> Result<Reply, Memory>
     requires { session.0 < length looks.old }
-    ensures ok { IfOk result (λ reply. (reply, looks.new) ≡ look_closed config.now line session looks.old (slot looks.old session.0)) }
+    ensures ok { IfOk result (λ reply. (reply, looks.new) ≡
+        look_closed config.now line session looks.old (slot looks.old session.0)) }
     ensures err { OnErr result (looks.new ≡ looks.old) }
 {
     let place = session.0 as usize;
@@ -202,8 +206,10 @@ pub fn close_query(
     session: SessionNo,
 ) -> Result<Option<Reply>, Memory>
     requires { session.0 < length queries.old }
-    ensures ok { IfOk result (λ reply. (reply, queries.new) ≡ query_closed config.now line session queries.old (slot queries.old session.0)) }
-    ensures err { OnErr result (queries.new ≡ query_dropped session queries.old (slot queries.old session.0)) }
+    ensures ok { IfOk result (λ reply. (reply, queries.new) ≡
+        query_closed config.now line session queries.old (slot queries.old session.0)) }
+    ensures err { OnErr result (queries.new ≡
+        query_dropped session queries.old (slot queries.old session.0)) }
 {
     match queries.take(session.0 as usize) {
         None => Ok(None),

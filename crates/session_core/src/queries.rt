@@ -31,7 +31,9 @@ fn attribute_from(defs: &AttributeDefs, name: &Text) -> Option<usize>
 
 /// The first level with an attribute of this name, and the attribute.
 fn attribute_place(defs: &LevelDefs, name: &Text) -> Option<Place>
-    ensures { MatchOption result (attribute_place 0 defs.now name.now ≡ None) (λ p. attribute_place 0 defs.now name.now ≡ Some (record { level = p.level; attribute = p.attribute })) }
+    ensures { MatchOption result (attribute_place 0 defs.now name.now ≡ None)
+        (λ p. attribute_place 0 defs.now name.now ≡
+        Some (record { level = p.level; attribute = p.attribute })) }
 {
     let defs = defs.as_slice();
     for level in 0..defs.len() {
@@ -44,7 +46,9 @@ fn attribute_place(defs: &LevelDefs, name: &Text) -> Option<Place>
 
 /// The level of this name, with its first attribute.
 fn level_place(defs: &LevelDefs, name: &Text) -> Option<Place>
-    ensures { MatchOption result (level_place 0 defs.now name.now ≡ None) (λ p. level_place 0 defs.now name.now ≡ Some (record { level = p.level; attribute = p.attribute })) }
+    ensures { MatchOption result (level_place 0 defs.now name.now ≡ None)
+        (λ p. level_place 0 defs.now name.now ≡
+        Some (record { level = p.level; attribute = p.attribute })) }
 {
     let defs = defs.as_slice();
     for level in 0..defs.len() {
@@ -60,7 +64,9 @@ fn level_place(defs: &LevelDefs, name: &Text) -> Option<Place>
 
 /// What a name stands for: an attribute, else a level, which stands for its first attribute.
 fn name_place(config: &Config, name: &Text) -> Option<Place>
-    ensures { MatchOption result (name_place config.now name.now ≡ None) (λ p. name_place config.now name.now ≡ Some (record { level = p.level; attribute = p.attribute })) }
+    ensures { MatchOption result (name_place config.now name.now ≡ None)
+        (λ p. name_place config.now name.now ≡
+        Some (record { level = p.level; attribute = p.attribute })) }
 {
     match attribute_place(&config.levels, name) {
         Some(place) => Some(place),

@@ -46,7 +46,8 @@ fn level_name(config: &Config, level: usize) -> &str
 }
 
 fn attribute_name(config: &Config, level: usize, attribute: usize) -> &str
-    ensures { result.now ≡ attribute_name config.now (record { level = level; attribute = attribute }) }
+    ensures { result.now ≡
+        attribute_name config.now (record { level = level; attribute = attribute }) }
 {
     match config.levels.as_slice().get(level) {
         Some(def) => match def.attributes.as_slice().get(attribute) {

@@ -35,7 +35,8 @@ impl TakenIds {
     /// memory.
     pub(crate) fn take(&mut self, id: ItemId) -> Result<bool, Memory>
         ensures fresh { IfOk result (λ fresh. fresh ≡ not (list_any (nat_eq id.0) self.old)) }
-        ensures taken { OnOk result ((q : ℕ) → list_any (nat_eq q) self.new ≡ list_any (nat_eq q) (self.old ++ id.0 ∷ [])) }
+        ensures taken { OnOk result ((q : ℕ) → list_any (nat_eq q) self.new ≡
+            list_any (nat_eq q) (self.old ++ id.0 ∷ [])) }
     {
         let fresh = self.ids.insert(id.0)?;
         Ok(fresh)
