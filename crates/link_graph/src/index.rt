@@ -33,7 +33,8 @@ impl Index {
 
     /// The same index again. The only refusal is want of memory.
     pub(crate) fn copy(&self) -> Result<Index, Memory>
-        ensures { IfOk result (λ made. (links : List Link) → Indexes self.now links → Indexes made links) }
+        ensures { IfOk result (λ made. (links : List Link) → Indexes self.now links →
+            Indexes made links) }
     {
         let down = self.down.copy()?;
         let up = self.up.copy()?;
@@ -87,7 +88,8 @@ impl Index {
 
 /// Takes the links that name `id` out at the lower end of each of its links.
 fn forget_lower(up: &mut ByItem, id: ItemId, children: &[Link])
-    ensures { (key : ℕ) → links_at up.new key ≡ forgotten (list_any (λ link. link.to.0 == key) children.now) id (links_at up.old key) }
+    ensures { (key : ℕ) → links_at up.new key ≡ forgotten (list_any
+        (λ link. link.to.0 == key) children.now) id (links_at up.old key) }
 {
     for link in children {
         up.forget(link.to, id);
@@ -96,7 +98,8 @@ fn forget_lower(up: &mut ByItem, id: ItemId, children: &[Link])
 
 /// Takes the links that name `id` out at the upper end of each of its links.
 fn forget_upper(down: &mut ByItem, id: ItemId, parents: &[Link])
-    ensures { (key : ℕ) → links_at down.new key ≡ forgotten (list_any (λ link. link.from.0 == key) parents.now) id (links_at down.old key) }
+    ensures { (key : ℕ) → links_at down.new key ≡ forgotten (list_any
+        (λ link. link.from.0 == key) parents.now) id (links_at down.old key) }
 {
     for link in parents {
         down.forget(link.from, id);
