@@ -149,7 +149,8 @@ fn add_rows(
     requires in_time { list_all is_item_in_time items.now ≡ true }
     requires few { length items.now ≤ BUNDLE_ITEMS }
     ensures { OnOk result (rows.new ≡ rows.old
-        ++ map (row_of wanted.now.config.now (record { level = wanted.now.level; attribute = wanted.now.attribute }) parts.now)
+        ++ map (row_of wanted.now.config.now
+        (record { level = wanted.now.level; attribute = wanted.now.attribute }) parts.now)
         (filter (is_asked wanted.now.attribute wanted.now.label.now) (enumerate_from 0 items.now))) }
 {
     for position in 0..items.len() {
