@@ -1,12 +1,11 @@
 -- What the names and numbers of a configuration stand for.
-use Rattle.std.specs.Prelude.{ℕ, suc, Bool, true, ◌||◌, ◌&&◌, ◌==◌, List, [], ◌∷◌, length, Option, Some, None, option_map, option_and_then}
+use Rattle.std.specs.Prelude.{ℕ, suc, Bool, true, ◌||◌, ◌&&◌, ◌==◌, List, [], ◌∷◌, length, Option, None, option_map, option_and_then}
 use Rattle.std.specs.List.{list_any, position, find, slice_get}
 use Rattle.std.specs.Option.{option_or, option_map_or}
 use Rattle.db_config.specs.declared.groups.GroupDef.{GroupDef}
 use Rattle.db_config.specs.declared.attributes.AttributeDef.{AttributeDef}
 use Rattle.db_config.specs.declared.parts.LevelDef.{LevelDef}
 use Rattle.db_config.specs.declared.parts.LinkDef.{LinkDef}
-use Rattle.db_config.specs.declared.parts.ConfigParts.{ConfigParts}
 use Rattle.db_config.specs.declared.parts.AttributePlace.{AttributePlace}
 use Rattle.db_config.specs.Names.{same_text}
 

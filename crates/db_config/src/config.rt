@@ -108,7 +108,8 @@ impl Config {
 
     /// What a name stands for: an attribute, else a level, which stands for its first attribute.
     pub fn name_place(&self, name: &str) -> Option<AttributePlace>
-        ensures { result ≡ name_place name.now self.now.levels }
+        ensures place { result ≡ name_place name.now self.now.levels }
+        ensures there { IfSome result (λ place. IsSome (attribute_at place self.now.levels)) }
     {
         name_place(self.parts.levels.as_slice(), name)
     }
