@@ -42,7 +42,8 @@ attribute_at place levels =
 -- a label is legal where it is empty, where every label is, or where it is listed
 abbrev pub is_legal_for : List ℕ → AttributeDef → Bool
 is_legal_for label def =
-    (length label == 0) || option_map_or (λ labels. list_any (same_text label) labels) def.legal true
+    (length label == 0)
+    || option_map_or (λ labels. list_any (same_text label) labels) def.legal true
 
 -- the values of the first label group of this name
 abbrev pub values_named : List ℕ → List GroupDef → Option (List (List ℕ))
