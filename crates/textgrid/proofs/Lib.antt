@@ -1,0 +1,5 @@
+mod Powers
+mod Skips
+mod Quotes
+mod Rests
+mod Times

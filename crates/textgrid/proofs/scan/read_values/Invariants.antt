@@ -1,0 +1,9 @@
+use Rattle.std.proofs.Common.{◌≡◌, ◌≤◌, length, drop}
+use Rattle.textgrid.specs.Values.{values_from, values_of, joined}
+use Rattle.textgrid.proofs.scan.read_values.Given as goal
+
+abbrev pub invariant-loop-at : goal.invariant-loop-at
+invariant-loop-at l = record {
+  within : l.at ≤ length l.text;
+  same : joined l.values (values_from (drop l.at l.text) 0 l.at) ≡ values_of l.text;
+}

@@ -1,0 +1,9 @@
+pub mod Counts
+pub mod Encodings
+pub mod Grids
+pub mod Levels
+pub mod Quoted
+pub mod Reading
+pub mod Short
+pub mod Values
+pub mod Words

@@ -1,0 +1,54 @@
+//! The grid that the bytes of a file hold.
+ghost use Rattle.std.specs.Prelude.{◌≡◌, ◌≢◌, IfOk, IfErr, Ok, Err};
+ghost use Rattle.textgrid.specs.Grids.{grid_of_text, grid_of_utf16, grid_of};
+
+use crate::encoding::{Encoding, encoding_of, utf8_text, utf16_text};
+use crate::entries::Halt;
+use crate::fault::GridFault;
+use crate::grid::Grid;
+use crate::scan::read_values;
+use crate::tiers::grid;
+use std::alloc::Global;
+
+/// The grid of a text.
+fn grid_of_text(alloc: Global, text: &str) -> Result<Grid, GridFault>
+    ensures ok { IfOk result (λ grid. grid_of_text text.now ≡ Ok grid) }
+    ensures err { IfErr result (λ fault. fault ≢ GridFault.Memory → grid_of_text text.now ≡ Err fault) }
+{
+    let mut values = read_values(alloc, text)?;
+    match grid(alloc, &mut values) {
+        Ok(grid) => Ok(grid),
+        Err(Halt::Memory) => Err(GridFault::Memory),
+        Err(Halt::Stopped(place, what)) => {
+            let at = place.unwrap_or(text.len() as u64);
+            Err(GridFault::Expected { at, what })
+        }
+    }
+}
+
+/// The grid of a text in UTF-16.
+fn grid_of_utf16(alloc: Global, big: bool, bytes: &[u8]) -> Result<Grid, GridFault>
+    ensures ok { IfOk result (λ grid. grid_of_utf16 big bytes.now ≡ Ok grid) }
+    ensures err { IfErr result (λ fault. fault ≢ GridFault.Memory → grid_of_utf16 big bytes.now ≡ Err fault) }
+{
+    let text = utf16_text(alloc, big, bytes)?;
+    grid_of_text(alloc, text.as_str())
+}
+
+/// The grid of the bytes of a file, in the long or the short text form. (Praat manual, "TextGrid file
+/// formats".)
+pub fn read_textgrid(alloc: Global, bytes: &[u8]) -> Result<Grid, GridFault>
+    ensures ok { IfOk result (λ grid. grid_of bytes.now ≡ Ok grid) }
+    ensures err { IfErr result (λ fault. fault ≢ GridFault.Memory → grid_of bytes.now ≡ Err fault) }
+{
+    let (encoding, mark) = encoding_of(bytes);
+    let rest = &bytes[mark..];
+    match encoding {
+        Encoding::Utf8 => {
+            let text = utf8_text(rest, mark)?;
+            grid_of_text(alloc, text)
+        }
+        Encoding::Utf16BigEndian => grid_of_utf16(alloc, true, rest),
+        Encoding::Utf16LittleEndian => grid_of_utf16(alloc, false, rest),
+    }
+}
