@@ -1,5 +1,5 @@
 mod Powers
 mod Skips
 mod Quotes
-mod Rests
+mod Faults
 mod Times

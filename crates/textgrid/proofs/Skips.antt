@@ -1,5 +1,6 @@
 -- Reading on behind some bytes is reading what is left without them.
-use Rattle.std.proofs.Common.{◌≡◌, ℕ, zero, suc, ◌+◌, ◌-◌, ◌<◌, ◌≤◌, Bool, List, [], ◌∷◌, ◌++◌, length, drop, Option, Some, None, Result, Ok, Err, refl, sym, ap, ◌∙◌, subst, arith, append_assoc}
+use Rattle.std.proofs.Common.{◌≡◌, ℕ, zero, suc, ◌+◌, ◌-◌, ◌<◌, ◌≤◌, Bool, List, [], ◌∷◌, ◌++◌, length, drop, Option, Some, None, Result, Ok, Err, refl, sym, ap, ◌∙◌, subst, arith, append_assoc, append-nil, length-drop}
+use Rattle.std.proofs.lemmas.List.{drop-drop}
 use Rattle.std.specs.Prelude.{encode_utf8}
 use Rattle.textgrid.specs.declared.fault.GridFault.{GridFault}
 use Rattle.textgrid.specs.declared.fault.GridFault.TheVariants.{BadEncoding}
@@ -26,11 +27,13 @@ from_char big b bs (suc n) place some within =
 char_step : (big : Bool) (bs : List ℕ) (c n place : ℕ) → char_at big bs ≡ Some (c, n) → 0 < n → n ≤ length bs → utf16_from big bs 0 place ≡ with_char (Some (c, n)) place (utf16_from big (drop n bs) 0 (place + n))
 char_step big [] c n place is some within = absurd (omega arith)
 char_step big (b ∷ bs) c n place is some within =
-    let here : char_len (char_at big (b ∷ bs)) ≡ n = ap char_len is in
-    rw (is, here) (ap (λ r. with_char (Some (c, n)) place r) (from_char big b bs n place some within))
+    rw is (ap (λ r. with_char (Some (c, n)) place r) (from_char big b bs n place some within))
+
+abbrev ok_text : List ℕ → Result (List ℕ) GridFault
+ok_text text = Ok text
 
 char_before : (before : List ℕ) (c n place : ℕ) (rest : Result (List ℕ) GridFault) → with_text before (with_char (Some (c, n)) place rest) ≡ with_text (before ++ encode_utf8 c) rest
-char_before before c n place (Ok text) = ap (λ (t : List ℕ). Ok {E = GridFault} t) (sym (append_assoc before (encode_utf8 c) text))
+char_before before c n place (Ok text) = ap ok_text (sym (append_assoc before (encode_utf8 c) text))
 char_before before c n place (Err fault) = refl
 
 -- a character behind those that were read
@@ -65,3 +68,36 @@ piece_step (b ∷ bs) piece n place is full some within =
     let what : (piece_at (b ∷ bs)).0 ≡ piece = ap (λ (r : Piece × ℕ). r.0) (sym is) in
     let size : (piece_at (b ∷ bs)).1 ≡ n = ap (λ (r : Piece × ℕ). r.1) (sym is) in
     rw (what, size) (ap (λ r. found piece place r) (from_piece b bs n place some within))
+
+-- nothing was read before
+pub none_before : (r : Result (List ℕ) GridFault) → with_text [] r ≡ r
+none_before (Ok text) = refl
+none_before (Err fault) = refl
+
+pub no_values_before : (r : Result (List Placed) GridFault) → joined [] r ≡ r
+no_values_before (Ok values) = refl
+no_values_before (Err fault) = refl
+
+-- all was read
+pub all_read : (big : Bool) (text bs : List ℕ) (place : ℕ) (all : Result (List ℕ) GridFault) → length bs ≡ 0 → with_text text (utf16_from big bs 0 place) ≡ all → all ≡ Ok text
+all_read big text [] place all none was = sym was ∙ ap ok_text (append-nil text)
+all_read big text (b ∷ bs) place all none was = absurd (omega arith)
+
+pub char_rest : (big : Bool) (old new bs after : List ℕ) (c n place : ℕ) (all : Result (List ℕ) GridFault) → char_at big bs ≡ Some (c, n) → 0 < n → n ≤ length bs → new ≡ old ++ encode_utf8 c → after ≡ drop n bs → with_text old (utf16_from big bs 0 place) ≡ all → with_text new (utf16_from big after 0 (place + n)) ≡ all
+char_rest big old new bs after c n place all is some within grown left was =
+    rw left (char_next big old new bs c n place all is some within grown was)
+
+piece_of_drop : (text : List ℕ) (piece : Piece) (n at : ℕ) → (piece, n) ≡ piece_at (drop at text) → at < length text → 0 < n → at + n ≤ length text → values_from (drop at text) 0 at ≡ found piece at (values_from (drop (at + n) text) 0 (at + n))
+piece_of_drop text piece n at is full some within =
+    let size : length (drop at text) ≡ length text - at = length-drop at text in
+    piece_step (drop at text) piece n at is (omega arith) some (omega arith) ∙ ap (λ (x : List ℕ). found piece at (values_from x 0 (at + n))) (drop-drop n at text)
+
+-- what stood at the place is put behind the values, and reading goes on behind it
+pub values_next : (old new : List Placed) (text : List ℕ) (piece : Piece) (n at : ℕ) (all : Result (List Placed) GridFault) → (piece, n) ≡ piece_at (drop at text) → at < length text → 0 < n → at + n ≤ length text → ((rest : Result (List Placed) GridFault) → joined old (found piece at rest) ≡ joined new rest) → joined old (values_from (drop at text) 0 at) ≡ all → joined new (values_from (drop (at + n) text) 0 (at + n)) ≡ all
+values_next old new text piece n at all is full some within kept was =
+    sym (kept (values_from (drop (at + n) text) 0 (at + n))) ∙ ap (λ r. joined old r) (sym (piece_of_drop text piece n at is full some within)) ∙ was
+
+-- what stood at the place is a fault
+pub values_stop : (old : List Placed) (text : List ℕ) (piece : Piece) (n at : ℕ) (all : Result (List Placed) GridFault) (fault : GridFault) → (piece, n) ≡ piece_at (drop at text) → at < length text → 0 < n → at + n ≤ length text → ((rest : Result (List Placed) GridFault) → found piece at rest ≡ Err fault) → joined old (values_from (drop at text) 0 at) ≡ all → all ≡ Err fault
+values_stop old text piece n at all fault is full some within stops was =
+    sym was ∙ ap (λ r. joined old r) (piece_of_drop text piece n at is full some within ∙ stops (values_from (drop (at + n) text) 0 (at + n)))

@@ -1,5 +1,5 @@
 //! Texts between quotes, in which two quotes stand for one.
-ghost use Rattle.std.specs.Prelude.{◌≡◌, ◌≤◌, ◌<◌, ◌+◌, IfOk, MatchOption, None, Some, true, false, length, string_bytes};
+ghost use Rattle.std.specs.Prelude.{◌≡◌, ◌≤◌, ◌<◌, ◌+◌, IfOk, IfSome, MatchOption, None, Some, true, false, length, string_bytes};
 ghost use Rattle.textgrid.specs.Quoted.{is_unquoted, quoted_len, quoted};
 ghost use Rattle.textgrid.specs.Values.{front};
 
@@ -25,8 +25,9 @@ fn quoted_len(text: &[u8]) -> usize
 /// The text that stands behind its first quote, and how many bytes it takes there with its last one;
 /// `None` where it does not end.
 pub fn quoted_text(alloc: Global, behind: &str) -> Result<Option<(String, usize)>, Memory>
-    ensures { IfOk result (λ found. MatchOption found (quoted behind.now false ≡ None)
+    ensures value { IfOk result (λ found. MatchOption found (quoted behind.now false ≡ None)
         (λ r. quoted behind.now false ≡ Some (string_bytes r.0, r.1))) }
+    ensures within { IfOk result (λ found. IfSome found (λ r. r.1 ≤ length behind.now)) }
 {
     let mut made = String::new(alloc);
     let mut rest = behind;

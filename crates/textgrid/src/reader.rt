@@ -1,6 +1,7 @@
 //! The grid that the bytes of a file hold.
-ghost use Rattle.std.specs.Prelude.{◌≡◌, ◌≢◌, IfOk, IfErr, Ok, Err};
-ghost use Rattle.textgrid.specs.Grids.{grid_of_text, grid_of_utf16, grid_of};
+ghost use Rattle.std.specs.Prelude.{◌≡◌, ◌≢◌, IfOk, IfErr, Ok, Err, ◌≤◌};
+ghost use Rattle.textgrid.specs.Encodings.{text_behind};
+ghost use Rattle.textgrid.specs.Grids.{grid_of_text, grid_of_utf16, grid_of_decoded, grid_of};
 
 use crate::encoding::{Encoding, encoding_of, utf8_text, utf16_text};
 use crate::entries::Halt;
@@ -11,6 +12,7 @@ use crate::tiers::grid;
 use std::alloc::Global;
 
 /// The grid of a text.
+#[tactic(auto, unfolding(crate::specs::Grids::grid_of_text))]
 fn grid_of_text(alloc: Global, text: &str) -> Result<Grid, GridFault>
     ensures ok { IfOk result (λ grid. grid_of_text text.now ≡ Ok grid) }
     ensures err { IfErr result (λ fault. fault ≢ GridFault.Memory → grid_of_text text.now ≡ Err fault) }
@@ -35,20 +37,35 @@ fn grid_of_utf16(alloc: Global, big: bool, bytes: &[u8]) -> Result<Grid, GridFau
     grid_of_text(alloc, text.as_str())
 }
 
+/// The grid of the bytes of a file behind their mark.
+fn grid_behind(
+    alloc: Global,
+    encoding: Encoding,
+    mark: usize,
+    bytes: &[u8],
+) -> Result<Grid, GridFault>
+    requires { mark ≤ 3 }
+    ensures ok { IfOk result (λ grid. grid_of_decoded (text_behind encoding mark bytes.now) ≡ Ok grid) }
+    ensures err { IfErr result (λ fault. fault ≢ GridFault.Memory
+        → grid_of_decoded (text_behind encoding mark bytes.now) ≡ Err fault) }
+{
+    match encoding {
+        Encoding::Utf8 => {
+            let text = utf8_text(bytes, mark)?;
+            grid_of_text(alloc, text)
+        }
+        Encoding::Utf16BigEndian => grid_of_utf16(alloc, true, bytes),
+        Encoding::Utf16LittleEndian => grid_of_utf16(alloc, false, bytes),
+    }
+}
+
 /// The grid of the bytes of a file, in the long or the short text form. (Praat manual, "TextGrid file
 /// formats".)
+#[tactic(auto, unfolding(crate::specs::Grids::grid_of, crate::specs::Encodings::text_of))]
 pub fn read_textgrid(alloc: Global, bytes: &[u8]) -> Result<Grid, GridFault>
     ensures ok { IfOk result (λ grid. grid_of bytes.now ≡ Ok grid) }
     ensures err { IfErr result (λ fault. fault ≢ GridFault.Memory → grid_of bytes.now ≡ Err fault) }
 {
     let (encoding, mark) = encoding_of(bytes);
-    let rest = &bytes[mark..];
-    match encoding {
-        Encoding::Utf8 => {
-            let text = utf8_text(rest, mark)?;
-            grid_of_text(alloc, text)
-        }
-        Encoding::Utf16BigEndian => grid_of_utf16(alloc, true, rest),
-        Encoding::Utf16LittleEndian => grid_of_utf16(alloc, false, rest),
-    }
+    grid_behind(alloc, encoding, mark, &bytes[mark..])
 }

@@ -1,5 +1,5 @@
 //! The values that stand in a text.
-ghost use Rattle.std.specs.Prelude.{◌≡◌, ◌≢◌, ◌≤◌, ◌<◌, IfOk, IfErr, Ok, Err, List, Result, false, length, drop};
+ghost use Rattle.std.specs.Prelude.{◌≡◌, ◌≢◌, ◌≤◌, ◌<◌, ◌+◌, IfOk, IfErr, Ok, Err, List, Result, false, length, drop};
 ghost use Rattle.textgrid.specs.Quoted.{quoted};
 ghost use Rattle.textgrid.specs.declared.values.Placed.{Placed as PlacedValue};
 ghost use Rattle.textgrid.specs.Values.{front, is_space, is_inside, in_comment, in_flag, comment_len, flag_len, word_len, flag_at, word_at, piece_at, text_piece, values_from, values_of, joined, found};
@@ -90,7 +90,9 @@ fn word_len(text: &[u8]) -> usize
 #[tactic(auto, unfolding(crate::specs::Values::word_at))]
 fn word(text: &[u8]) -> (Piece, usize)
     requires { 0 < length text.now }
-    ensures { result ≡ word_at text.now }
+    ensures value { result ≡ word_at text.now }
+    ensures some { 0 < result.1 }
+    ensures within { result.1 ≤ length text.now }
 {
     let len = word_len(&text[1..]) + 1;
     match read_decimal(&text[..len]) {
@@ -104,7 +106,9 @@ fn word(text: &[u8]) -> (Piece, usize)
 #[tactic(auto, unfolding(crate::specs::Values::flag_at))]
 fn flag_or_word(text: &[u8]) -> (Piece, usize)
     requires { 0 < length text.now }
-    ensures { result ≡ flag_at text.now }
+    ensures value { result ≡ flag_at text.now }
+    ensures some { 0 < result.1 }
+    ensures within { result.1 ≤ length text.now }
 {
     let inner = &text[1..];
     let len = flag_len(inner);
@@ -117,7 +121,9 @@ fn flag_or_word(text: &[u8]) -> (Piece, usize)
 
 /// The text behind a quote.
 fn quoted_piece(alloc: Global, behind: &str) -> Result<(Piece, usize), Memory>
-    ensures { IfOk result (λ piece. piece ≡ text_piece (quoted behind.now false)) }
+    ensures value { IfOk result (λ piece. piece ≡ text_piece (quoted behind.now false)) }
+    ensures some { IfOk result (λ piece. 0 < piece.1) }
+    ensures within { IfOk result (λ piece. piece.1 ≤ length behind.now + 1) }
 {
     match quoted_text(alloc, behind)? {
         None => Ok((Piece::OpenText, 1)),
@@ -129,9 +135,12 @@ fn quoted_piece(alloc: Global, behind: &str) -> Result<(Piece, usize), Memory>
 }
 
 /// What stands at a place, and how many bytes it takes.
+#[tactic(auto, unfolding(crate::specs::Values::piece_at))]
 fn piece_of(alloc: Global, text: &str, at: usize) -> Result<(Piece, usize), Memory>
     requires { at < length text.now }
-    ensures { IfOk result (λ piece. piece ≡ piece_at (drop at text.now)) }
+    ensures value { IfOk result (λ piece. piece ≡ piece_at (drop at text.now)) }
+    ensures some { IfOk result (λ piece. 0 < piece.1) }
+    ensures within { IfOk result (λ piece. at + piece.1 ≤ length text.now) }
 {
     let bytes = &text.as_bytes()[at..];
     let first = front(bytes);

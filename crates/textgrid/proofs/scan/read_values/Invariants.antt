@@ -1,4 +1,4 @@
-use Rattle.std.proofs.Common.{◌≡◌, ◌≤◌, length, drop}
+use Rattle.std.proofs.Common.{◌≡◌, ◌≤◌, ◌-◌, length, drop}
 use Rattle.textgrid.specs.Values.{values_from, values_of, joined}
 use Rattle.textgrid.proofs.scan.read_values.Given as goal
 
@@ -7,3 +7,6 @@ invariant-loop-at l = record {
   within : l.at ≤ length l.text;
   same : joined l.values (values_from (drop l.at l.text) 0 l.at) ≡ values_of l.text;
 }
+
+abbrev pub decreases-loop-at : goal.decreases-loop-at
+decreases-loop-at l = length l.text - l.at
