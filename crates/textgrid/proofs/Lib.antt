@@ -3,3 +3,5 @@ mod Skips
 mod Quotes
 mod Faults
 mod Times
+mod Sizes
+mod Kept

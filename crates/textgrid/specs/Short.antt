@@ -1,6 +1,11 @@
 -- Decimals with at most 20 digits, as those that are read.
 use Rattle.std.specs.Prelude.{ℕ, ◌^◌, ◌<◌, List, All}
 use Rattle.sample_time.specs.declared.decimal.Decimal.{Decimal}
+use Rattle.textgrid.specs.declared.values.Value.{Value}
+use Rattle.textgrid.specs.declared.values.Value.TheVariants.{Number, Quoted, Flag}
+use Rattle.textgrid.specs.declared.values.Placed.{Placed}
+use Rattle.textgrid.specs.declared.scan.Piece.{Piece}
+use Rattle.textgrid.specs.declared.scan.Piece.TheVariants.{Found}
 use Rattle.textgrid.specs.declared.grid.GridInterval.{GridInterval}
 use Rattle.textgrid.specs.declared.grid.GridPoint.{GridPoint}
 use Rattle.textgrid.specs.declared.grid.GridEntries.{GridEntries}
@@ -11,6 +16,20 @@ use Rattle.textgrid.specs.declared.grid.Grid.{Grid}
 -- the number has at most 20 digits
 abbrev pub IsShort : Decimal → Type 0
 IsShort number = number.digits < 10 ^ 20
+
+-- the number that a value is, if it is one
+abbrev pub IsShortValue : Value → Type 0
+IsShortValue (Number number) = IsShort number
+IsShortValue (Quoted text) = Unit {0}
+IsShortValue (Flag exists) = Unit {0}
+
+abbrev pub IsShortPlaced : Placed → Type 0
+IsShortPlaced placed = IsShortValue placed.value
+
+-- the number that was found, if one was
+abbrev pub IsShortPiece : Piece → Type 0
+IsShortPiece (Found value) = IsShortValue value
+IsShortPiece _ = Unit {0}
 
 -- both ends of the interval
 abbrev pub IsShortSpan : GridInterval → Type 0

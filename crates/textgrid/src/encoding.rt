@@ -1,5 +1,5 @@
 //! The text that the bytes of a file are: UTF-8, with or without a mark, or UTF-16 with one.
-ghost use Rattle.std.specs.Prelude.{◌≡◌, ◌≢◌, ◌≤◌, ◌<◌, ◌^◌, ℕ, IfOk, IfErr, IfSome, MatchOption, None, Some, Ok, Err, length, string_bytes};
+ghost use Rattle.std.specs.Prelude.{◌≡◌, ◌≢◌, ◌≤◌, ◌<◌, ◌*◌, IfOk, IfErr, IfSome, MatchOption, None, Some, Ok, Err, length, encode_utf8, string_bytes, string_len};
 ghost use Rattle.textgrid.specs.Encodings.{mark_of, unit, pair_at, char_at, utf8_of, utf16_of};
 
 use crate::fault::GridFault;
@@ -35,6 +35,7 @@ pub fn encoding_of(bytes: &[u8]) -> (Encoding, usize)
 pub fn utf8_text(bytes: &[u8], mark: usize) -> Result<&str, GridFault>
     requires { mark ≤ 3 }
     ensures ok { IfOk result (λ text. utf8_of bytes.now mark ≡ Ok text.now) }
+    ensures size { IfOk result (λ text. length text.now ≡ length bytes.now) }
     ensures err { IfErr result (λ fault. utf8_of bytes.now mark ≡ Err fault) }
 {
     match str::from_utf8(bytes) {
@@ -72,6 +73,7 @@ fn utf16_char(big: bool, bytes: &[u8]) -> Option<(char, usize)>
     ensures value { MatchOption result (char_at big bytes.now ≡ None) (λ r. char_at big bytes.now ≡ Some (r.0, r.1)) }
     ensures within { IfSome result (λ r. r.1 ≤ length bytes.now) }
     ensures some { IfSome result (λ r. 0 < r.1) }
+    ensures size { IfSome result (λ r. 2 * length (encode_utf8 r.0) ≤ 3 * r.1) }
 {
     let [a, b, after @ ..] = bytes else {
         return None;
@@ -90,6 +92,7 @@ fn utf16_char(big: bool, bytes: &[u8]) -> Option<(char, usize)>
 pub fn utf16_text(alloc: Global, big: bool, bytes: &[u8]) -> Result<String, GridFault>
     ensures ok { IfOk result (λ text. utf16_of big bytes.now ≡ Ok (string_bytes text)) }
     ensures err { IfErr result (λ fault. fault ≢ GridFault.Memory → utf16_of big bytes.now ≡ Err fault) }
+    ensures size { IfOk result (λ text. 2 * string_len text ≤ 3 * length bytes.now) }
 {
     let mut text = String::new(alloc);
     let mut rest = bytes;

@@ -1,7 +1,7 @@
 //! The annotation that a grid gives.
 ghost use Rattle.std.specs.Prelude.{◌≡◌, ◌≢◌, ◌+◌, ◌≤◌, ◌<◌, ◌^◌, IfOk, IfErr, Ok, Err, length, All, ◌∷◌, []};
 ghost use Rattle.textgrid.specs.Levels.{time_fault, span_of, point_of, item_of, segments_from, events_from, entry_count, entry_total, level_of, levels_from, annot_of};
-ghost use Rattle.textgrid.specs.Short.{IsShort, IsShortSpan, IsShortPoint, AreShort, IsShortTier};
+ghost use Rattle.textgrid.specs.Short.{IsShort, IsShortSpan, IsShortPoint, AreShort, IsShortTier, IsShortGrid};
 
 use crate::fault::GridFault;
 use crate::grid::{Grid, GridEntries, GridInterval, GridPoint, GridTier};
@@ -210,7 +210,7 @@ pub fn to_annot(alloc: Global, rate: u32, grid: &Grid) -> Result<Annot, GridFaul
     requires rate_below { rate ≤ 1000000 }
     requires tiers { length grid.now.tiers < 2 ^ 32 }
     requires entries { entry_total grid.now.tiers < 2 ^ 32 }
-    requires short { All IsShortTier grid.now.tiers }
+    requires short { IsShortGrid grid.now }
     ensures ok { IfOk result (λ annot. annot_of rate grid.now ≡ Ok annot) }
     ensures err { IfErr result (λ fault. fault ≢ GridFault.Memory
         → annot_of rate grid.now ≡ Err fault) }

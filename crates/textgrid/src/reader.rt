@@ -1,5 +1,7 @@
 //! The grid that the bytes of a file hold.
-ghost use Rattle.std.specs.Prelude.{◌≡◌, ◌≢◌, IfOk, IfErr, Ok, Err, ◌≤◌};
+ghost use Rattle.std.specs.Prelude.{◌≡◌, ◌≢◌, IfOk, IfErr, Ok, Err, ◌*◌, ◌≤◌, length};
+ghost use Rattle.textgrid.specs.Levels.{entry_total};
+ghost use Rattle.textgrid.specs.Short.{IsShortGrid};
 ghost use Rattle.textgrid.specs.Encodings.{text_behind};
 ghost use Rattle.textgrid.specs.Grids.{grid_of_text, grid_of_utf16, grid_of_decoded, grid_of};
 
@@ -12,10 +14,13 @@ use crate::tiers::grid;
 use std::alloc::Global;
 
 /// The grid of a text.
-#[tactic(auto, unfolding(crate::specs::Grids::grid_of_text))]
+#[tactic(auto, using(crate::proofs::Kept::grid_short, crate::proofs::Kept::grid_tiers, crate::proofs::Kept::grid_entries), unfolding(crate::specs::Grids::grid_of_text))]
 fn grid_of_text(alloc: Global, text: &str) -> Result<Grid, GridFault>
     ensures ok { IfOk result (λ grid. grid_of_text text.now ≡ Ok grid) }
     ensures err { IfErr result (λ fault. fault ≢ GridFault.Memory → grid_of_text text.now ≡ Err fault) }
+    ensures tiers { IfOk result (λ grid. length grid.tiers ≤ 65536) }
+    ensures entries { IfOk result (λ grid. 2 * entry_total grid.tiers ≤ length text.now) }
+    ensures short { IfOk result IsShortGrid }
 {
     let mut values = read_values(alloc, text)?;
     match grid(alloc, &mut values) {
@@ -32,6 +37,9 @@ fn grid_of_text(alloc: Global, text: &str) -> Result<Grid, GridFault>
 fn grid_of_utf16(alloc: Global, big: bool, bytes: &[u8]) -> Result<Grid, GridFault>
     ensures ok { IfOk result (λ grid. grid_of_utf16 big bytes.now ≡ Ok grid) }
     ensures err { IfErr result (λ fault. fault ≢ GridFault.Memory → grid_of_utf16 big bytes.now ≡ Err fault) }
+    ensures tiers { IfOk result (λ grid. length grid.tiers ≤ 65536) }
+    ensures entries { IfOk result (λ grid. entry_total grid.tiers ≤ length bytes.now) }
+    ensures short { IfOk result IsShortGrid }
 {
     let text = utf16_text(alloc, big, bytes)?;
     grid_of_text(alloc, text.as_str())
@@ -48,6 +56,9 @@ fn grid_behind(
     ensures ok { IfOk result (λ grid. grid_of_decoded (text_behind encoding mark bytes.now) ≡ Ok grid) }
     ensures err { IfErr result (λ fault. fault ≢ GridFault.Memory
         → grid_of_decoded (text_behind encoding mark bytes.now) ≡ Err fault) }
+    ensures tiers { IfOk result (λ grid. length grid.tiers ≤ 65536) }
+    ensures entries { IfOk result (λ grid. entry_total grid.tiers ≤ length bytes.now) }
+    ensures short { IfOk result IsShortGrid }
 {
     match encoding {
         Encoding::Utf8 => {
@@ -65,6 +76,11 @@ fn grid_behind(
 pub fn read_textgrid(alloc: Global, bytes: &[u8]) -> Result<Grid, GridFault>
     ensures ok { IfOk result (λ grid. grid_of bytes.now ≡ Ok grid) }
     ensures err { IfErr result (λ fault. fault ≢ GridFault.Memory → grid_of bytes.now ≡ Err fault) }
+
+    // A grid that is read can be made an annotation.
+    ensures tiers { IfOk result (λ grid. length grid.tiers ≤ 65536) }
+    ensures entries { IfOk result (λ grid. entry_total grid.tiers ≤ length bytes.now) }
+    ensures short { IfOk result IsShortGrid }
 {
     let (encoding, mark) = encoding_of(bytes);
     grid_behind(alloc, encoding, mark, &bytes[mark..])

@@ -1,7 +1,8 @@
 //! The values that stand in a text.
-ghost use Rattle.std.specs.Prelude.{◌≡◌, ◌≢◌, ◌≤◌, ◌<◌, ◌+◌, IfOk, IfErr, Ok, Err, List, Result, false, length, drop};
+ghost use Rattle.std.specs.Prelude.{◌≡◌, ◌≢◌, ◌≤◌, ◌<◌, ◌+◌, IfOk, IfErr, Ok, Err, List, Result, All, false, length, drop};
 ghost use Rattle.textgrid.specs.Quoted.{quoted};
 ghost use Rattle.textgrid.specs.declared.values.Placed.{Placed as PlacedValue};
+ghost use Rattle.textgrid.specs.Short.{IsShortPlaced, IsShortPiece};
 ghost use Rattle.textgrid.specs.Values.{front, is_space, is_inside, in_comment, in_flag, comment_len, flag_len, word_len, flag_at, word_at, piece_at, text_piece, values_from, values_of, joined, found};
 
 use crate::fault::GridFault;
@@ -91,6 +92,7 @@ fn word_len(text: &[u8]) -> usize
 fn word(text: &[u8]) -> (Piece, usize)
     requires { 0 < length text.now }
     ensures value { result ≡ word_at text.now }
+    ensures short { IsShortPiece result.0 }
     ensures some { 0 < result.1 }
     ensures within { result.1 ≤ length text.now }
 {
@@ -107,6 +109,7 @@ fn word(text: &[u8]) -> (Piece, usize)
 fn flag_or_word(text: &[u8]) -> (Piece, usize)
     requires { 0 < length text.now }
     ensures value { result ≡ flag_at text.now }
+    ensures short { IsShortPiece result.0 }
     ensures some { 0 < result.1 }
     ensures within { result.1 ≤ length text.now }
 {
@@ -122,6 +125,7 @@ fn flag_or_word(text: &[u8]) -> (Piece, usize)
 /// The text behind a quote.
 fn quoted_piece(alloc: Global, behind: &str) -> Result<(Piece, usize), Memory>
     ensures value { IfOk result (λ piece. piece ≡ text_piece (quoted behind.now false)) }
+    ensures short { IfOk result (λ piece. IsShortPiece piece.0) }
     ensures some { IfOk result (λ piece. 0 < piece.1) }
     ensures within { IfOk result (λ piece. piece.1 ≤ length behind.now + 1) }
 {
@@ -139,6 +143,7 @@ fn quoted_piece(alloc: Global, behind: &str) -> Result<(Piece, usize), Memory>
 fn piece_of(alloc: Global, text: &str, at: usize) -> Result<(Piece, usize), Memory>
     requires { at < length text.now }
     ensures value { IfOk result (λ piece. piece ≡ piece_at (drop at text.now)) }
+    ensures short { IfOk result (λ piece. IsShortPiece piece.0) }
     ensures some { IfOk result (λ piece. 0 < piece.1) }
     ensures within { IfOk result (λ piece. at + piece.1 ≤ length text.now) }
 {
@@ -159,10 +164,14 @@ fn piece_of(alloc: Global, text: &str, at: usize) -> Result<(Piece, usize), Memo
 
 /// Puts what stands at a place behind the values, if it is one.
 fn keep(values: &mut Values, piece: Piece, at: u64) -> Result<(), GridFault>
+    requires before { All IsShortPlaced values.old }
+    requires piece { IsShortPiece piece }
     ensures ok { IfOk result (λ _. (rest : Result (List Placed) GridFault)
         → joined values.old (found piece at rest) ≡ joined values.new rest) }
     ensures err { IfErr result (λ fault. fault ≢ GridFault.Memory
         → (rest : Result (List Placed) GridFault) → found piece at rest ≡ Err fault) }
+    ensures short { IfOk result (λ _. All IsShortPlaced values.new) }
+    ensures few { IfOk result (λ _. length values.new ≤ length values.old + 1) }
 {
     match piece {
         Piece::Passed => Ok(()),
@@ -180,6 +189,8 @@ fn keep(values: &mut Values, piece: Piece, at: u64) -> Result<(), GridFault>
 pub fn read_values(alloc: Global, text: &str) -> Result<Values, GridFault>
     ensures ok { IfOk result (λ values. values_of text.now ≡ Ok values) }
     ensures err { IfErr result (λ fault. fault ≢ GridFault.Memory → values_of text.now ≡ Err fault) }
+    ensures short { IfOk result (All IsShortPlaced) }
+    ensures few { IfOk result (λ values. length values ≤ length text.now) }
 {
     let mut values = Values::new(alloc);
     let mut at = 0;

@@ -1,3 +1,4 @@
+use Rattle.std.proofs.Common.{arith}
 use Rattle.textgrid.specs.Values.{values_of}
 use Rattle.textgrid.proofs.Faults.{hands_on}
 use Rattle.textgrid.proofs.Skips.{values_next, values_stop}
@@ -11,5 +12,7 @@ returns-in_err-keep-clause-err c =
 pub loop-at-preserved : goal.loop-at-preserved
 loop-at-preserved c = record {
   within = c.in_ok-piece.ensures.within;
+  short = c.in_ok-keep.ensures.short;
+  few = omega (arith, c.in_ok-keep.ensures.few, c.in_ok-piece.ensures.some);
   same = values_next c.loop-at.values c.keep.new.values c.args.text.now c.in_ok-piece.piece c.in_ok-piece.len c.loop-at.at (values_of c.args.text.now) c.in_ok-piece.ensures.value c.loop-at-test.true c.in_ok-piece.ensures.some c.in_ok-piece.ensures.within c.in_ok-keep.ensures.ok c.loop-at.invariant.same;
 }
