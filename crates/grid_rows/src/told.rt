@@ -69,6 +69,9 @@ pub fn told(alloc: Global, rate: u32, bytes: &[u8]) -> Result<String, AllocError
     requires rate_above { 1 ≤ rate }
     requires rate_below { rate ≤ 1000000 }
 {
+    if bytes.len() > u32::MAX as usize {
+        return format!(in alloc; "too many bytes");
+    }
     match read_textgrid(alloc, bytes) {
         Err(fault) => fault_told(alloc, fault),
         Ok(grid) => match to_annot(alloc, rate, &grid) {

@@ -1,24 +1,19 @@
 -- What is kept where a grid is read: its numbers are short, and its values were all there.
-use Rattle.std.proofs.Common.{◌≡◌, ℕ, zero, suc, ◌+◌, ◌*◌, ◌<◌, ◌≤◌, Bool, true, false, cond, leb, List, [], ◌∷◌, length, Option, Some, None, Result, Ok, Err, refl, sym, ap, ◌∙◌, subst, arith}
+use Rattle.std.proofs.Common.{◌≡◌, ℕ, zero, suc, ◌+◌, ◌*◌, ◌≤◌, Bool, true, false, cond, leb, List, [], ◌∷◌, length, Option, Some, None, Ok, Err, refl, ap, subst, arith}
 use Rattle.std.specs.Prelude.{All, IfSome}
 use Rattle.std.proofs.lemmas.List.Elements.{All-cons, All-nil}
 use Rattle.std.proofs.lemmas.Bool.Decides.{nat_tests}
 use Rattle.sample_time.specs.Sample.{is_negative}
-use Rattle.sample_time.specs.declared.decimal.Decimal.{Decimal}
 use Rattle.textgrid.specs.declared.fault.GridWhat.{GridWhat}
 use Rattle.textgrid.specs.declared.fault.GridWhat.TheVariants as whats
 use Rattle.textgrid.specs.declared.values.Value.{Value}
 use Rattle.textgrid.specs.declared.values.Value.TheVariants.{Number, Quoted, Flag}
 use Rattle.textgrid.specs.declared.values.Placed.{Placed}
-use Rattle.textgrid.specs.declared.grid.GridInterval.{GridInterval}
-use Rattle.textgrid.specs.declared.grid.GridPoint.{GridPoint}
-use Rattle.textgrid.specs.declared.grid.GridEntries.{GridEntries}
-use Rattle.textgrid.specs.declared.grid.GridEntries.TheVariants.{Intervals, Points}
 use Rattle.textgrid.specs.declared.grid.GridTier.{GridTier}
 use Rattle.textgrid.specs.declared.grid.Grid.{Grid}
 use Rattle.textgrid.specs.declared.tiers.TierHead.{TierHead}
 use Rattle.textgrid.specs.declared.tiers.GridHead.{GridHead}
-use Rattle.textgrid.specs.Counts.{count_of, at_most, whole_of}
+use Rattle.textgrid.specs.Counts.{at_most, whole_of}
 use Rattle.textgrid.specs.Levels.{entry_count, entry_total}
 use Rattle.textgrid.specs.Short.{IsShort, IsShortValue, IsShortPlaced, IsShortSpan, IsShortPoint, AreShort, IsShortTier, IsShortGrid}
 use Rattle.textgrid.specs.Reading.{Answer, and_then, times_at, given, taken, number_in, text_in, flag_in, count_in, header_in, title_in, class_in, number_at, text_at, flag_at, count_at, header_at, title_at, class_at, end_at, interval_at, point_at, tier_head_at, entries_at, tier_at, grid_head_at, grid_at}

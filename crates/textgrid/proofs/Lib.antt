@@ -5,3 +5,5 @@ mod Faults
 mod Times
 mod Sizes
 mod Kept
+mod Exact
+mod Grids

@@ -1,7 +1,7 @@
 -- How many bytes of UTF-8 characters of UTF-16 take.
-use Rattle.std.proofs.Common.{◌≡◌, ℕ, ◌<◌, ◌≤◌, ◌*◌, ◌+◌, Bool, true, false, cond, List, length, ◌++◌, Option, Some, None, Result, Ok, Err, arith, length-append}
-use Rattle.std.specs.Prelude.{encode_utf8, IfSome, MatchOption}
-use Rattle.std.specs.Char.{len_utf8, OutOfScalarRange, InScalarRange}
+use Rattle.std.proofs.Common.{◌≡◌, ℕ, ◌<◌, ◌≤◌, ◌*◌, ◌+◌, Bool, true, false, cond, List, length, ◌++◌, arith, length-append}
+use Rattle.std.specs.Prelude.{encode_utf8}
+use Rattle.std.specs.Char.{len_utf8}
 use Rattle.std.proofs.lemmas.Str.{length-encode}
 use Rattle.std.proofs.lemmas.Bool.Decides.{nat_tests}
 

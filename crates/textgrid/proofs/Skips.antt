@@ -1,12 +1,12 @@
 -- Reading on behind some bytes is reading what is left without them.
-use Rattle.std.proofs.Common.{◌≡◌, ℕ, zero, suc, ◌+◌, ◌-◌, ◌<◌, ◌≤◌, Bool, List, [], ◌∷◌, ◌++◌, length, drop, Option, Some, None, Result, Ok, Err, refl, sym, ap, ◌∙◌, subst, arith, append_assoc, append-nil, length-drop}
+use Rattle.std.proofs.Common.{◌≡◌, ℕ, zero, suc, ◌+◌, ◌-◌, ◌<◌, ◌≤◌, Bool, List, [], ◌∷◌, ◌++◌, length, drop, Some, None, Result, Ok, Err, refl, sym, ap, ◌∙◌, arith, append_assoc, append-nil, length-drop}
 use Rattle.std.proofs.lemmas.List.{drop-drop}
 use Rattle.std.specs.Prelude.{encode_utf8}
 use Rattle.textgrid.specs.declared.fault.GridFault.{GridFault}
 use Rattle.textgrid.specs.declared.fault.GridFault.TheVariants.{BadEncoding}
 use Rattle.textgrid.specs.declared.values.Placed.{Placed}
 use Rattle.textgrid.specs.declared.scan.Piece.{Piece}
-use Rattle.textgrid.specs.Encodings.{char_at, char_len, with_char, utf16_from, with_text}
+use Rattle.textgrid.specs.Encodings.{char_at, with_char, utf16_from, with_text}
 use Rattle.textgrid.specs.Values.{piece_at, found, values_from, joined}
 
 skipped_text : (big : Bool) (bs : List ℕ) (n place : ℕ) → n ≤ length bs → utf16_from big bs n place ≡ utf16_from big (drop n bs) 0 (place + n)

@@ -1,5 +1,5 @@
 -- The same reading again and again.
-use Rattle.std.proofs.Common.{◌≡◌, ℕ, suc, zero, ◌-◌, ◌<◌, ◌≤◌, List, [], ◌∷◌, ◌++◌, Result, Ok, Err, Option, refl, sym, ap, ◌∙◌, subst, arith, append_assoc}
+use Rattle.std.proofs.Common.{◌≡◌, ℕ, suc, List, [], ◌∷◌, ◌++◌, Result, Ok, Err, Option, refl, sym, ap, ◌∙◌, subst, append_assoc}
 use Rattle.textgrid.specs.declared.values.Placed.{Placed}
 use Rattle.textgrid.specs.declared.fault.GridWhat.{GridWhat}
 use Rattle.std.specs.Result.{IsErrAnd}

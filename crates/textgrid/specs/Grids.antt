@@ -1,5 +1,5 @@
 -- The grid that the bytes of a file hold, or the first fault.
-use Rattle.std.specs.Prelude.{ℕ, Bool, List, length, Option, Some, None, unwrap_or, Result, Ok, Err}
+use Rattle.std.specs.Prelude.{ℕ, Bool, List, length, unwrap_or, Result, Ok, Err}
 use Rattle.textgrid.specs.declared.fault.GridFault.{GridFault}
 use Rattle.textgrid.specs.declared.fault.GridFault.TheVariants.{Expected}
 use Rattle.textgrid.specs.declared.values.Placed.{Placed}

@@ -1,6 +1,6 @@
 -- The annotation that a grid gives, or the first fault of its times. (Praat manual, "TextGrid file
 -- formats"; EMU-SDMS Manual, "The emuDB format".)
-use Rattle.std.specs.Prelude.{ℕ, suc, ◌+◌, ◌-◌, nat_lt, List, [], ◌∷◌, ◌++◌, length, sum_by, if◌then◌else◌, Result, Ok, Err}
+use Rattle.std.specs.Prelude.{ℕ, ◌+◌, ◌-◌, nat_lt, List, [], ◌∷◌, ◌++◌, length, if◌then◌else◌, Result, Ok, Err}
 use Rattle.emu_names.specs.declared.kinds.LevelKind.TheVariants.{Segment, Event}
 use Rattle.emu_names.specs.declared.kinds.LevelKind.{LevelKind}
 use Rattle.level_items.specs.declared.times.Time.{Time}

@@ -7,3 +7,4 @@ pub mod Reading
 pub mod Short
 pub mod Values
 pub mod Words
+pub mod Written

@@ -1,5 +1,5 @@
 -- Decimals with at most 20 digits, as those that are read.
-use Rattle.std.specs.Prelude.{ℕ, ◌^◌, ◌<◌, List, All}
+use Rattle.std.specs.Prelude.{◌^◌, ◌<◌, All}
 use Rattle.sample_time.specs.declared.decimal.Decimal.{Decimal}
 use Rattle.textgrid.specs.declared.values.Value.{Value}
 use Rattle.textgrid.specs.declared.values.Value.TheVariants.{Number, Quoted, Flag}

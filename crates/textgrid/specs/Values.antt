@@ -1,6 +1,6 @@
 -- The values of a text with their places, or its first fault. (Praat manual, "TextGrid file formats":
 -- what is no number, text or flag is not read; `!` begins a comment.)
-use Rattle.std.specs.Prelude.{ℕ, zero, suc, ◌+◌, ◌-◌, ◌==◌, ◌||◌, ◌&&◌, not, nat_eq, Bool, true, false, List, [], ◌∷◌, ◌++◌, take, drop, if◌then◌else◌, Option, Some, None, Result, Ok, Err, codes}
+use Rattle.std.specs.Prelude.{ℕ, zero, suc, ◌+◌, ◌-◌, ◌==◌, ◌||◌, ◌&&◌, not, nat_eq, Bool, false, List, [], ◌∷◌, ◌++◌, take, drop, if◌then◌else◌, Option, Some, None, Result, Ok, Err, codes}
 use Rattle.std.specs.List.{prefix_len}
 use Rattle.std.specs.Cmp.Lexicographic.{pointwise}
 use Rattle.sample_time.specs.declared.decimal.Decimal.{Decimal}
@@ -9,7 +9,6 @@ use Rattle.sample_time.specs.declared.decimal.NumberFault.TheVariants.{NotANumbe
 use Rattle.sample_time.specs.Reading.{decimal_of}
 use Rattle.textgrid.specs.declared.fault.GridFault.{GridFault}
 use Rattle.textgrid.specs.declared.fault.GridFault.TheVariants.{BadText, TooManyDigits}
-use Rattle.textgrid.specs.declared.values.Value.{Value}
 use Rattle.textgrid.specs.declared.values.Value.TheVariants.{Number, Quoted, Flag}
 use Rattle.textgrid.specs.declared.values.Placed.{Placed}
 use Rattle.textgrid.specs.declared.scan.Piece.{Piece}

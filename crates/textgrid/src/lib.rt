@@ -7,6 +7,7 @@ mod encoding;
 mod entries;
 mod fault;
 mod grid;
+mod law;
 mod levels;
 mod quoted;
 mod reader;
@@ -18,5 +19,6 @@ pub use fault::{GridFault, GridWhat};
 pub use grid::{
     Grid, GridEntries, GridInterval, GridIntervals, GridPoint, GridPoints, GridTier, GridTiers,
 };
+pub use law::grids_are_written_out;
 pub use levels::to_annot;
 pub use reader::read_textgrid;

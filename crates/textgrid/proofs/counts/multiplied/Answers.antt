@@ -1,4 +1,4 @@
-use Rattle.std.proofs.Common.{ℕ, ◌≤◌, ◌<◌, ◌*◌, ◌^◌, ◌⊎◌, inl, inr, arith}
+use Rattle.std.proofs.Common.{arith}
 use Rattle.textgrid.proofs.Powers.{product_grows, product_large}
 use Rattle.textgrid.proofs.counts.multiplied.Goals as goal
 use Rattle.textgrid.proofs.counts.multiplied.Goals.{then-digits-gt-MOST-via-then-digits-gt-MOST, then-digits-gt-MOST-via-else-digits-gt-MOST+then-places-gt4}

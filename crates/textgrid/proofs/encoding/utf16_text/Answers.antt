@@ -1,6 +1,6 @@
-use Rattle.std.proofs.Common.{◌≡◌, ◌+◌, length, arith, rules, ap, ◌∙◌, sym, refl}
+use Rattle.std.proofs.Common.{arith, refl}
 use Rattle.std.specs.Prelude.{string_bytes, encode_utf8}
-use Rattle.textgrid.specs.Encodings.{utf16_of, utf16_from, with_text}
+use Rattle.textgrid.specs.Encodings.{utf16_of, utf16_from}
 use Rattle.textgrid.proofs.Sizes.{text_grows}
 use Rattle.textgrid.proofs.Skips.{none_before, char_rest}
 use Rattle.textgrid.proofs.encoding.utf16_text.Goals as goal

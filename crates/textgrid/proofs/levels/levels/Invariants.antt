@@ -1,4 +1,4 @@
-use Rattle.std.proofs.Common.{◌≡◌, ◌+◌, length, drop}
+use Rattle.std.proofs.Common.{◌≡◌, ◌+◌, drop}
 use Rattle.textgrid.specs.Levels.{levels_from, levels_before, entry_total}
 use Rattle.textgrid.proofs.levels.levels.Given as goal
 

@@ -1,4 +1,4 @@
-use Rattle.std.proofs.Common.{◌≡◌, ◌+◌, ◌<◌, ◌^◌, length, drop}
+use Rattle.std.proofs.Common.{◌≡◌, drop}
 use Rattle.textgrid.specs.Levels.{segments_from, items_before}
 use Rattle.textgrid.proofs.levels.segments.Given as goal
 

@@ -1,4 +1,4 @@
-use Rattle.std.proofs.Common.{◌≡◌, ◌+◌, ◌-◌, ◌<◌, ◌≤◌, ℕ, List, length, take, drop, arith, ap, ◌∙◌, sym}
+use Rattle.std.proofs.Common.{◌≡◌, ◌-◌, ◌<◌, ℕ, List, length, take, drop, arith, ap, ◌∙◌, sym}
 use Rattle.std.proofs.lemmas.Slice.{between_to_end}
 use Rattle.textgrid.specs.Values.{front}
 use Rattle.textgrid.proofs.Quotes.{cut_at_quote, piece_at_quote}
