@@ -5,6 +5,7 @@ pub mod Levels
 pub mod Quoted
 pub mod Reading
 pub mod Short
+pub mod Told
 pub mod Values
 pub mod Words
 pub mod Written

@@ -29,7 +29,8 @@ fn multiplied(digits: u128, places: u32) -> Option<u32>
 
 /// `digits / 10^places`, where that is whole and at most 65,536.
 fn divided(digits: u128, places: u32) -> Option<u32>
-    ensures { SomeIff result ((digits % 10 ^ places ≡ 0) × (digits / 10 ^ places ≤ 65536)) (digits / 10 ^ places) }
+    ensures { let quotient = digits / 10 ^ places
+        in SomeIff result ((digits % 10 ^ places ≡ 0) × (quotient ≤ 65536)) quotient }
 {
     if digits == 0 {
         return Some(0);

@@ -1,5 +1,6 @@
 //! The text that the bytes of a file are: UTF-8, with or without a mark, or UTF-16 with one.
 ghost use Rattle.std.specs.Prelude.{◌≡◌, ◌≢◌, ◌≤◌, ◌<◌, ◌*◌, IfOk, IfErr, IfSome, MatchOption, None, Some, Ok, Err, length, encode_utf8, string_bytes, string_len};
+ghost use Rattle.textgrid.specs.Told.{TellsFault};
 ghost use Rattle.textgrid.specs.Encodings.{mark_of, unit, pair_at, char_at, utf8_of, utf16_of};
 
 use crate::fault::GridFault;
@@ -70,7 +71,8 @@ fn pair(first: u32, second: u32) -> Option<char>
 /// The character at the front of a text in UTF-16, and how many bytes it takes; `None` of a surrogate
 /// without a partner and of a half unit.
 fn utf16_char(big: bool, bytes: &[u8]) -> Option<(char, usize)>
-    ensures value { MatchOption result (char_at big bytes.now ≡ None) (λ r. char_at big bytes.now ≡ Some (r.0, r.1)) }
+    ensures value { let told = char_at big bytes.now
+        in MatchOption result (told ≡ None) (λ r. told ≡ Some (r.0, r.1)) }
     ensures within { IfSome result (λ r. r.1 ≤ length bytes.now) }
     ensures some { IfSome result (λ r. 0 < r.1) }
     ensures size { IfSome result (λ r. 2 * length (encode_utf8 r.0) ≤ 3 * r.1) }
@@ -91,7 +93,7 @@ fn utf16_char(big: bool, bytes: &[u8]) -> Option<(char, usize)>
 /// The text of bytes in UTF-16, behind a mark of two bytes.
 pub fn utf16_text(alloc: Global, big: bool, bytes: &[u8]) -> Result<String, GridFault>
     ensures ok { IfOk result (λ text. utf16_of big bytes.now ≡ Ok (string_bytes text)) }
-    ensures err { IfErr result (λ fault. fault ≢ GridFault.Memory → utf16_of big bytes.now ≡ Err fault) }
+    ensures err { TellsFault result (utf16_of big bytes.now) }
     ensures size { IfOk result (λ text. 2 * string_len text ≤ 3 * length bytes.now) }
 {
     let mut text = String::new(alloc);

@@ -12,8 +12,10 @@ ghost use Rattle.textgrid.specs.Written.{IsGrid, IsFirstFault};
 /// (Praat manual, "TextGrid file formats".)
 #[tactic(auto, using(crate::proofs::Grids::read_is_written, crate::proofs::Grids::written_is_read, crate::proofs::Grids::fault_is_first))]
 pub fn grids_are_written_out()
-    ensures read { (vs rest : List PlacedOf) (grid : GridOf) → grid_at vs ≡ Ok (grid, rest) → IsGrid vs grid }
-    ensures written { (vs : List PlacedOf) (grid : GridOf) → IsGrid vs grid → grid_at vs ≡ Ok (grid, []) }
+    ensures read { (vs rest : List PlacedOf) (grid : GridOf)
+        → grid_at vs ≡ Ok (grid, rest) → IsGrid vs grid }
+    ensures written { (vs : List PlacedOf) (grid : GridOf)
+        → IsGrid vs grid → grid_at vs ≡ Ok (grid, []) }
     ensures fault { (vs : List PlacedOf) (place : Option ℕ) (what : WhatOf)
         → grid_at vs ≡ Err (place, what) → IsFirstFault vs place what }
 {}

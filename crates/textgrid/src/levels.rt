@@ -1,5 +1,6 @@
 //! The annotation that a grid gives.
 ghost use Rattle.std.specs.Prelude.{◌≡◌, ◌≢◌, ◌+◌, ◌≤◌, ◌<◌, ◌^◌, IfOk, IfErr, Ok, Err, length, All, ◌∷◌, []};
+ghost use Rattle.textgrid.specs.Told.{TellsFault};
 ghost use Rattle.textgrid.specs.Levels.{time_fault, span_of, point_of, item_of, segments_from, events_from, entry_count, entry_total, level_of, levels_from, annot_of};
 ghost use Rattle.textgrid.specs.Short.{IsShort, IsShortSpan, IsShortPoint, AreShort, IsShortTier, IsShortGrid};
 
@@ -91,9 +92,9 @@ fn segments(
     requires rate_below { rate ≤ 1000000 }
     requires room { before + length entries.now < 2 ^ 32 }
     requires short { All IsShortSpan entries.now }
-    ensures ok { IfOk result (λ items. segments_from rate tier before level.now 0 entries.now ≡ Ok items) }
-    ensures err { IfErr result (λ fault. fault ≢ GridFault.Memory
-        → segments_from rate tier before level.now 0 entries.now ≡ Err fault) }
+    ensures ok { let told = segments_from rate tier before level.now 0 entries.now
+        in IfOk result (λ items. told ≡ Ok items) }
+    ensures err { TellsFault result (segments_from rate tier before level.now 0 entries.now) }
 {
     let mut items = AnnotItems::new(alloc);
     for (index, entry) in entries.iter().enumerate() {
@@ -118,9 +119,9 @@ fn events(
     requires rate_below { rate ≤ 1000000 }
     requires room { before + length entries.now < 2 ^ 32 }
     requires short { All IsShortPoint entries.now }
-    ensures ok { IfOk result (λ items. events_from rate tier before level.now 0 entries.now ≡ Ok items) }
-    ensures err { IfErr result (λ fault. fault ≢ GridFault.Memory
-        → events_from rate tier before level.now 0 entries.now ≡ Err fault) }
+    ensures ok { let told = events_from rate tier before level.now 0 entries.now
+        in IfOk result (λ items. told ≡ Ok items) }
+    ensures err { TellsFault result (events_from rate tier before level.now 0 entries.now) }
 {
     let mut items = AnnotItems::new(alloc);
     for (index, entry) in entries.iter().enumerate() {
@@ -155,8 +156,7 @@ fn level(
     requires room { before + entry_count tier.now.entries < 2 ^ 32 }
     requires short { AreShort tier.now.entries }
     ensures ok { IfOk result (λ level. level_of rate number before tier.now ≡ Ok level) }
-    ensures err { IfErr result (λ fault. fault ≢ GridFault.Memory
-        → level_of rate number before tier.now ≡ Err fault) }
+    ensures err { TellsFault result (level_of rate number before tier.now) }
 {
     let (kind, items) = match &tier.entries {
         GridEntries::Intervals(intervals) => {
@@ -182,8 +182,7 @@ fn levels(alloc: Global, rate: u32, tiers: &[GridTier]) -> Result<AnnotLevels, G
     requires entries { entry_total tiers.now < 2 ^ 32 }
     requires short { All IsShortTier tiers.now }
     ensures ok { IfOk result (λ levels. levels_from rate 0 0 tiers.now ≡ Ok levels) }
-    ensures err { IfErr result (λ fault. fault ≢ GridFault.Memory
-        → levels_from rate 0 0 tiers.now ≡ Err fault) }
+    ensures err { TellsFault result (levels_from rate 0 0 tiers.now) }
 {
     let mut levels = AnnotLevels::new(alloc);
     let mut before: u32 = 0;
@@ -212,8 +211,7 @@ pub fn to_annot(alloc: Global, rate: u32, grid: &Grid) -> Result<Annot, GridFaul
     requires entries { entry_total grid.now.tiers < 2 ^ 32 }
     requires short { IsShortGrid grid.now }
     ensures ok { IfOk result (λ annot. annot_of rate grid.now ≡ Ok annot) }
-    ensures err { IfErr result (λ fault. fault ≢ GridFault.Memory
-        → annot_of rate grid.now ≡ Err fault) }
+    ensures err { TellsFault result (annot_of rate grid.now) }
 {
     let levels = levels(alloc, rate, grid.tiers.as_slice())?;
     let annotates = Text::new(alloc, "")?;

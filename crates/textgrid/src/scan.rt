@@ -1,5 +1,6 @@
 //! The values that stand in a text.
 ghost use Rattle.std.specs.Prelude.{◌≡◌, ◌≢◌, ◌≤◌, ◌<◌, ◌+◌, IfOk, IfErr, Ok, Err, List, Result, All, false, length, drop};
+ghost use Rattle.textgrid.specs.Told.{TellsFault};
 ghost use Rattle.textgrid.specs.Quoted.{quoted};
 ghost use Rattle.textgrid.specs.declared.values.Placed.{Placed as PlacedValue};
 ghost use Rattle.textgrid.specs.Short.{IsShortPlaced, IsShortPiece};
@@ -188,7 +189,7 @@ fn keep(values: &mut Values, piece: Piece, at: u64) -> Result<(), GridFault>
 #[tactic(auto, unfolding(crate::specs::Values::values_of))]
 pub fn read_values(alloc: Global, text: &str) -> Result<Values, GridFault>
     ensures ok { IfOk result (λ values. values_of text.now ≡ Ok values) }
-    ensures err { IfErr result (λ fault. fault ≢ GridFault.Memory → values_of text.now ≡ Err fault) }
+    ensures err { TellsFault result (values_of text.now) }
     ensures short { IfOk result (All IsShortPlaced) }
     ensures few { IfOk result (λ values. length values ≤ length text.now) }
 {

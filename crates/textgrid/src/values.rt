@@ -61,7 +61,8 @@ impl Values {
 
     /// Takes the first value out.
     pub fn pop(&mut self) -> Option<Placed>
-        ensures { MatchOption result ((self.old ≡ []) × (self.new ≡ [])) (λ first. self.old ≡ first ∷ self.new) }
+        ensures { MatchOption result ((self.old ≡ []) × (self.new ≡ []))
+            (λ first. self.old ≡ first ∷ self.new) }
     {
         self.left.pop_front()
     }
