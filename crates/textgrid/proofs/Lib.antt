@@ -1,0 +1,9 @@
+mod Powers
+mod Skips
+mod Quotes
+mod Faults
+mod Times
+mod Sizes
+mod Kept
+mod Exact
+mod Grids

@@ -1,0 +1,11 @@
+pub mod Counts
+pub mod Encodings
+pub mod Grids
+pub mod Levels
+pub mod Quoted
+pub mod Reading
+pub mod Short
+pub mod Told
+pub mod Values
+pub mod Words
+pub mod Written
