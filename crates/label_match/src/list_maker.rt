@@ -59,7 +59,8 @@ impl PatternMaker for ListMaker {
         ensures later { self.old.refusals ≤ self.new.refusals }
 
         // Each listed call is refused as too large, and nothing else counts as a refusal.
-        ensures listed { Contains self.old.refuses (next_count self.old.calls) → result ≡ Err PatternFault.Size }
+        ensures listed { Contains self.old.refuses (next_count self.old.calls)
+            → result ≡ Err PatternFault.Size }
         ensures steady { result ≢ Err PatternFault.Size → self.new.refusals ≡ self.old.refusals }
         ensures counted { self.new.calls ≡ next_count self.old.calls }
         ensures kept { self.new.refuses ≡ self.old.refuses }

@@ -19,6 +19,7 @@ pub trait PatternMaker {
         ensures ok { IfOk result (λ made. made ≡ text.now) }
         ensures read { OnOk result (are_patterns text.now ≡ true) }
         ensures syntax { result ≡ Err PatternFault.Syntax → are_patterns text.now ≡ false }
-        ensures size { result ≡ Err PatternFault.Size → Rose (refusals self.old) (refusals self.new) }
+        ensures size { result ≡ Err PatternFault.Size
+            → Rose (refusals self.old) (refusals self.new) }
         ensures later { refusals self.old ≤ refusals self.new };
 }
