@@ -1,5 +1,6 @@
 -- Whole numbers from 0 to 65,536, as decimals: the number of tiers, and of entries of a tier.
 use Rattle.std.specs.Prelude.{ℕ, suc, ◌*◌, ◌/◌, ◌%◌, ◌^◌, ◌==◌, nat_le, if◌then◌else◌, ℤ, pos, negsuc, Option, Some, None}
+use Rattle.emu_names.specs.declared.limits.TheConstants.{GRID_ENTRIES}
 use Rattle.sample_time.specs.declared.decimal.Decimal.{Decimal}
 use Rattle.sample_time.specs.Sample.{is_negative}
 
@@ -11,7 +12,7 @@ whole_of digits (negsuc n) = if digits % 10 ^ suc n == 0 then Some (digits / 10 
 -- a number, where it is at most 65,536
 abbrev pub at_most : Option ℕ → Option ℕ
 at_most None = None
-at_most (Some n) = if nat_le n 65536 then Some n else None
+at_most (Some n) = if nat_le n GRID_ENTRIES then Some n else None
 
 -- the whole number that the decimal is, where it is one from 0 to 65,536
 abbrev pub count_of : Decimal → Option ℕ

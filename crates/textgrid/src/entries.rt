@@ -1,4 +1,5 @@
 //! Single values, and the entries of tiers, read from the values that are left.
+ghost use Rattle.emu_names.specs.declared.limits.TheConstants.{GRID_ENTRIES};
 ghost use Rattle.std.specs.Prelude.{◌≡◌, ◌≤◌, IfOk, IfSome};
 ghost use Rattle.textgrid.specs.Reading.{Reads, next_at, number_in, text_in, flag_in, count_in, header_in, title_in, class_in, taken, number_at, text_at, flag_at, count_at, header_at, title_at, class_at, end_at, interval_at, point_at, times_at, behind};
 
@@ -70,7 +71,7 @@ fn flag_in(value: Value) -> Option<()>
 /// The count that a value is.
 fn count_in(value: Value) -> Option<u32>
     ensures value { result ≡ count_in value }
-    ensures within { IfSome result (λ n. n ≤ 65536) }
+    ensures within { IfSome result (λ n. n ≤ GRID_ENTRIES) }
 {
     match value {
         Value::Number(number) => count_of(&number),
@@ -145,7 +146,7 @@ pub fn flag(values: &mut Values) -> Result<(), Halt>
 /// A count.
 pub fn count(values: &mut Values) -> Result<u32, Halt>
     ensures value { Reads result (count_at values.old) values.new }
-    ensures within { IfOk result (λ n. n ≤ 65536) }
+    ensures within { IfOk result (λ n. n ≤ GRID_ENTRIES) }
 {
     let placed = next(values, GridWhat::Count)?;
     count_in(placed.value).ok_or(Halt::Stopped(Some(placed.at), GridWhat::Count))

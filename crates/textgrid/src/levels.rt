@@ -1,4 +1,5 @@
 //! The annotation that a grid gives.
+ghost use Rattle.emu_names.specs.declared.limits.TheConstants.{TOP_RATE};
 ghost use Rattle.std.specs.Prelude.{◌≡◌, ◌≢◌, ◌+◌, ◌≤◌, ◌<◌, ◌^◌, IfOk, IfErr, Ok, Err, length, All, ◌∷◌, []};
 ghost use Rattle.textgrid.specs.Told.{TellsFault};
 ghost use Rattle.textgrid.specs.Levels.{time_fault, span_of, point_of, item_of, segments_from, events_from, entry_count, entry_total, level_of, levels_from, annot_of};
@@ -28,7 +29,7 @@ fn time_fault(fault: TimeFault, tier: u32, entry: u32) -> GridFault
 /// end.
 fn span(interval: &GridInterval, rate: u32, tier: u32, entry: u32) -> Result<Time, GridFault>
     requires rate_above { 1 ≤ rate }
-    requires rate_below { rate ≤ 1000000 }
+    requires rate_below { rate ≤ TOP_RATE }
     requires begin { IsShort interval.now.xmin }
     requires end { IsShort interval.now.xmax }
     ensures { result ≡ span_of rate tier entry interval.now }
@@ -54,7 +55,7 @@ fn span(interval: &GridInterval, rate: u32, tier: u32, entry: u32) -> Result<Tim
 /// The sample of a point: the nearest one.
 fn point(point: &GridPoint, rate: u32, tier: u32, entry: u32) -> Result<Time, GridFault>
     requires rate_above { 1 ≤ rate }
-    requires rate_below { rate ≤ 1000000 }
+    requires rate_below { rate ≤ TOP_RATE }
     requires time { IsShort point.now.time }
     ensures { result ≡ point_of rate tier entry point.now }
 {
@@ -89,7 +90,7 @@ fn segments(
     entries: &[GridInterval],
 ) -> Result<AnnotItems, GridFault>
     requires rate_above { 1 ≤ rate }
-    requires rate_below { rate ≤ 1000000 }
+    requires rate_below { rate ≤ TOP_RATE }
     requires room { before + length entries.now < 2 ^ 32 }
     requires short { All IsShortSpan entries.now }
     ensures ok { let told = segments_from rate tier before level.now 0 entries.now
@@ -116,7 +117,7 @@ fn events(
     entries: &[GridPoint],
 ) -> Result<AnnotItems, GridFault>
     requires rate_above { 1 ≤ rate }
-    requires rate_below { rate ≤ 1000000 }
+    requires rate_below { rate ≤ TOP_RATE }
     requires room { before + length entries.now < 2 ^ 32 }
     requires short { All IsShortPoint entries.now }
     ensures ok { let told = events_from rate tier before level.now 0 entries.now
@@ -152,7 +153,7 @@ fn level(
     tier: &GridTier,
 ) -> Result<AnnotLevel, GridFault>
     requires rate_above { 1 ≤ rate }
-    requires rate_below { rate ≤ 1000000 }
+    requires rate_below { rate ≤ TOP_RATE }
     requires room { before + entry_count tier.now.entries < 2 ^ 32 }
     requires short { AreShort tier.now.entries }
     ensures ok { IfOk result (λ level. level_of rate number before tier.now ≡ Ok level) }
@@ -177,7 +178,7 @@ fn level(
 /// The levels of the tiers.
 fn levels(alloc: Global, rate: u32, tiers: &[GridTier]) -> Result<AnnotLevels, GridFault>
     requires rate_above { 1 ≤ rate }
-    requires rate_below { rate ≤ 1000000 }
+    requires rate_below { rate ≤ TOP_RATE }
     requires tiers { length tiers.now < 2 ^ 32 }
     requires entries { entry_total tiers.now < 2 ^ 32 }
     requires short { All IsShortTier tiers.now }
@@ -206,7 +207,7 @@ fn levels(alloc: Global, rate: u32, tiers: &[GridTier]) -> Result<AnnotLevels, G
 /// of an interval the begin is looked at first.
 pub fn to_annot(alloc: Global, rate: u32, grid: &Grid) -> Result<Annot, GridFault>
     requires rate_above { 1 ≤ rate }
-    requires rate_below { rate ≤ 1000000 }
+    requires rate_below { rate ≤ TOP_RATE }
     requires tiers { length grid.now.tiers < 2 ^ 32 }
     requires entries { entry_total grid.now.tiers < 2 ^ 32 }
     requires short { IsShortGrid grid.now }

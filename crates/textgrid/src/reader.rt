@@ -1,4 +1,5 @@
 //! The grid that the bytes of a file hold.
+ghost use Rattle.emu_names.specs.declared.limits.TheConstants.{GRID_ENTRIES};
 ghost use Rattle.std.specs.Prelude.{◌≡◌, ◌≢◌, IfOk, IfErr, Ok, Err, ◌*◌, ◌≤◌, length};
 ghost use Rattle.textgrid.specs.Told.{TellsFault};
 ghost use Rattle.textgrid.specs.Levels.{entry_total};
@@ -19,7 +20,7 @@ use std::alloc::Global;
 fn grid_of_text(alloc: Global, text: &str) -> Result<Grid, GridFault>
     ensures ok { IfOk result (λ grid. grid_of_text text.now ≡ Ok grid) }
     ensures err { TellsFault result (grid_of_text text.now) }
-    ensures tiers { IfOk result (λ grid. length grid.tiers ≤ 65536) }
+    ensures tiers { IfOk result (λ grid. length grid.tiers ≤ GRID_ENTRIES) }
     ensures entries { IfOk result (λ grid. 2 * entry_total grid.tiers ≤ length text.now) }
     ensures short { IfOk result IsShortGrid }
 {
@@ -38,7 +39,7 @@ fn grid_of_text(alloc: Global, text: &str) -> Result<Grid, GridFault>
 fn grid_of_utf16(alloc: Global, big: bool, bytes: &[u8]) -> Result<Grid, GridFault>
     ensures ok { IfOk result (λ grid. grid_of_utf16 big bytes.now ≡ Ok grid) }
     ensures err { TellsFault result (grid_of_utf16 big bytes.now) }
-    ensures tiers { IfOk result (λ grid. length grid.tiers ≤ 65536) }
+    ensures tiers { IfOk result (λ grid. length grid.tiers ≤ GRID_ENTRIES) }
     ensures entries { IfOk result (λ grid. entry_total grid.tiers ≤ length bytes.now) }
     ensures short { IfOk result IsShortGrid }
 {
@@ -57,7 +58,7 @@ fn grid_behind(
     ensures ok { let told = grid_of_decoded (text_behind encoding mark bytes.now)
         in IfOk result (λ grid. told ≡ Ok grid) }
     ensures err { TellsFault result (grid_of_decoded (text_behind encoding mark bytes.now)) }
-    ensures tiers { IfOk result (λ grid. length grid.tiers ≤ 65536) }
+    ensures tiers { IfOk result (λ grid. length grid.tiers ≤ GRID_ENTRIES) }
     ensures entries { IfOk result (λ grid. entry_total grid.tiers ≤ length bytes.now) }
     ensures short { IfOk result IsShortGrid }
 {
@@ -87,7 +88,7 @@ pub fn read_textgrid(alloc: Global, bytes: &[u8]) -> Result<Grid, GridFault>
     ensures err { TellsFault result (grid_of bytes.now) }
 
     // A grid that is read can be made an annotation.
-    ensures tiers { IfOk result (λ grid. length grid.tiers ≤ 65536) }
+    ensures tiers { IfOk result (λ grid. length grid.tiers ≤ GRID_ENTRIES) }
     ensures entries { IfOk result (λ grid. entry_total grid.tiers ≤ length bytes.now) }
     ensures short { IfOk result IsShortGrid }
 {
