@@ -5,3 +5,4 @@ pub mod Kept
 pub mod Steps
 pub mod Ties
 pub mod Joined
+pub mod Taking

@@ -1,5 +1,5 @@
 -- A list of links in blocks.
-use Rattle.std.specs.Prelude.{List, length, ◌≡◌, ℕ}
+use Rattle.std.specs.Prelude.{List}
 use Rattle.std.specs.List.{flat_map}
 use Rattle.link_graph.specs.declared.link.Link.{Link}
 

@@ -62,6 +62,11 @@ impl Blocks {
         link_at(self.blocks.as_slice(), place)
     }
 
+    /// What the list grows by.
+    pub(crate) fn allocator(&self) -> Global {
+        self.alloc
+    }
+
     /// The block that the next link will stand in.
     pub(crate) fn next_block(&self) -> usize {
         let count = self.blocks.len();
@@ -131,7 +136,8 @@ fn link_at(blocks: &[Block], place: usize) -> &Link
 /// Puts a link at the end of the last block.
 fn push_at(blocks: &mut [Block], at: usize, link: Link) -> Result<(), Memory>
     requires { at < length blocks.old }
-    ensures ok { OnOk result (blocks.new ≡ slice_set blocks.old at (get_or blocks.old at [] ++ link ∷ [])) }
+    ensures ok { OnOk result (blocks.new
+        ≡ slice_set blocks.old at (get_or blocks.old at [] ++ link ∷ [])) }
     ensures err { OnErr result (blocks.new ≡ blocks.old) }
 {
     blocks[at].push(link)
@@ -155,7 +161,8 @@ fn put_last(alloc: Global, blocks: &mut Vec<Block>, link: Link) -> Result<(), Me
 /// The block with the link of a pair, for which `guess` is tried first.
 fn find_block(blocks: &[Block], guess: usize, from: ItemId, to: ItemId) -> Option<usize>
     ensures within { IfSome result (λ at. at < length blocks.now) }
-    ensures there { IfSome result (λ at. list_any (joins from to) (get_or blocks.now at []) ≡ true) }
+    ensures there { IfSome result
+        (λ at. list_any (joins from to) (get_or blocks.now at []) ≡ true) }
     ensures none { IfNone result (list_any (joins from to) (joined blocks.now) ≡ false) }
 {
     if guess < blocks.len() && blocks[guess].has(from, to) {
@@ -181,7 +188,8 @@ fn take_at(blocks: &mut [Block], at: usize, from: ItemId, to: ItemId)
 /// Takes the link of a pair out, which is looked for at this block first.
 fn take_found(blocks: &mut Vec<Block>, guess: usize, from: ItemId, to: ItemId)
     requires { ArePairsApart (joined blocks.old.items) }
-    ensures { joined blocks.new.items ≡ filter (λ link. not (joins from to link)) (joined blocks.old.items) }
+    ensures { joined blocks.new.items
+        ≡ filter (λ link. not (joins from to link)) (joined blocks.old.items) }
 {
     match find_block(blocks.as_slice(), guess, from, to) {
         Some(at) => take_at(blocks, at, from, to),

@@ -63,7 +63,8 @@ impl ByItem {
     /// Takes the links at an item out that lead from `from` to `to`.
     pub(crate) fn remove(&mut self, at: ItemId, from: ItemId, to: ItemId)
         ensures { (id : ℕ) → links_at self.new id
-            ≡ (if at.0 == id then filter (λ link. not (joins from to link)) (links_at self.old id) else links_at self.old id) }
+            ≡ (if at.0 == id then filter (λ link. not (joins from to link)) (links_at self.old id)
+            else links_at self.old id) }
     {
         if let Some(links) = self.lists.get_mut(&at.0) {
             take_pair(links, from, to);
@@ -73,7 +74,8 @@ impl ByItem {
     /// Takes all links at an item out, and gives them.
     pub(crate) fn take(&mut self, at: ItemId) -> Vec<Link>
         ensures taken { result.items ≡ links_at self.old at.0 }
-        ensures rest { (id : ℕ) → links_at self.new id ≡ (if at.0 == id then [] else links_at self.old id) }
+        ensures rest { (id : ℕ) → links_at self.new id
+            ≡ (if at.0 == id then [] else links_at self.old id) }
     {
         match self.lists.remove(&at.0) {
             Some(links) => links,
@@ -84,7 +86,8 @@ impl ByItem {
     /// Takes the links at an item out that name `id`.
     pub(crate) fn forget(&mut self, at: ItemId, id: ItemId)
         ensures { (key : ℕ) → links_at self.new key
-            ≡ (if at.0 == key then filter (λ link. not (names_item id link)) (links_at self.old key) else links_at self.old key) }
+            ≡ (if at.0 == key then filter (λ link. not (names_item id link)) (links_at self.old key)
+            else links_at self.old key) }
     {
         if let Some(links) = self.lists.get_mut(&at.0) {
             take_item(links, id);

@@ -1,5 +1,4 @@
-use Rattle.std.proofs.Common.{length, take, ◌++◌, sym, ap, ◌∙◌, length-append, arith, [], ◌+◌, ◌≤◌}
-use Rattle.link_graph.specs.Blocks.{joined}
+use Rattle.std.proofs.Common.{arith}
 use Rattle.link_graph.proofs.Joined.{count_more, count_fits}
 use Rattle.link_graph.proofs.blocks.count_of.Goals as goal
 

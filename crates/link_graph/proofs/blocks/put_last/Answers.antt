@@ -1,4 +1,4 @@
-use Rattle.std.proofs.Common.{◌≡◌, List, ◌-◌, ◌<◌, ◌++◌, ◌∷◌, [], length, sym, ap, ◌∙◌, arith}
+use Rattle.std.proofs.Common.{◌<◌, ◌∙◌}
 use Rattle.link_graph.proofs.Joined.{put_written}
 use Rattle.link_graph.proofs.blocks.put_last.Goals as goal
 
