@@ -4,3 +4,5 @@ pub mod Keeping
 pub mod Kept
 pub mod Steps
 pub mod Ties
+pub mod Joined
+pub mod Taking

@@ -1,9 +1,7 @@
 -- When two pairs of ids tie, and what that says of a set of pairs.
-use Rattle.std.proofs.Common.{◌≡◌, ℕ, Bool, true, false, List, refl, ◌∙◌, cond, eqb, not, ◌&&◌, ◌||◌, arith}
-use Rattle.std.specs.List.{filter, list_any}
+use Rattle.std.proofs.Common.{◌≡◌, ℕ, Bool, true, false, refl, ◌∙◌, cond, eqb, not, ◌&&◌, ◌||◌, arith}
 use Rattle.std.specs.Ordering.{is_eq}
 use Rattle.std.proofs.lemmas.Bool.Decides.{nat_tests}
-use Rattle.std.proofs.lemmas.Map.Views.{any-filter_same}
 use Rattle.link_graph.specs.Index.{pair_cmp}
 
 tie : (a b x y : ℕ) → is_eq (pair_cmp (a, b) (x, y)) ≡ (eqb a x && eqb b y)
@@ -26,9 +24,3 @@ pair_in from to a b old new h = rw (tie from to a b) at h ∙ or_from_cond (eqb 
 -- what a pair that was taken out takes away
 pub pair_out : (from to a b : ℕ) (old new : Bool) → new ≡ cond (is_eq (pair_cmp (from, to) (a, b))) false old → new ≡ (not (eqb from a && eqb to b) && old)
 pair_out from to a b old new h = rw (tie from to a b) at h ∙ and_from_cond (eqb from a && eqb to b) old
-
--- what is left of the pairs that do not name an id
-pub pairs_left : (id a b : ℕ) (keys : List (ℕ × ℕ)) →
-    list_any (λ k. is_eq (pair_cmp (a, b) k)) (filter (λ k. not (eqb k.0 id || eqb k.1 id)) keys)
-    ≡ (not (eqb a id || eqb b id) && list_any (λ k. is_eq (pair_cmp (a, b) k)) keys)
-pairs_left id a b keys = any-filter_same _ _ _ (λ k e. grind (arith, nat_tests)) keys

@@ -35,10 +35,14 @@ pair_cmp a b = ordering_then (nat_cmp a.0 b.0) (nat_cmp a.1 b.1)
 abbrev pub has_pair : Pairs → ℕ → ℕ → Bool
 has_pair pairs from to = contains pair_cmp pairs.pairs (from, to)
 
+-- whether a link has this pair of ids
+abbrev pub is_pair : ℕ → ℕ → Link → Bool
+is_pair from to link = (link.from.0 == from) && (link.to.0 == to)
+
 -- the index holds what the list has, and no more
 pub record Indexes (index : Index) (links : List Link) : Type 0 where
   pub down : (id : ℕ) → links_at index.down id ≡ filter (λ link. link.from.0 == id) links
   pub up : (id : ℕ) → links_at index.up id ≡ filter (λ link. link.to.0 == id) links
   pub pairs : (from to : ℕ) →
       has_pair index.pairs from to
-      ≡ list_any (λ link. (link.from.0 == from) && (link.to.0 == to)) links
+      ≡ list_any (is_pair from to) links

@@ -23,6 +23,10 @@ joins from to link = (link.from.0 == from.0) && (link.to.0 == to.0)
 abbrev pub names_item : ItemId → Link → Bool
 names_item id link = (link.from.0 == id.0) || (link.to.0 == id.0)
 
+-- whether a link has the pair of ids of one of these
+abbrev pub is_among : List Link → Link → Bool
+is_among ends link = list_any (λ e. joins e.from e.to link) ends
+
 -- no pair of ids stands twice
 abbrev pub ArePairsApart : List Link → Type 0
 ArePairsApart links = IsDistinct (λ a b. joins a.from a.to b) links

@@ -74,8 +74,8 @@ impl ByItem {
     /// Takes all links at an item out, and gives them.
     pub(crate) fn take(&mut self, at: ItemId) -> Vec<Link>
         ensures taken { result.items ≡ links_at self.old at.0 }
-        ensures rest { (id : ℕ) → links_at self.new id ≡
-            (if at.0 == id then [] else links_at self.old id) }
+        ensures rest { (id : ℕ) → links_at self.new id
+            ≡ (if at.0 == id then [] else links_at self.old id) }
     {
         match self.lists.remove(&at.0) {
             Some(links) => links,

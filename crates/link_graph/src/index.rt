@@ -1,10 +1,11 @@
 //! What a list of links is asked for, found without a walk over the list.
-ghost use Rattle.std.specs.Prelude.{◌≡◌, ◌==◌, ◌++◌, ◌∷◌, ℕ, List, [], IfOk, OnOk, OnErr, not, false, length};
+ghost use Rattle.std.specs.Prelude.{◌≡◌, ◌==◌, ◌&&◌, ◌++◌, ◌∷◌, ℕ, List, [], IfOk, OnOk, OnErr, not, false, length};
 ghost use Rattle.std.specs.List.{filter, list_any};
 ghost use Rattle.link_graph.specs.declared.link.Link.{Link};
-ghost use Rattle.link_graph.specs.Index.{Indexes, links_at, forgotten};
+ghost use Rattle.link_graph.specs.Index.{Indexes, has_pair, is_pair, links_at, forgotten};
 ghost use Rattle.link_graph.specs.Link.{joins, names_item};
 
+use crate::blocks::Blocks;
 use crate::by_item::ByItem;
 use crate::link::Link;
 use crate::pairs::Pairs;
@@ -33,8 +34,8 @@ impl Index {
 
     /// The same index again. The only refusal is want of memory.
     pub(crate) fn copy(&self) -> Result<Index, Memory>
-        ensures { IfOk result (λ made. (links : List Link) → Indexes self.now links →
-            Indexes made links) }
+        ensures { IfOk result (λ made. (links : List Link)
+            → Indexes self.now links → Indexes made links) }
     {
         let down = self.down.copy()?;
         let up = self.up.copy()?;
@@ -44,11 +45,11 @@ impl Index {
 
     /// Adds a link whose pair of ids is not there. The only refusal is want of memory, after which
     /// the index is that of the same list.
-    pub(crate) fn add(&mut self, links: &[Link], link: Link) -> Result<(), Memory>
-        requires indexed { Indexes self.old links.now }
-        requires apart { list_any (joins link.from link.to) links.now ≡ false }
-        ensures ok { OnOk result (Indexes self.new (links.now ++ link ∷ [])) }
-        ensures err { OnErr result (Indexes self.new links.now) }
+    pub(crate) fn add(&mut self, _links: &Blocks, link: Link) -> Result<(), Memory>
+        requires indexed { Indexes self.old _links.now }
+        requires apart { list_any (joins link.from link.to) _links.now ≡ false }
+        ensures ok { OnOk result (Indexes self.new (_links.now ++ link ∷ [])) }
+        ensures err { OnErr result (Indexes self.new _links.now) }
     {
         self.pairs.insert(link.from, link.to)?;
         if self.down.push(link.from, link).is_err() {
@@ -80,16 +81,27 @@ impl Index {
     {
         let children = self.down.take(id);
         let parents = self.up.take(id);
-        self.pairs.forget(id);
+        forget_pairs(&mut self.pairs, children.as_slice());
+        forget_pairs(&mut self.pairs, parents.as_slice());
         forget_lower(&mut self.up, id, children.as_slice());
         forget_upper(&mut self.down, id, parents.as_slice());
     }
 }
 
+/// Takes the pairs of these links out.
+fn forget_pairs(pairs: &mut Pairs, links: &[Link])
+    ensures { (a b : ℕ) → has_pair pairs.new a b
+        ≡ (not (list_any (is_pair a b) links.now) && has_pair pairs.old a b) }
+{
+    for link in links {
+        pairs.remove(link.from, link.to);
+    }
+}
+
 /// Takes the links that name `id` out at the lower end of each of its links.
 fn forget_lower(up: &mut ByItem, id: ItemId, children: &[Link])
-    ensures { (key : ℕ) → links_at up.new key ≡ forgotten (list_any
-        (λ link. link.to.0 == key) children.now) id (links_at up.old key) }
+    ensures { (key : ℕ) → links_at up.new key
+        ≡ forgotten (list_any (λ link. link.to.0 == key) children.now) id (links_at up.old key) }
 {
     for link in children {
         up.forget(link.to, id);
@@ -98,8 +110,9 @@ fn forget_lower(up: &mut ByItem, id: ItemId, children: &[Link])
 
 /// Takes the links that name `id` out at the upper end of each of its links.
 fn forget_upper(down: &mut ByItem, id: ItemId, parents: &[Link])
-    ensures { (key : ℕ) → links_at down.new key ≡ forgotten (list_any
-        (λ link. link.from.0 == key) parents.now) id (links_at down.old key) }
+    ensures { (key : ℕ) → links_at down.new key
+        ≡ forgotten (list_any (λ link. link.from.0 == key) parents.now) id
+        (links_at down.old key) }
 {
     for link in parents {
         down.forget(link.from, id);

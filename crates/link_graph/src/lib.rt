@@ -1,8 +1,11 @@
 //! The links between the items of one bundle, in the order in which they were added.
 #![tactic(auto)]
 
+mod block;
+mod blocks;
 mod by_item;
 mod ends;
+mod hints;
 mod index;
 mod laws;
 mod link;

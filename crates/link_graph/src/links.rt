@@ -2,12 +2,13 @@
 ghost use Rattle.std.specs.Prelude.{◌≡◌, ◌<◌, ◌≤◌, ◌↔◌, ◌==◌, ◌++◌, ◌∷◌, [], length, slice_get, Some, None, not, true, false, IfOk, OnOk, OnErr, IsOk, IsErrOf, ◌+◌, vec_len, vec_capacity};
 ghost use Rattle.std.specs.List.{filter, find, list_any};
 ghost use Rattle.emu_names.specs.declared.rules.Broken.{Broken as Rule};
-ghost use Rattle.link_graph.specs.Link.{ArePairsApart, joins, names_item, parents_of, children_of, parent_fault, child_fault, add_fault, link_of};
+ghost use Rattle.link_graph.specs.Link.{ArePairsApart, joins, names_item, parents_of, children_of, parent_fault, child_fault, add_fault, is_among, link_of};
 
+use crate::blocks::Blocks;
 use crate::ends::Ends;
+use crate::hints::Hints;
 use crate::index::Index;
 use crate::link::Link;
-use crate::taken::{take_item, take_pair};
 use emu_names::limits::BUNDLE_LINKS;
 use emu_names::{Broken, Fault, ItemId, LinkKind, Memory, What};
 use std::alloc::{AllocError, Global};
@@ -16,8 +17,9 @@ use std::marker::Model;
 /// The links of a bundle, at most 262,144, which contracts see as a list in the order of adding.
 #[derive(Drop)]
 pub struct Links {
-    links: Vec<Link>,
+    links: Blocks,
     index: Index,
+    hints: Hints,
 }
 
 impl Model for Links {
@@ -28,9 +30,9 @@ impl Model for Links {
 
     ghost use Rattle.link_graph.specs.Links.{AreLinks};
 
-    ghost view = { λ s. s.links.items };
+    ghost view = { λ s. s.links };
 
-    ghost invariant = { λ s. AreLinks s.links.items s.index };
+    ghost invariant = { λ s. AreLinks s.links s.index };
 }
 
 impl Links {
@@ -39,8 +41,9 @@ impl Links {
         ensures { result ≡ [] }
     {
         Links {
-            links: Vec::new(alloc),
+            links: Blocks::new(alloc),
             index: Index::new(alloc),
+            hints: Hints::new(alloc),
         }
     }
 
@@ -58,7 +61,7 @@ impl Links {
         requires { place < length self.now }
         ensures { slice_get self.now place ≡ Some result.now }
     {
-        &self.links[place]
+        self.links.get(place)
     }
 
     /// Whether an item is linked to another, in this direction.
@@ -121,7 +124,8 @@ impl Links {
             return Err(Fault::Broken(Broken::NoLink));
         }
         self.index.remove(from, to);
-        take_pair(&mut self.links, from, to);
+        self.links.take_pair(self.hints.get(from, to), from, to);
+        self.hints.forget(from, to);
         Ok(())
     }
 
@@ -129,17 +133,23 @@ impl Links {
     pub fn remove_item(&mut self, id: ItemId)
         ensures { self.new ≡ filter (λ link. not (names_item id link)) self.old }
     {
+        take_all(&mut self.links, &mut self.hints, self.index.down.at(id));
+        take_all(&mut self.links, &mut self.hints, self.index.up.at(id));
         self.index.remove_item(id);
-        take_item(&mut self.links, id);
     }
 
     /// The same links again. The only refusal is want of memory.
     pub fn copy(&self, alloc: Global) -> Result<Links, Memory>
         ensures { IfOk result (λ made. made ≡ self.now) }
     {
-        let links = Vec::from_slice(alloc, self.links.as_slice())?;
+        let links = self.links.copy(alloc)?;
         let index = self.index.copy()?;
-        Ok(Links { links, index })
+        let hints = self.hints.copy()?;
+        Ok(Links {
+            links,
+            index,
+            hints,
+        })
     }
 
     /// The first rule that a new link breaks.
@@ -186,10 +196,18 @@ impl Links {
         ensures ok { OnOk result (self.new ≡ self.old ++ link ∷ []) }
         ensures err { OnErr result (self.new ≡ self.old) }
     {
-        self.links.reserve(1)?;
-        self.index.add(self.links.as_slice(), link)?;
-        push_last(&mut self.links, link);
-        Ok(())
+        self.index.add(&self.links, link)?;
+        let block = self.links.next_block();
+        match self.links.push(link) {
+            Ok(()) => {
+                self.hints.put(link.from, link.to, block);
+                Ok(())
+            }
+            Err(fault) => {
+                self.index.remove(link.from, link.to);
+                Err(fault)
+            }
+        }
     }
 }
 
@@ -199,19 +217,22 @@ impl Clone for Links {
     ghost is_clone = { λ s t. t ≡ s };
 
     fn clone(&self) -> Result<Links, AllocError> {
-        match self.copy(*self.links.allocator()) {
+        match self.copy(self.links.allocator()) {
             Ok(links) => Ok(links),
             Err(Memory) => Err(AllocError),
         }
     }
 }
 
-/// Puts a link last, where there is room for it.
-fn push_last(links: &mut Vec<Link>, link: Link)
-    requires { vec_len links.old + 1 ≤ vec_capacity links.old }
-    ensures { links.new.items ≡ links.old.items ++ link ∷ [] }
+/// Takes these links out of the list.
+fn take_all(links: &mut Blocks, hints: &mut Hints, ends: &[Link])
+    requires { ArePairsApart links.old }
+    ensures { links.new ≡ filter (λ link. not (is_among ends.now link)) links.old }
 {
-    links.push(link).unwrap();
+    for link in ends {
+        links.take_pair(hints.get(link.from, link.to), link.from, link.to);
+        hints.forget(link.from, link.to);
+    }
 }
 
 /// The first link of a definition.

@@ -31,8 +31,8 @@ impl Pairs {
 
     /// The same pairs again. The only refusal is want of memory.
     pub(crate) fn copy(&self) -> Result<Pairs, Memory>
-        ensures { IfOk result (λ made. (from to : ℕ) → has_pair made from to ≡
-            has_pair self.now from to) }
+        ensures { IfOk result (λ made. (from to : ℕ)
+            → has_pair made from to ≡ has_pair self.now from to) }
     {
         let pairs = self.pairs.clone()?;
         Ok(Pairs { pairs })
@@ -40,8 +40,8 @@ impl Pairs {
 
     /// Puts a pair in. The only refusal is want of memory, which changes nothing.
     pub(crate) fn insert(&mut self, from: ItemId, to: ItemId) -> Result<(), Memory>
-        ensures ok { OnOk result ((a b : ℕ) → has_pair self.new a b ≡
-            (has_pair self.old a b || ((from.0 == a) && (to.0 == b)))) }
+        ensures ok { OnOk result ((a b : ℕ) → has_pair self.new a b
+            ≡ (has_pair self.old a b || ((from.0 == a) && (to.0 == b)))) }
         ensures err { OnErr result ((a b : ℕ) → has_pair self.new a b ≡ has_pair self.old a b) }
     {
         self.pairs.insert((from.0, to.0))?;
@@ -50,18 +50,9 @@ impl Pairs {
 
     /// Takes a pair out, if it is there.
     pub(crate) fn remove(&mut self, from: ItemId, to: ItemId)
-        ensures { (a b : ℕ) → has_pair self.new a b ≡
-            (not ((from.0 == a) && (to.0 == b)) && has_pair self.old a b) }
+        ensures { (a b : ℕ) → has_pair self.new a b
+            ≡ (not ((from.0 == a) && (to.0 == b)) && has_pair self.old a b) }
     {
         self.pairs.remove(&(from.0, to.0));
-    }
-
-    /// Takes all pairs out that name an item.
-    pub(crate) fn forget(&mut self, id: ItemId)
-        ensures { (a b : ℕ) → has_pair self.new a b ≡
-            (not ((a == id.0) || (b == id.0)) && has_pair self.old a b) }
-    {
-        self.pairs
-            .retain(|pair| !(pair.0 == id.0 || pair.1 == id.0));
     }
 }

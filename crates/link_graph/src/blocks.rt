@@ -1,0 +1,209 @@
+//! A list of links in blocks, from which a link is taken out without moving all that follow.
+ghost use Rattle.std.specs.Prelude.{◌≡◌, ◌<◌, ◌≤◌, ◌++◌, ◌∷◌, ℕ, [], length, not, true, false, slice_get, slice_set, get_or, Some, IfOk, IfSome, IfNone, OnOk, OnErr};
+ghost use Rattle.std.specs.List.{filter, list_any};
+ghost use Rattle.link_graph.specs.Blocks.{joined};
+ghost use Rattle.link_graph.specs.Link.{ArePairsApart, joins};
+ghost use Rattle.link_graph.specs.declared.link.Link.{Link as OneLink};
+
+use crate::block::Block;
+use crate::link::Link;
+use emu_names::limits::BUNDLE_LINKS;
+use emu_names::{ItemId, Memory};
+use std::alloc::Global;
+use std::marker::Model;
+
+/// The most links of a block to which links are added.
+const BLOCK_LINKS: usize = 512;
+
+/// A list of links, which contracts see as the list of the links of all its blocks.
+#[derive(Drop)]
+pub(crate) struct Blocks {
+    alloc: Global,
+    blocks: Vec<Block>,
+}
+
+impl Model for Blocks {
+    ghost use Rattle.std.specs.Prelude.{List, ◌≤◌, length};
+    ghost use Rattle.emu_names.specs.declared.limits.TheConstants.{BUNDLE_LINKS};
+    ghost use Rattle.link_graph.specs.declared.link.Link.{Link};
+
+    ghost Value = { List Link };
+
+    ghost use Rattle.link_graph.specs.Blocks.{joined};
+
+    ghost view = { λ b. joined b.blocks.items };
+
+    ghost invariant = { λ b. length (joined b.blocks.items) ≤ BUNDLE_LINKS };
+}
+
+impl Blocks {
+    /// No link. The list grows by `alloc`.
+    pub(crate) fn new(alloc: Global) -> Blocks
+        ensures { result ≡ [] }
+    {
+        Blocks {
+            alloc,
+            blocks: Vec::new(alloc),
+        }
+    }
+
+    /// How many links there are.
+    pub(crate) fn len(&self) -> usize
+        ensures { result ≡ length self.now }
+    {
+        count_of(self.blocks.as_slice())
+    }
+
+    /// The link at a place, counted from 0.
+    pub(crate) fn get(&self, place: usize) -> &Link
+        requires { place < length self.now }
+        ensures { slice_get self.now place ≡ Some result.now }
+    {
+        link_at(self.blocks.as_slice(), place)
+    }
+
+    /// What the list grows by.
+    pub(crate) fn allocator(&self) -> Global {
+        self.alloc
+    }
+
+    /// The block that the next link will stand in.
+    pub(crate) fn next_block(&self) -> usize {
+        let count = self.blocks.len();
+        if count > 0 && self.blocks[count - 1].len() < BLOCK_LINKS {
+            count - 1
+        } else {
+            count
+        }
+    }
+
+    /// Puts a link last. The only refusal is want of memory, which changes nothing.
+    pub(crate) fn push(&mut self, link: Link) -> Result<(), Memory>
+        requires { length self.old < BUNDLE_LINKS }
+        ensures ok { OnOk result (self.new ≡ self.old ++ link ∷ []) }
+        ensures err { OnErr result (self.new ≡ self.old) }
+    {
+        put_last(self.alloc, &mut self.blocks, link)
+    }
+
+    /// Takes the link of a pair out, which is looked for at this block first.
+    pub(crate) fn take_pair(&mut self, guess: usize, from: ItemId, to: ItemId)
+        requires { ArePairsApart self.old }
+        ensures { self.new ≡ filter (λ link. not (joins from to link)) self.old }
+    {
+        take_found(&mut self.blocks, guess, from, to);
+    }
+
+    /// The same links again. The only refusal is want of memory.
+    pub(crate) fn copy(&self, alloc: Global) -> Result<Blocks, Memory>
+        ensures { IfOk result (λ made. made ≡ self.now) }
+    {
+        let blocks = copied(alloc, self.blocks.as_slice())?;
+        Ok(Blocks {
+            alloc: self.alloc,
+            blocks,
+        })
+    }
+}
+
+/// How many links all blocks have.
+fn count_of(blocks: &[Block]) -> usize
+    requires { length (joined blocks.now) ≤ BUNDLE_LINKS }
+    ensures { result ≡ length (joined blocks.now) }
+{
+    let mut total = 0;
+    for block in blocks {
+        total += block.len();
+    }
+    total
+}
+
+/// The link at a place of all blocks.
+fn link_at(blocks: &[Block], place: usize) -> &Link
+    requires { place < length (joined blocks.now) }
+    ensures { slice_get (joined blocks.now) place ≡ Some result.now }
+{
+    let mut rest = place;
+    for block in blocks {
+        if rest < block.len() {
+            return block.get(rest);
+        }
+        rest -= block.len();
+    }
+    unreachable!()
+}
+
+/// Puts a link at the end of the last block.
+fn push_at(blocks: &mut [Block], at: usize, link: Link) -> Result<(), Memory>
+    requires { at < length blocks.old }
+    ensures ok { OnOk result (blocks.new
+        ≡ slice_set blocks.old at (get_or blocks.old at [] ++ link ∷ [])) }
+    ensures err { OnErr result (blocks.new ≡ blocks.old) }
+{
+    blocks[at].push(link)
+}
+
+/// Puts a link last.
+fn put_last(alloc: Global, blocks: &mut Vec<Block>, link: Link) -> Result<(), Memory>
+    ensures ok { OnOk result (joined blocks.new.items ≡ joined blocks.old.items ++ link ∷ []) }
+    ensures err { OnErr result (joined blocks.new.items ≡ joined blocks.old.items) }
+{
+    let count = blocks.len();
+    if count > 0 && blocks[count - 1].len() < BLOCK_LINKS {
+        return push_at(blocks, count - 1, link);
+    }
+    let mut block = Block::new(alloc);
+    block.push(link)?;
+    blocks.push(block)?;
+    Ok(())
+}
+
+/// The block with the link of a pair, for which `guess` is tried first.
+fn find_block(blocks: &[Block], guess: usize, from: ItemId, to: ItemId) -> Option<usize>
+    ensures within { IfSome result (λ at. at < length blocks.now) }
+    ensures there { IfSome result
+        (λ at. list_any (joins from to) (get_or blocks.now at []) ≡ true) }
+    ensures none { IfNone result (list_any (joins from to) (joined blocks.now) ≡ false) }
+{
+    if guess < blocks.len() && blocks[guess].has(from, to) {
+        return Some(guess);
+    }
+    for at in 0..blocks.len() {
+        if blocks[at].has(from, to) {
+            return Some(at);
+        }
+    }
+    None
+}
+
+/// Takes the link of a pair out of the block at a place.
+fn take_at(blocks: &mut [Block], at: usize, from: ItemId, to: ItemId)
+    requires { at < length blocks.old }
+    ensures { blocks.new ≡ slice_set blocks.old at
+        (filter (λ link. not (joins from to link)) (get_or blocks.old at [])) }
+{
+    blocks[at].take_pair(from, to);
+}
+
+/// Takes the link of a pair out, which is looked for at this block first.
+fn take_found(blocks: &mut Vec<Block>, guess: usize, from: ItemId, to: ItemId)
+    requires { ArePairsApart (joined blocks.old.items) }
+    ensures { joined blocks.new.items
+        ≡ filter (λ link. not (joins from to link)) (joined blocks.old.items) }
+{
+    match find_block(blocks.as_slice(), guess, from, to) {
+        Some(at) => take_at(blocks, at, from, to),
+        None => {}
+    }
+}
+
+/// The same blocks again. The only refusal is want of memory.
+fn copied(alloc: Global, blocks: &[Block]) -> Result<Vec<Block>, Memory>
+    ensures { IfOk result (λ made. made.items ≡ blocks.now) }
+{
+    let mut made = Vec::with_capacity(alloc, blocks.len())?;
+    for block in blocks {
+        made.push(block.copy(alloc)?)?;
+    }
+    Ok(made)
+}
