@@ -71,7 +71,7 @@ pub record KeepLinkRule (defs : List LinkDef) (level : ℕ → Option ℕ) (link
 
 -- two links that are given have the same two items
 abbrev pub same_pair : AnnotLink → AnnotLink → Bool
-same_pair a b = (b.from.0 == a.from.0) && (b.to.0 == a.to.0)
+same_pair a b = (a.from.0 == b.from.0) && (a.to.0 == b.to.0)
 
 -- the pairs that are given, each at its first place
 abbrev pub first_places : List AnnotLink → List AnnotLink

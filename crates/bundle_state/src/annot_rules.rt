@@ -66,7 +66,10 @@ fn labels_pass(alloc: Global, defs: &[AttributeDef], labels: &[AnnotLabel]) -> R
     ensures { FindsFault result (labels_fault defs.now [] labels.now) }
 {
     for place in 0..labels.len() {
-        label_passes(alloc, defs, &labels[..place], &labels[place])?;
+        match label_passes(alloc, defs, &labels[..place], &labels[place]) {
+            Ok(()) => {}
+            Err(fault) => return Err(fault),
+        }
     }
     Ok(())
 }
@@ -118,8 +121,10 @@ fn items_pass(
         if !taken.take(item.id)? {
             return Err(Fault::Broken(Broken::IdTaken(item.id)));
         }
-        item_passes(alloc, def, before, item)?;
-        before = Some(item);
+        match item_passes(alloc, def, before, item) {
+            Ok(()) => before = Some(item),
+            Err(fault) => return Err(fault),
+        }
     }
     Ok(())
 }

@@ -1,0 +1,5 @@
+pub mod FaultSteps
+pub mod LevelsKept
+pub mod LinksKept
+pub mod Tests
+pub mod Walks
