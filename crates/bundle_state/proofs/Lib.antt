@@ -1,4 +1,6 @@
+pub mod BuiltKept
 pub mod FaultSteps
+pub mod IdLevels
 pub mod LevelsKept
 pub mod LinksKept
 pub mod Tests

@@ -13,7 +13,7 @@ use Rattle.std.proofs.lemmas.Bool.Decides.{nat_tests}
 use Rattle.std.proofs.lemmas.List.{map-append, length-append}
 use Rattle.std.proofs.lemmas.List.Elements.{All-nil, All-push}
 use Rattle.std.proofs.lemmas.Map.Keys.{IsDistinct-push}
-use Rattle.std.proofs.lemmas.Cmp.{nat_eq_equiv}
+use Rattle.std.specs.Cmp.{IsEquivalence}
 use Rattle.emu_names.specs.declared.limits.TheConstants.{BUNDLE_LINKS}
 use Rattle.emu_names.specs.declared.kinds.LinkKind.{LinkKind}
 use Rattle.emu_names.specs.declared.kinds.LinkKind.TheVariants.{ManyToMany}
@@ -67,7 +67,7 @@ no_def = record { kind = ManyToMany; upper = 0; lower = 0 }
 found_at : (upper lower : ℕ) (defs : List LinkDef) (number : ℕ) → position (leads upper lower) defs ≡ Some number → IsFound defs upper lower number
 found_at upper lower defs number is =
     let at = position-Some (leads upper lower) defs number no_def is in
-    record { def = get_or defs number no_def; there = slice_get-get_or defs number no_def at.0; leads_down = at.1.0 }
+    record { def = get_or defs number no_def; there = slice_get-get_or defs number no_def at.0; leads_down = at.1 }
 
 leads_parts : (upper lower : ℕ) (def : LinkDef) → leads upper lower def ≡ true → (def.upper ≡ upper) × (def.lower ≡ lower)
 leads_parts upper lower def h =
@@ -130,7 +130,11 @@ module _ (defs : List LinkDef) (level : ℕ → Option ℕ) where
 
 -- What goes on without a broken rule.
 
-pub ok_same : {A : Type 0} (x y : A) → Ok {E = Broken} x ≡ Ok y → x ≡ y
+-- a value without a broken rule
+abbrev pub fine_value : {A : Type 0} → A → Result A Broken
+fine_value x = Ok x
+
+pub ok_same : {A : Type 0} (x y : A) → fine_value x ≡ Ok y → x ≡ y
 ok_same x y e = cc
 
 pub record GoesOn {A B : Type 0} (r : Result A Broken) (next : A → Result B Broken) (value : B) : Type 0 where
@@ -286,13 +290,17 @@ links_alike defs f g same (h ∷ hs) links =
     ∙ ap (λ (b : Option ℕ). onward (onward (definition_for defs h (g h.from.0) b) (put_by defs links h)) (put_links defs f hs)) (same h.to.0)
     ∙ onward_same (put_link defs g links h) (put_links defs f hs) (put_links defs g hs) (λ ls. links_alike defs f g same hs ls)
 
+-- a broken rule in place of a value
+abbrev stopped : (A : Type 0) → Broken → Result A Broken
+stopped A rule = Err rule
+
+err_same : (A : Type 0) (a b : Broken) → stopped A a ≡ Err b → a ≡ b
+err_same A a b e = cc
+
 -- a rule that a link breaks is the first one of all links
 pub onward_stops : {A B : Type 0} (r : Result A Broken) (next : A → Result B Broken) (rule : Broken) → r ≡ Err rule → onward r next ≡ Err rule
 onward_stops (Ok x) next rule is = cc
-onward_stops (Err other) next rule is = ap Err (err_same other rule is)
-  where
-    err_same : (a b : Broken) → Err a ≡ Err b → a ≡ b
-    err_same a b e = cc
+onward_stops {A = A} (Err other) next rule is = ap Err (err_same A other rule is)
 
 pub onward_goes : {A B : Type 0} (r : Result A Broken) (next : A → Result B Broken) (value : A) → r ≡ Ok value → onward r next ≡ next value
 onward_goes r next value is = rw is refl
