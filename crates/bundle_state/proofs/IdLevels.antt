@@ -74,12 +74,12 @@ ids_any q (item ∷ items) = rw (flip q item.id.0, ids_any q items) refl
 
 within : {A : Type 0} (p : A → Bool) (xs : List A) → list_any p xs ≡ true → position_or_len p xs < length xs
 within p [] any = cc
-within p (x ∷ xs) any = by (p x) refl
+within p (x ∷ xs) any = by (p x) refl (λ h. within p xs h)
   where
-    by : (b : Bool) → p x ≡ b → position_or_len p (x ∷ xs) < suc (length xs)
-    by true is = rw is (omega arith)
-    by false is =
-        let rest : position_or_len p xs < length xs = within p xs (sym (ap (λ b. b || list_any p xs) is) ∙ any) in
+    by : (b : Bool) → p x ≡ b → (list_any p xs ≡ true → position_or_len p xs < length xs) → position_or_len p (x ∷ xs) < suc (length xs)
+    by true is rest = rw is (omega arith)
+    by false is rest =
+        let low : position_or_len p xs < length xs = rest (sym (ap (λ b. b || list_any p xs) is) ∙ any) in
         rw is (omega arith)
 
 -- where an item with an id stands
@@ -97,10 +97,11 @@ some_same x y e = cc
 
 pub place_found : (q n : ℕ) (levels : List Level) (number : ℕ) → level_from n q levels ≡ Some number → IsAt q n levels number
 place_found q n [] number found = cc
-place_found q n (level ∷ levels) number found = by (has_id q level) refl found
+place_found q n (level ∷ levels) number found = by (has_id q level) refl (λ h. place_found q (suc n) levels number h) found
   where
-    by : (b : Bool) → has_id q level ≡ b → cond b (Some n) (level_from (suc n) q levels) ≡ Some number → IsAt q n (level ∷ levels) number
-    by true there found =
+    by : (b : Bool) → has_id q level ≡ b → (level_from (suc n) q levels ≡ Some number → IsAt q (suc n) levels number) →
+        cond b (Some n) (level_from (suc n) q levels) ≡ Some number → IsAt q n (level ∷ levels) number
+    by true there more found =
         let same : n ≡ number = some_same n number found in
         let at : ℕ = position_or_len (λ i. nat_eq i.id.0 q) level.items in
         let low : at < length level.items = within (λ i. nat_eq i.id.0 q) level.items (sym (ids_any q level.items) ∙ there) in
@@ -114,8 +115,8 @@ place_found q n (level ∷ levels) number found = by (has_id q level) refl found
           position_is = here;
           place_is = ap (λ o. option_or (option_map (λ (k : ℕ). (n, k)) o) (place_from (suc n) q levels)) here ∙ ap (λ (m : ℕ). Some (m, at)) same;
         }
-    by false there found =
-        let rest : IsAt q (suc n) levels number = place_found q (suc n) levels number found in
+    by false there more found =
+        let rest : IsAt q (suc n) levels number = more found in
         let none : position_on q level ≡ None = position_none (λ i. nat_eq i.id.0 q) level.items (sym (ids_any q level.items) ∙ there) in
         record {
           offset = suc rest.offset;
@@ -129,10 +130,11 @@ place_found q n (level ∷ levels) number found = by (has_id q level) refl found
 
 pub place_none : (q n : ℕ) (levels : List Level) → level_from n q levels ≡ None → place_from n q levels ≡ None
 place_none q n [] none = refl
-place_none q n (level ∷ levels) none = by (has_id q level) refl none
+place_none q n (level ∷ levels) none = by (has_id q level) refl (λ h. place_none q (suc n) levels h) none
   where
-    by : (b : Bool) → has_id q level ≡ b → cond b (Some n) (level_from (suc n) q levels) ≡ None → place_from n q (level ∷ levels) ≡ None
-    by true there none = cc
-    by false there none =
+    by : (b : Bool) → has_id q level ≡ b → (level_from (suc n) q levels ≡ None → place_from (suc n) q levels ≡ None) →
+        cond b (Some n) (level_from (suc n) q levels) ≡ None → place_from n q (level ∷ levels) ≡ None
+    by true there more none = cc
+    by false there more none =
         let here : position_on q level ≡ None = position_none (λ i. nat_eq i.id.0 q) level.items (sym (ids_any q level.items) ∙ there) in
-        ap (λ o. option_or (option_map (λ (k : ℕ). (n, k)) o) (place_from (suc n) q levels)) here ∙ place_none q (suc n) levels none
+        ap (λ o. option_or (option_map (λ (k : ℕ). (n, k)) o) (place_from (suc n) q levels)) here ∙ more none

@@ -304,3 +304,14 @@ onward_stops {A = A} (Err other) next rule is = ap Err (err_same A other rule is
 
 pub onward_goes : {A B : Type 0} (r : Result A Broken) (next : A → Result B Broken) (value : A) → r ≡ Ok value → onward r next ≡ next value
 onward_goes r next value is = rw is refl
+
+-- the answer of a link that ends with a fault
+abbrev ends_with : Fault → Result (Unit {0}) Fault
+ends_with e = Err e
+
+-- a fault that a link ends with ends the whole
+pub broken_ends : (e : Fault) (step whole : Result (List Link) Broken) →
+    ((rule : Broken) → ends_with e ≡ Err (faults.Broken rule) → step ≡ Err rule) →
+    ((rule : Broken) → step ≡ Err rule → whole ≡ Err rule) → GivesOrBroken {A = List Link} (Err e) whole
+broken_ends (faults.Broken rule) step whole first on = on rule (first rule refl)
+broken_ends faults.Memory step whole first on = tt

@@ -40,3 +40,6 @@ id_more xs ys id q h =
     last false false false e = refl
     last true false there e = absurd cc
     last false true there e = absurd cc
+
+pub drop_get : {A : Type 0} (xs : List A) (i : ℕ) (d : A) → i < length xs → drop i xs ≡ get_or xs i d ∷ drop (i + 1) xs
+drop_get xs i d low = drop-cons xs i d low ∙ ap (λ n. get_or xs i d ∷ drop n xs) (sym (add-one i))

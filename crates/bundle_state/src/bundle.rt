@@ -7,12 +7,12 @@ ghost use Rattle.std.specs.Prelude.{◌≡◌, ◌<◌, length, IfOk, IfSome, So
 ghost use Rattle.std.specs.List.{slice_get};
 ghost use Rattle.emu_names.specs.Gives.{GivesOrBroken};
 ghost use Rattle.level_items.specs.Levels.{KeepsLevelRule};
-ghost use Rattle.bundle_state.specs.Bundle.{item_count, place_of};
-ghost use Rattle.bundle_state.specs.Built.{built};
+ghost use Rattle.bundle_state.specs.Bundle.{item_count, level_of_id, place_of};
+ghost use Rattle.bundle_state.specs.Built.{built, bundle_of};
+ghost use Rattle.bundle_state.specs.Kept.{ArePlacesOf};
 ghost use Rattle.bundle_state.specs.Valid.{KeepsBundleRules};
 
-use crate::annot_rules::annot_passes;
-use crate::given_levels::{SharedLevels, made_levels};
+use crate::given_levels::{SharedLevels, levels_for};
 use crate::given_links::made_links;
 use crate::handle::Handle;
 use crate::places::{Places, places_of};
@@ -83,19 +83,39 @@ impl Bundle {
     ) -> Result<Bundle, Fault>
         ensures { GivesOrBroken result (built config.now key annot.now) }
     {
-        let parts = config.parts();
-        annot_passes(alloc, parts.levels.as_slice(), annot)?;
-        let levels = made_levels(alloc, parts.levels.as_slice(), annot.levels.as_slice())?;
+        let levels = levels_for(alloc, config, annot)?;
         let places = places_of(alloc, levels.as_slice())?;
         let links = made_links(alloc, config, &places, annot.links.as_slice())?;
+        let bundle = Bundle::of(alloc, config, key, annot, levels, places, links)?;
+        Ok(bundle)
+    }
+
+    /// The bundle of these levels and links, which keep the rules. The only refusal is want of memory.
+    fn of(
+        alloc: Global,
+        config: &Config,
+        key: BundleKey,
+        annot: &Annot,
+        levels: SharedLevels,
+        places: Places,
+        links: Links,
+    ) -> Result<Bundle, Memory>
+        requires rules { KeepsBundleRules (bundle_of config.now key annot.now levels links) }
+        requires placed { ArePlacesOf levels places }
+        ensures { IfOk result (λ made. made ≡ bundle_of config.now key annot.now levels links) }
+    {
+        let annotates = annot.annotates.copy(alloc)?;
+        let definitions = Handle::new(alloc, config.parts().links.copy(alloc)?)?;
+        let links = Handle::new(alloc, links)?;
+        let places = Handle::new(alloc, places)?;
         Ok(Bundle {
             key,
-            annotates: annot.annotates.copy(alloc)?,
+            annotates,
             rate: annot.rate as u32,
             levels,
-            definitions: Handle::new(alloc, parts.links.copy(alloc)?)?,
-            links: Handle::new(alloc, links)?,
-            places: Handle::new(alloc, places)?,
+            definitions,
+            links,
+            places,
         })
     }
 
@@ -154,9 +174,21 @@ impl Bundle {
     pub fn place(&self, id: ItemId) -> Option<(usize, usize)>
         ensures { result ≡ place_of self.now.levels id.0 }
     {
-        let level = self.places.as_ref().level_of(id)?;
-        let position = self.levels.get(level).as_ref().find(id)?;
-        Some((level, position))
+        match self.level_with(id) {
+            Some(level) => match self.level(level).find(id) {
+                Some(position) => Some((level, position)),
+                None => None,
+            },
+            None => None,
+        }
+    }
+
+    /// The number of the level of the item with this id.
+    fn level_with(&self, id: ItemId) -> Option<usize>
+        ensures level { result ≡ level_of_id self.now.levels id.0 }
+        ensures within { IfSome result (λ level. level < length self.now.levels) }
+    {
+        self.places.as_ref().level_of(id)
     }
 
     /// The same bundle again, which shares its levels and links. The only refusal is want of memory.

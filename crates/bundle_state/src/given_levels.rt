@@ -1,13 +1,17 @@
 //! The levels that an annotation makes, with one label for each attribute of an item.
 ghost use Rattle.std.specs.Prelude.{◌≡◌, map, All, IfOk};
+ghost use Rattle.emu_names.specs.Gives.{GivesOrBroken};
 ghost use Rattle.level_items.specs.Levels.{KeepsLevelRule};
+ghost use Rattle.bundle_state.specs.Faults.{annot_fault};
+ghost use Rattle.bundle_state.specs.Linked.{unless_broken};
 ghost use Rattle.bundle_state.specs.Made.{label_named, made_labels, made_item, items_named, made_level, made_levels};
 
+use crate::annot_rules::annot_passes;
 use crate::handle::Handle;
-use db_config::{AttributeDef, LevelDef};
+use db_config::{AttributeDef, Config, LevelDef};
 use emu_lists::Series;
-use emu_names::{Memory, Text};
-use level_items::{AnnotItem, AnnotLabel, AnnotLevel, Item, Labels, LevelList};
+use emu_names::{Fault, Memory, Text};
+use level_items::{Annot, AnnotItem, AnnotLabel, AnnotLevel, Item, Labels, LevelList};
 use std::alloc::Global;
 
 /// The levels of a bundle, which copies of the bundle share.
@@ -91,7 +95,7 @@ fn made_level(alloc: Global, levels: &[AnnotLevel], def: &LevelDef) -> Result<Le
 }
 
 /// The levels of the configuration. The only refusal is want of memory.
-pub(crate) fn made_levels(
+fn made_levels(
     alloc: Global,
     defs: &[LevelDef],
     levels: &[AnnotLevel],
@@ -105,4 +109,19 @@ pub(crate) fn made_levels(
         made.push(Handle::new(alloc, level)?)?;
     }
     Ok(made)
+}
+
+/// The levels of an annotation, or the rule that it breaks first, its links aside.
+pub(crate) fn levels_for(
+    alloc: Global,
+    config: &Config,
+    annot: &Annot,
+) -> Result<SharedLevels, Fault>
+    ensures { GivesOrBroken result (unless_broken (annot_fault config.now.levels annot.now)
+        (made_levels config.now.levels annot.now.levels)) }
+{
+    let defs = config.parts().levels.as_slice();
+    annot_passes(alloc, defs, annot)?;
+    let levels = made_levels(alloc, defs, annot.levels.as_slice())?;
+    Ok(levels)
 }

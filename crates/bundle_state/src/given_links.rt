@@ -13,9 +13,9 @@ use link_graph::Links;
 use std::alloc::Global;
 
 /// The definition of a link, by the levels of its two items.
-fn definition_for(config: &Config, places: &Places, given: AnnotLink) -> Result<u32, Fault>
-    ensures definition { GivesOrBroken result (definition_for config.now.links given
-        (level_in places.now given.from.0) (level_in places.now given.to.0)) }
+fn definition_for(config: &Config, places: &Places, given: &AnnotLink) -> Result<u32, Fault>
+    ensures definition { GivesOrBroken result (definition_for config.now.links given.now
+        (level_in places.now given.now.from.0) (level_in places.now given.now.to.0)) }
     ensures within { IfOk result (λ number. number < length config.now.links) }
 {
     let Some(upper) = places.level_of(given.from) else {
@@ -35,12 +35,12 @@ fn put_link(
     config: &Config,
     places: &Places,
     links: &mut Links,
-    given: AnnotLink,
+    given: &AnnotLink,
 ) -> Result<(), Fault>
     ensures ok { OnOk result
-        (put_link config.now.links (level_in places.now) links.old given ≡ Ok links.new) }
+        (put_link config.now.links (level_in places.now) links.old given.now ≡ Ok links.new) }
     ensures broken { (rule : Rule) → result ≡ Err (Fault.Broken rule)
-        → put_link config.now.links (level_in places.now) links.old given ≡ Err rule }
+        → put_link config.now.links (level_in places.now) links.old given.now ≡ Err rule }
 {
     let number = definition_for(config, places, given)?;
     if links.has(given.from, given.to) {
@@ -59,8 +59,8 @@ pub(crate) fn made_links(
     ensures { GivesOrBroken result (put_links config.now.links (level_in places.now) given.now []) }
 {
     let mut links = Links::new(alloc);
-    for link in given {
-        match put_link(config, places, &mut links, *link) {
+    for place in 0..given.len() {
+        match put_link(config, places, &mut links, &given[place]) {
             Ok(()) => {}
             Err(fault) => return Err(fault),
         }
