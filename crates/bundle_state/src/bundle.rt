@@ -83,6 +83,7 @@ impl Bundle {
     ) -> Result<Bundle, Fault>
         ensures { GivesOrBroken result (built config.now key annot.now) }
     {
+        let _parts = config.parts();
         let levels = levels_for(alloc, config, annot)?;
         let places = places_of(alloc, levels.as_slice())?;
         let links = made_links(alloc, config, &places, annot.links.as_slice())?;
