@@ -1,7 +1,7 @@
 -- The level and the position of an id, and what a map from ids to levels holds while it grows.
 use Rattle.std.proofs.Common.{◌≡◌, ℕ, zero, suc, ◌+◌, ◌<◌, ◌≤◌, Bool, true, false, cond, not, ◌||◌, List, [], ◌∷◌, ◌++◌, length, map, take, drop, get_or, Option, Some, None, nat_eq, nat_lt, refl, sym, ◌∙◌, ap, arith, if◌then◌else◌, option_map}
 use Rattle.std.specs.List.{list_any, position, position_or_len, slice_get}
-use Rattle.std.specs.Option.{option_or}
+use Rattle.std.specs.Option.{option_or, IfSome}
 use Rattle.std.proofs.lemmas.Bool.{or_parts, cond-true, cond-false, lt-ltb}
 use Rattle.std.proofs.lemmas.Bool.Decides.{nat_tests}
 use Rattle.std.proofs.lemmas.List.{map-append}
@@ -138,3 +138,35 @@ place_none q n (level ∷ levels) none = by (has_id q level) refl (λ h. place_n
     by false there more none =
         let here : position_on q level ≡ None = position_none (λ i. nat_eq i.id.0 q) level.items (sym (ids_any q level.items) ∙ there) in
         ap (λ o. option_or (option_map (λ (k : ℕ). (n, k)) o) (place_from (suc n) q levels)) here ∙ more none
+
+-- What the look-up of a level and then of a position in it answers.
+
+level_same : (x y : Level) → Some x ≡ Some y → x ≡ y
+level_same x y e = cc
+
+pub number_within : (q : ℕ) (levels : List Level) (found : Option ℕ) → found ≡ level_of_id levels q → IfSome found (λ number. number < length levels)
+number_within q levels None is = tt
+number_within q levels (Some number) is =
+    let at : IsAt q 0 levels number = place_found q 0 levels number (sym is) in
+    let low : at.offset < length levels = slice_get_within levels at.offset at.level at.there in
+    let same : number ≡ 0 + at.offset = at.is in
+    omega arith
+
+pub record IsPlaced (q : ℕ) (levels : List Level) (number : ℕ) (level : Level) : Type 0 where
+  pub at : ℕ
+  pub position_is : position_on q level ≡ Some at
+  pub place_is : place_of levels q ≡ Some (number, at)
+
+pub placed : (q : ℕ) (levels : List Level) (number : ℕ) (level : Level) → level_of_id levels q ≡ Some number → slice_get levels number ≡ Some level → IsPlaced q levels number level
+placed q levels number level found there =
+    let at : IsAt q 0 levels number = place_found q 0 levels number found in
+    let same : at.offset ≡ number = at_start at.offset number at.is in
+    let own : at.level ≡ level = level_same at.level level (sym at.there ∙ ap (λ k. slice_get levels k) same ∙ there) in
+    record {
+      at = at.at;
+      position_is = ap (λ l. position_on q l) (sym own) ∙ at.position_is;
+      place_is = at.place_is;
+    }
+  where
+    at_start : (k n : ℕ) → n ≡ 0 + k → k ≡ n
+    at_start k n e = omega arith
