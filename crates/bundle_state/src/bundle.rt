@@ -141,6 +141,13 @@ impl Bundle {
         self.rate
     }
 
+    /// How many levels there are, those without items with them.
+    pub fn level_count(&self) -> usize
+        ensures { result ≡ length self.now.levels }
+    {
+        self.levels.len()
+    }
+
     /// A level, by its number in the configuration. Whoever asks may rely on the level rule.
     pub fn level(&self, level: usize) -> &LevelList
         requires { level < length self.now.levels }
