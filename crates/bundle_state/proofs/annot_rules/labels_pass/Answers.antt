@@ -1,0 +1,19 @@
+use Rattle.std.proofs.Common.{◌∙◌, sym, arith, map, take, [], ◌∷◌}
+use Rattle.level_items.specs.declared.annot.AnnotLabel.{AnnotLabel}
+use Rattle.bundle_state.specs.Faults.{labels_fault}
+use Rattle.bundle_state.proofs.FaultSteps.{stops, labels_walk, labels_stop}
+use Rattle.bundle_state.proofs.annot_rules.labels_pass.Goals as goal
+
+pub returns-in-Err : goal.returns-in-Err
+returns-in-Err c =
+    stops (Unit {0}) (Unit {0}) c.in-Err.fault
+    (labels_fault c.args.defs.now (map (λ (a : AnnotLabel). a.name) (take c.loop-place.place c.args.labels.now)) (c.index-labels-place.result ∷ []))
+    (labels_fault c.args.defs.now [] c.args.labels.now)
+    (λ r bad. sym c.loop-place.invariant
+    ∙ labels_stop c.args.defs.now c.args.labels.now c.loop-place.place c.index-labels-place.result r (omega arith) c.index-labels-place.is bad)
+    c.in-Err.ensures
+
+pub loop-place-preserved : goal.loop-place-preserved
+loop-place-preserved c =
+    labels_walk c.args.defs.now c.args.labels.now c.loop-place.place c.index-labels-place.result (omega arith) c.index-labels-place.is c.in-Ok.ensures
+    ∙ c.loop-place.invariant

@@ -1,0 +1,11 @@
+pub mod Bundle
+pub mod Lookups
+pub mod Faults
+pub mod Made
+pub mod Linked
+pub mod Built
+pub mod Valid
+pub mod Rules
+pub mod Placed
+pub mod Kept
+pub mod Laws

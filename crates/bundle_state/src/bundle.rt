@@ -1,0 +1,222 @@
+//! A bundle of the database, valid by its type.
+//!
+//! A bundle keeps its levels, its link definitions, its links and the places of its ids by handles, which
+//! its copies share. Beside its levels it has a map from ids to levels, by which an item is found without
+//! a walk over all levels.
+ghost use Rattle.std.specs.Prelude.{◌≡◌, ◌<◌, length, IfOk, IfSome, Some};
+ghost use Rattle.std.specs.List.{slice_get};
+ghost use Rattle.emu_names.specs.Gives.{GivesOrBroken};
+ghost use Rattle.level_items.specs.Levels.{KeepsLevelRule};
+ghost use Rattle.bundle_state.specs.Bundle.{item_count, level_of_id, place_of};
+ghost use Rattle.bundle_state.specs.Built.{built, bundle_of};
+ghost use Rattle.bundle_state.specs.Kept.{ArePlacesOf};
+ghost use Rattle.bundle_state.specs.Valid.{KeepsBundleRules};
+
+use crate::given_levels::{SharedLevels, levels_for};
+use crate::given_links::made_links;
+use crate::handle::Handle;
+use crate::places::{Places, places_of};
+use db_config::{Config, LinkDefs};
+use emu_lists::PlainData;
+use emu_names::{BundleKey, Fault, ItemId, Memory, Text};
+use level_items::{Annot, LevelList};
+use link_graph::Links;
+use std::alloc::Global;
+use std::marker::Model;
+
+/// A bundle (EMU-SDMS Manual, "The emuDB format": bundles and `_annot.json`), which contracts see as its
+/// key, the name of its sound file, its rate, its levels, its link definitions and its links.
+///
+/// It always keeps the rules of bundles: a rate of 1 to 1,000,000 samples a second; at most 65,536 items,
+/// whose ids differ over all levels; each level keeps the rule of level lists; at most 262,144 links, no
+/// pair of items twice, each from an item of its definition's upper level to one of its lower level, and
+/// those of each definition as its kind asks.
+#[derive(Drop)]
+pub struct Bundle {
+    key: BundleKey,
+    annotates: Text,
+    rate: u32,
+    levels: SharedLevels,
+    definitions: Handle<LinkDefs>,
+    links: Handle<Links>,
+    places: Handle<Places>,
+}
+
+impl Model for Bundle {
+    ghost use Rattle.bundle_state.specs.Bundle.{BundleParts};
+
+    ghost Value = { BundleParts };
+
+    ghost use Rattle.bundle_state.specs.Kept.{IsKept};
+
+    ghost view = { λ b. record {
+        key = b.key; annotates = b.annotates; rate = b.rate; levels = b.levels;
+        definitions = b.definitions; links = b.links } };
+
+    ghost invariant = { λ b. IsKept (record {
+        key = b.key; annotates = b.annotates; rate = b.rate; levels = b.levels;
+        definitions = b.definitions; links = b.links }) b.places };
+}
+
+impl Bundle {
+    /// The bundle that an annotation makes under a configuration, or the rule that it breaks first, or
+    /// want of memory.
+    ///
+    /// Refused are, in this order: a rate out of range (`RateOut`), over 65,536 items (`TooMany`); for each
+    /// level as it is given one that the configuration does not have (`NoLevel`), one that is named twice
+    /// (`TwoLevels`) or has another kind (`LevelKind`), and for each of its items an id that is taken in the
+    /// bundle (`IdTaken`), a time of another form than the level's (`TimeKind`), one that ends past sample
+    /// 2^40 - 1 (`TimeOut`), for each label an unknown attribute (`NoAttribute`), one that is named twice
+    /// (`TwoLabels`) or a label of over 4,096 bytes (`LabelTooLong`), and a time that does not lie behind that
+    /// of the item before it (`Overlap` on a SEGMENT level, `NotRising` on an EVENT level), with that item's
+    /// id. Then for each link as it is given an id that no item has (`NoItem`, of the upper item first),
+    /// levels between which no definition leads (`NoLinkDefinition`), and, unless the pair stands earlier
+    /// and is passed over, over 262,144 links (`TooMany`), a second parent (`OneParent`) or a second child
+    /// (`OneChild`) against the definition's kind.
+    ///
+    /// A level that is not given is empty, and a label that is not given is the empty text.
+    pub fn build(
+        alloc: Global,
+        config: &Config,
+        key: BundleKey,
+        annot: &Annot,
+    ) -> Result<Bundle, Fault>
+        ensures { GivesOrBroken result (built config.now key annot.now) }
+    {
+        let _parts = config.parts();
+        let levels = levels_for(alloc, config, annot)?;
+        let places = places_of(alloc, levels.as_slice())?;
+        let links = made_links(alloc, config, &places, annot.links.as_slice())?;
+        let bundle = Bundle::of(alloc, config, key, annot, levels, places, links)?;
+        Ok(bundle)
+    }
+
+    /// The bundle of these levels and links, which keep the rules. The only refusal is want of memory.
+    fn of(
+        alloc: Global,
+        config: &Config,
+        key: BundleKey,
+        annot: &Annot,
+        levels: SharedLevels,
+        places: Places,
+        links: Links,
+    ) -> Result<Bundle, Memory>
+        requires rules { KeepsBundleRules (bundle_of config.now key annot.now levels links) }
+        requires placed { ArePlacesOf levels places }
+        ensures { IfOk result (λ made. made ≡ bundle_of config.now key annot.now levels links) }
+    {
+        let annotates = annot.annotates.copy(alloc)?;
+        let definitions = Handle::new(alloc, config.parts().links.copy(alloc)?)?;
+        let links = Handle::new(alloc, links)?;
+        let places = Handle::new(alloc, places)?;
+        Ok(Bundle {
+            key,
+            annotates,
+            rate: annot.rate as u32,
+            levels,
+            definitions,
+            links,
+            places,
+        })
+    }
+
+    /// The session and the name of the bundle.
+    pub fn key(&self) -> &BundleKey
+        ensures { result.now ≡ self.now.key }
+    {
+        &self.key
+    }
+
+    /// The name of the sound file, or the empty text.
+    pub fn annotates(&self) -> &Text
+        ensures { result.now ≡ self.now.annotates }
+    {
+        &self.annotates
+    }
+
+    /// The rate, in samples a second.
+    pub fn rate(&self) -> u32
+        ensures { result ≡ self.now.rate }
+    {
+        self.rate
+    }
+
+    /// How many levels there are, those without items with them.
+    pub fn level_count(&self) -> usize
+        ensures { result ≡ length self.now.levels }
+    {
+        self.levels.len()
+    }
+
+    /// A level, by its number in the configuration. Whoever asks may rely on the level rule.
+    pub fn level(&self, level: usize) -> &LevelList
+        requires { level < length self.now.levels }
+        ensures level { slice_get self.now.levels level ≡ Some result.now }
+        ensures rule { KeepsLevelRule result.now }
+    {
+        let list = self.levels.get(level).as_ref();
+        let _count = list.len();
+        list
+    }
+
+    /// The links.
+    pub fn links(&self) -> &Links
+        ensures { result.now ≡ self.now.links }
+    {
+        self.links.as_ref()
+    }
+
+    /// How many items there are on all levels. Whoever asks may rely on the rules of bundles.
+    pub fn item_count(&self) -> usize
+        ensures count { result ≡ item_count self.now.levels }
+        ensures rules { KeepsBundleRules self.now }
+    {
+        let mut count = 0;
+        for level in self.levels.as_slice() {
+            count += level.as_ref().len();
+        }
+        count
+    }
+
+    /// The level and the position of the item with this id.
+    pub fn place(&self, id: ItemId) -> Option<(usize, usize)>
+        ensures { result ≡ place_of self.now.levels id.0 }
+    {
+        match self.level_with(id) {
+            Some(level) => match self.level(level).find(id) {
+                Some(position) => Some((level, position)),
+                None => None,
+            },
+            None => None,
+        }
+    }
+
+    /// The number of the level of the item with this id.
+    fn level_with(&self, id: ItemId) -> Option<usize>
+        ensures level { result ≡ level_of_id self.now.levels id.0 }
+        ensures within { IfSome result (λ level. level < length self.now.levels) }
+    {
+        self.places.as_ref().level_of(id)
+    }
+
+    /// The same bundle again, which shares its levels and links. The only refusal is want of memory.
+    pub fn copy(&self, alloc: Global) -> Result<Bundle, Memory>
+        ensures { IfOk result (λ made. made ≡ self.now) }
+    {
+        Ok(Bundle {
+            key: self.key.copy(alloc)?,
+            annotates: self.annotates.copy(alloc)?,
+            rate: self.rate,
+            levels: self.levels.copy(alloc)?,
+            definitions: self.definitions.copy(alloc)?,
+            links: self.links.copy(alloc)?,
+            places: self.places.copy(alloc)?,
+        })
+    }
+}
+
+impl PlainData for Bundle {
+    fn copy(&self, alloc: Global) -> Result<Bundle, Memory> {
+        Bundle::copy(self, alloc)
+    }
+}

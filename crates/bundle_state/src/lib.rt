@@ -1,0 +1,18 @@
+//! The bundles of a database: annotations that keep the rules of their configuration, valid by their
+//! type (EMU-SDMS Manual, "The emuDB format": bundles and `_annot.json`).
+#![tactic(auto)]
+
+mod annot_rules;
+mod bundle;
+mod given_levels;
+mod given_links;
+mod handle;
+mod laws;
+mod places;
+mod used_ids;
+
+pub use bundle::Bundle;
+pub use laws::{
+    built_fits_config, built_keep_link_rule, built_keeps_rules, built_links_are_given,
+    levels_refuse_exactly,
+};

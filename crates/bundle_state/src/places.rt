@@ -1,0 +1,69 @@
+//! For each id of a bundle the level of its item.
+ghost use Rattle.std.specs.Prelude.{◌≡◌, ℕ, nat_eq, take, IfOk, OnOk, Some, None, if◌then◌else◌};
+ghost use Rattle.std.specs.Option.{option_or};
+ghost use Rattle.std.specs.List.{list_any};
+ghost use Rattle.level_items.specs.Levels.{ids_of};
+ghost use Rattle.bundle_state.specs.Placed.{level_in};
+ghost use Rattle.bundle_state.specs.Kept.{ArePlacesOf};
+
+use crate::handle::Handle;
+use emu_names::{ItemId, Memory};
+use level_items::{Item, LevelList};
+use std::alloc::Global;
+use std::collections::BTreeMap;
+
+/// The number of the level of each id.
+#[derive(Drop)]
+pub(crate) struct Places {
+    levels: BTreeMap<u32, usize>,
+}
+
+impl Places {
+    /// No id, in a map that grows by `alloc`.
+    pub(crate) fn new(alloc: Global) -> Places
+        ensures { (q : ℕ) → level_in result q ≡ None }
+    {
+        Places {
+            levels: BTreeMap::new(alloc),
+        }
+    }
+
+    /// The level of an id, where an item has it.
+    pub(crate) fn level_of(&self, id: ItemId) -> Option<usize>
+        ensures { result ≡ level_in self.now id.0 }
+    {
+        self.levels.get(&id.0).copied()
+    }
+
+    /// Keeps the level of an id that has none yet. The only refusal is want of memory.
+    fn put(&mut self, id: ItemId, level: usize) -> Result<(), Memory>
+        ensures { OnOk result ((q : ℕ) → level_in self.new q
+            ≡ option_or (level_in self.old q) (if nat_eq q id.0 then Some level else None)) }
+    {
+        self.levels.entry(id.0)?.or_insert(level);
+        Ok(())
+    }
+
+    /// Keeps the level of all ids of these items. The only refusal is want of memory.
+    fn put_all(&mut self, items: &[Item], level: usize) -> Result<(), Memory>
+        ensures { OnOk result ((q : ℕ) → level_in self.new q
+            ≡ option_or (level_in self.old q)
+            (if list_any (nat_eq q) (ids_of items.now) then Some level else None)) }
+    {
+        for item in items {
+            self.put(item.id, level)?;
+        }
+        Ok(())
+    }
+}
+
+/// The places of the items of these levels. The only refusal is want of memory.
+pub(crate) fn places_of(alloc: Global, levels: &[Handle<LevelList>]) -> Result<Places, Memory>
+    ensures { IfOk result (λ made. ArePlacesOf levels.now made) }
+{
+    let mut places = Places::new(alloc);
+    for level in 0..levels.len() {
+        places.put_all(levels[level].as_ref().as_slice(), level)?;
+    }
+    Ok(places)
+}
