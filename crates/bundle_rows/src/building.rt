@@ -1,5 +1,5 @@
 //! What annotations make, and which rule they break first.
-ghost use Rattle.std.specs.Prelude.{◌<◌};
+ghost use Rattle.std.specs.Prelude.{◌<◌, length};
 
 use bundle_state::Bundle;
 use db_config::{Config, read_config};
@@ -16,12 +16,16 @@ use std::process::Abort;
 use std::test::Fail;
 
 /// One level of segments.
-static ONE: &str =
+const ONE: &str =
     "{\"name\":\"t\",\"levelDefinitions\":[{\"name\":\"Phonetic\",\"type\":\"SEGMENT\",\"attributeDefinitions\":[{\"name\":\"Phonetic\",\"type\":\"STRING\"}]}],\"linkDefinitions\":[]}";
 
 /// Words above syllables above segments and points, each word with two attributes.
-static MANY: &str =
+const MANY: &str =
     "{\"name\":\"t\",\"levelDefinitions\":[{\"name\":\"Word\",\"type\":\"ITEM\",\"attributeDefinitions\":[{\"name\":\"Word\"},{\"name\":\"Accent\"}]},{\"name\":\"Syllable\",\"type\":\"ITEM\",\"attributeDefinitions\":[{\"name\":\"Syllable\"}]},{\"name\":\"Phonetic\",\"type\":\"SEGMENT\",\"attributeDefinitions\":[{\"name\":\"Phonetic\"}]},{\"name\":\"Tone\",\"type\":\"EVENT\",\"attributeDefinitions\":[{\"name\":\"Tone\"}]}],\"linkDefinitions\":[{\"type\":\"ONE_TO_MANY\",\"superlevelName\":\"Word\",\"sublevelName\":\"Syllable\"},{\"type\":\"MANY_TO_MANY\",\"superlevelName\":\"Syllable\",\"sublevelName\":\"Phonetic\"},{\"type\":\"ONE_TO_ONE\",\"superlevelName\":\"Syllable\",\"sublevelName\":\"Tone\"}]}";
+
+/// A database with nine levels.
+const NINE: &str =
+    "{\"name\":\"ae\",\"ssffTrackDefinitions\":[{\"name\":\"dft\"},{\"name\":\"fm\"}],\"levelDefinitions\":[{\"name\":\"Utterance\",\"type\":\"ITEM\",\"attributeDefinitions\":[{\"name\":\"Utterance\"}]},{\"name\":\"Intonational\",\"type\":\"ITEM\",\"attributeDefinitions\":[{\"name\":\"Intonational\"}]},{\"name\":\"Intermediate\",\"type\":\"ITEM\",\"attributeDefinitions\":[{\"name\":\"Intermediate\"}]},{\"name\":\"Word\",\"type\":\"ITEM\",\"attributeDefinitions\":[{\"name\":\"Word\"}]},{\"name\":\"Syllable\",\"type\":\"ITEM\",\"attributeDefinitions\":[{\"name\":\"Syllable\"}]},{\"name\":\"Phoneme\",\"type\":\"ITEM\",\"attributeDefinitions\":[{\"name\":\"Phoneme\"}]},{\"name\":\"Foot\",\"type\":\"ITEM\",\"attributeDefinitions\":[{\"name\":\"Foot\"}]},{\"name\":\"Phonetic\",\"type\":\"SEGMENT\",\"attributeDefinitions\":[{\"name\":\"Phonetic\"}]},{\"name\":\"Tone\",\"type\":\"EVENT\",\"attributeDefinitions\":[{\"name\":\"Tone\"}]}],\"linkDefinitions\":[{\"type\":\"ONE_TO_MANY\",\"superlevelName\":\"Utterance\",\"sublevelName\":\"Intonational\"},{\"type\":\"ONE_TO_MANY\",\"superlevelName\":\"Intonational\",\"sublevelName\":\"Intermediate\"},{\"type\":\"ONE_TO_MANY\",\"superlevelName\":\"Intermediate\",\"sublevelName\":\"Word\"},{\"type\":\"ONE_TO_MANY\",\"superlevelName\":\"Word\",\"sublevelName\":\"Syllable\"},{\"type\":\"ONE_TO_MANY\",\"superlevelName\":\"Syllable\",\"sublevelName\":\"Phoneme\"},{\"type\":\"MANY_TO_MANY\",\"superlevelName\":\"Phoneme\",\"sublevelName\":\"Phonetic\"},{\"type\":\"ONE_TO_MANY\",\"superlevelName\":\"Syllable\",\"sublevelName\":\"Tone\"},{\"type\":\"ONE_TO_MANY\",\"superlevelName\":\"Intonational\",\"sublevelName\":\"Foot\"},{\"type\":\"ONE_TO_MANY\",\"superlevelName\":\"Foot\",\"sublevelName\":\"Syllable\"}],\"EMUwebAppConfig\":{\"zoom\":0.5}}";
 
 const ITEM: LevelKind = LevelKind::Item;
 
@@ -48,7 +52,23 @@ type Row = (
     &'static str,
 );
 
-static ROWS: [Row; 40] = [
+static ROWS: [Row; 41] = [
+    // a whole utterance, without feet and tones
+    (
+        NINE,
+        20_000,
+        &[
+            ("Utterance", ITEM, &[(1, (0, 0, 0), &[])]),
+            ("Intonational", ITEM, &[(2, (0, 0, 0), &[])]),
+            ("Intermediate", ITEM, &[(3, (0, 0, 0), &[])]),
+            ("Word", ITEM, &[(4, (0, 0, 0), &[])]),
+            ("Syllable", ITEM, &[(5, (0, 0, 0), &[])]),
+            ("Phoneme", ITEM, &[(6, (0, 0, 0), &[("Phoneme", "V", 1)]), (7, (0, 0, 0), &[("Phoneme", "m", 1)])]),
+            ("Phonetic", SEGMENT, &[(8, (1, 3749, 1389), &[("Phonetic", "V", 1)]), (9, (1, 5139, 1664), &[("Phonetic", "m", 1)])]),
+        ],
+        &[(1, 2), (2, 3), (3, 4), (4, 5), (5, 6), (5, 7), (6, 8), (7, 9)],
+        "20000 1()| 2()| 3()| 4()| 5()| 6(V) 7(m)|| 8(V) 9(m)|| 1-2 2-3 3-4 4-5 5-6 5-7 6-8 7-9",
+    ),
     // two segments that touch
     (
         ONE,
@@ -123,7 +143,7 @@ static ROWS: [Row; 40] = [
             ("Word", ITEM, &[(2, (0, 0, 0), &[("Accent", "W", 1)]), (1, (0, 0, 0), &[])]),
         ],
         &[],
-        "100 2(,W) 1(,)| | | 3() 4(H)|",
+        "100 2(,W) 1(,)||| 3() 4(H)|",
     ),
     // an id on two levels, and twice on one
     (
@@ -156,7 +176,7 @@ static ROWS: [Row; 40] = [
         100,
         &[("Phonetic", SEGMENT, &[(1, (1, 1_099_511_627_775, 0), &[])])],
         &[],
-        "100| | 1()| |",
+        "100|| 1()||",
     ),
     // labels, each before the next one, and all before the neighbour
     (
@@ -207,7 +227,7 @@ static ROWS: [Row; 40] = [
         100,
         &[("Phonetic", SEGMENT, &[(1, (1, 20, 4), &[]), (2, (1, 25, 0), &[]), (3, (1, 99, 1), &[])])],
         &[],
-        "100| | 1() 2() 3()| |",
+        "100|| 1() 2() 3()||",
     ),
     // links: a pair that is written twice stands once
     (
@@ -218,7 +238,7 @@ static ROWS: [Row; 40] = [
             ("Syllable", ITEM, &[(2, (0, 0, 0), &[]), (3, (0, 0, 0), &[])]),
         ],
         &[(1, 2), (1, 3), (1, 2)],
-        "100 1(,)| 2() 3()| | | 1-2 1-3",
+        "100 1(,)| 2() 3()||| 1-2 1-3",
     ),
     // the upper item first, then the lower one, then the definition
     (MANY, 100, &[("Word", ITEM, &[(1, (0, 0, 0), &[])])], &[(8, 9)], "NoItem 8"),
@@ -249,7 +269,7 @@ static ROWS: [Row; 40] = [
             ("Phonetic", SEGMENT, &[(3, (1, 0, 0), &[]), (4, (1, 1, 0), &[])]),
         ],
         &[(1, 3), (1, 4), (2, 3)],
-        "100| 1() 2()| 3() 4()| | 1-3 1-4 2-3",
+        "100| 1() 2()| 3() 4()|| 1-3 1-4 2-3",
     ),
     // one to one: the parent before the child
     (
@@ -280,7 +300,7 @@ static ROWS: [Row; 40] = [
             ("Tone", EVENT, &[(3, (2, 0, 0), &[]), (4, (2, 1, 0), &[])]),
         ],
         &[(2, 3), (1, 4)],
-        "100| 1() 2()| | 3() 4()| 2-3 1-4",
+        "100| 1() 2()|| 3() 4()| 2-3 1-4",
     ),
     // a passed pair is not refused, the next one is
     (
@@ -436,7 +456,7 @@ fn put_labels(text: &mut String, labels: &[Text]) -> Result<(), Fail> {
 }
 
 fn put_level(alloc: Global, text: &mut String, bundle: &Bundle, level: usize) -> Result<(), Fail>
-    requires { level < Rattle.std.specs.Prelude.length bundle.now.levels }
+    requires { level < length bundle.now.levels }
 {
     for item in bundle.level(level).as_slice() {
         let id = item.id.0;
@@ -453,9 +473,6 @@ fn bundle_shown(alloc: Global, bundle: &Bundle) -> Result<String, Fail> {
     let rate = bundle.rate();
     let mut text = format!(in alloc; "{rate}")?;
     for level in 0..bundle.level_count() {
-        if level > 0 {
-            text.push_str("")?;
-        }
         put_level(alloc, &mut text, bundle, level)?;
     }
     for place in 0..bundle.links().len() {
@@ -465,4 +482,118 @@ fn bundle_shown(alloc: Global, bundle: &Bundle) -> Result<String, Fail> {
         text.push_str(format!(in alloc; " {from}-{to}")?.as_str())?;
     }
     Ok(text)
+}
+
+/// The bundle of an annotation that is given as a row.
+fn bundle_of(
+    alloc: Global,
+    config: &Config,
+    rate: u64,
+    levels: AnnotLevels,
+    links: &[(u32, u32)],
+) -> Result<Result<Bundle, Fault>, Fail> {
+    let annot = Annot {
+        annotates: Text::new(alloc, "b1.wav")?,
+        rate,
+        levels,
+        links: links_of(alloc, links)?,
+    };
+    let key = BundleKey {
+        session: Name::new(alloc, "s1")?,
+        bundle: Name::new(alloc, "b1")?,
+    };
+    Ok(Bundle::build(alloc, config, key, &annot))
+}
+
+fn result_shown(alloc: Global, built: &Result<Bundle, Fault>) -> Result<String, Fail> {
+    match built {
+        Ok(bundle) => bundle_shown(alloc, bundle),
+        Err(Fault::Broken(rule)) => rule_shown(alloc, rule),
+        Err(Fault::Memory) => Ok(format!(in alloc; "Memory")?),
+    }
+}
+
+fn check_row(rt: &impl Abort, alloc: Global, row: &Row) -> Result<(), Fail> {
+    let config = config_of(alloc, row.0)?;
+    let levels = levels_of(alloc, row.2)?;
+    let built = bundle_of(alloc, &config, row.1, levels, row.3)?;
+    let text = result_shown(alloc, &built)?;
+    let wanted = row.4;
+    assert_eq!(rt; text.as_str(), wanted);
+    Ok(())
+}
+
+#[test]
+fn annotations_are_built(rt: HostRuntime) -> Result<(), Fail> {
+    for row in &ROWS {
+        check_row(&rt, rt.alloc(), row)?;
+    }
+    Ok(())
+}
+
+/// Where the ids of the whole utterance are: the level and the position.
+static PLACES: [(u32, Option<(usize, usize)>); 5] = [
+    (1, Some((0, 0))),
+    (7, Some((5, 1))),
+    (9, Some((7, 1))),
+    (0, None),
+    (10, None),
+];
+
+fn check_places(rt: &impl Abort, bundle: &Bundle) {
+    for &(id, wanted) in &PLACES {
+        assert_eq!(rt; bundle.place(ItemId(id)), wanted, "{id}");
+    }
+    assert_eq!(rt; bundle.item_count(), 9);
+    assert_eq!(rt; bundle.key().bundle.as_str(), "b1");
+    assert_eq!(rt; bundle.annotates().as_str(), "b1.wav");
+}
+
+#[test]
+fn items_are_found_in_copies(rt: HostRuntime) -> Result<(), Fail> {
+    let config = config_of(rt.alloc(), NINE)?;
+    let levels = levels_of(rt.alloc(), ROWS[0].2)?;
+    let bundle = bundle_of(rt.alloc(), &config, 20_000, levels, ROWS[0].3)??;
+    crosses_threads(&bundle);
+    check_places(&rt, &bundle);
+    let copied = bundle.copy(rt.alloc())?;
+    check_places(&rt, &copied);
+    Ok(())
+}
+
+/// One level with so many items without labels.
+fn many_items(alloc: Global, count: u32) -> Result<AnnotLevels, Fail> {
+    let mut items = Series::new(alloc);
+    for id in 0..count {
+        items.push(AnnotItem {
+            id: ItemId(id),
+            time: Time::NoTime,
+            labels: Series::new(alloc),
+        })?;
+    }
+    let mut levels = Series::new(alloc);
+    levels.push(AnnotLevel {
+        name: Text::new(alloc, "Word")?,
+        kind: ITEM,
+        items,
+    })?;
+    Ok(levels)
+}
+
+/// How many items, and what comes of them: the number in the bundle, or the number of a rule.
+static COUNTS: [(u32, usize); 2] = [(65_537, 3), (65_536, 65_536)];
+
+#[test]
+fn items_are_counted(rt: HostRuntime) -> Result<(), Fail> {
+    let config = config_of(rt.alloc(), MANY)?;
+    for &(count, wanted) in &COUNTS {
+        let levels = many_items(rt.alloc(), count)?;
+        let found = match bundle_of(rt.alloc(), &config, 1, levels, &[])? {
+            Ok(bundle) => bundle.item_count(),
+            Err(Fault::Broken(rule)) => rule.number() as usize,
+            Err(Fault::Memory) => 0,
+        };
+        assert_eq!(rt; found, wanted, "{count}");
+    }
+    Ok(())
 }
