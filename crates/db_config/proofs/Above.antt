@@ -1,5 +1,5 @@
 -- A level is above another exactly where a path of definitions leads down from it.
-use Rattle.std.proofs.Common.{◌≡◌, ℕ, ◌<◌, Bool, true, false, ◌&&◌, ◌||◌, ◌==◌, List, [], ◌∷◌, ◌++◌, ◌⊎◌, length, refl, sym, ap, ◌∙◌, subst, inl, inr, ⊎_elim, arith}
+use Rattle.std.proofs.Common.{◌≡◌, ℕ, Bool, true, false, ◌&&◌, ◌||◌, ◌==◌, List, [], ◌∷◌, ◌++◌, ◌⊎◌, refl, sym, ap, ◌∙◌, subst, inl, inr, ⊎_elim, arith}
 use Rattle.std.specs.List.{list_any, Contains}
 use Rattle.std.proofs.lemmas.Bool.{and_parts, and_from, eqb-true, eq-eqb, cases_Bool}
 use Rattle.std.proofs.lemmas.List.Elements.{Contains-append_left, Contains-append_right, Contains-append_cases, Contains-push, Contains-push_cases}
@@ -129,10 +129,11 @@ sound (d ∷ defs) a b h =
     ⊎_elim
     (λ (p : is_above defs a b ≡ true). unsplit d defs a b (inl (sound defs a b p)))
     (λ (p : (((a == d.upper) || is_above defs a d.upper) && ((d.lower == b) || is_above defs d.lower b)) ≡ true).
-        let parts = and_parts ((a == d.upper) || is_above defs a d.upper) ((d.lower == b) || is_above defs d.lower b) p in
-        unsplit d defs a b (inr (
-          reached defs a d.upper a d.upper (sound defs a d.upper) parts.0 (λ e. e),
-          reached defs d.lower b d.lower b (sound defs d.lower b) parts.1 (λ e. e))))
+    let parts = and_parts ((a == d.upper) || is_above defs a d.upper) ((d.lower == b) || is_above defs d.lower b) p in
+    unsplit d defs a b (inr (
+      reached defs a d.upper a d.upper (sound defs a d.upper) parts.0 (λ e. e),
+      reached defs d.lower b d.lower b (sound defs d.lower b) parts.1 (λ e. e),
+    )))
     (or_split (is_above defs a b) _ h)
 
 reaches : (defs : List LinkDef) (a b : ℕ) → (IsAbove defs a b → is_above defs a b ≡ true) → Reaches defs a b → ((a == b) || is_above defs a b) ≡ true
@@ -181,8 +182,8 @@ not_round : (defs : List LinkDef) → HasNoCycle defs → leads_round defs ≡ f
 not_round defs none =
     ⊎_elim
     (λ (round : leads_round defs ≡ true).
-        let found = passing (λ (d : LinkDef). is_above defs d.upper d.upper) defs round in
-        absurd (none found.0.upper (sound defs found.0.upper found.0.upper found.1)))
+    let found = passing (λ (d : LinkDef). is_above defs d.upper d.upper) defs round in
+    absurd (none found.0.upper (sound defs found.0.upper found.0.upper found.1)))
     (λ (safe : leads_round defs ≡ false). safe)
     (cases_Bool (leads_round defs))
 

@@ -1,5 +1,5 @@
 -- How many link definitions have got the numbers of their levels.
-use Rattle.std.proofs.Common.{◌≡◌, ℕ, true, List, [], ◌∷◌, ◌++◌, length, drop, take, refl}
+use Rattle.std.proofs.Common.{◌≡◌, ℕ, true, List, length, drop}
 use Rattle.std.specs.List.{list_all}
 use Rattle.json_view.specs.Steps.{with_front}
 use Rattle.db_config.specs.declared.parts.LevelDef.{LevelDef}

@@ -1,5 +1,5 @@
 -- Parts whose names, numbers and link definitions were tested keep the rules.
-use Rattle.std.proofs.Common.{◌≡◌, ℕ, true, List, length, subst, ◌≤◌, sym}
+use Rattle.std.proofs.Common.{◌≡◌, true, List, length, subst, ◌≤◌, sym}
 use Rattle.std.specs.List.{list_all}
 use Rattle.std.proofs.lemmas.Bool.{and_from, le-leb}
 use Rattle.db_config.specs.declared.parts.LinkDef.{LinkDef}

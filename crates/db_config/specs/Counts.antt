@@ -1,5 +1,5 @@
 -- How many attributes a level may have.
-use Rattle.std.specs.Prelude.{ℕ, ◌≤◌, List, length}
+use Rattle.std.specs.Prelude.{◌≤◌, List, length}
 use Rattle.emu_names.specs.declared.limits.TheConstants.{ATTRIBUTES}
 
 -- at least one, and at most 16

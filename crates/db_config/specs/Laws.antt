@@ -7,7 +7,8 @@ use Rattle.db_config.specs.Above.{IsAbove, is_above, leads_round}
 -- a level is above another exactly where a path of definitions leads down from it
 abbrev pub AboveIsByPaths : Type 0
 AboveIsByPaths =
-    (defs : List LinkDef) (upper lower : ℕ) → IsTrue (is_above defs upper lower) ↔ IsAbove defs upper lower
+    (defs : List LinkDef) (upper lower : ℕ) →
+    IsTrue (is_above defs upper lower) ↔ IsAbove defs upper lower
 
 -- no path of definitions leads from a level to itself
 abbrev pub HasNoCycle : List LinkDef → Type 0

@@ -1,12 +1,11 @@
 -- What the names and numbers of a configuration stand for.
-use Rattle.std.specs.Prelude.{ℕ, suc, Bool, true, ◌||◌, ◌&&◌, ◌==◌, List, [], ◌∷◌, length, Option, Some, None, option_map, option_and_then}
+use Rattle.std.specs.Prelude.{ℕ, suc, Bool, true, ◌||◌, ◌&&◌, ◌==◌, List, [], ◌∷◌, length, Option, None, option_map, option_and_then}
 use Rattle.std.specs.List.{list_any, position, find, slice_get}
 use Rattle.std.specs.Option.{option_or, option_map_or}
 use Rattle.db_config.specs.declared.groups.GroupDef.{GroupDef}
 use Rattle.db_config.specs.declared.attributes.AttributeDef.{AttributeDef}
 use Rattle.db_config.specs.declared.parts.LevelDef.{LevelDef}
 use Rattle.db_config.specs.declared.parts.LinkDef.{LinkDef}
-use Rattle.db_config.specs.declared.parts.ConfigParts.{ConfigParts}
 use Rattle.db_config.specs.declared.parts.AttributePlace.{AttributePlace}
 use Rattle.db_config.specs.Names.{same_text}
 
@@ -43,7 +42,8 @@ attribute_at place levels =
 -- a label is legal where it is empty, where every label is, or where it is listed
 abbrev pub is_legal_for : List ℕ → AttributeDef → Bool
 is_legal_for label def =
-    (length label == 0) || option_map_or (λ labels. list_any (same_text label) labels) def.legal true
+    (length label == 0)
+    || option_map_or (λ labels. list_any (same_text label) labels) def.legal true
 
 -- the values of the first label group of this name
 abbrev pub values_named : List ℕ → List GroupDef → Option (List (List ℕ))

@@ -31,7 +31,9 @@ use Rattle.db_config.specs.Forms.{object_of, name_at, text_member, optional_text
 -- ---- the members
 
 -- the elements of a list of at most so many, each by one reader; the limit is tested first
-abbrev pub limited : {A : Type 0} → ConfigWhat → ℕ → (Seen → Result A ConfigFault) → Seen → List Data → Result (List A) ConfigFault
+abbrev pub limited : {A : Type 0} →
+    ConfigWhat → ℕ → (Seen → Result A ConfigFault) → Seen → List Data →
+    Result (List A) ConfigFault
 limited what most read s list =
     if nat_lt most (length list) then Err (TooMany what) else each_from read 0 s
 
@@ -201,7 +203,8 @@ pub record AreBounded (n : NamedParts) : Type 0 where
 -- ---- the rules
 
 -- a name that stands twice is the fault, else the rest is the answer
-abbrev pub unless_double : {A : Type 0} → Option (List ℕ) → Result A ConfigFault → Result A ConfigFault
+abbrev pub unless_double : {A : Type 0} →
+    Option (List ℕ) → Result A ConfigFault → Result A ConfigFault
 unless_double None rest = rest
 unless_double (Some name) rest = Err (DoubleName name)
 

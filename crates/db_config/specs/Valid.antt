@@ -4,7 +4,6 @@
 use Rattle.std.specs.Prelude.{ℕ, Bool, true, ◌&&◌, not, ◌==◌, List, [], ◌∷◌, length, nat_le, nat_lt}
 use Rattle.std.specs.List.{list_all, list_any}
 use Rattle.emu_names.specs.declared.limits.TheConstants.{LEVELS, LINK_DEFINITIONS, TRACKS}
-use Rattle.db_config.specs.declared.parts.LevelDef.{LevelDef}
 use Rattle.db_config.specs.declared.parts.LinkDef.{LinkDef}
 use Rattle.db_config.specs.declared.parts.ConfigParts.{ConfigParts}
 use Rattle.db_config.specs.Names.{all_names, are_distinct}

@@ -108,7 +108,8 @@ impl Config {
 
     /// What a name stands for: an attribute, else a level, which stands for its first attribute.
     pub fn name_place(&self, name: &str) -> Option<AttributePlace>
-        ensures { result ≡ name_place name.now self.now.levels }
+        ensures place { result ≡ name_place name.now self.now.levels }
+        ensures there { IfSome result (λ place. IsSome (attribute_at place self.now.levels)) }
     {
         name_place(self.parts.levels.as_slice(), name)
     }
@@ -125,7 +126,8 @@ impl Config {
     /// How many attributes a level has.
     pub fn attribute_count(&self, level: usize) -> usize
         requires { level < length self.now.levels }
-        ensures { option_map (λ d. length d.attributes) (slice_get self.now.levels level) ≡ Some result }
+        ensures { option_map (λ d. length d.attributes) (slice_get self.now.levels level)
+            ≡ Some result }
     {
         self.parts.levels.get(level).attributes.len()
     }
@@ -134,7 +136,8 @@ impl Config {
     /// among them.
     pub fn is_legal(&self, place: AttributePlace, label: &str) -> bool
         requires { IsSome (attribute_at place self.now.levels) }
-        ensures { option_map (is_legal_for label.now) (attribute_at place self.now.levels) ≡ Some result }
+        ensures { option_map (is_legal_for label.now) (attribute_at place self.now.levels)
+            ≡ Some result }
     {
         is_legal_for(
             self.parts

@@ -1,8 +1,8 @@
 //! What names stand for: levels, attributes and label groups.
-ghost use Rattle.std.specs.Prelude.{◌≡◌, ◌<◌, ◌≤◌, ℕ, List, true, IfOk, IfSome, option_map, length};
+ghost use Rattle.std.specs.Prelude.{◌≡◌, ◌<◌, ◌≤◌, ℕ, List, true, IsSome, IfOk, IfSome, option_map, length};
 ghost use Rattle.std.specs.List.{position, list_all};
 ghost use Rattle.db_config.specs.declared.parts.AttributePlace.{AttributePlace as Place};
-ghost use Rattle.db_config.specs.Lookups.{level_named, attribute_named, attribute_from, name_place, is_legal_for, values_named, leads};
+ghost use Rattle.db_config.specs.Lookups.{level_named, attribute_named, attribute_from, attribute_at, name_place, place_of, is_legal_for, values_named, leads};
 ghost use Rattle.db_config.specs.Read.{level_of_name, placed, all_placed};
 ghost use Rattle.db_config.specs.Faults.{Reads};
 ghost use Rattle.db_config.specs.Valid.{is_in_range};
@@ -28,14 +28,16 @@ pub(crate) fn level_named(levels: &[LevelDef], name: &str) -> Option<usize>
 
 /// The place of the attribute of this name.
 pub(crate) fn attribute_named(defs: &[AttributeDef], name: &str) -> Option<usize>
-    ensures { result ≡ attribute_named name.now defs.now }
+    ensures named { result ≡ attribute_named name.now defs.now }
+    ensures within { IfSome result (λ place. place < length defs.now) }
 {
     defs.iter().position(|def| def.name.as_str() == name)
 }
 
 /// The first attribute of this name, on any of the levels.
 fn attribute_anywhere(levels: &[LevelDef], name: &str) -> Option<AttributePlace>
-    ensures { result ≡ attribute_from 0 name.now levels.now }
+    ensures place { result ≡ attribute_from 0 name.now levels.now }
+    ensures there { IfSome result (λ place. IsSome (attribute_at place levels.now)) }
 {
     for level in 0..levels.len() {
         if let Some(attribute) = attribute_named(levels[level].attributes.as_slice(), name) {
@@ -45,18 +47,29 @@ fn attribute_anywhere(levels: &[LevelDef], name: &str) -> Option<AttributePlace>
     None
 }
 
+/// The place of the first attribute of a level.
+fn first_of_level(levels: &[LevelDef], level: usize) -> AttributePlace
+    requires { level < length levels.now }
+    ensures place { result ≡ place_of level 0 }
+    ensures there { IsSome (attribute_at result levels.now) }
+{
+    let _count = levels[level].attributes.len();
+    AttributePlace {
+        level,
+        attribute: 0,
+    }
+}
+
 /// What a name stands for: an attribute, else a level, which stands for its first attribute.
 pub(crate) fn name_place(levels: &[LevelDef], name: &str) -> Option<AttributePlace>
-    ensures { result ≡ name_place name.now levels.now }
+    ensures place { result ≡ name_place name.now levels.now }
+    ensures there { IfSome result (λ place. IsSome (attribute_at place levels.now)) }
 {
     if let Some(place) = attribute_anywhere(levels, name) {
         return Some(place);
     }
     let level = level_named(levels, name)?;
-    Some(AttributePlace {
-        level,
-        attribute: 0,
-    })
+    Some(first_of_level(levels, level))
 }
 
 /// Whether a label is legal for an attribute.

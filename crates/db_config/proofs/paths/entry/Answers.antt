@@ -1,4 +1,4 @@
-use Rattle.std.proofs.Common.{sym, subst, ◌<◌, ℕ, arith}
+use Rattle.std.proofs.Common.{arith}
 use Rattle.db_config.proofs.Tables.{rows_len, row_at, row_len, entry_at}
 use Rattle.db_config.proofs.paths.entry.Goals as goal
 

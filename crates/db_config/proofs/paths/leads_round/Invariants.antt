@@ -1,7 +1,3 @@
-use Rattle.std.proofs.Common.{◌≡◌, true, drop}
-use Rattle.std.specs.List.{list_any, list_all}
-use Rattle.db_config.specs.Above.{is_above}
-use Rattle.db_config.specs.Valid.{is_in_range}
 use Rattle.db_config.proofs.Tables.{IsTested}
 use Rattle.db_config.proofs.paths.leads_round.Given as goal
 
