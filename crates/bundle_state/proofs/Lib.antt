@@ -1,7 +1,9 @@
 pub mod BuiltKept
+pub mod BuiltRefusals
 pub mod FaultSteps
 pub mod IdLevels
 pub mod LevelsKept
+pub mod LinkRefusals
 pub mod LinksKept
 pub mod Refusals
 pub mod Tests

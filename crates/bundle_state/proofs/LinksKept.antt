@@ -97,7 +97,7 @@ level_parts defs level given (Some upper) (Some lower) number is_upper is_lower 
 
 -- A link more.
 
-below_limit : (count : ℕ) → nat_le BUNDLE_LINKS count ≡ false → count < BUNDLE_LINKS
+pub below_limit : (count : ℕ) → nat_le BUNDLE_LINKS count ≡ false → count < BUNDLE_LINKS
 below_limit count is = grind (arith, nat_tests)
 
 module _ (defs : List LinkDef) (level : ℕ → Option ℕ) where
@@ -148,33 +148,35 @@ goes_on (Err rule) next value is = cc
 
 -- how links grow by a link that is given: not at all where its pair is there, else by a link between the
 -- levels of its definition that breaks no rule
-record Grows (defs : List LinkDef) (level : ℕ → Option ℕ) (links : List Link) (given : AnnotLink) (number : ℕ) : Type 0 where
-  apart : list_any (joins given.from given.to) links ≡ false
-  free : add_fault (kind_of defs number) number given.from given.to links ≡ None
-  between : IsBetween defs level (link_of number given.from given.to)
+pub record Grows (defs : List LinkDef) (level : ℕ → Option ℕ) (links : List Link) (given : AnnotLink) (number : ℕ) : Type 0 where
+  pub apart : list_any (joins given.from given.to) links ≡ false
+  pub free : add_fault (kind_of defs number) number given.from given.to links ≡ None
+  pub between : IsBetween defs level (link_of number given.from given.to)
+  pub own : definition_for defs given (level given.from.0) (level given.to.0) ≡ Ok number
 
-data Put (defs : List LinkDef) (level : ℕ → Option ℕ) (links : List Link) (given : AnnotLink) : List Link → Type 0 where
+pub data Put (defs : List LinkDef) (level : ℕ → Option ℕ) (links : List Link) (given : AnnotLink) : List Link → Type 0 where
   Passed : list_any (joins given.from given.to) links ≡ true → Put defs level links given links
   Added : (number : ℕ) → Grows defs level links given number → Put defs level links given (links ++ link_of number given.from given.to ∷ [])
 
-put_one : (defs : List LinkDef) (level : ℕ → Option ℕ) (links : List Link) (given : AnnotLink) (built : List Link) →
+pub put_one : (defs : List LinkDef) (level : ℕ → Option ℕ) (links : List Link) (given : AnnotLink) (built : List Link) →
     put_link defs level links given ≡ Ok built → Put defs level links given built
 put_one defs level links given built is =
     let on = goes_on (definition_for defs given (level given.from.0) (level given.to.0)) (put_by defs links given) built is in
     by on.middle (list_any (joins given.from given.to) links) (add_fault (kind_of defs on.middle) on.middle given.from given.to links) refl refl
-    (level_parts defs level given (level given.from.0) (level given.to.0) on.middle refl refl on.first) on.second
+    (level_parts defs level given (level given.from.0) (level given.to.0) on.middle refl refl on.first) on.first on.second
   where
     by : (number : ℕ) (has : Bool) (fault : Option Broken) → list_any (joins given.from given.to) links ≡ has →
         add_fault (kind_of defs number) number given.from given.to links ≡ fault →
         IsBetween defs level (link_of number given.from given.to) →
+        definition_for defs given (level given.from.0) (level given.to.0) ≡ Ok number →
         (if has then Ok links else unless_broken fault (links ++ link_of number given.from given.to ∷ [])) ≡ Ok built →
         Put defs level links given built
-    by number true fault there free between is =
+    by number true fault there free between own is =
         subst (Put defs level links given) (ok_same links built is) (Passed there)
-    by number false None there free between is =
+    by number false None there free between own is =
         subst (Put defs level links given) (ok_same (links ++ link_of number given.from given.to ∷ []) built is)
-        (Added number (record { apart = there; free = free; between = between }))
-    by number false (Some rule) there free between is = cc
+        (Added number (record { apart = there; free = free; between = between; own = own }))
+    by number false (Some rule) there free between own is = cc
 
 one_fine : (defs : List LinkDef) (level : ℕ → Option ℕ) (links : List Link) (given : AnnotLink) (built : List Link) →
     Put defs level links given built → AreFineLinks defs level links → AreFineLinks defs level built
@@ -193,7 +195,7 @@ links_fine defs level (g ∷ gs) links built is fine =
 -- The pairs that are given.
 
 -- a pair that no link has
-abbrev IsNew : List Link → AnnotLink → Bool
+abbrev pub IsNew : List Link → AnnotLink → Bool
 IsNew links given = not (list_any (joins given.from given.to) links)
 
 filter_twice : {X : Type 0} (p q r : X → Bool) → ((x : X) → r x ≡ (q x && p x)) → (xs : List X) → filter p (filter q xs) ≡ filter r xs
@@ -214,7 +216,7 @@ filter_twice {X = X} p q r same (x ∷ xs) =
     by false c true twice once rest e = cc
     by false c false twice once rest e = rest
 
-filter_every : {X : Type 0} (xs : List X) → filter (λ x. true) xs ≡ xs
+pub filter_every : {X : Type 0} (xs : List X) → filter (λ x. true) xs ≡ xs
 filter_every [] = refl
 filter_every (x ∷ xs) = ap (λ ys. x ∷ ys) (filter_every xs)
 
@@ -247,22 +249,30 @@ added_new links number given later =
     by false true = refl
     by false false = refl
 
+pub passed_tail : (links : List Link) (given : AnnotLink) (later : List AnnotLink) → list_any (joins given.from given.to) links ≡ true →
+    filter (IsNew links) (given ∷ filter (λ h. not (same_pair given h)) later) ≡ filter (IsNew links) later
+passed_tail links given later there =
+    ap (λ (b : Bool). cond (not b) (given ∷ filter (IsNew links) (filter (λ h. not (same_pair given h)) later)) (filter (IsNew links) (filter (λ h. not (same_pair given h)) later))) there
+    ∙ filter_twice (IsNew links) (λ h. not (same_pair given h)) (IsNew links) (λ h. passed_new links given h there) later
+
+pub added_tail : (links : List Link) (number : ℕ) (given : AnnotLink) (later : List AnnotLink) → list_any (joins given.from given.to) links ≡ false →
+    filter (IsNew links) (given ∷ filter (λ h. not (same_pair given h)) later) ≡ given ∷ filter (IsNew (links ++ link_of number given.from given.to ∷ [])) later
+added_tail links number given later apart =
+    ap (λ (b : Bool). cond (not b) (given ∷ filter (IsNew links) (filter (λ h. not (same_pair given h)) later)) (filter (IsNew links) (filter (λ h. not (same_pair given h)) later))) apart
+    ∙ ap (λ back. given ∷ back)
+    (filter_twice (IsNew links) (λ h. not (same_pair given h)) (IsNew (links ++ link_of number given.from given.to ∷ [])) (λ h. added_new links number given h) later)
+
 one_given : (defs : List LinkDef) (level : ℕ → Option ℕ) (links : List Link) (given : AnnotLink) (built : List Link) (later : List AnnotLink) →
     Put defs level links given built →
     map pair_of built ++ filter (IsNew built) later
     ≡ map pair_of links ++ filter (IsNew links) (given ∷ filter (λ h. not (same_pair given h)) later)
 one_given defs level links given built later (Passed there) =
-    ap (λ back. map pair_of links ++ back)
-    (sym (filter_twice (IsNew links) (λ h. not (same_pair given h)) (IsNew links) (λ h. passed_new links given h there) later)
-    ∙ ap (λ (b : Bool). cond (not b) (given ∷ filter (IsNew links) (filter (λ h. not (same_pair given h)) later)) (filter (IsNew links) (filter (λ h. not (same_pair given h)) later))) (sym there))
+    ap (λ back. map pair_of links ++ back) (sym (passed_tail links given later there))
 one_given defs level links given built later (Added number grows) =
     let link : Link = link_of number given.from given.to in
     ap (λ front. front ++ filter (IsNew (links ++ link ∷ [])) later) (map-append pair_of links (link ∷ []))
     ∙ append_assoc (map pair_of links) (given ∷ []) (filter (IsNew (links ++ link ∷ [])) later)
-    ∙ ap (λ back. map pair_of links ++ given ∷ back)
-    (sym (filter_twice (IsNew links) (λ h. not (same_pair given h)) (IsNew (links ++ link ∷ [])) (λ h. added_new links number given h) later))
-    ∙ ap (λ back. map pair_of links ++ back)
-    (ap (λ (b : Bool). cond (not b) (given ∷ filter (IsNew links) (filter (λ h. not (same_pair given h)) later)) (filter (IsNew links) (filter (λ h. not (same_pair given h)) later))) (sym grows.apart))
+    ∙ ap (λ back. map pair_of links ++ back) (sym (added_tail links number given later grows.apart))
 
 links_given : (defs : List LinkDef) (level : ℕ → Option ℕ) (given : List AnnotLink) (links built : List Link) →
     put_links defs level given links ≡ Ok built → map pair_of built ≡ map pair_of links ++ filter (IsNew links) (first_places given)

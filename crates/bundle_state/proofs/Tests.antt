@@ -122,4 +122,3 @@ different_append [] ys left right misses = right
 different_append (x ∷ xs) ys left right misses =
     let parts : (not (list_any (nat_eq x) xs) ≡ true) × (are_different xs ≡ true) = and_parts (not (list_any (nat_eq x) xs)) (are_different xs) left in
     different_cons x (xs ++ ys) (append_any (nat_eq x) xs ys (not-true (list_any (nat_eq x) xs) parts.0) misses.0) (different_append xs ys parts.1 right misses.1)
-

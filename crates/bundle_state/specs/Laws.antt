@@ -1,5 +1,5 @@
 -- What building a bundle comes to, each said by itself.
-use Rattle.std.specs.Prelude.{◌≡◌, ℕ, List, [], map, Option, IsTrue, Ok}
+use Rattle.std.specs.Prelude.{◌≡◌, ℕ, List, [], map, Option, IsTrue, IsOk, Ok, ◌↔◌}
 use Rattle.std.specs.Option.{is_none}
 use Rattle.emu_names.specs.declared.names.BundleKey.{BundleKey}
 use Rattle.level_items.specs.declared.annot.Annot.{Annot}
@@ -14,7 +14,7 @@ use Rattle.bundle_state.specs.Faults.{annot_fault}
 use Rattle.bundle_state.specs.Linked.{put_links, KeepLinkRule, first_places, pair_of}
 use Rattle.bundle_state.specs.Built.{built, FitsConfig}
 use Rattle.bundle_state.specs.Valid.{KeepsBundleRules}
-use Rattle.bundle_state.specs.Rules.{keeps_rules}
+use Rattle.bundle_state.specs.Rules.{keeps_rules, KeepsAllRules}
 
 -- a bundle that is built under a valid configuration keeps the rules of bundles
 abbrev pub BuiltKeepsRules : Type 0
@@ -45,3 +45,9 @@ BuiltLinksAreGiven =
 abbrev pub LevelsRefuseExactly : Type 0
 LevelsRefuseExactly =
     (defs : List LevelDef) (annot : Annot) → is_none (annot_fault defs annot) ≡ keeps_rules defs annot
+
+-- an annotation makes a bundle exactly where it keeps all rules
+abbrev pub BuildingRefusesExactly : Type 0
+BuildingRefusesExactly =
+    (config : ConfigParts) (key : BundleKey) (annot : Annot) →
+    IsOk (built config key annot) ↔ KeepsAllRules config annot

@@ -1,6 +1,6 @@
 -- Which annotations keep the rules (EMU-SDMS Manual, "The emuDB format": `_annot.json`): each rule by
 -- itself, of the whole annotation, with no order in which they are tested.
-use Rattle.std.specs.Prelude.{◌≡◌, ℕ, ◌≤◌, Bool, true, false, ◌&&◌, List, [], ◌∷◌, ◌++◌, length, map, All, Option, Some, None, IsTrue, nat_le}
+use Rattle.std.specs.Prelude.{ℕ, ◌≤◌, Bool, false, ◌&&◌, List, length, map, All, Option, Some, None, IsSome, IsTrue, nat_le, unwrap_or}
 use Rattle.std.specs.List.{list_all, position, flat_map}
 use Rattle.std.specs.Option.{option_and_then}
 use Rattle.emu_names.specs.declared.limits.TheConstants.{BUNDLE_ITEMS, BUNDLE_LINKS}
@@ -74,3 +74,28 @@ keeps_rules defs annot =
     is_rate annot.rate && nat_le (given_count annot.levels) BUNDLE_ITEMS
     && list_all (is_level_in defs) annot.levels
     && are_distinct (level_names annot.levels) && are_different (all_given_ids annot.levels)
+
+-- the number of the definition of a link that is given, where its items are there and one leads from
+-- the level of the first to that of the second
+abbrev pub definition_of : List LinkDef → (ℕ → Option ℕ) → AnnotLink → Option ℕ
+definition_of defs level given =
+    option_and_then (λ upper. option_and_then (λ lower. position (leads upper lower) defs)
+    (level given.to.0)) (level given.from.0)
+
+-- the link of a pair that has a definition
+abbrev pub link_for : List LinkDef → (ℕ → Option ℕ) → AnnotLink → Link
+link_for defs level given =
+    link_of (unwrap_or (definition_of defs level given) 0) given.from given.to
+
+-- each link has a definition; there are at most 262,144 pairs, each counted once; and the links of each
+-- definition, each pair taken once, are as its kind asks
+pub record KeepLinkRules (defs : List LinkDef) (level : ℕ → Option ℕ) (given : List AnnotLink) : Type 0 where
+  pub defined : All (λ g. IsSome (definition_of defs level g)) given
+  pub few : length (first_places given) ≤ BUNDLE_LINKS
+  pub kinds : (number : ℕ) →
+      KeepKind (kind_of defs number) number (map (link_for defs level) (first_places given))
+
+-- the annotation keeps the rules of levels and those of links
+pub record KeepsAllRules (config : ConfigParts) (annot : Annot) : Type 0 where
+  pub levels : IsTrue (keeps_rules config.levels annot)
+  pub links : KeepLinkRules config.links (level_of_id (made_levels config.levels annot.levels)) annot.links

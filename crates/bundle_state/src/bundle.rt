@@ -50,12 +50,22 @@ impl Model for Bundle {
     ghost use Rattle.bundle_state.specs.Kept.{IsKept};
 
     ghost view = { λ b. record {
-        key = b.key; annotates = b.annotates; rate = b.rate; levels = b.levels;
-        definitions = b.definitions; links = b.links } };
+      key = b.key;
+      annotates = b.annotates;
+      rate = b.rate;
+      levels = b.levels;
+      definitions = b.definitions;
+      links = b.links;
+    } };
 
     ghost invariant = { λ b. IsKept (record {
-        key = b.key; annotates = b.annotates; rate = b.rate; levels = b.levels;
-        definitions = b.definitions; links = b.links }) b.places };
+      key = b.key;
+      annotates = b.annotates;
+      rate = b.rate;
+      levels = b.levels;
+      definitions = b.definitions;
+      links = b.links;
+    }) b.places };
 }
 
 impl Bundle {

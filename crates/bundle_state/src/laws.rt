@@ -1,5 +1,5 @@
 //! Laws with nothing to run: what building a bundle comes to.
-ghost use Rattle.bundle_state.specs.Laws.{BuiltKeepsRules, BuiltFitsConfig, BuiltKeepLinkRule, BuiltLinksAreGiven, LevelsRefuseExactly};
+ghost use Rattle.bundle_state.specs.Laws.{BuiltKeepsRules, BuiltFitsConfig, BuiltKeepLinkRule, BuiltLinksAreGiven, LevelsRefuseExactly, BuildingRefusesExactly};
 
 /// A bundle that is built under a valid configuration keeps the rules of bundles.
 pub fn built_keeps_rules()
@@ -24,4 +24,9 @@ pub fn built_links_are_given()
 /// The levels of an annotation are refused exactly where they break a rule.
 pub fn levels_refuse_exactly()
     ensures { LevelsRefuseExactly }
+{}
+
+/// An annotation is refused exactly where it breaks a rule, be it of levels or of links.
+pub fn building_refuses_exactly()
+    ensures { BuildingRefusesExactly }
 {}

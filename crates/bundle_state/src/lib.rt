@@ -13,6 +13,6 @@ mod used_ids;
 
 pub use bundle::Bundle;
 pub use laws::{
-    built_fits_config, built_keep_link_rule, built_keeps_rules, built_links_are_given,
-    levels_refuse_exactly,
+    building_refuses_exactly, built_fits_config, built_keep_link_rule, built_keeps_rules,
+    built_links_are_given, levels_refuse_exactly,
 };
