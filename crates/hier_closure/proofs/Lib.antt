@@ -1,0 +1,5 @@
+pub mod Heights
+pub mod Ids
+pub mod Joins
+pub mod Tables
+pub mod Ways
