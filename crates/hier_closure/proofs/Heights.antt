@@ -1,8 +1,8 @@
 -- Links lead down from level to level, and what is dominated stands on a level below.
-use Rattle.std.proofs.Common.{◌≡◌, ℕ, zero, suc, ◌+◌, ◌<◌, ◌≤◌, Bool, true, false, not, ◌&&◌, ◌||◌, ◌==◌, cond, List, [], ◌∷◌, ◌++◌, length, map, get_or, nat_eq, refl, sym, ap, ◌∙◌, subst, Option, Some, None, arith, ⊎_elim, count_by, take}
+use Rattle.std.proofs.Common.{◌≡◌, ℕ, zero, suc, ◌+◌, ◌<◌, ◌≤◌, Bool, true, false, not, cond, List, [], ◌∷◌, ◌++◌, length, get_or, refl, sym, ap, ◌∙◌, subst, Option, Some, arith, ⊎_elim, count_by, take}
 use Rattle.std.specs.Prelude.{IsTrue}
-use Rattle.std.specs.List.{list_any, slice_get, All, Contains, range_with_len}
-use Rattle.std.proofs.lemmas.Bool.{and_parts, not-true, cases_Bool, cond-true, cond-false}
+use Rattle.std.specs.List.{slice_get, All, Contains, range_with_len}
+use Rattle.std.proofs.lemmas.Bool.{and_parts, not-true, cases_Bool}
 use Rattle.std.proofs.lemmas.List.Elements.{All-head, All-tail}
 use Rattle.std.proofs.lemmas.List.{length-map, take_all}
 use Rattle.std.proofs.lemmas.Grind.{common_steps}
@@ -73,7 +73,7 @@ link_above defs level l a b between pair = record {
   from = ap level (sym (pair_from l a b pair)) ∙ between.from;
   to = ap level (sym (pair_to l a b pair)) ∙ between.to;
   above = complete defs between.def.upper between.def.lower
-  (between.def, ([], (contains_at defs l.definition between.def between.defined, refl, refl)));
+      (between.def, ([], (contains_at defs l.definition between.def between.defined, refl, refl)));
 }
 
 pub links_above : (defs : List LinkDef) (level : ℕ → Option ℕ) (links : List Link) (a b : ℕ) → All (IsBetween defs level) links →

@@ -1,17 +1,16 @@
 -- On which level of a bundle the item with an id stands, and at which position.
-use Rattle.std.proofs.Common.{◌≡◌, ℕ, zero, suc, ◌+◌, ◌<◌, Bool, true, false, not, ◌&&◌, ◌||◌, cond, List, [], ◌∷◌, ◌++◌, length, map, get_or, nat_eq, refl, sym, ap, ◌∙◌, Option, Some, None, arith, option_map, ⊎_elim}
+use Rattle.std.proofs.Common.{◌≡◌, ℕ, zero, suc, ◌+◌, ◌<◌, Bool, true, false, not, ◌&&◌, List, [], ◌∷◌, ◌++◌, length, get_or, nat_eq, refl, sym, ap, ◌∙◌, Option, Some, None, arith, option_map, ⊎_elim}
 use Rattle.std.specs.Prelude.{IsSome}
-use Rattle.std.specs.List.{list_any, slice_get, position, flat_map}
+use Rattle.std.specs.List.{list_any, slice_get, position}
 use Rattle.std.specs.Option.{option_map_or}
 use Rattle.std.proofs.lemmas.Bool.{and_parts, not-true, cond-true, cond-false, cases_Bool, eqb-true, or_parts}
-use Rattle.std.proofs.lemmas.Bool.Decides.{nat_tests}
 use Rattle.std.proofs.lemmas.List.Concat.{flat_map-cons}
 use Rattle.std.proofs.lemmas.List.Folds.{list_any-append}
 use Rattle.std.proofs.lemmas.List.Quantifiers.{position-Some}
-use Rattle.std.proofs.lemmas.Option.{slice_get_within, slice_get-get_or, slice_get-map, get_or_from_slice_get}
+use Rattle.std.proofs.lemmas.Option.{slice_get_within, slice_get-get_or, slice_get-map}
 use Rattle.level_items.specs.declared.items.Item.{Item}
 use Rattle.level_items.specs.Levels.{Level, ids_of, are_different}
-use Rattle.bundle_state.specs.Bundle.{all_ids, has_id, level_from, level_of_id, position_on, place_from, place_of}
+use Rattle.bundle_state.specs.Bundle.{all_ids, has_id, level_from, level_of_id, position_on, place_of}
 use Rattle.bundle_state.proofs.IdLevels.{IsAt, place_found}
 use Rattle.hier_closure.specs.Dominance.{ids_at}
 use Rattle.hier_closure.proofs.Ways.{or_split, or_right, or_left}
@@ -127,7 +126,7 @@ stands_at levels q m n p level place =
       level = level ∙ ap (λ k. Some k) (sym parts.0);
       within = slice_get_within levels n found.level there;
       at = ap (λ ids. slice_get ids p) (ap (λ o. option_map_or (λ (l : Level). ids_of l.items) o []) there)
-      ∙ at_position q found.level p (found.position_is ∙ ap (λ k. Some k) (sym parts.1));
+          ∙ at_position q found.level p (found.position_is ∙ ap (λ k. Some k) (sym parts.1));
     }
   where
     zero_plus : (offset m n : ℕ) → m ≡ 0 + offset → n ≡ m → offset ≡ n

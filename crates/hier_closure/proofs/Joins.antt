@@ -1,10 +1,10 @@
 -- Rows that are joined, one child after another.
-use Rattle.std.proofs.Common.{◌≡◌, ◌≢◌, ℕ, zero, suc, ◌<◌, Bool, true, false, not, ◌&&◌, ◌||◌, ◌==◌, List, [], ◌∷◌, ◌++◌, length, map, get_or, nat_eq, refl, sym, ap, ◌∙◌, Some, arith, ⊎_elim, slice_set, option_map, replicate, Option, take, ◌≤◌}
+use Rattle.std.proofs.Common.{◌≡◌, ◌≢◌, ℕ, zero, suc, ◌<◌, Bool, true, false, not, ◌||◌, ◌==◌, List, [], ◌∷◌, ◌++◌, length, map, get_or, nat_eq, refl, sym, ap, ◌∙◌, Some, arith, ⊎_elim, slice_set, option_map, replicate, Option, take, ◌≤◌}
 use Rattle.std.specs.Prelude.{IsSome, is_some}
 use Rattle.std.specs.List.{list_any, slice_get}
 use Rattle.std.specs.Option.{option_map_or}
 use Rattle.std.specs.Simd.Lanes.{zip2}
-use Rattle.std.proofs.lemmas.Bool.{and_parts, not-true, or_parts, cases_Bool, eqb-true, eq-eqb}
+use Rattle.std.proofs.lemmas.Bool.{and_parts, not-true, cases_Bool, eqb-true, eq-eqb}
 use Rattle.std.proofs.lemmas.Bool.Decides.{nat_tests}
 use Rattle.std.proofs.lemmas.Simd.{zip2-map, splat_is_map}
 use Rattle.std.proofs.lemmas.List.{length-map, append_assoc, append-nil, take_all}
@@ -15,13 +15,13 @@ use Rattle.level_items.specs.declared.items.Item.{Item}
 use Rattle.level_items.specs.Levels.{Level, ids_of, are_different}
 use Rattle.link_graph.specs.Link.{children_of}
 use Rattle.link_graph.specs.declared.link.Link.{Link}
-use Rattle.bundle_state.specs.Bundle.{BundleParts, level_of_id, all_ids}
+use Rattle.bundle_state.specs.Bundle.{BundleParts, level_of_id}
 use Rattle.bundle_state.proofs.IdLevels.{number_within}
 use Rattle.bundle_state.specs.Valid.{KeepsBundleRules}
 use Rattle.db_config.specs.Above.{is_above}
 use Rattle.hier_closure.specs.Dominance.{links_to, dominates, is_or_dominates, ids_at, closure_row, closure_rows, closure_of}
 use Rattle.hier_closure.specs.Ranks.{AreMadeAtItem, AreMadeBelow, AreMadeBelowItem}
-use Rattle.hier_closure.proofs.Ways.{Child, child_of, or_split, or_left, or_right, by_first_links}
+use Rattle.hier_closure.proofs.Ways.{Child, child_of, or_left, or_right, by_first_links}
 use Rattle.hier_closure.proofs.Ids.{is_in, level_is, ids_different}
 use Rattle.hier_closure.proofs.Heights.{AreAbove, links_above, none_below}
 

@@ -1,3 +1,4 @@
+pub mod Bits
 pub mod Heights
 pub mod Ids
 pub mod Joins

@@ -1,14 +1,10 @@
 -- A table of rows that grows, rank by rank.
-use Rattle.std.proofs.Common.{◌≡◌, ◌≢◌, ℕ, ◌+◌, ◌<◌, ◌≤◌, Bool, true, false, List, [], length, get_or, sym, ap, ◌∙◌, subst, arith, slice_set, ⊎_elim, ◌==◌}
-use Rattle.std.proofs.lemmas.Bool.{cases_Bool, eqb-true}
-use Rattle.std.proofs.lemmas.Bool.Decides.{nat_tests}
-use Rattle.std.proofs.lemmas.List.{get_or-set_same, get_or-set_other}
+use Rattle.std.proofs.Common.{◌≡◌, ◌≢◌, ℕ, ◌+◌, ◌<◌, ◌≤◌, Bool, true, List, length, sym, ap, ◌∙◌, arith}
 use Rattle.db_config.specs.declared.parts.ConfigParts.{ConfigParts}
 use Rattle.db_config.specs.Above.{is_above}
 use Rattle.bundle_state.specs.Bundle.{BundleParts}
 use Rattle.bundle_state.specs.Built.{FitsConfig}
-use Rattle.hier_closure.specs.Dominance.{closure_of}
-use Rattle.hier_closure.specs.Ranks.{IsUnder, rank_of, IsMade, AreMadeBelow, AreMadeTo}
+use Rattle.hier_closure.specs.Ranks.{IsUnder, rank_of, AreMadeBelow, AreMadeTo}
 use Rattle.hier_closure.proofs.Heights.{above_trans, not_above_self, same_count, rank_lt}
 
 -- the rank of a level of a bundle
@@ -48,28 +44,6 @@ made_skip bundle upper lower rank level table made never = λ n within up down l
     (ap (rank_in bundle) (sym own) ∙ same) in
     below n level here other)
   where
-    below : (n level : ℕ) → n < level + 1 → n ≢ level → n < level
-    below n level here other = omega arith
-
--- a level whose rows are put in
-pub made_put : (bundle : BundleParts) (upper lower rank level : ℕ) (table new : List (List (List Bool))) (rows : List (List Bool)) →
-    AreMadeTo bundle upper lower rank level table → new ≡ slice_set table level rows → level < length table →
-    rows ≡ closure_of bundle lower level → AreMadeTo bundle upper lower rank (level + 1) new
-made_put bundle upper lower rank level table new rows made is within_table whole = λ n within up down low before.
-    ⊎_elim
-    (λ (own : (n == level) ≡ true).
-    let same : n ≡ level = eqb-true n level own in
-    subst (λ k. IsMade bundle lower new k) (sym same)
-    (ap (λ t. get_or t level []) is ∙ get_or-set_same table level rows [] within_table ∙ whole))
-    (λ (other : (n == level) ≡ false).
-    let apart : n ≢ level = differs n level other in
-    ap (λ t. get_or t n []) is ∙ get_or-set_other table level n rows [] apart
-    ∙ made n within up down low (λ same. below n level (before same) apart))
-    (cases_Bool (n == level))
-  where
-    differs : (n m : ℕ) → (n == m) ≡ false → n ≢ m
-    differs n m h = grind (arith, nat_tests)
-
     below : (n level : ℕ) → n < level + 1 → n ≢ level → n < level
     below n level here other = omega arith
 

@@ -9,4 +9,4 @@ mod levels;
 mod ranks;
 
 pub use closure::Closure;
-pub use laws::{dominance_is_by_chains, dominance_is_by_first_links};
+pub use laws::{bits_are_dominance, dominance_is_by_chains, dominance_is_by_first_links};

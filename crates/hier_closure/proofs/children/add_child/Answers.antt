@@ -1,12 +1,12 @@
-use Rattle.std.proofs.Common.{◌≡◌, ◌<◌, ℕ, sym, ap, ◌∙◌, length, arith, true, false, get_or, [], Some}
+use Rattle.std.proofs.Common.{◌≡◌, ◌<◌, sym, ap, ◌∙◌, length, arith, true, false, get_or, [], Some}
 use Rattle.std.specs.List.{slice_get}
 use Rattle.std.proofs.lemmas.Option.{slice_get_within}
 use Rattle.std.proofs.lemmas.List.{length-map}
 use Rattle.db_config.specs.Above.{is_above}
-use Rattle.hier_closure.specs.Dominance.{dominates, ids_at, closure_row, closure_rows, closure_of}
+use Rattle.hier_closure.specs.Dominance.{dominates, ids_at, closure_row, closure_of}
 use Rattle.hier_closure.proofs.Ids.{Stands, stands, missing}
 use Rattle.hier_closure.proofs.Heights.{not_above_self, same_count}
-use Rattle.hier_closure.proofs.Joins.{child_row, either, child_here, child_above, child_aside, kept_row}
+use Rattle.hier_closure.proofs.Joins.{either, child_here, child_above, child_aside, kept_row}
 use Rattle.hier_closure.proofs.children.add_child.Goals as goal
 
 pub returns-in_default : goal.returns-in_default

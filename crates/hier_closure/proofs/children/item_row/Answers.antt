@@ -1,7 +1,6 @@
-use Rattle.std.proofs.Common.{◌≡◌, refl, sym, ap, ◌∙◌, length, ◌++◌, ◌∷◌, [], true, ℕ}
+use Rattle.std.proofs.Common.{◌≡◌, sym, ap, ◌∙◌, length}
 use Rattle.std.specs.List.{list_any}
 use Rattle.std.proofs.lemmas.List.{length-map}
-use Rattle.db_config.specs.Above.{is_above}
 use Rattle.link_graph.specs.Link.{children_of}
 use Rattle.bundle_state.specs.Bundle.{level_of_id}
 use Rattle.hier_closure.specs.Dominance.{ids_at, is_or_dominates}
@@ -13,9 +12,14 @@ pub loop-child-init : goal.loop-child-init
 loop-child-init c =
     let bundle = c.args.bundle.now in
     let long : length (ids_at bundle.levels c.args.lower) ≡ c.len.result =
-    ids_count bundle.levels c.args.lower c.level.result.now c.level.ensures.level ∙ sym c.len.ensures.length in
-    (tt, tt, (c.in-Ok.ensures ∙ first_row bundle c.args.lower c.len.result long,
-      c.into_iter-child-iterator.ensures.into_iter_gives ∙ c.children-child-items.ensures ∙ ap (children_of c.args.item) c.links.ensures))
+    ids_count bundle.levels c.args.lower c.level.result.now c.level.ensures.level ∙ sym c.len.ensures.length in (
+      tt,
+      tt,
+      (
+        c.in-Ok.ensures ∙ first_row bundle c.args.lower c.len.result long,
+        c.into_iter-child-iterator.ensures.into_iter_gives ∙ c.children-child-items.ensures ∙ ap (children_of c.args.item) c.links.ensures,
+      ),
+    )
 
 pub add_child-requires-clause-wide : goal.add_child-requires-clause-wide
 add_child-requires-clause-wide c =
@@ -40,11 +44,14 @@ add_child-requires-clause-made c =
 
 pub loop-child-preserved : goal.loop-child-preserved
 loop-child-preserved c =
-    let bundle = c.args.bundle.now in
-    (tt, tt, (
-      child_more bundle c.args.lower c.loop-child.yielded c.in-Some.child c.loop-child.row c.add_child.new.row c.loop-child.invariant.2.0 c.add_child.ensures,
-      children_end c.loop-child.yielded c.loop-child.child-iterator c.next.new.self c.in-Some.child c.in-Some.ensures.steps ∙ c.loop-child.invariant.2.1,
-    ))
+    let bundle = c.args.bundle.now in (
+      tt,
+      tt,
+      (
+        child_more bundle c.args.lower c.loop-child.yielded c.in-Some.child c.loop-child.row c.add_child.new.row c.loop-child.invariant.2.0 c.add_child.ensures,
+        children_end c.loop-child.yielded c.loop-child.child-iterator c.next.new.self c.in-Some.child c.in-Some.ensures.steps ∙ c.loop-child.invariant.2.1,
+      ),
+    )
 
 pub returns : goal.returns
 returns c =

@@ -1,7 +1,7 @@
 use Rattle.std.proofs.Common.{◌≡◌, ◌∙◌, ap, sym, subst, true}
 use Rattle.hier_closure.specs.Ranks.{AreMadeTo}
 use Rattle.db_config.specs.Above.{is_above}
-use Rattle.hier_closure.proofs.Tables.{rank_in, rank_is, made_skip, made_put, made_below}
+use Rattle.hier_closure.proofs.Tables.{rank_in, rank_is, made_skip, made_below}
 use Rattle.hier_closure.proofs.levels.add_level.Goals as goal
 
 pub returns-then-rank_of-rank-clause-made : goal.returns-then-rank_of-rank-clause-made

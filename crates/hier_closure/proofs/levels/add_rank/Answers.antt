@@ -1,4 +1,4 @@
-use Rattle.std.proofs.Common.{◌≡◌, arith}
+use Rattle.std.proofs.Common.{arith}
 use Rattle.hier_closure.proofs.Tables.{made_rank}
 use Rattle.hier_closure.proofs.levels.add_rank.Goals as goal
 

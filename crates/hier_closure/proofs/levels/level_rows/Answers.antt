@@ -1,5 +1,4 @@
-use Rattle.std.proofs.Common.{◌≡◌, ◌∙◌, arith}
-use Rattle.bundle_state.specs.Bundle.{level_of_id}
+use Rattle.std.proofs.Common.{◌∙◌, arith}
 use Rattle.hier_closure.proofs.Joins.{id_level, made_at_item, whole_level}
 use Rattle.hier_closure.proofs.levels.level_rows.Goals as goal
 

@@ -1,4 +1,4 @@
-use Rattle.std.proofs.Common.{◌≡◌, ◌≤◌, ◌∙◌, sym, arith, length}
+use Rattle.std.proofs.Common.{◌≡◌, ◌≤◌, ◌∙◌, arith}
 use Rattle.hier_closure.proofs.Tables.{rank_in, rank_is, made_start, made_all}
 use Rattle.hier_closure.proofs.levels.rows_between.Goals as goal
 
