@@ -1,0 +1,6 @@
+pub mod Bits
+pub mod Heights
+pub mod Ids
+pub mod Joins
+pub mod Tables
+pub mod Ways

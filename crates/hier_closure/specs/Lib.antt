@@ -1,0 +1,3 @@
+pub mod Dominance
+pub mod Laws
+pub mod Ranks

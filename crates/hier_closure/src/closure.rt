@@ -1,0 +1,59 @@
+//! Which items of a level dominate which items of a lower one.
+ghost use Rattle.std.specs.Prelude.{◌≡◌, ◌<◌, length, slice_get, IfOk, Some};
+ghost use Rattle.bundle_state.specs.Built.{FitsConfig};
+ghost use Rattle.hier_closure.specs.Dominance.{closure_of};
+
+use crate::levels::{Rows, level_rows, rows_between};
+use bundle_state::Bundle;
+use db_config::Config;
+use emu_names::Memory;
+use lane_bits::BitRow;
+use std::alloc::Global;
+use std::marker::Model;
+
+/// Which items of an upper level of a bundle dominate which items of a lower one (EMU-SDMS Manual, "The
+/// EMU Query Language (EQL)"), which contracts see as one row of bits for each upper item.
+#[derive(Drop)]
+pub struct Closure {
+    rows: Rows,
+}
+
+impl Model for Closure {
+    ghost use Rattle.std.specs.Prelude.{List, Bool};
+
+    ghost Value = { List (List Bool) };
+
+    ghost view = { λ c. c.rows };
+}
+
+impl Closure {
+    /// The rows of dominance between two levels of a bundle, which has the levels and the link
+    /// definitions of the configuration: bit j of row i says whether item i of the upper level
+    /// dominates item j of the lower one. The only refusal is want of memory.
+    pub fn between(
+        alloc: Global,
+        config: &Config,
+        bundle: &Bundle,
+        upper: usize,
+        lower: usize,
+    ) -> Result<Closure, Memory>
+        requires fits { FitsConfig config.now bundle.now }
+        requires upper { upper < length bundle.now.levels }
+        requires lower { lower < length bundle.now.levels }
+        ensures { IfOk result (λ made. made ≡ closure_of bundle.now lower upper) }
+    {
+        let _parts = config.parts();
+        let _items = bundle.item_count();
+        let table = rows_between(alloc, config, bundle, upper, lower)?;
+        let rows = level_rows(alloc, config, bundle, lower, table.as_slice(), upper)?;
+        Ok(Closure { rows })
+    }
+
+    /// The row of an item of the upper level, by its position.
+    pub fn row(&self, position: usize) -> &BitRow
+        requires { position < length self.now }
+        ensures { slice_get self.now position ≡ Some result.now }
+    {
+        self.rows.get(position)
+    }
+}

@@ -1,0 +1,127 @@
+//! The rows of the levels between two levels, from the lower one upwards.
+ghost use Rattle.std.specs.Prelude.{◌≡◌, ◌<◌, ◌+◌, length, IfOk, OnOk};
+ghost use Rattle.hier_closure.specs.Dominance.{closure_of};
+ghost use Rattle.hier_closure.specs.Ranks.{IsUnder, AreMadeBelow, AreMadeTo};
+
+use crate::children::item_row;
+use crate::ranks::rank_of;
+use bundle_state::Bundle;
+use db_config::Config;
+use emu_lists::Series;
+use emu_names::Memory;
+use lane_bits::BitRow;
+use std::alloc::Global;
+
+/// One row for each item of a level.
+pub(crate) type Rows = Series<BitRow>;
+
+/// The rows of a level. The only refusal is want of memory.
+pub(crate) fn level_rows(
+    alloc: Global,
+    config: &Config,
+    bundle: &Bundle,
+    lower: usize,
+    table: &[Rows],
+    level: usize,
+) -> Result<Rows, Memory>
+    requires under { IsUnder config.now bundle.now }
+    requires lower { lower < length bundle.now.levels }
+    requires level { level < length bundle.now.levels }
+    requires count { length table.now ≡ length bundle.now.levels }
+    requires made { AreMadeBelow bundle.now lower table.now level }
+    ensures { IfOk result (λ rows. rows ≡ closure_of bundle.now lower level) }
+{
+    let mut rows = Series::new(alloc);
+    for item in bundle.level(level).as_slice() {
+        rows.push(item_row(alloc, config, bundle, lower, table, item.id)?)?;
+    }
+    Ok(rows)
+}
+
+/// Puts the rows of a level into the table, if it has the rank and lies between the two levels.
+fn add_level(
+    alloc: Global,
+    config: &Config,
+    bundle: &Bundle,
+    between: (usize, usize),
+    table: &mut Vec<Rows>,
+    rank: usize,
+    level: usize,
+) -> Result<(), Memory>
+    requires under { IsUnder config.now bundle.now }
+    requires upper { between.0 < length bundle.now.levels }
+    requires lower { between.1 < length bundle.now.levels }
+    requires level { level < length bundle.now.levels }
+    requires count { length table.old.items ≡ length bundle.now.levels }
+    requires made { AreMadeTo bundle.now between.0 between.1 rank level table.old.items }
+    ensures count { OnOk result (length table.new.items ≡ length bundle.now.levels) }
+    ensures made { OnOk result
+        (AreMadeTo bundle.now between.0 between.1 rank (level + 1) table.new.items) }
+{
+    let (upper, lower) = between;
+    if rank_of(config, level) != rank {
+        return Ok(());
+    }
+    if !config.is_above(upper, level) || !config.is_above(level, lower) {
+        return Ok(());
+    }
+    let rows = level_rows(alloc, config, bundle, lower, table.as_slice(), level)?;
+    table[level] = rows;
+    Ok(())
+}
+
+/// Puts the rows of all levels of a rank between the two levels into the table.
+fn add_rank(
+    alloc: Global,
+    config: &Config,
+    bundle: &Bundle,
+    between: (usize, usize),
+    table: &mut Vec<Rows>,
+    rank: usize,
+) -> Result<(), Memory>
+    requires under { IsUnder config.now bundle.now }
+    requires upper { between.0 < length bundle.now.levels }
+    requires lower { between.1 < length bundle.now.levels }
+    requires count { length table.old.items ≡ length bundle.now.levels }
+    requires made { AreMadeTo bundle.now between.0 between.1 rank 0 table.old.items }
+    ensures count { OnOk result (length table.new.items ≡ length bundle.now.levels) }
+    ensures made { OnOk result
+        (AreMadeTo bundle.now between.0 between.1 (rank + 1) 0 table.new.items) }
+{
+    for level in 0..bundle.level_count() {
+        add_level(alloc, config, bundle, between, table, rank, level)?;
+    }
+    Ok(())
+}
+
+/// A table without rows. The only refusal is want of memory.
+fn empty_table(alloc: Global, count: usize) -> Result<Vec<Rows>, Memory>
+    ensures { IfOk result (λ table. length table.items ≡ count) }
+{
+    let mut table = Vec::new(alloc);
+    for _ in 0..count {
+        table.push(Series::new(alloc))?;
+    }
+    Ok(table)
+}
+
+/// The rows of all levels between two levels. The only refusal is want of memory.
+pub(crate) fn rows_between(
+    alloc: Global,
+    config: &Config,
+    bundle: &Bundle,
+    upper: usize,
+    lower: usize,
+) -> Result<Vec<Rows>, Memory>
+    requires under { IsUnder config.now bundle.now }
+    requires upper { upper < length bundle.now.levels }
+    requires lower { lower < length bundle.now.levels }
+    ensures count { IfOk result (λ table. length table.items ≡ length bundle.now.levels) }
+    ensures made { IfOk result (λ table. AreMadeBelow bundle.now lower table.items upper) }
+{
+    let mut table = empty_table(alloc, bundle.level_count())?;
+    for rank in 0..rank_of(config, upper) {
+        add_rank(alloc, config, bundle, (upper, lower), &mut table, rank)?;
+    }
+    Ok(table)
+}

@@ -1,0 +1,12 @@
+//! Which items of a level of a bundle dominate which items of a lower one, as one row of bits for each
+//! upper item.
+#![tactic(auto)]
+
+mod children;
+mod closure;
+mod laws;
+mod levels;
+mod ranks;
+
+pub use closure::Closure;
+pub use laws::{bits_are_dominance, dominance_is_by_chains, dominance_is_by_first_links};
