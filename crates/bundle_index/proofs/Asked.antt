@@ -1,0 +1,187 @@
+-- The columns of all levels, and rows that are asked of them.
+use Rattle.std.proofs.Common.{◌≡◌, ◌<◌, ◌≤◌, ◌+◌, ◌==◌, ◌⊎◌, inl, inr, ℕ, zero, suc, Bool, true, false, cond, nat_lt, List, [], ◌∷◌, ◌++◌, length, map, replicate, get_or, slice_get, Option, Some, None, Result, Ok, Err, IfOk, refl, sym, ap, subst, ◌∙◌, arith}
+use Rattle.std.proofs.lemmas.Bool.{cases_lt}
+use Rattle.std.proofs.lemmas.Bool.Decides.{nat_tests, Decides-eqb, same_from_decides}
+use Rattle.std.proofs.lemmas.List.{length-append, get_or_at, get_or_append_left}
+use Rattle.std.proofs.lemmas.List.Sums.{fails_before_first}
+use Rattle.std.proofs.lemmas.Option.{slice_get_within, slice_get-get_or, get_or_from_slice_get, same_Some}
+use Rattle.std.proofs.lemmas.Slice.Eq.{bytes_eq-Decides}
+use Rattle.std.specs.List.{position, position_or_len}
+use Rattle.std.specs.Option.{option_map, option_map_or}
+use Rattle.std.specs.Str.{bytes_eq}
+use Rattle.lane_bits.specs.Row.{is_between}
+use Rattle.emu_names.specs.declared.kinds.LevelKind.TheVariants as kinds
+use Rattle.level_items.specs.declared.items.Item.{Item}
+use Rattle.level_items.specs.Levels.{Level}
+use Rattle.bundle_index.specs.declared.columns.LevelColumns.{LevelColumns}
+use Rattle.bundle_index.specs.Numbered.{AreNumbered, HasGrown, IsColumnOf}
+use Rattle.bundle_index.specs.Index.{IndexParts, IsTimed, attributes_on, has_label, items_on, label_at, starts_within}
+use Rattle.bundle_index.specs.Columns.{AreColumnsOf, AreColumnsFor, starts_of, ends_of}
+use Rattle.bundle_index.proofs.Steps.{column_stays}
+
+-- ---- the columns of the levels, one level after another
+
+-- there are columns for the first k levels
+pub record AreFilled (numbered : List (List ℕ)) (levels : List Level) (k : ℕ) (all : List LevelColumns) : Type 0 where
+  pub count : length all ≡ k
+  pub each : (j : ℕ) (level : Level) (columns : LevelColumns) →
+      slice_get levels j ≡ Some level → slice_get all j ≡ Some columns → AreColumnsOf numbered level columns
+
+columns_stay : (now new : List (List ℕ)) (level : Level) (columns : LevelColumns) → HasGrown now new →
+    AreColumnsOf now level columns → AreColumnsOf new level columns
+columns_stay now new level columns grown are = record {
+  labels = λ attribute below.
+      column_stays now new (get_or columns.labels attribute []) (map (label_at attribute) level.items) grown
+      (are.labels attribute below);
+  starts = are.starts;
+  ends = are.ends;
+}
+
+pub filled_more : (now new : List (List ℕ)) (levels : List Level) (k : ℕ) (all : List LevelColumns) (level : Level)
+    (columns : LevelColumns) → AreFilled now levels k all → HasGrown now new → slice_get levels k ≡ Some level →
+    AreColumnsOf new level columns → AreFilled new levels (k + 1) (all ++ columns ∷ [])
+filled_more now new levels k all level columns so grown at are = record {
+  count = omega (arith, length-append all (columns ∷ []), so.count);
+  each = λ j lv cs at-level at-columns. by j lv cs at-level at-columns (cases_lt j k);
+}
+  where
+    by : (j : ℕ) (lv : Level) (cs : LevelColumns) → slice_get levels j ≡ Some lv → slice_get (all ++ columns ∷ []) j ≡ Some cs →
+        (j < k) ⊎ (k ≤ j) → AreColumnsOf new lv cs
+    by j lv cs at-level at-columns (inl under) =
+        let within : j < length all = omega (arith, so.count) in
+        let same : get_or all j cs ≡ cs =
+        sym (get_or_append_left all (columns ∷ []) cs j within)
+        ∙ get_or_from_slice_get (all ++ columns ∷ []) j cs cs at-columns in
+        columns_stay now new lv cs grown
+        (so.each j lv cs at-level (slice_get-get_or all j cs within ∙ ap Some same))
+    by j lv cs at-level at-columns (inr over) =
+        let within : j < length (all ++ columns ∷ []) = slice_get_within (all ++ columns ∷ []) j cs at-columns in
+        let here : k ≡ j = omega (arith, length-append all (columns ∷ []), so.count) in
+        let same : columns ≡ cs =
+        sym (get_or_at all columns [] cs k so.count)
+        ∙ get_or_from_slice_get (all ++ columns ∷ []) k cs cs
+        (subst (λ (i : ℕ). slice_get (all ++ columns ∷ []) i ≡ Some cs) (sym here) at-columns) in
+        let level-same : level ≡ lv =
+        same_Some level lv (sym at ∙ subst (λ (i : ℕ). slice_get levels i ≡ Some lv) (sym here) at-level) in
+        subst (λ (l : Level). AreColumnsOf new l cs) level-same
+        (subst (λ (c : LevelColumns). AreColumnsOf new level c) same are)
+
+pub all_filled : (numbered : List (List ℕ)) (levels : List Level) (k : ℕ) (all : List LevelColumns) →
+    AreFilled numbered levels k all → k ≡ length levels → AreColumnsFor numbered levels all
+all_filled numbered levels k all so is = record { count = so.count ∙ is; each = so.each }
+
+pub none_filled : (numbered : List (List ℕ)) (levels : List Level) → AreFilled numbered levels 0 []
+none_filled numbered levels = record { count = refl; each = λ j lv cs at-level at-columns. absurd cc }
+
+-- ---- the columns of a level
+
+-- what is kept, said of what is seen
+pub seen_columns : (x y : IndexParts) (all : List LevelColumns) → x ≡ y → AreColumnsFor x.labels x.bundle.levels all →
+    AreColumnsFor y.labels y.bundle.levels all
+seen_columns x y all shown are = subst (λ (i : IndexParts). AreColumnsFor i.labels i.bundle.levels all) shown are
+
+pub column_is : (x : IndexParts) (all : List LevelColumns) (level attribute : ℕ) (columns : LevelColumns) (column : List ℕ) →
+    AreColumnsFor x.labels x.bundle.levels all → attribute < attributes_on x.bundle level →
+    slice_get all level ≡ Some columns → column ≡ get_or columns.labels attribute [] →
+    IsColumnOf x.labels column (map (label_at attribute) (items_on x.bundle level))
+column_is x all level attribute columns column are below at is = by (slice_get x.bundle.levels level) refl below
+  where
+    by : (o : Option Level) → slice_get x.bundle.levels level ≡ o → attribute < option_map_or (λ (l : Level). l.attributes) o 0 →
+        IsColumnOf x.labels column (map (label_at attribute) (option_map_or (λ (l : Level). l.items) o []))
+    by None found small = absurd (omega arith)
+    by (Some l) found small =
+        subst (λ (c : List ℕ). IsColumnOf x.labels c (map (label_at attribute) l.items)) (sym is)
+        ((are.each level l columns found at).labels attribute small)
+
+is_there : {A : Type 0} (xs : List A) (i : ℕ) → i < length xs → slice_get xs i ≡ None → ⊥
+is_there [] i within none = absurd (omega arith)
+is_there (x ∷ xs) zero within none = absurd cc
+is_there (x ∷ xs) (suc i) within none = is_there xs i (omega arith) none
+
+pub times_are : (x : IndexParts) (all : List LevelColumns) (level : ℕ) (columns : LevelColumns) →
+    AreColumnsFor x.labels x.bundle.levels all → level < length x.bundle.levels → IsTimed x.bundle level →
+    slice_get all level ≡ Some columns →
+    (columns.starts ≡ starts_of (items_on x.bundle level)) × (columns.ends ≡ ends_of (items_on x.bundle level))
+times_are x all level columns are within timed at = by (slice_get x.bundle.levels level) refl timed
+  where
+    by : (o : Option Level) → slice_get x.bundle.levels level ≡ o →
+        (option_map (λ (l : Level). l.kind) o ≡ Some kinds.Item → ⊥) →
+        (columns.starts ≡ starts_of (option_map_or (λ (l : Level). l.items) o []))
+        × (columns.ends ≡ ends_of (option_map_or (λ (l : Level). l.items) o []))
+    by None found other = absurd (is_there x.bundle.levels level within found)
+    by (Some l) found other =
+        let mine = are.each level l columns found at in
+        (mine.starts (λ same. other (ap Some same)), mine.ends (λ same. other (ap Some same)))
+
+-- ---- rows
+
+pub row_same : {T E : Type 0} (r : Result T E) (x y : T) → IfOk r (λ row. row ≡ x) → x ≡ y → IfOk r (λ row. row ≡ y)
+row_same (Ok row) x y is same = is ∙ same
+row_same (Err e) x y is same = tt
+
+number_is : (numbered : List (List ℕ)) (label l : List ℕ) (number n : ℕ) → AreNumbered numbered →
+    slice_get numbered number ≡ Some label → slice_get numbered n ≡ Some l → (n == number) ≡ bytes_eq label l
+number_is numbered label l number n rule here at =
+    same_from_decides {P = label ≡ l} (n == number) (bytes_eq label l) (
+      (λ same. same_Some label l (sym here ∙ sym (ap (slice_get numbered) ((Decides-eqb n number).0 same)) ∙ at)),
+      (λ same. (Decides-eqb n number).1 (rule.apart n number l at (here ∙ ap Some same))),
+    )
+    (bytes_eq-Decides label l)
+
+pub bits_are : (numbered : List (List ℕ)) (label : List ℕ) (number attribute : ℕ) (column : List ℕ) (items : List Item) →
+    AreNumbered numbered → slice_get numbered number ≡ Some label →
+    IsColumnOf numbered column (map (label_at attribute) items) →
+    map (λ x. x == number) column ≡ map (has_label attribute label) items
+bits_are numbered label number attribute [] [] rule here is = refl
+bits_are numbered label number attribute [] (i ∷ items) rule here is = absurd cc
+bits_are numbered label number attribute (n ∷ column) [] rule here is = absurd cc
+bits_are numbered label number attribute (n ∷ column) (i ∷ items) rule here is =
+    let first : slice_get numbered n ≡ Some (label_at attribute i) = cc in
+    let rest : IsColumnOf numbered column (map (label_at attribute) items) = cc in
+    let bit : (n == number) ≡ has_label attribute label i =
+    number_is numbered label (label_at attribute i) number n rule here first in
+    let bits : map (λ x. x == number) column ≡ map (has_label attribute label) items =
+    bits_are numbered label number attribute column items rule here rest in
+    cc
+
+none_cond : (b : Bool) (i : ℕ) → None ≡ cond b (Some i) None → b ≡ false
+none_cond true i is = absurd cc
+none_cond false i is = refl
+
+nowhere : (numbered : List (List ℕ)) (label l : List ℕ) (n : ℕ) → None ≡ position (bytes_eq label) numbered →
+    slice_get numbered n ≡ Some l → bytes_eq label l ≡ false
+nowhere numbered label l n none at =
+    let past = none_cond (nat_lt (position_or_len (bytes_eq label) numbered) (length numbered))
+    (position_or_len (bytes_eq label) numbered) none in
+    let within : n < length numbered = slice_get_within numbered n l at in
+    let far : length numbered ≤ position_or_len (bytes_eq label) numbered =
+    beyond (position_or_len (bytes_eq label) numbered) (length numbered) past in
+    sym (ap (bytes_eq label) (get_or_from_slice_get numbered n l l at))
+    ∙ fails_before_first (bytes_eq label) numbered n l (omega arith)
+  where
+    beyond : (a b : ℕ) → nat_lt a b ≡ false → b ≤ a
+    beyond a b h = grind (arith, nat_tests)
+
+pub no_bits : (numbered : List (List ℕ)) (label : List ℕ) (attribute : ℕ) (column : List ℕ) (items : List Item) →
+    None ≡ position (bytes_eq label) numbered → IsColumnOf numbered column (map (label_at attribute) items) →
+    replicate (length column) false ≡ map (has_label attribute label) items
+no_bits numbered label attribute [] [] none is = refl
+no_bits numbered label attribute [] (i ∷ items) none is = absurd cc
+no_bits numbered label attribute (n ∷ column) [] none is = absurd cc
+no_bits numbered label attribute (n ∷ column) (i ∷ items) none is =
+    let first : slice_get numbered n ≡ Some (label_at attribute i) = cc in
+    let rest : IsColumnOf numbered column (map (label_at attribute) items) = cc in
+    let bit : has_label attribute label i ≡ false = nowhere numbered label (label_at attribute i) n none first in
+    let bits : replicate (length column) false ≡ map (has_label attribute label) items =
+    no_bits numbered label attribute column items none rest in
+    cc
+
+pub range_is : (low high : ℕ) (items : List Item) →
+    map (is_between low high) (starts_of items) ≡ map (starts_within low high) items
+range_is low high [] = refl
+range_is low high (i ∷ items) = ap (λ (bits : List Bool). starts_within low high i ∷ bits) (range_is low high items)
+
+-- a column of what is seen is one of what is kept
+pub labels_seen : (x y : IndexParts) (column : List ℕ) (labels : List (List ℕ)) → x ≡ y → IsColumnOf y.labels column labels →
+    IsColumnOf x.labels column labels
+labels_seen x y column labels shown is = subst (λ (i : IndexParts). IsColumnOf i.labels column labels) (sym shown) is

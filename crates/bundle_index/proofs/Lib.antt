@@ -1,0 +1,4 @@
+pub mod Numbers
+pub mod Steps
+pub mod Facts
+pub mod Asked

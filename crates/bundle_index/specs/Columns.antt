@@ -1,0 +1,42 @@
+-- The columns that are kept of the levels of a bundle.
+use Rattle.std.specs.Prelude.{◌≡◌, ◌≢◌, ℕ, ◌<◌, List, [], length, map, get_or, Some}
+use Rattle.std.specs.List.{slice_get}
+use Rattle.emu_names.specs.declared.kinds.LevelKind.TheVariants as kinds
+use Rattle.level_items.specs.declared.items.Item.{Item}
+use Rattle.level_items.specs.Levels.{Level}
+use Rattle.level_items.specs.Times.{first_sample, last_sample}
+use Rattle.bundle_index.specs.declared.columns.LevelColumns.{LevelColumns}
+use Rattle.bundle_index.specs.Numbered.{AreNumbered, IsColumnOf}
+use Rattle.bundle_index.specs.Index.{label_at}
+
+-- the first samples of the items, in order
+abbrev pub starts_of : List Item → List ℕ
+starts_of items = map (λ i. first_sample i.time) items
+
+-- the last samples of the items, in order
+abbrev pub ends_of : List Item → List ℕ
+ends_of items = map (λ i. last_sample i.time) items
+
+-- for each of the first n attributes there is the column of the items' labels
+pub record AreLabelColumns (numbered : List (List ℕ)) (items : List Item) (n : ℕ) (columns : List (List ℕ)) : Type 0 where
+  pub count : length columns ≡ n
+  pub each : (attribute : ℕ) → attribute < n →
+      IsColumnOf numbered (get_or columns attribute []) (map (label_at attribute) items)
+
+-- the columns of one level: for each attribute that of its labels, and the times of a level with times
+pub record AreColumnsOf (numbered : List (List ℕ)) (level : Level) (columns : LevelColumns) : Type 0 where
+  pub labels : (attribute : ℕ) → attribute < level.attributes →
+      IsColumnOf numbered (get_or columns.labels attribute []) (map (label_at attribute) level.items)
+  pub starts : level.kind ≢ kinds.Item → columns.starts ≡ starts_of level.items
+  pub ends : level.kind ≢ kinds.Item → columns.ends ≡ ends_of level.items
+
+-- there are columns for each level, and they are those of the level
+pub record AreColumnsFor (numbered : List (List ℕ)) (levels : List Level) (all : List LevelColumns) : Type 0 where
+  pub count : length all ≡ length levels
+  pub each : (k : ℕ) (level : Level) (columns : LevelColumns) →
+      slice_get levels k ≡ Some level → slice_get all k ≡ Some columns → AreColumnsOf numbered level columns
+
+-- what an indexed bundle keeps: numbered labels, and the columns of its levels
+pub record IsIndexed (numbered : List (List ℕ)) (levels : List Level) (all : List LevelColumns) : Type 0 where
+  pub numbers : AreNumbered numbered
+  pub columns : AreColumnsFor numbered levels all

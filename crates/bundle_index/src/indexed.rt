@@ -1,0 +1,182 @@
+//! A bundle with its columns.
+ghost use Rattle.std.specs.Prelude.{◌≡◌, ◌<◌, ◌==◌, false, length, map, replicate, IfOk, position};
+ghost use Rattle.std.specs.Str.{bytes_eq};
+ghost use Rattle.lane_bits.specs.Row.{is_between};
+ghost use Rattle.bundle_index.specs.Numbered.{AreNumbered, IsColumnOf};
+ghost use Rattle.bundle_index.specs.Index.{IsTimed, attributes_on, has_label, items_on, label_at, starts_within};
+ghost use Rattle.bundle_index.specs.Columns.{AreColumnsFor, ends_of, starts_of};
+
+use crate::columns::{LevelColumns, columns_of};
+use crate::labels::LabelSet;
+use bundle_state::Bundle;
+use emu_lists::Series;
+use emu_names::Memory;
+use lane_bits::{BitRow, eq_lanes, range_lanes};
+use std::alloc::Global;
+use std::marker::Model;
+
+/// A bundle with its labels and times in columns, which contracts see as the bundle and the list of its
+/// distinct labels.
+///
+/// It always keeps for each attribute of each level the column of the numbers of its items' labels, where
+/// the number of a label is its place in the list, and for each SEGMENT and EVENT level the columns of its
+/// items' first and last samples.
+#[derive(Drop)]
+pub struct Indexed {
+    bundle: Bundle,
+    labels: LabelSet,
+    columns: Series<LevelColumns>,
+}
+
+impl Model for Indexed {
+    ghost use Rattle.bundle_index.specs.Index.{IndexParts};
+
+    ghost Value = { IndexParts };
+
+    ghost use Rattle.bundle_index.specs.Columns.{AreColumnsFor};
+
+    ghost view = { λ x. record { bundle = x.bundle; labels = x.labels } };
+
+    ghost invariant = { λ x. AreColumnsFor x.labels x.bundle.levels x.columns };
+}
+
+impl Indexed {
+    /// The bundle with its columns. The only refusal is want of memory, or of a number for a label:
+    /// there are numbers for 4,294,967,295 labels.
+    pub fn new(alloc: Global, bundle: Bundle) -> Result<Indexed, Memory>
+        ensures { IfOk result (λ made. made.bundle ≡ bundle) }
+    {
+        let mut labels = LabelSet::new(alloc);
+        let columns = all_columns(alloc, &bundle, &mut labels)?;
+        Ok(Indexed {
+            bundle,
+            labels,
+            columns,
+        })
+    }
+
+    /// The bundle.
+    pub fn bundle(&self) -> &Bundle
+        ensures { result.now ≡ self.now.bundle }
+    {
+        &self.bundle
+    }
+
+    /// The place of a label in the list of labels, `None` exactly where it is not there. Whoever asks may
+    /// rely on it that the labels are distinct.
+    pub fn label_number(&self, label: &str) -> Option<u32>
+        ensures number { result ≡ position (bytes_eq label.now) self.now.labels }
+        ensures rule { AreNumbered self.now.labels }
+    {
+        self.labels.find(label)
+    }
+
+    /// The numbers of the items' labels for an attribute of a level, one for each item in order.
+    pub fn column(&self, level: usize, attribute: usize) -> &[u32]
+        requires level { level < length self.now.bundle.levels }
+        requires attribute { attribute < attributes_on self.now.bundle level }
+        ensures { IsColumnOf self.now.labels result.now
+            (map (label_at attribute) (items_on self.now.bundle level)) }
+    {
+        let labels = &self.columns.get(level).labels;
+        if attribute < labels.len() {
+            labels.get(attribute).as_slice()
+        } else {
+            &[]
+        }
+    }
+
+    /// The first samples of the items of a SEGMENT or EVENT level, in order.
+    pub fn starts(&self, level: usize) -> &[u64]
+        requires level { level < length self.now.bundle.levels }
+        requires timed { IsTimed self.now.bundle level }
+        ensures { result.now ≡ starts_of (items_on self.now.bundle level) }
+    {
+        self.columns.get(level).starts.as_slice()
+    }
+
+    /// The last samples of the items of a SEGMENT or EVENT level, in order.
+    pub fn ends(&self, level: usize) -> &[u64]
+        requires level { level < length self.now.bundle.levels }
+        requires timed { IsTimed self.now.bundle level }
+        ensures { result.now ≡ ends_of (items_on self.now.bundle level) }
+    {
+        self.columns.get(level).ends.as_slice()
+    }
+
+    /// For each item of a level, in order, whether this is its label for an attribute. The only refusal is
+    /// want of memory.
+    pub fn label_bits(
+        &self,
+        alloc: Global,
+        level: usize,
+        attribute: usize,
+        label: &str,
+    ) -> Result<BitRow, Memory>
+        requires level { level < length self.now.bundle.levels }
+        requires attribute { attribute < attributes_on self.now.bundle level }
+        ensures { IfOk result (λ row.
+            row ≡ map (has_label attribute label.now) (items_on self.now.bundle level)) }
+    {
+        let column = self.column(level, attribute);
+        match self.labels.find(label) {
+            Some(number) => row_of_number(alloc, column, number),
+            None => row_of(alloc, column.len()),
+        }
+    }
+
+    /// For each item of a SEGMENT or EVENT level, in order, whether it starts or lies from sample `low` to
+    /// sample `high`. The only refusal is want of memory.
+    pub fn within(&self, alloc: Global, level: usize, low: u64, high: u64) -> Result<BitRow, Memory>
+        requires level { level < length self.now.bundle.levels }
+        requires timed { IsTimed self.now.bundle level }
+        ensures { IfOk result (λ row.
+            row ≡ map (starts_within low high) (items_on self.now.bundle level)) }
+    {
+        row_of_range(alloc, self.starts(level), low, high)
+    }
+}
+
+/// The columns of all levels. The only refusal is want of memory, or of a number for a label.
+fn all_columns(
+    alloc: Global,
+    bundle: &Bundle,
+    labels: &mut LabelSet,
+) -> Result<Series<LevelColumns>, Memory>
+    ensures { IfOk result (λ all. AreColumnsFor labels.new bundle.now.levels all) }
+{
+    let mut all = Series::new(alloc);
+    for level in 0..bundle.level_count() {
+        let columns = columns_of(alloc, bundle.level(level), labels)?;
+        all.push(columns)?;
+    }
+    Ok(all)
+}
+
+/// A row of bits, none of which is set. The only refusal is want of memory.
+fn row_of(alloc: Global, len: usize) -> Result<BitRow, Memory>
+    ensures { IfOk result (λ row. row ≡ replicate len false) }
+{
+    match BitRow::new(alloc, len) {
+        Ok(row) => Ok(row),
+        Err(_) => Err(Memory),
+    }
+}
+
+/// Which numbers of the column are this one. The only refusal is want of memory.
+fn row_of_number(alloc: Global, column: &[u32], number: u32) -> Result<BitRow, Memory>
+    ensures { IfOk result (λ row. row ≡ map (λ x. x == number) column.now) }
+{
+    let mut row = row_of(alloc, column.len())?;
+    eq_lanes(column, number, &mut row);
+    Ok(row)
+}
+
+/// Which numbers of the column are from `low` to `high`. The only refusal is want of memory.
+fn row_of_range(alloc: Global, column: &[u64], low: u64, high: u64) -> Result<BitRow, Memory>
+    ensures { IfOk result (λ row. row ≡ map (is_between low high) column.now) }
+{
+    let mut row = row_of(alloc, column.len())?;
+    range_lanes(column, low, high, &mut row);
+    Ok(row)
+}

@@ -1,0 +1,8 @@
+//! Bundles with their labels and times in columns, which answer questions on a whole level at once.
+#![tactic(auto)]
+
+mod columns;
+mod indexed;
+mod labels;
+
+pub use indexed::Indexed;
