@@ -1,0 +1,9 @@
+pub mod Shown
+pub mod Plain
+pub mod ReadBack
+pub mod Fits
+pub mod Again
+pub mod RulesAgain
+pub mod LinksAgain
+pub mod Built
+pub mod Remade

@@ -1,2 +1,5 @@
 pub mod Forms
 pub mod Read
+pub mod Given
+pub mod Texts
+pub mod Laws

@@ -1,6 +1,6 @@
 -- The annotation of a JSON value (EMU-SDMS Manual, "The emuDB format": `_annot.json`), or its first
 -- fault: the members are read in the order below.
-use Rattle.std.specs.Prelude.{ℕ, List, Result, Ok, codes}
+use Rattle.std.specs.Prelude.{List, Result, Ok, codes}
 use Rattle.json_view.specs.declared.faults.Shape.{Shape}
 use Rattle.json_view.specs.Seen.{Seen}
 use Rattle.json_view.specs.Parts.{object_of, optional_of}
