@@ -1,5 +1,5 @@
 -- The columns of all levels, and rows that are asked of them.
-use Rattle.std.proofs.Common.{◌≡◌, ◌<◌, ◌≤◌, ◌+◌, ◌==◌, ◌⊎◌, inl, inr, ℕ, zero, suc, Bool, true, false, cond, nat_lt, List, [], ◌∷◌, ◌++◌, length, map, replicate, get_or, slice_get, Option, Some, None, Result, Ok, Err, IfOk, refl, sym, ap, subst, ◌∙◌, arith}
+use Rattle.std.proofs.Common.{◌≡◌, ◌<◌, ◌≤◌, ◌+◌, ◌==◌, ◌⊎◌, inl, inr, ℕ, zero, suc, Bool, true, false, cond, nat_lt, List, [], ◌∷◌, ◌++◌, length, map, replicate, get_or, slice_get, Option, Some, None, Result, Ok, Err, IfOk, refl, sym, ap, subst, ◌∙◌, arith, true≢false}
 use Rattle.std.proofs.lemmas.Bool.{cases_lt}
 use Rattle.std.proofs.lemmas.Bool.Decides.{nat_tests, Decides-eqb, same_from_decides}
 use Rattle.std.proofs.lemmas.List.{length-append, get_or_at, get_or_append_left}
@@ -16,8 +16,8 @@ use Rattle.level_items.specs.Levels.{Level}
 use Rattle.bundle_index.specs.declared.columns.LevelColumns.{LevelColumns}
 use Rattle.bundle_index.specs.Numbered.{AreNumbered, HasGrown, IsColumnOf}
 use Rattle.bundle_index.specs.Index.{IndexParts, IsTimed, attributes_on, has_label, items_on, label_at, starts_within}
-use Rattle.bundle_index.specs.Columns.{AreColumnsOf, AreColumnsFor, starts_of, ends_of}
-use Rattle.bundle_index.proofs.Steps.{column_stays}
+use Rattle.bundle_index.specs.Columns.{AreColumnsBut, AreColumnsOf, AreColumnsFor, AreOtherwiseSame, starts_of, ends_of}
+use Rattle.bundle_index.proofs.Steps.{column_stays, grown_twice}
 
 -- ---- the columns of the levels, one level after another
 
@@ -27,7 +27,7 @@ pub record AreFilled (numbered : List (List ℕ)) (levels : List Level) (k : ℕ
   pub each : (j : ℕ) (level : Level) (columns : LevelColumns) →
       slice_get levels j ≡ Some level → slice_get all j ≡ Some columns → AreColumnsOf numbered level columns
 
-columns_stay : (now new : List (List ℕ)) (level : Level) (columns : LevelColumns) → HasGrown now new →
+pub columns_stay : (now new : List (List ℕ)) (level : Level) (columns : LevelColumns) → HasGrown now new →
     AreColumnsOf now level columns → AreColumnsOf new level columns
 columns_stay now new level columns grown are = record {
   labels = λ attribute below.
@@ -185,3 +185,48 @@ range_is low high (i ∷ items) = ap (λ (bits : List Bool). starts_within low h
 pub labels_seen : (x y : IndexParts) (column : List ℕ) (labels : List (List ℕ)) → x ≡ y → IsColumnOf y.labels column labels →
     IsColumnOf x.labels column labels
 labels_seen x y column labels shown is = subst (λ (i : IndexParts). IsColumnOf i.labels column labels) (sym shown) is
+
+-- ---- one level changed
+
+-- the columns of the first k levels, and the labels that they were begun with
+pub record AreChangedSoFar (first now : List (List ℕ)) (levels : List Level) (k : ℕ) (all : List LevelColumns) : Type 0 where
+  pub grown : HasGrown first now
+  pub filled : AreFilled now levels k all
+
+pub none_changed : (first : List (List ℕ)) (levels : List Level) → AreChangedSoFar first first levels 0 []
+none_changed first levels = record { grown = record { kept = λ i l at. at }; filled = none_filled first levels }
+
+pub changed_more : (first now new : List (List ℕ)) (levels : List Level) (k : ℕ) (all : List LevelColumns) (level : Level)
+    (columns : LevelColumns) → AreChangedSoFar first now levels k all → HasGrown now new → slice_get levels k ≡ Some level →
+    AreColumnsOf new level columns → AreChangedSoFar first new levels (k + 1) (all ++ columns ∷ [])
+changed_more first now new levels k all level columns so grown at are = record {
+  grown = grown_twice first now new so.grown grown;
+  filled = filled_more now new levels k all level columns so.filled grown at are;
+}
+
+-- what is kept of a level that has not changed
+pub still : (first now : List (List ℕ)) (levels : List Level) (changed k : ℕ) (old : List LevelColumns) (level : Level)
+    (columns : LevelColumns) (anew : Bool) → AreColumnsBut first levels changed old → HasGrown first now →
+    anew ≡ (k == changed) → slice_get levels k ≡ Some level → slice_get old k ≡ Some columns →
+    anew ≡ false → AreColumnsOf now level columns
+still first now levels changed k old level columns anew are grown is at-level at-columns unchanged =
+    columns_stay first now level columns grown
+    (are.each k level columns
+    (λ same. true≢false (sym ((Decides-eqb k changed).1 same) ∙ sym is ∙ unchanged)) at-level at-columns)
+
+pub others_same : (x y : IndexParts) (all : List LevelColumns) (levels : List Level) (changed : ℕ) (labels : List (List ℕ)) →
+    x ≡ y → AreColumnsFor x.labels x.bundle.levels all → AreOtherwiseSame y.bundle.levels levels changed →
+    labels ≡ x.labels → AreColumnsBut labels levels changed all
+others_same x y all levels changed labels shown are others is = record {
+  each = λ k level columns other at-level at-columns.
+      subst (λ (ls : List (List ℕ)). AreColumnsOf ls level columns) (sym is)
+      (are.each k level columns
+      (subst (λ (i : IndexParts). slice_get i.bundle.levels k ≡ Some level) (sym shown)
+      (sym (others.same k other) ∙ at-level)) at-columns);
+}
+
+pub others_count : (x y : IndexParts) (all : List LevelColumns) (levels : List Level) (changed : ℕ) →
+    x ≡ y → AreColumnsFor x.labels x.bundle.levels all → AreOtherwiseSame y.bundle.levels levels changed →
+    length all ≡ length levels
+others_count x y all levels changed shown are others =
+    are.count ∙ ap (λ (i : IndexParts). length i.bundle.levels) shown ∙ sym others.count

@@ -5,7 +5,7 @@ use Rattle.std.proofs.lemmas.Map.Keys.{apart_from_distinct}
 use Rattle.std.proofs.lemmas.List.Quantifiers.{position-Some}
 use Rattle.std.proofs.lemmas.Slice.Eq.{bytes_eq-Decides}
 use Rattle.std.proofs.lemmas.Option.{slice_get_within, slice_get-map, get_or_from_slice_get, slice_get-get_or}
-use Rattle.std.specs.List.{IsDistinct, list_any, position, position_or_len}
+use Rattle.std.specs.List.{AllZip, IsDistinct, list_any, position, position_or_len}
 use Rattle.std.specs.Option.{option_map}
 use Rattle.std.specs.Str.{bytes_eq}
 use Rattle.indexmap.specs.IndexSet.{insert_key}
@@ -87,3 +87,14 @@ pub label_found : (seen : List (List ℕ)) (l : List ℕ) (i : ℕ) → Some i �
 label_found seen l i at =
     let there = position-Some (bytes_eq l) seen i [] (sym at) in
     slice_get-get_or seen i [] there.0 ∙ ap Some (sym ((bytes_eq-Decides l (get_or seen i [])).0 there.1))
+
+-- clones have the same labels
+pub clones_seen : {K : Type 0} (v : K → List ℕ) (old new : List K) → AllZip (λ x y. v y ≡ v x) old new →
+    map v new ≡ map v old
+clones_seen v [] [] zip = refl
+clones_seen v [] (y ∷ ys) zip = absurd zip
+clones_seen v (x ∷ xs) [] zip = absurd zip
+clones_seen v (x ∷ xs) (y ∷ ys) zip =
+    let rest : map v ys ≡ map v xs = clones_seen v xs ys zip.1 in
+    let first : v y ≡ v x = zip.0 in
+    cc

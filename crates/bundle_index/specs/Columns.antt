@@ -6,7 +6,7 @@ use Rattle.level_items.specs.declared.items.Item.{Item}
 use Rattle.level_items.specs.Levels.{Level}
 use Rattle.level_items.specs.Times.{first_sample, last_sample}
 use Rattle.bundle_index.specs.declared.columns.LevelColumns.{LevelColumns}
-use Rattle.bundle_index.specs.Numbered.{AreNumbered, IsColumnOf}
+use Rattle.bundle_index.specs.Numbered.{IsColumnOf}
 use Rattle.bundle_index.specs.Index.{label_at}
 
 -- the first samples of the items, in order
@@ -30,13 +30,20 @@ pub record AreColumnsOf (numbered : List (List ℕ)) (level : Level) (columns : 
   pub starts : level.kind ≢ kinds.Item → columns.starts ≡ starts_of level.items
   pub ends : level.kind ≢ kinds.Item → columns.ends ≡ ends_of level.items
 
+-- the columns of each level but one are those of the level
+pub record AreColumnsBut (numbered : List (List ℕ)) (levels : List Level) (changed : ℕ) (all : List LevelColumns) : Type 0 where
+  pub each : (k : ℕ) (level : Level) (columns : LevelColumns) → k ≢ changed →
+      slice_get levels k ≡ Some level → slice_get all k ≡ Some columns →
+      AreColumnsOf numbered level columns
+
+-- there are as many levels as before, and each but one is as it was
+pub record AreOtherwiseSame (old new : List Level) (changed : ℕ) : Type 0 where
+  pub count : length new ≡ length old
+  pub same : (k : ℕ) → k ≢ changed → slice_get new k ≡ slice_get old k
+
 -- there are columns for each level, and they are those of the level
 pub record AreColumnsFor (numbered : List (List ℕ)) (levels : List Level) (all : List LevelColumns) : Type 0 where
   pub count : length all ≡ length levels
   pub each : (k : ℕ) (level : Level) (columns : LevelColumns) →
-      slice_get levels k ≡ Some level → slice_get all k ≡ Some columns → AreColumnsOf numbered level columns
-
--- what an indexed bundle keeps: numbered labels, and the columns of its levels
-pub record IsIndexed (numbered : List (List ℕ)) (levels : List Level) (all : List LevelColumns) : Type 0 where
-  pub numbers : AreNumbered numbered
-  pub columns : AreColumnsFor numbered levels all
+      slice_get levels k ≡ Some level → slice_get all k ≡ Some columns →
+      AreColumnsOf numbered level columns

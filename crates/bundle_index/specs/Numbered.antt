@@ -4,7 +4,8 @@ use Rattle.std.specs.List.{slice_get}
 
 -- the labels are distinct, and few enough that each place is a number of 32 bits
 pub record AreNumbered (labels : List (List ℕ)) : Type 0 where
-  pub apart : (i j : ℕ) (l : List ℕ) → slice_get labels i ≡ Some l → slice_get labels j ≡ Some l → i ≡ j
+  pub apart : (i j : ℕ) (l : List ℕ) →
+      slice_get labels i ≡ Some l → slice_get labels j ≡ Some l → i ≡ j
   pub few : length labels < 2 ^ 32
 
 -- each label that stood in the list stands at the same place

@@ -137,8 +137,10 @@ fn with_times(
 ) -> Result<LevelColumns, Memory>
     requires { All (λ i. IsTrue (ends_in_time i.time)) items.now }
     ensures labels { IfOk result (λ columns. columns.labels ≡ labels) }
-    ensures starts { IfOk result (λ columns. columns.starts ≡ if_timed items.now (starts_of items.now)) }
-    ensures ends { IfOk result (λ columns. columns.ends ≡ if_timed items.now (ends_of items.now)) }
+    ensures starts { IfOk result (λ columns.
+        columns.starts ≡ if_timed items.now (starts_of items.now)) }
+    ensures ends { IfOk result (λ columns.
+        columns.ends ≡ if_timed items.now (ends_of items.now)) }
 {
     if !have_times(items) {
         return Ok(LevelColumns {

@@ -4,16 +4,19 @@ ghost use Rattle.std.specs.Str.{bytes_eq};
 ghost use Rattle.lane_bits.specs.Row.{is_between};
 ghost use Rattle.bundle_index.specs.Numbered.{AreNumbered, IsColumnOf};
 ghost use Rattle.bundle_index.specs.Index.{IsTimed, attributes_on, has_label, items_on, label_at, starts_within};
-ghost use Rattle.bundle_index.specs.Columns.{AreColumnsFor, ends_of, starts_of};
+ghost use Rattle.bundle_index.specs.Columns.{AreColumnsBut, AreColumnsFor, AreOtherwiseSame, ends_of, starts_of};
 
-use crate::columns::{LevelColumns, columns_of};
 use crate::labels::LabelSet;
+use crate::shared::SharedColumns;
 use bundle_state::Bundle;
 use emu_lists::Series;
 use emu_names::Memory;
 use lane_bits::{BitRow, eq_lanes, range_lanes};
 use std::alloc::Global;
 use std::marker::Model;
+
+/// The most labels that are kept when a level changes.
+const KEPT_LABELS: usize = 4_194_304;
 
 /// A bundle with its labels and times in columns, which contracts see as the bundle and the list of its
 /// distinct labels.
@@ -25,7 +28,7 @@ use std::marker::Model;
 pub struct Indexed {
     bundle: Bundle,
     labels: LabelSet,
-    columns: Series<LevelColumns>,
+    columns: Series<SharedColumns>,
 }
 
 impl Model for Indexed {
@@ -48,6 +51,28 @@ impl Indexed {
     {
         let mut labels = LabelSet::new(alloc);
         let columns = all_columns(alloc, &bundle, &mut labels)?;
+        Ok(Indexed {
+            bundle,
+            labels,
+            columns,
+        })
+    }
+
+    /// The bundle, whose levels are those of this one but for one level, with its columns. The columns of
+    /// that level are made anew, and all others are shared. The only refusal is want of memory, or of a
+    /// number for a label.
+    ///
+    /// The labels of this one keep their numbers, unless there are more than 4,194,304 labels then, many
+    /// of which no item may have any longer: all columns are made anew in that case.
+    pub fn changed(&self, alloc: Global, bundle: Bundle, level: usize) -> Result<Indexed, Memory>
+        requires { AreOtherwiseSame self.now.bundle.levels bundle.levels level }
+        ensures { IfOk result (λ made. made.bundle ≡ bundle) }
+    {
+        let mut labels = self.labels.copy()?;
+        let columns = changed_columns(alloc, &self.columns, &bundle, level, &mut labels)?;
+        if labels.len() > KEPT_LABELS {
+            return Indexed::new(alloc, bundle);
+        }
         Ok(Indexed {
             bundle,
             labels,
@@ -78,7 +103,7 @@ impl Indexed {
         ensures { IsColumnOf self.now.labels result.now
             (map (label_at attribute) (items_on self.now.bundle level)) }
     {
-        let labels = &self.columns.get(level).labels;
+        let labels = &self.columns.get(level).as_ref().labels;
         if attribute < labels.len() {
             labels.get(attribute).as_slice()
         } else {
@@ -92,7 +117,7 @@ impl Indexed {
         requires timed { IsTimed self.now.bundle level }
         ensures { result.now ≡ starts_of (items_on self.now.bundle level) }
     {
-        self.columns.get(level).starts.as_slice()
+        self.columns.get(level).as_ref().starts.as_slice()
     }
 
     /// The last samples of the items of a SEGMENT or EVENT level, in order.
@@ -101,7 +126,7 @@ impl Indexed {
         requires timed { IsTimed self.now.bundle level }
         ensures { result.now ≡ ends_of (items_on self.now.bundle level) }
     {
-        self.columns.get(level).ends.as_slice()
+        self.columns.get(level).as_ref().ends.as_slice()
     }
 
     /// For each item of a level, in order, whether this is its label for an attribute. The only refusal is
@@ -142,12 +167,36 @@ fn all_columns(
     alloc: Global,
     bundle: &Bundle,
     labels: &mut LabelSet,
-) -> Result<Series<LevelColumns>, Memory>
+) -> Result<Series<SharedColumns>, Memory>
     ensures { IfOk result (λ all. AreColumnsFor labels.new bundle.now.levels all) }
 {
     let mut all = Series::new(alloc);
     for level in 0..bundle.level_count() {
-        let columns = columns_of(alloc, bundle.level(level), labels)?;
+        let columns = SharedColumns::of_level(alloc, bundle.level(level), labels)?;
+        all.push(columns)?;
+    }
+    Ok(all)
+}
+
+/// The columns of all levels: those of one level made anew, all others shared. The only refusal is want of
+/// memory, or of a number for a label.
+fn changed_columns(
+    alloc: Global,
+    old: &Series<SharedColumns>,
+    bundle: &Bundle,
+    changed: usize,
+    labels: &mut LabelSet,
+) -> Result<Series<SharedColumns>, Memory>
+    requires count { length old.now ≡ length bundle.now.levels }
+    requires same { AreColumnsBut labels.old bundle.now.levels changed old.now }
+    ensures { IfOk result (λ all. AreColumnsFor labels.new bundle.now.levels all) }
+{
+    let mut all = Series::new(alloc);
+    for level in 0..bundle.level_count() {
+        let anew = level == changed;
+        let columns = old
+            .get(level)
+            .anew_or_same(alloc, bundle.level(level), anew, labels)?;
         all.push(columns)?;
     }
     Ok(all)

@@ -1,5 +1,5 @@
 //! The distinct labels of a bundle, each with its number.
-ghost use Rattle.std.specs.Prelude.{◌≡◌, [], IfOk, OnOk, position, slice_get, Some};
+ghost use Rattle.std.specs.Prelude.{◌≡◌, [], IfOk, OnOk, length, position, slice_get, Some};
 ghost use Rattle.std.specs.Str.{bytes_eq};
 ghost use Rattle.bundle_index.specs.Numbered.{AreNumbered, HasGrown};
 
@@ -47,6 +47,21 @@ impl LabelSet {
             Some(place) => Some(place as u32),
             None => None,
         }
+    }
+
+    /// How many labels there are.
+    pub fn len(&self) -> usize
+        ensures { result ≡ length self.now }
+    {
+        self.set.len()
+    }
+
+    /// The same labels with the same numbers. The only refusal is want of memory.
+    pub fn copy(&self) -> Result<LabelSet, Memory>
+        ensures { IfOk result (λ made. made ≡ self.now) }
+    {
+        let set = self.set.clone()?;
+        Ok(LabelSet { set })
     }
 
     /// The number of a label, which is put last where it is not in the list. The only refusal is want

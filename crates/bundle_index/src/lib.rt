@@ -4,5 +4,6 @@
 mod columns;
 mod indexed;
 mod labels;
+mod shared;
 
 pub use indexed::Indexed;

@@ -4,7 +4,7 @@ use Rattle.bundle_index.proofs.indexed.all_columns.Goals as goal
 
 pub loop-level-preserved : goal.loop-level-preserved
 loop-level-preserved c =
-    rw c.in_ok-push.ensures.ok (filled_more c.loop-level.labels c.columns_of.new.labels c.args.bundle.now.levels
+    rw c.in_ok-push.ensures.ok (filled_more c.loop-level.labels c.of_level.new.labels c.args.bundle.now.levels
     c.loop-level.level c.loop-level.all c.level.result.now c.in_ok-columns.columns c.loop-level.invariant
     c.in_ok-columns.ensures.grown c.level.ensures.level c.in_ok-columns.ensures.columns)
 

@@ -1,0 +1,88 @@
+//! The columns of a level as indexed bundles share them, where that level has not changed.
+ghost use Rattle.std.specs.Prelude.{◌≡◌, IfOk, OnOk, false};
+ghost use Rattle.level_items.specs.Levels.{KeepsLevelRule};
+ghost use Rattle.bundle_index.specs.Numbered.{HasGrown};
+ghost use Rattle.bundle_index.specs.Columns.{AreColumnsOf};
+
+use crate::columns::{LevelColumns, columns_of};
+use crate::labels::LabelSet;
+use emu_names::Memory;
+use level_items::LevelList;
+use std::alloc::Global;
+use std::marker::Model;
+use std::sync::Arc;
+
+/// The columns of a level, which are kept as long as they have an owner, on whatever thread. Contracts see
+/// the columns themselves.
+#[derive(Drop)]
+pub struct SharedColumns {
+    inside: Arc<LevelColumns>,
+}
+
+impl Model for SharedColumns {
+    ghost use Rattle.bundle_index.specs.declared.columns.LevelColumns.{LevelColumns};
+
+    ghost Value = { LevelColumns };
+
+    ghost view = { λ s. s.inside.value };
+}
+
+impl SharedColumns {
+    /// These columns, with one owner. The only refusal is want of memory.
+    fn new(alloc: Global, columns: LevelColumns) -> Result<SharedColumns, Memory>
+        ensures { IfOk result (λ made. made ≡ columns) }
+    {
+        let inside = Arc::new(alloc, columns)?;
+        Ok(SharedColumns { inside })
+    }
+
+    /// The columns of a level. The only refusal is want of memory, or of a number for a label.
+    pub fn of_level(
+        alloc: Global,
+        level: &LevelList,
+        labels: &mut LabelSet,
+    ) -> Result<SharedColumns, Memory>
+        requires { KeepsLevelRule level.now }
+        ensures columns { IfOk result (λ columns. AreColumnsOf labels.new level.now columns) }
+        ensures grown { OnOk result (HasGrown labels.old labels.new) }
+    {
+        let columns = columns_of(alloc, level, labels)?;
+        SharedColumns::new(alloc, columns)
+    }
+
+    /// The columns.
+    pub fn as_ref(&self) -> &LevelColumns
+        ensures { result.now ≡ self.now }
+    {
+        self.inside.as_ref()
+    }
+
+    /// The same columns, with one owner more. The only refusal is want of memory.
+    fn copy(&self) -> Result<SharedColumns, Memory>
+        ensures { IfOk result (λ made. made ≡ self.now) }
+    {
+        let inside = self.inside.clone()?;
+        Ok(SharedColumns { inside })
+    }
+
+    /// The columns of a level: made anew where that is asked for, else these. The only refusal is want of
+    /// memory, or of a number for a label.
+    pub fn anew_or_same(
+        &self,
+        alloc: Global,
+        level: &LevelList,
+        anew: bool,
+        labels: &mut LabelSet,
+    ) -> Result<SharedColumns, Memory>
+        requires rule { KeepsLevelRule level.now }
+        requires same { anew ≡ false → AreColumnsOf labels.old level.now self.now }
+        ensures columns { IfOk result (λ columns. AreColumnsOf labels.new level.now columns) }
+        ensures grown { OnOk result (HasGrown labels.old labels.new) }
+    {
+        if anew {
+            SharedColumns::of_level(alloc, level, labels)
+        } else {
+            self.copy()
+        }
+    }
+}
