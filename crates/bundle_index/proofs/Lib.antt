@@ -1,3 +1,4 @@
+pub mod Callers
 pub mod Numbers
 pub mod Steps
 pub mod Facts
