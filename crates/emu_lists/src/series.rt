@@ -1,5 +1,5 @@
 //! A list that grows at its end, and that contracts see as the list of its elements.
-ghost use Rattle.std.specs.Prelude.{◌≡◌, ◌<◌, ◌≤◌, ◌==◌, ℕ, List, [], ◌∷◌, ◌++◌, length, IfOk, OnOk, OnErr, slice_get, take, insert, Some};
+ghost use Rattle.std.specs.Prelude.{◌≡◌, ◌<◌, ◌≤◌, ◌==◌, ℕ, List, [], ◌∷◌, ◌++◌, length, IfOk, OnOk, OnErr, slice_get, slice_set, take, insert, remove, Some};
 
 use crate::plain::PlainData;
 use emu_names::Memory;
@@ -86,6 +86,23 @@ impl<T: Drop> Series<T> {
     {
         self.items.insert(place, item)?;
         Ok(())
+    }
+
+    /// Puts an element in the place of the one that stands there, which goes.
+    pub fn set(&mut self, place: usize, item: T)
+        requires { place < length self.old }
+        ensures { self.new ≡ slice_set self.old place item }
+    {
+        self.items[place] = item;
+    }
+
+    /// Takes an element out; those behind it move up.
+    pub fn remove(&mut self, place: usize) -> T
+        requires { place < length self.old }
+        ensures item { slice_get self.old place ≡ Some result }
+        ensures left { self.new ≡ remove self.old place }
+    {
+        self.items.remove(place)
     }
 
     /// Lets all elements but the first `len` go.
