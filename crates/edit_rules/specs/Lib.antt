@@ -1,0 +1,5 @@
+pub mod Edits
+pub mod Database
+pub mod Changes
+pub mod Effects
+pub mod Kept

@@ -1,0 +1,262 @@
+//! The edits of a database, and the entries of its history.
+ghost use Rattle.std.specs.Prelude.{◌≡◌, IfOk};
+ghost use Rattle.edit_rules.specs.Edits.{key_of};
+
+use emu_lists::{PlainData, Series};
+use emu_names::{BundleKey, ItemId, Memory, SessionNo, Text};
+use level_items::{Annot, AnnotItem};
+use std::alloc::Global;
+
+/// A change of the database. Samples and durations count in samples of the bundle's rate, from 0.
+#[derive(Drop)]
+pub enum Edit {
+    /// Adds the bundle that an annotation makes.
+    AddBundle {
+        /// The bundle's session and name.
+        key: BundleKey,
+        /// Its annotation.
+        annot: Annot,
+    },
+    /// Takes a bundle out.
+    DropBundle {
+        /// The bundle's session and name.
+        key: BundleKey,
+    },
+    /// Puts an item on a level.
+    AddItem {
+        /// The bundle's session and name.
+        key: BundleKey,
+        /// The level's name.
+        level: Text,
+        /// The item's position on an ITEM level, or none for the end; none on the other levels, where the
+        /// time gives the place.
+        position: Option<u32>,
+        /// The item, with the labels that are not empty.
+        item: AnnotItem,
+    },
+    /// Takes an item out, with all its links.
+    RemoveItem {
+        /// The bundle's session and name.
+        key: BundleKey,
+        /// The item's id.
+        id: ItemId,
+    },
+    /// Gives an item another label.
+    SetLabel {
+        /// The bundle's session and name.
+        key: BundleKey,
+        /// The item's id.
+        id: ItemId,
+        /// The name of the attribute.
+        attribute: Text,
+        /// The label.
+        label: Text,
+    },
+    /// Gives a segment another time.
+    SetSegment {
+        /// The bundle's session and name.
+        key: BundleKey,
+        /// The item's id.
+        id: ItemId,
+        /// The first sample.
+        start: u64,
+        /// How many samples follow the first one.
+        dur: u64,
+    },
+    /// Moves the boundary between a segment and the one that follows it at once.
+    MoveBoundary {
+        /// The bundle's session and name.
+        key: BundleKey,
+        /// The id of the segment before the boundary.
+        id: ItemId,
+        /// The first sample of the segment behind it.
+        start: u64,
+    },
+    /// Gives a point another time.
+    SetPoint {
+        /// The bundle's session and name.
+        key: BundleKey,
+        /// The item's id.
+        id: ItemId,
+        /// The sample.
+        at: u64,
+    },
+    /// Cuts a segment in two.
+    Split {
+        /// The bundle's session and name.
+        key: BundleKey,
+        /// The segment's id, which its first part keeps.
+        id: ItemId,
+        /// The id of its second part.
+        new_id: ItemId,
+        /// The first sample of the second part.
+        start: u64,
+    },
+    /// Joins a segment with the one that follows it at once, which goes with its links.
+    Merge {
+        /// The bundle's session and name.
+        key: BundleKey,
+        /// The id of the first segment, which stays.
+        id: ItemId,
+    },
+    /// Links an item to one of a level below.
+    AddLink {
+        /// The bundle's session and name.
+        key: BundleKey,
+        /// The id of the upper item.
+        from: ItemId,
+        /// The id of the lower item.
+        to: ItemId,
+    },
+    /// Takes a link out.
+    RemoveLink {
+        /// The bundle's session and name.
+        key: BundleKey,
+        /// The id of the upper item.
+        from: ItemId,
+        /// The id of the lower item.
+        to: ItemId,
+    },
+}
+
+/// An edit that was accepted, with the session and the line of the script that it came from.
+#[derive(Drop)]
+pub struct Entry {
+    /// The session; 0 stands for a command of the program.
+    pub session: SessionNo,
+    /// The line, counted from 1; 0 where there is none.
+    pub line: u32,
+    /// The edit.
+    pub edit: Edit,
+}
+
+/// A history: the accepted edits, in order.
+pub type Entries = Series<Entry>;
+
+impl Edit {
+    /// The session and the name of the bundle that the edit changes.
+    pub fn key(&self) -> &BundleKey
+        ensures { result.now ≡ key_of self.now }
+    {
+        match self {
+            Edit::AddBundle { key, .. }
+            | Edit::DropBundle { key }
+            | Edit::AddItem { key, .. }
+            | Edit::RemoveItem { key, .. }
+            | Edit::SetLabel { key, .. }
+            | Edit::SetSegment { key, .. }
+            | Edit::MoveBoundary { key, .. }
+            | Edit::SetPoint { key, .. }
+            | Edit::Split { key, .. }
+            | Edit::Merge { key, .. }
+            | Edit::AddLink { key, .. }
+            | Edit::RemoveLink { key, .. } => key,
+        }
+    }
+
+    /// The same edit again. The only refusal is want of memory.
+    pub fn copy(&self, alloc: Global) -> Result<Edit, Memory>
+        ensures { IfOk result (λ made. made ≡ self.now) }
+    {
+        let key = self.key().copy(alloc)?;
+        match self {
+            Edit::AddBundle { annot, .. } => {
+                let annot = annot.copy(alloc)?;
+                Ok(Edit::AddBundle { key, annot })
+            }
+            Edit::DropBundle { .. } => Ok(Edit::DropBundle { key }),
+            Edit::AddItem {
+                level,
+                position,
+                item,
+                ..
+            } => {
+                let level = level.copy(alloc)?;
+                let item = item.copy(alloc)?;
+                Ok(Edit::AddItem {
+                    key,
+                    level,
+                    position: *position,
+                    item,
+                })
+            }
+            Edit::SetLabel {
+                id,
+                attribute,
+                label,
+                ..
+            } => {
+                let attribute = attribute.copy(alloc)?;
+                let label = label.copy(alloc)?;
+                Ok(Edit::SetLabel {
+                    key,
+                    id: *id,
+                    attribute,
+                    label,
+                })
+            }
+            Edit::RemoveItem { id, .. } => Ok(Edit::RemoveItem { key, id: *id }),
+            Edit::SetSegment { id, start, dur, .. } => Ok(Edit::SetSegment {
+                key,
+                id: *id,
+                start: *start,
+                dur: *dur,
+            }),
+            Edit::MoveBoundary { id, start, .. } => Ok(Edit::MoveBoundary {
+                key,
+                id: *id,
+                start: *start,
+            }),
+            Edit::SetPoint { id, at, .. } => Ok(Edit::SetPoint {
+                key,
+                id: *id,
+                at: *at,
+            }),
+            Edit::Split {
+                id, new_id, start, ..
+            } => Ok(Edit::Split {
+                key,
+                id: *id,
+                new_id: *new_id,
+                start: *start,
+            }),
+            Edit::Merge { id, .. } => Ok(Edit::Merge { key, id: *id }),
+            Edit::AddLink { from, to, .. } => Ok(Edit::AddLink {
+                key,
+                from: *from,
+                to: *to,
+            }),
+            Edit::RemoveLink { from, to, .. } => Ok(Edit::RemoveLink {
+                key,
+                from: *from,
+                to: *to,
+            }),
+        }
+    }
+}
+
+impl Entry {
+    /// The same entry again. The only refusal is want of memory.
+    pub fn copy(&self, alloc: Global) -> Result<Entry, Memory>
+        ensures { IfOk result (λ made. made ≡ self.now) }
+    {
+        let edit = self.edit.copy(alloc)?;
+        Ok(Entry {
+            session: self.session,
+            line: self.line,
+            edit,
+        })
+    }
+}
+
+impl PlainData for Edit {
+    fn copy(&self, alloc: Global) -> Result<Edit, Memory> {
+        Edit::copy(self, alloc)
+    }
+}
+
+impl PlainData for Entry {
+    fn copy(&self, alloc: Global) -> Result<Entry, Memory> {
+        Entry::copy(self, alloc)
+    }
+}

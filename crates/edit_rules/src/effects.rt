@@ -1,0 +1,26 @@
+//! Edits that change a database.
+ghost use Rattle.std.specs.Prelude.{◌≡◌, Ok, IfErr, OnErr, OnOk, IfOk};
+ghost use Rattle.emu_names.specs.Gives.{FindsFault};
+ghost use Rattle.edit_rules.specs.Effects.{effect, rule_of, IsFirstFault};
+
+use crate::database::Database;
+use crate::edit::Edit;
+use emu_names::Fault;
+use std::alloc::Global;
+
+/// Whether an edit breaks no rule; else the rule that it breaks first, or want of memory.
+pub fn check(alloc: Global, database: &Database, edit: &Edit) -> Result<(), Fault>
+    ensures { FindsFault result (rule_of (effect database.now edit.now)) }
+{
+    Err(Fault::Memory)
+}
+
+/// Changes a database as an edit does, or names the rule that it breaks first. After a refusal, and
+/// after want of memory, the database is as before.
+pub fn apply(alloc: Global, database: &mut Database, edit: &Edit) -> Result<(), Fault>
+    ensures ok { OnOk result (effect database.old edit.now ≡ Ok database.new) }
+    ensures broken { IfErr result (λ fault. IsFirstFault fault (effect database.old edit.now)) }
+    ensures err { OnErr result (database.new ≡ database.old) }
+{
+    Err(Fault::Memory)
+}
