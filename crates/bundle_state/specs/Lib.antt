@@ -4,6 +4,7 @@ pub mod Faults
 pub mod Made
 pub mod Linked
 pub mod Built
+pub mod Changed
 pub mod Valid
 pub mod Rules
 pub mod Placed

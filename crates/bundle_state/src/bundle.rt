@@ -3,12 +3,15 @@
 //! A bundle keeps its levels, its link definitions, its links and the places of its ids by handles, which
 //! its copies share. Beside its levels it has a map from ids to levels, by which an item is found without
 //! a walk over all levels.
-ghost use Rattle.std.specs.Prelude.{◌≡◌, ◌<◌, length, IfOk, IfSome, Some};
+ghost use Rattle.std.specs.Prelude.{◌≡◌, ◌<◌, length, IfOk, IfSome, IsTrue, OnErr, OnOk, Some, Ok, Err};
 ghost use Rattle.std.specs.List.{slice_get};
+ghost use Rattle.emu_names.specs.declared.limits.TheConstants.{BUNDLE_ITEMS};
+ghost use Rattle.emu_names.specs.declared.rules.Broken.{Broken as Rule};
 ghost use Rattle.emu_names.specs.Gives.{GivesOrBroken};
-ghost use Rattle.level_items.specs.Levels.{KeepsLevelRule};
+ghost use Rattle.level_items.specs.Levels.{KeepsLevelRule, are_labels_for, is_short};
 ghost use Rattle.bundle_state.specs.Bundle.{item_count, level_of_id, place_of};
-ghost use Rattle.bundle_state.specs.Built.{built, bundle_of};
+ghost use Rattle.bundle_state.specs.Built.{built, bundle_of, FitsConfig};
+ghost use Rattle.bundle_state.specs.Changed.{attributes_with, item_added, item_removed, label_set, item_retimed, link_added, link_removed};
 ghost use Rattle.bundle_state.specs.Kept.{ArePlacesOf};
 ghost use Rattle.bundle_state.specs.Valid.{KeepsBundleRules};
 
@@ -19,7 +22,7 @@ use crate::places::{Places, places_of};
 use db_config::{Config, LinkDefs};
 use emu_lists::PlainData;
 use emu_names::{BundleKey, Fault, ItemId, Memory, Text};
-use level_items::{Annot, LevelList};
+use level_items::{Annot, Item, LevelList, Time};
 use link_graph::Links;
 use std::alloc::Global;
 use std::marker::Model;
@@ -207,6 +210,101 @@ impl Bundle {
         ensures within { IfSome result (λ level. level < length self.now.levels) }
     {
         self.places.as_ref().level_of(id)
+    }
+
+    /// Puts an item on a level, by the level's number: on an ITEM level at `position`, or last where none is
+    /// given; on the other kinds behind all items that begin before it.
+    ///
+    /// Refused are, in this order: an id that an item of any level has (`IdTaken`), a time of another form
+    /// than the level's (`TimeKind`), one that ends past sample 2^40 - 1 (`TimeOut`), a position past the end
+    /// of an ITEM level or any position on another kind (`PositionOut`), and a time that does not lie between
+    /// those of its neighbours (`Overlap` on a SEGMENT level, `NotRising` on an EVENT level), with the id of
+    /// the previous item before that of the next. A refusal, or want of memory, changes nothing.
+    pub fn add_item(
+        &mut self,
+        _config: &Config,
+        level: usize,
+        position: Option<u32>,
+        item: Item,
+    ) -> Result<(), Fault>
+        requires fits { FitsConfig _config.now self.old }
+        requires level { level < length self.old.levels }
+        requires labels { IfSome (slice_get self.old.levels level)
+            (λ l. IsTrue (are_labels_for l.attributes item.labels)) }
+        requires room { item_count self.old.levels < BUNDLE_ITEMS }
+        ensures ok { OnOk result (item_added level position item self.old ≡ Ok self.new) }
+        ensures broken { (rule : Rule) → result ≡ Err (Fault.Broken rule)
+            → item_added level position item self.old ≡ Err rule }
+        ensures kept { OnErr result (self.new ≡ self.old) }
+    {
+        Err(Fault::Memory)
+    }
+
+    /// Takes an item from its level, and all links that name it. `NoItem` comes exactly where no item has the
+    /// id. A refusal, or want of memory, changes nothing.
+    pub fn remove_item(&mut self, id: ItemId) -> Result<(), Fault>
+        ensures ok { OnOk result (item_removed id self.old ≡ Ok self.new) }
+        ensures broken { (rule : Rule) → result ≡ Err (Fault.Broken rule)
+            → item_removed id self.old ≡ Err rule }
+        ensures kept { OnErr result (self.new ≡ self.old) }
+    {
+        Err(Fault::Memory)
+    }
+
+    /// Sets one label of an item, by the attribute's number on its level. `NoItem` comes exactly where no item
+    /// has the id. A refusal, or want of memory, changes nothing.
+    pub fn set_label(&mut self, id: ItemId, attribute: usize, label: Text) -> Result<(), Fault>
+        requires attribute { IfSome (attributes_with id.0 self.old.levels)
+            (λ count. attribute < count) }
+        requires label { IsTrue (is_short label) }
+        ensures ok { OnOk result (label_set id attribute label self.old ≡ Ok self.new) }
+        ensures broken { (rule : Rule) → result ≡ Err (Fault.Broken rule)
+            → label_set id attribute label self.old ≡ Err rule }
+        ensures kept { OnErr result (self.new ≡ self.old) }
+    {
+        Err(Fault::Memory)
+    }
+
+    /// Sets the time of an item, which keeps its place.
+    ///
+    /// Refused are, in this order: an id that no item has (`NoItem`), a time of another form than the level's
+    /// (`TimeKind`), one that ends past sample 2^40 - 1 (`TimeOut`), and one that does not lie between those of
+    /// the item's neighbours (`Overlap` on a SEGMENT level, `NotRising` on an EVENT level), with the id of the
+    /// previous item before that of the next. A refusal, or want of memory, changes nothing.
+    pub fn retime(&mut self, id: ItemId, time: Time) -> Result<(), Fault>
+        ensures ok { OnOk result (item_retimed id time self.old ≡ Ok self.new) }
+        ensures broken { (rule : Rule) → result ≡ Err (Fault.Broken rule)
+            → item_retimed id time self.old ≡ Err rule }
+        ensures kept { OnErr result (self.new ≡ self.old) }
+    {
+        Err(Fault::Memory)
+    }
+
+    /// Puts a link last, of the definition that leads from the level of the one item to that of the other.
+    ///
+    /// Refused are, in this order: an id that no item has (`NoItem`, of the upper item first), levels between
+    /// which no definition leads (`NoLinkDefinition`), a pair that is there (`LinkExists`), over 262,144 links
+    /// (`TooMany`), and a second parent (`OneParent`) or a second child (`OneChild`) against the definition's
+    /// kind. A refusal, or want of memory, changes nothing.
+    pub fn add_link(&mut self, config: &Config, from: ItemId, to: ItemId) -> Result<(), Fault>
+        requires { FitsConfig config.now self.old }
+        ensures ok { OnOk result (link_added from to self.old ≡ Ok self.new) }
+        ensures broken { (rule : Rule) → result ≡ Err (Fault.Broken rule)
+            → link_added from to self.old ≡ Err rule }
+        ensures kept { OnErr result (self.new ≡ self.old) }
+    {
+        Err(Fault::Memory)
+    }
+
+    /// Takes the link of a pair out; the links behind it move up. `NoLink` comes exactly where the pair is not
+    /// there. A refusal, or want of memory, changes nothing.
+    pub fn remove_link(&mut self, from: ItemId, to: ItemId) -> Result<(), Fault>
+        ensures ok { OnOk result (link_removed from to self.old ≡ Ok self.new) }
+        ensures broken { (rule : Rule) → result ≡ Err (Fault.Broken rule)
+            → link_removed from to self.old ≡ Err rule }
+        ensures kept { OnErr result (self.new ≡ self.old) }
+    {
+        Err(Fault::Memory)
     }
 
     /// The same bundle again, which shares its levels and links. The only refusal is want of memory.
