@@ -1,5 +1,5 @@
 //! What an edit makes of the bundle that it names.
-ghost use Rattle.std.specs.Prelude.{◌≡◌, IfErr, IfOk, IfSome, option_map, Some, Ok};
+ghost use Rattle.std.specs.Prelude.{◌≡◌, IfErr, IfOk, IfSome, option_copied};
 ghost use Rattle.emu_names.specs.Gives.{GivesOrBroken};
 ghost use Rattle.bundle_state.specs.Built.{FitsConfig};
 ghost use Rattle.edit_rules.specs.Changes.{changed};
@@ -28,8 +28,8 @@ pub fn change(
     old: Option<&Bundle>,
     edit: &Edit,
 ) -> Result<Option<Bundle>, Fault>
-    requires { IfSome (option_copied old.before.entry) (λ b. FitsConfig config.now b) }
-    ensures { GivesOrBroken result (changed config.now counts (option_copied old.before.entry) edit.now) }
+    requires { IfSome (option_copied old) (λ b. FitsConfig config.now b) }
+    ensures { GivesOrBroken result (changed config.now counts (option_copied old.entry) edit.now) }
 {
     Err(Fault::Memory)
 }

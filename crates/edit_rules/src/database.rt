@@ -1,7 +1,7 @@
 //! A database, valid by its type.
 ghost use Rattle.std.specs.Prelude.{◌≡◌, ◌<◌, length, IfOk, Some, MatchOption, None};
 ghost use Rattle.std.specs.List.{slice_get};
-ghost use Rattle.edit_rules.specs.Database.{emptydatabase, bundle_with, KeepsDatabaseRules};
+ghost use Rattle.edit_rules.specs.Database.{empty_database, bundle_with, KeepsDatabaseRules};
 
 use bundle_state::Bundle;
 use db_config::Config;
@@ -38,7 +38,7 @@ impl Model for Database {
 impl Database {
     /// The database of a configuration, without bundles. The only refusal is want of memory.
     pub fn new(alloc: Global, config: Config) -> Result<Database, Memory>
-        ensures { IfOk result (λ made. made ≡ emptydatabase config) }
+        ensures { IfOk result (λ made. made ≡ empty_database config) }
     {
         Err(Memory)
     }
