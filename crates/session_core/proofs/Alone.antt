@@ -1,7 +1,7 @@
 -- A legal run of one session: its turns are its lines with its replies, so that wrong replies show.
 use Rattle.std.proofs.Common.{◌≡◌, ℕ, ◌+◌, ◌≤◌, Bool, true, List, [], ◌∷◌, length, None, refl, sym, ◌∙◌, ap, subst, arith, eq-eqb}
-use Rattle.session_core.specs.declared.config.Config.{Config}
-use Rattle.session_core.specs.declared.edit.Entry.{Entry}
+use Rattle.db_config.specs.declared.parts.ConfigParts.{ConfigParts}
+use Rattle.edit_rules.specs.declared.edit.Entry.{Entry}
 use Rattle.session_core.specs.declared.row.Row.{Row}
 use Rattle.session_core.specs.declared.line.Answer.{Answer}
 use Rattle.session_core.specs.declared.line.Answer.TheVariants.{Done, Segments, Refused}
@@ -29,7 +29,7 @@ all_named s [] named own = tt
 all_named s (t ∷ ts) named own =
     (eq-eqb t.line.session.0 s (sym (ap (λ k. k.0) named.0.session) ∙ own.0), all_named s ts named.1 own.1)
 
-module _ (c : Config) (opening : List Entry) (script : List Line) (replies : List Reply) (H : List Entry) (store : Bool) (before now : ℕ)
+module _ (c : ConfigParts) (opening : List Entry) (script : List Line) (replies : List Reply) (H : List Entry) (store : Bool) (before now : ℕ)
     (run : Legal c opening script replies H store before now) (s : ℕ) (own : Each (λ (r : Reply). r.session.0 ≡ s) replies) where
   alone : of_session s run.turns ≡ run.turns
   alone = filter_all (is_of s) run.turns (all_named s run.turns run.whole.named

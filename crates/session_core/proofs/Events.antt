@@ -6,10 +6,10 @@ use Rattle.std.proofs.Math.Seq.{take-length, take-append_seam}
 use Rattle.emu_names.specs.declared.kinds.SessionNo.{SessionNo}
 use Rattle.emu_names.specs.declared.limits.TheConstants.{HISTORY_EDITS}
 use Rattle.emu_names.specs.declared.rules.Broken.{Broken}
-use Rattle.session_core.specs.declared.config.Config.{Config}
-use Rattle.session_core.specs.declared.bundle.BundleParts.{BundleParts}
-use Rattle.session_core.specs.declared.edit.Edit.{Edit}
-use Rattle.session_core.specs.declared.edit.Entry.{Entry}
+use Rattle.db_config.specs.declared.parts.ConfigParts.{ConfigParts}
+use Rattle.edit_rules.specs.Database.{DatabaseParts}
+use Rattle.edit_rules.specs.declared.edit.Edit.{Edit}
+use Rattle.edit_rules.specs.declared.edit.Entry.{Entry}
 use Rattle.session_core.specs.declared.event.Event.{Event}
 use Rattle.session_core.specs.declared.event.Event.TheVariants as events
 use Rattle.session_core.specs.declared.line.Ask.{Ask}
@@ -23,7 +23,7 @@ use Rattle.session_core.specs.declared.line.Request.{Request}
 use Rattle.session_core.specs.declared.line.Request.TheVariants as requests
 use Rattle.session_core.specs.declared.line.Line.{Line}
 use Rattle.session_core.specs.declared.line.Reply.{Reply}
-use Rattle.session_core.specs.Effects.{IsLegal, edited, bundles_after}
+use Rattle.edit_rules.specs.Effects.{IsLegal, edited, bundles_after}
 use Rattle.session_core.specs.Queries.{Asked, resolved}
 use Rattle.session_core.specs.Answers.{rows_over, query_answer, answer_at, memory, reply_to, entry_of}
 use Rattle.session_core.specs.Steps.{Opened, State, slot, put_slot, session_places, is_full, opened_at, edit_step, look_step, finish_step, query_step, query_fails, Asker, by_look, by_query, by_none, asker_of, finish_by, finish_fails_by}
@@ -232,7 +232,7 @@ module _ (opening : List Entry) (store : Bool) (faults : ℕ) (w : World) (g : G
         (opening_below, omega arith, (leb-false HISTORY_EDITS (length w.state.entries) room, ap (λ (xs : List Entry). edited w.state.config xs edit) (take-length w.state.entries) ∙ broken)) tt refl
         (λ low high. high) (λ low above. opening_below) (λ low high. omega arith) tt refl
 
-    edit_done : (bundles : List BundleParts) → nat_le HISTORY_EDITS (length w.state.entries) ≡ false → edited w.state.config w.state.entries edit ≡ Ok bundles
+    edit_done : (bundles : DatabaseParts) → nat_le HISTORY_EDITS (length w.state.entries) ≡ false → edited w.state.config w.state.entries edit ≡ Ok bundles
         → Good opening store faults (world_of w.state.config (w.state.entries ++ entry_of edit_line edit ∷ []) w.state.looks w.state.queries (w.lines ++ edit_line ∷ []) (w.turns ++ turn_of edit_line (Some (length w.state.entries + 1)) (Done command) ∷ []))
     edit_done bundles room made =
         let below : length w.state.entries < HISTORY_EDITS = leb-false HISTORY_EDITS (length w.state.entries) room in
@@ -268,7 +268,7 @@ module _ (opening : List Entry) (store : Bool) (faults : ℕ) (w : World) (g : G
           look_in = in_more (length opening) w.state.entries (entry_of edit_line edit ∷ []) (slot w.state.looks s.0) (g.seats s.0).look_in;
         })
 
-    edit_good : (full : Bool) (made : Result (List BundleParts) Broken) → is_full w.state.entries ≡ full → edited w.state.config w.state.entries edit ≡ made
+    edit_good : (full : Bool) (made : Result (DatabaseParts) Broken) → is_full w.state.entries ≡ full → edited w.state.config w.state.entries edit ≡ made
         → Good opening store faults (told w (edit_line ∷ []) (edit_line ∷ []) (edit_step w.state edit_line edit full made))
     edit_good true made full_is made_is = edit_full full_is
     edit_good false (Err rule) full_is made_is = edit_refused rule full_is made_is
@@ -382,7 +382,7 @@ module _ (opening : List Entry) (store : Bool) (faults : ℕ) (w : World) (g : G
 
   -- The answers of open looks and of queries under way.
 
-  rows_not_disk : (c : Config) (bundles : List BundleParts) (found : Result Asked AskFault) → is_disk (query_answer (rows_over c bundles found)) ≡ false
+  rows_not_disk : (c : ConfigParts) (bundles : DatabaseParts) (found : Result Asked AskFault) → is_disk (query_answer (rows_over c bundles found)) ≡ false
   rows_not_disk c bundles (Ok asked) = refl
   rows_not_disk c bundles (Err fault) = refl
 
@@ -545,7 +545,7 @@ module _ (opening : List Entry) (store : Bool) (faults : ℕ) (w : World) (g : G
 
   command_is : (command : Command) → same_command command commands.Query ≡ true → command ≡ commands.Query
   command_is commands.Query is = refl
-  command_is commands.Config is = absurd (false≢true is)
+  command_is commands.ConfigParts is = absurd (false≢true is)
   command_is commands.AddBundle is = absurd (false≢true is)
   command_is commands.Look is = absurd (false≢true is)
   command_is commands.Finish is = absurd (false≢true is)

@@ -6,10 +6,10 @@ use Rattle.std.specs.Option.{option_map}
 use Rattle.emu_names.specs.declared.kinds.SessionNo.{SessionNo}
 use Rattle.emu_names.specs.declared.rules.Broken.{Broken}
 use Rattle.emu_names.specs.declared.shortage.Memory.{Memory}
-use Rattle.session_core.specs.declared.config.Config.{Config}
-use Rattle.session_core.specs.declared.bundle.BundleParts.{BundleParts}
-use Rattle.session_core.specs.declared.edit.Edit.{Edit}
-use Rattle.session_core.specs.declared.edit.Entry.{Entry}
+use Rattle.db_config.specs.declared.parts.ConfigParts.{ConfigParts}
+use Rattle.edit_rules.specs.Database.{DatabaseParts}
+use Rattle.edit_rules.specs.declared.edit.Edit.{Edit}
+use Rattle.edit_rules.specs.declared.edit.Entry.{Entry}
 use Rattle.session_core.specs.declared.line.Answer.TheVariants.{Refused}
 use Rattle.session_core.specs.declared.line.Refusal.TheVariants as refusals
 use Rattle.session_core.specs.declared.line.Ask.{Ask}
@@ -18,51 +18,51 @@ use Rattle.session_core.specs.declared.line.Reply.{Reply}
 use Rattle.session_core.specs.declared.line.Request.TheVariants as requests
 use Rattle.session_core.specs.declared.slots.Held.{Held}
 use Rattle.session_core.specs.declared.moves.Head.{Head}
-use Rattle.session_core.specs.Effects.{◌>>=◌, after, replayed, effect, edited}
+use Rattle.edit_rules.specs.Effects.{◌>>=◌, after, replayed, effect, edited}
 use Rattle.session_core.specs.Steps.{State, slot, put_slot, is_full, session_places, edit_event, look_event, edit_step, look_step, finish_step, query_step, with_query, opened_at, query_fails}
 use Rattle.session_core.specs.Kept.{head_reply, opened_by, opened_in, state_of, IsMoment, IsHeld, AreHeld, IsKept, head_entry, held_at, edit_tried, edit_tried_step, looked, look_closed, query_closed, query_dropped}
 use Rattle.session_core.proofs.SlotPlaces.{slot_put, length_put_slot, slot_map, put_slot_map}
 
 -- A history that grows.
 
-and_ok : (r : Result (List BundleParts) Broken) → (r >>= λ next. Ok next) ≡ r
+and_ok : (r : Result (DatabaseParts) Broken) → (r >>= λ next. Ok next) ≡ r
 and_ok (Ok x) = refl
 and_ok (Err x) = refl
 
-step_push : (c : Config) (H : List Entry) (e : Entry) → ((next : List BundleParts) → replayed c next (H ++ e ∷ []) ≡ (replayed c next H >>= λ last. effect c last e.edit)) → (r : Result (List BundleParts) Broken) → (r >>= λ next. replayed c next (H ++ e ∷ [])) ≡ ((r >>= λ next. replayed c next H) >>= λ last. effect c last e.edit)
+step_push : (c : ConfigParts) (H : List Entry) (e : Entry) → ((next : DatabaseParts) → replayed c next (H ++ e ∷ []) ≡ (replayed c next H >>= λ last. effect c last e.edit)) → (r : Result (DatabaseParts) Broken) → (r >>= λ next. replayed c next (H ++ e ∷ [])) ≡ ((r >>= λ next. replayed c next H) >>= λ last. effect c last e.edit)
 step_push c H e more (Ok next) = more next
 step_push c H e more (Err r) = refl
 
-pub replayed_push : (c : Config) (bs : List BundleParts) (H : List Entry) (e : Entry) → replayed c bs (H ++ e ∷ []) ≡ (replayed c bs H >>= λ last. effect c last e.edit)
+pub replayed_push : (c : ConfigParts) (bs : DatabaseParts) (H : List Entry) (e : Entry) → replayed c bs (H ++ e ∷ []) ≡ (replayed c bs H >>= λ last. effect c last e.edit)
 replayed_push c bs [] e = and_ok (effect c bs e.edit)
 replayed_push c bs (x ∷ H) e = step_push c H e (λ next. replayed_push c next H e) (effect c bs x.edit)
 
-pub after_push : (c : Config) (H : List Entry) (e : Entry) → after c (H ++ e ∷ []) ≡ edited c H e.edit
+pub after_push : (c : ConfigParts) (H : List Entry) (e : Entry) → after c (H ++ e ∷ []) ≡ edited c H e.edit
 after_push c H e = replayed_push c [] H e
 
-moment_longer : (c : Config) (H more : List Entry) (held : Held) → IsMoment c H held → IsMoment c (H ++ more) held
+moment_longer : (c : ConfigParts) (H more : List Entry) (held : Held) → IsMoment c H held → IsMoment c (H ++ more) held
 moment_longer c H more held m = record {
   past = omega (arith, m.past, length-append H more);
   bundles = rw (take-append-le held.n H more m.past) m.bundles;
 }
 
-held_longer : (c : Config) (H more : List Entry) (o : Option Held) → IsHeld c H o → IsHeld c (H ++ more) o
+held_longer : (c : ConfigParts) (H more : List Entry) (o : Option Held) → IsHeld c H o → IsHeld c (H ++ more) o
 held_longer c H more None h = tt
 held_longer c H more (Some held) h = moment_longer c H more held h
 
-slots_longer : (c : Config) (H more : List Entry) (xs : List (Option Held)) → AreHeld c H xs → AreHeld c (H ++ more) xs
+slots_longer : (c : ConfigParts) (H more : List Entry) (xs : List (Option Held)) → AreHeld c H xs → AreHeld c (H ++ more) xs
 slots_longer c H more xs h = record {
   places = h.places;
   each = λ s. held_longer c H more (slot xs s) (h.each s);
 }
 
-slots_put : (c : Config) (H : List Entry) (xs : List (Option Held)) (s : ℕ) (v : Option Held) → IsHeld c H v → AreHeld c H xs → AreHeld c H (put_slot xs s v)
+slots_put : (c : ConfigParts) (H : List Entry) (xs : List (Option Held)) (s : ℕ) (v : Option Held) → IsHeld c H v → AreHeld c H xs → AreHeld c H (put_slot xs s v)
 slots_put c H xs s v new h = record {
   places = length_put_slot xs s v ∙ h.places;
   each = slot_put (λ o. IsHeld c H o) xs s v new h.each;
 }
 
-moment_now : (c : Config) (H : List Entry) (bs : List BundleParts) (head : Head) (ask : Ask) → after c H ≡ Ok bs → IsMoment c H (held_at head ask (length H) bs)
+moment_now : (c : ConfigParts) (H : List Entry) (bs : DatabaseParts) (head : Head) (ask : Ask) → after c H ≡ Ok bs → IsMoment c H (held_at head ask (length H) bs)
 moment_now c H bs head ask e = record {
   past = omega arith;
   bundles = rw (take_all (length H) H (omega arith)) e;
@@ -70,18 +70,18 @@ moment_now c H bs head ask e = record {
 
 -- The beginning.
 
-empty_each : (c : Config) (H : List Entry) (n s : ℕ) → IsHeld c H (slot (replicate n None) s)
+empty_each : (c : ConfigParts) (H : List Entry) (n s : ℕ) → IsHeld c H (slot (replicate n None) s)
 empty_each c H zero s = tt
 empty_each c H (suc n) zero = tt
 empty_each c H (suc n) (suc s) = empty_each c H n s
 
-slots_empty : (c : Config) (H : List Entry) → AreHeld c H (replicate session_places None)
+slots_empty : (c : ConfigParts) (H : List Entry) → AreHeld c H (replicate session_places None)
 slots_empty c H = record {
   places = refl;
   each = empty_each c H session_places;
 }
 
-pub kept_start : (c : Config) (H : List Entry) (bs : List BundleParts) → after c H ≡ Ok bs → IsKept c H bs (replicate session_places None) (replicate session_places None)
+pub kept_start : (c : ConfigParts) (H : List Entry) (bs : DatabaseParts) → after c H ≡ Ok bs → IsKept c H bs (replicate session_places None) (replicate session_places None)
 kept_start c H bs e = record { present = e; of_looks = slots_empty c H; of_queries = slots_empty c H }
 
 -- An edit.
@@ -89,7 +89,7 @@ kept_start c H bs e = record { present = e; of_looks = slots_empty c H; of_queri
 abbrev pub head_of : Line → Head
 head_of l = record { line = l.line; session = l.session; command = l.command }
 
-kept_step : (c : Config) (head : Head) (edit : Edit) (H : List Entry) (bs : List BundleParts) (ls qs : List (Option Held)) (full : Bool) (made : Result (List BundleParts) Broken) → effect c bs edit ≡ made → IsKept c H bs ls qs → IsKept c (edit_tried_step head edit H bs full made).1 (edit_tried_step head edit H bs full made).2 ls qs
+kept_step : (c : ConfigParts) (head : Head) (edit : Edit) (H : List Entry) (bs : DatabaseParts) (ls qs : List (Option Held)) (full : Bool) (made : Result (DatabaseParts) Broken) → effect c bs edit ≡ made → IsKept c H bs ls qs → IsKept c (edit_tried_step head edit H bs full made).1 (edit_tried_step head edit H bs full made).2 ls qs
 kept_step c head edit H bs ls qs true made e k = k
 kept_step c head edit H bs ls qs false (Err rule) e k = k
 kept_step c head edit H bs ls qs false (Ok next) e k = record {
@@ -98,19 +98,19 @@ kept_step c head edit H bs ls qs false (Ok next) e k = record {
   of_queries = slots_longer c H (head_entry head edit ∷ []) qs k.of_queries;
 }
 
-pub kept_changed : (c : Config) (head : Head) (edit : Edit) (H H2 : List Entry) (bs bs2 : List BundleParts) (ls qs : List (Option Held)) (r : Reply) → (r, H2, bs2) ≡ edit_tried c head edit H bs → IsKept c H bs ls qs → IsKept c H2 bs2 ls qs
+pub kept_changed : (c : ConfigParts) (head : Head) (edit : Edit) (H H2 : List Entry) (bs bs2 : DatabaseParts) (ls qs : List (Option Held)) (r : Reply) → (r, H2, bs2) ≡ edit_tried c head edit H bs → IsKept c H bs ls qs → IsKept c H2 bs2 ls qs
 kept_changed c head edit H H2 bs bs2 ls qs r e k =
-    let P : Reply × List Entry × List BundleParts → Type 0 = λ t. IsKept c t.1 t.2 ls qs in
+    let P : Reply × List Entry × DatabaseParts → Type 0 = λ t. IsKept c t.1 t.2 ls qs in
     subst P (sym e) (kept_step c head edit H bs ls qs (is_full H) (effect c bs edit) refl k)
 
-step_cases : (c : Config) (l : Line) (edit : Edit) (H : List Entry) (bs : List BundleParts) (ls qs : List (Option Held)) (full : Bool) (made : Result (List BundleParts) Broken) → edit_step (state_of c H ls qs) l edit full made ≡ (Some (edit_tried_step (head_of l) edit H bs full made).0, state_of c (edit_tried_step (head_of l) edit H bs full made).1 ls qs)
+step_cases : (c : ConfigParts) (l : Line) (edit : Edit) (H : List Entry) (bs : DatabaseParts) (ls qs : List (Option Held)) (full : Bool) (made : Result (DatabaseParts) Broken) → edit_step (state_of c H ls qs) l edit full made ≡ (Some (edit_tried_step (head_of l) edit H bs full made).0, state_of c (edit_tried_step (head_of l) edit H bs full made).1 ls qs)
 step_cases c l edit H bs ls qs true made = refl
 step_cases c l edit H bs ls qs false (Ok next) = refl
 step_cases c l edit H bs ls qs false (Err rule) = refl
 
-pub changed_step : (c : Config) (l : Line) (edit : Edit) (H H2 : List Entry) (bs bs2 : List BundleParts) (ls qs : List (Option Held)) (r : Reply) → (r, H2, bs2) ≡ edit_tried c (head_of l) edit H bs → IsKept c H bs ls qs → edit_step (state_of c H ls qs) l edit (is_full H) (edited c H edit) ≡ (Some r, state_of c H2 ls qs)
+pub changed_step : (c : ConfigParts) (l : Line) (edit : Edit) (H H2 : List Entry) (bs bs2 : DatabaseParts) (ls qs : List (Option Held)) (r : Reply) → (r, H2, bs2) ≡ edit_tried c (head_of l) edit H bs → IsKept c H bs ls qs → edit_step (state_of c H ls qs) l edit (is_full H) (edited c H edit) ≡ (Some r, state_of c H2 ls qs)
 changed_step c l edit H H2 bs bs2 ls qs r e k =
-    let told : Reply × List Entry × List BundleParts → Option Reply × State = λ t. (Some t.0, state_of c t.1 ls qs) in
+    let told : Reply × List Entry × DatabaseParts → Option Reply × State = λ t. (Some t.0, state_of c t.1 ls qs) in
     rw k.present (step_cases c l edit H bs ls qs (is_full H) (effect c bs edit) ∙ ap told (sym e))
 
 some_same : (x y : Entry) → Some x ≡ Some y → x ≡ y
@@ -126,11 +126,11 @@ last_entry : (H : List Entry) (e found : Entry) → slice_get (H ++ e ∷ []) (l
 last_entry [] e found is = some_same found e (sym is)
 last_entry (x ∷ H) e found is = last_entry H e found is
 
-change_refused : (c : Config) (head : Head) (edit : Edit) (H : List Entry) (bs : List BundleParts) (full : Bool) (made : Result (List BundleParts) Broken) (rule : Broken)
+change_refused : (c : ConfigParts) (head : Head) (edit : Edit) (H : List Entry) (bs : DatabaseParts) (full : Bool) (made : Result (DatabaseParts) Broken) (rule : Broken)
     → full ≡ false → made ≡ Err rule → edit_tried_step head edit H bs full made ≡ (head_reply head (Some (length H)) (Refused (refusals.Rule rule)), H, bs)
 change_refused c head edit H bs full made rule room broken = rw (room, broken) refl
 
-pub refused_change : (c : Config) (head : Head) (edit : Edit) (H H2 H3 : List Entry) (bs bs2 : List BundleParts) (found : Entry) (rule : Broken) (reply : Reply) (n : ℕ) (full : Bool)
+pub refused_change : (c : ConfigParts) (head : Head) (edit : Edit) (H H2 H3 : List Entry) (bs bs2 : DatabaseParts) (found : Entry) (rule : Broken) (reply : Reply) (n : ℕ) (full : Bool)
     → full ≡ is_full H → full ≡ false → n ≡ length H → H2 ≡ H ++ head_entry head edit ∷ [] → slice_get H2 n ≡ Some found
     → effect c bs found.edit ≡ Err rule → bs2 ≡ bs → H3 ≡ take n H2 → reply ≡ head_reply head (Some n) (Refused (refusals.Rule rule))
     → (reply, H3, bs2) ≡ edit_tried c head edit H bs
@@ -145,20 +145,20 @@ refused_change c head edit H H2 H3 bs bs2 found rule reply n full counted room c
 
 -- A look.
 
-look_cases : (c : Config) (l : Line) (ask : Ask) (H : List Entry) (bs : List BundleParts) (ls qs : List (Option Held)) (held : Option Held) → look_step (state_of c H ls qs) l ask (option_map opened_by held) ≡ (Some (looked (head_of l) ask (length H) bs ls held).0, state_of c H (looked (head_of l) ask (length H) bs ls held).1 qs)
+look_cases : (c : ConfigParts) (l : Line) (ask : Ask) (H : List Entry) (bs : DatabaseParts) (ls qs : List (Option Held)) (held : Option Held) → look_step (state_of c H ls qs) l ask (option_map opened_by held) ≡ (Some (looked (head_of l) ask (length H) bs ls held).0, state_of c H (looked (head_of l) ask (length H) bs ls held).1 qs)
 look_cases c l ask H bs ls qs None = rw (put_slot_map opened_by ls l.session.0 (Some (held_at (head_of l) ask (length H) bs))) refl
 look_cases c l ask H bs ls qs (Some held) = refl
 
-pub looked_step : (c : Config) (l : Line) (ask : Ask) (H : List Entry) (bs : List BundleParts) (ls ls2 qs : List (Option Held)) (r : Reply) → (r, ls2) ≡ looked (head_of l) ask (length H) bs ls (slot ls l.session.0) → look_step (state_of c H ls qs) l ask (slot (opened_in ls) l.session.0) ≡ (Some r, state_of c H ls2 qs)
+pub looked_step : (c : ConfigParts) (l : Line) (ask : Ask) (H : List Entry) (bs : DatabaseParts) (ls ls2 qs : List (Option Held)) (r : Reply) → (r, ls2) ≡ looked (head_of l) ask (length H) bs ls (slot ls l.session.0) → look_step (state_of c H ls qs) l ask (slot (opened_in ls) l.session.0) ≡ (Some r, state_of c H ls2 qs)
 looked_step c l ask H bs ls ls2 qs r e =
     let told : Reply × List (Option Held) → Option Reply × State = λ t. (Some t.0, state_of c H t.1 qs) in
     rw (slot_map opened_by ls l.session.0) (look_cases c l ask H bs ls qs (slot ls l.session.0) ∙ ap told (sym e))
 
-looked_kept : (c : Config) (head : Head) (ask : Ask) (H : List Entry) (bs : List BundleParts) (ls : List (Option Held)) (held : Option Held) → after c H ≡ Ok bs → AreHeld c H ls → AreHeld c H (looked head ask (length H) bs ls held).1
+looked_kept : (c : ConfigParts) (head : Head) (ask : Ask) (H : List Entry) (bs : DatabaseParts) (ls : List (Option Held)) (held : Option Held) → after c H ≡ Ok bs → AreHeld c H ls → AreHeld c H (looked head ask (length H) bs ls held).1
 looked_kept c head ask H bs ls None e h = slots_put c H ls head.session.0 (Some (held_at head ask (length H) bs)) (moment_now c H bs head ask e) h
 looked_kept c head ask H bs ls (Some held) e h = h
 
-pub kept_looked : (c : Config) (head : Head) (ask : Ask) (H : List Entry) (bs : List BundleParts) (ls ls2 qs : List (Option Held)) (r : Reply) → (r, ls2) ≡ looked head ask (length H) bs ls (slot ls head.session.0) → IsKept c H bs ls qs → IsKept c H bs ls2 qs
+pub kept_looked : (c : ConfigParts) (head : Head) (ask : Ask) (H : List Entry) (bs : DatabaseParts) (ls ls2 qs : List (Option Held)) (r : Reply) → (r, ls2) ≡ looked head ask (length H) bs ls (slot ls head.session.0) → IsKept c H bs ls qs → IsKept c H bs ls2 qs
 kept_looked c head ask H bs ls ls2 qs r e k =
     let P : Reply × List (Option Held) → Type 0 = λ t. AreHeld c H t.1 in
     record {
@@ -169,10 +169,10 @@ kept_looked c head ask H bs ls ls2 qs r e k =
 
 -- The beginning of a query.
 
-pub begun_step : (c : Config) (l : Line) (ask : Ask) (H : List Entry) (bs : List BundleParts) (ls qs : List (Option Held)) → with_query (state_of c H ls qs) l.session.0 (Some (opened_at (state_of c H ls qs) l ask)) ≡ state_of c H ls (put_slot qs l.session.0 (Some (held_at (head_of l) ask (length H) bs)))
+pub begun_step : (c : ConfigParts) (l : Line) (ask : Ask) (H : List Entry) (bs : DatabaseParts) (ls qs : List (Option Held)) → with_query (state_of c H ls qs) l.session.0 (Some (opened_at (state_of c H ls qs) l ask)) ≡ state_of c H ls (put_slot qs l.session.0 (Some (held_at (head_of l) ask (length H) bs)))
 begun_step c l ask H bs ls qs = rw (put_slot_map opened_by qs l.session.0 (Some (held_at (head_of l) ask (length H) bs))) refl
 
-pub kept_begun : (c : Config) (head : Head) (ask : Ask) (H : List Entry) (bs : List BundleParts) (ls qs : List (Option Held)) → IsKept c H bs ls qs → IsKept c H bs ls (put_slot qs head.session.0 (Some (held_at head ask (length H) bs)))
+pub kept_begun : (c : ConfigParts) (head : Head) (ask : Ask) (H : List Entry) (bs : DatabaseParts) (ls qs : List (Option Held)) → IsKept c H bs ls qs → IsKept c H bs ls (put_slot qs head.session.0 (Some (held_at head ask (length H) bs)))
 kept_begun c head ask H bs ls qs k = record {
   present = k.present;
   of_looks = k.of_looks;
@@ -181,20 +181,20 @@ kept_begun c head ask H bs ls qs k = record {
 
 -- The answer of a look.
 
-close_cases : (c : Config) (line : ℕ) (s : SessionNo) (H : List Entry) (ls qs : List (Option Held)) (held : Option Held) → IsHeld c H held → finish_step (state_of c H ls qs) line s (option_map opened_by held) ≡ (Some (look_closed c line s ls held).0, state_of c H (look_closed c line s ls held).1 qs)
+close_cases : (c : ConfigParts) (line : ℕ) (s : SessionNo) (H : List Entry) (ls qs : List (Option Held)) (held : Option Held) → IsHeld c H held → finish_step (state_of c H ls qs) line s (option_map opened_by held) ≡ (Some (look_closed c line s ls held).0, state_of c H (look_closed c line s ls held).1 qs)
 close_cases c line s H ls qs None h = refl
 close_cases c line s H ls qs (Some held) h = rw (h.bundles, put_slot_map opened_by ls s.0 None) refl
 
-pub closed_step : (c : Config) (line : ℕ) (s : SessionNo) (H : List Entry) (ls ls2 qs : List (Option Held)) (r : Reply) → (r, ls2) ≡ look_closed c line s ls (slot ls s.0) → AreHeld c H ls → finish_step (state_of c H ls qs) line s (slot (opened_in ls) s.0) ≡ (Some r, state_of c H ls2 qs)
+pub closed_step : (c : ConfigParts) (line : ℕ) (s : SessionNo) (H : List Entry) (ls ls2 qs : List (Option Held)) (r : Reply) → (r, ls2) ≡ look_closed c line s ls (slot ls s.0) → AreHeld c H ls → finish_step (state_of c H ls qs) line s (slot (opened_in ls) s.0) ≡ (Some r, state_of c H ls2 qs)
 closed_step c line s H ls ls2 qs r e h =
     let told : Reply × List (Option Held) → Option Reply × State = λ t. (Some t.0, state_of c H t.1 qs) in
     rw (slot_map opened_by ls s.0) (close_cases c line s H ls qs (slot ls s.0) (h.each s.0) ∙ ap told (sym e))
 
-closed_kept : (c : Config) (line : ℕ) (s : SessionNo) (H : List Entry) (ls : List (Option Held)) (held : Option Held) → AreHeld c H ls → AreHeld c H (look_closed c line s ls held).1
+closed_kept : (c : ConfigParts) (line : ℕ) (s : SessionNo) (H : List Entry) (ls : List (Option Held)) (held : Option Held) → AreHeld c H ls → AreHeld c H (look_closed c line s ls held).1
 closed_kept c line s H ls None h = h
 closed_kept c line s H ls (Some held) h = slots_put c H ls s.0 None tt h
 
-pub kept_closed : (c : Config) (line : ℕ) (s : SessionNo) (H : List Entry) (bs : List BundleParts) (ls ls2 qs : List (Option Held)) (r : Reply) → (r, ls2) ≡ look_closed c line s ls (slot ls s.0) → IsKept c H bs ls qs → IsKept c H bs ls2 qs
+pub kept_closed : (c : ConfigParts) (line : ℕ) (s : SessionNo) (H : List Entry) (bs : DatabaseParts) (ls ls2 qs : List (Option Held)) (r : Reply) → (r, ls2) ≡ look_closed c line s ls (slot ls s.0) → IsKept c H bs ls qs → IsKept c H bs ls2 qs
 kept_closed c line s H bs ls ls2 qs r e k =
     let P : Reply × List (Option Held) → Type 0 = λ t. AreHeld c H t.1 in
     record {
@@ -205,20 +205,20 @@ kept_closed c line s H bs ls ls2 qs r e k =
 
 -- The answer of a query under way.
 
-answer_cases : (c : Config) (line : ℕ) (s : SessionNo) (H : List Entry) (ls qs : List (Option Held)) (held : Option Held) → IsHeld c H held → query_step (state_of c H ls qs) line s (option_map opened_by held) ≡ ((query_closed c line s qs held).0, state_of c H ls (query_closed c line s qs held).1)
+answer_cases : (c : ConfigParts) (line : ℕ) (s : SessionNo) (H : List Entry) (ls qs : List (Option Held)) (held : Option Held) → IsHeld c H held → query_step (state_of c H ls qs) line s (option_map opened_by held) ≡ ((query_closed c line s qs held).0, state_of c H ls (query_closed c line s qs held).1)
 answer_cases c line s H ls qs None h = refl
 answer_cases c line s H ls qs (Some held) h = rw (h.bundles, put_slot_map opened_by qs s.0 None) refl
 
-pub answered_step : (c : Config) (line : ℕ) (s : SessionNo) (H : List Entry) (ls qs qs2 : List (Option Held)) (r : Option Reply) → (r, qs2) ≡ query_closed c line s qs (slot qs s.0) → AreHeld c H qs → query_step (state_of c H ls qs) line s (slot (opened_in qs) s.0) ≡ (r, state_of c H ls qs2)
+pub answered_step : (c : ConfigParts) (line : ℕ) (s : SessionNo) (H : List Entry) (ls qs qs2 : List (Option Held)) (r : Option Reply) → (r, qs2) ≡ query_closed c line s qs (slot qs s.0) → AreHeld c H qs → query_step (state_of c H ls qs) line s (slot (opened_in qs) s.0) ≡ (r, state_of c H ls qs2)
 answered_step c line s H ls qs qs2 r e h =
     let told : Option Reply × List (Option Held) → Option Reply × State = λ t. (t.0, state_of c H ls t.1) in
     rw (slot_map opened_by qs s.0) (answer_cases c line s H ls qs (slot qs s.0) (h.each s.0) ∙ ap told (sym e))
 
-answered_kept : (c : Config) (line : ℕ) (s : SessionNo) (H : List Entry) (qs : List (Option Held)) (held : Option Held) → AreHeld c H qs → AreHeld c H (query_closed c line s qs held).1
+answered_kept : (c : ConfigParts) (line : ℕ) (s : SessionNo) (H : List Entry) (qs : List (Option Held)) (held : Option Held) → AreHeld c H qs → AreHeld c H (query_closed c line s qs held).1
 answered_kept c line s H qs None h = h
 answered_kept c line s H qs (Some held) h = slots_put c H qs s.0 None tt h
 
-pub kept_answered : (c : Config) (line : ℕ) (s : SessionNo) (H : List Entry) (bs : List BundleParts) (ls qs qs2 : List (Option Held)) (r : Option Reply) → (r, qs2) ≡ query_closed c line s qs (slot qs s.0) → IsKept c H bs ls qs → IsKept c H bs ls qs2
+pub kept_answered : (c : ConfigParts) (line : ℕ) (s : SessionNo) (H : List Entry) (bs : DatabaseParts) (ls qs qs2 : List (Option Held)) (r : Option Reply) → (r, qs2) ≡ query_closed c line s qs (slot qs s.0) → IsKept c H bs ls qs → IsKept c H bs ls qs2
 kept_answered c line s H bs ls qs qs2 r e k =
     let P : Option Reply × List (Option Held) → Type 0 = λ t. AreHeld c H t.1 in
     record {
@@ -229,19 +229,19 @@ kept_answered c line s H bs ls qs qs2 r e k =
 
 -- A query under way where memory runs out.
 
-drop_cases : (c : Config) (line : ℕ) (s : SessionNo) (H : List Entry) (ls qs : List (Option Held)) (held : Option Held) → (query_fails (state_of c H ls qs) line s (option_map opened_by held)).1 ≡ state_of c H ls (query_dropped s qs held)
+drop_cases : (c : ConfigParts) (line : ℕ) (s : SessionNo) (H : List Entry) (ls qs : List (Option Held)) (held : Option Held) → (query_fails (state_of c H ls qs) line s (option_map opened_by held)).1 ≡ state_of c H ls (query_dropped s qs held)
 drop_cases c line s H ls qs None = refl
 drop_cases c line s H ls qs (Some held) = rw (put_slot_map opened_by qs s.0 None) refl
 
-pub dropped_step : (c : Config) (line : ℕ) (s : SessionNo) (H : List Entry) (ls qs qs2 : List (Option Held)) → qs2 ≡ query_dropped s qs (slot qs s.0) → state_of c H ls qs2 ≡ (query_fails (state_of c H ls qs) line s (slot (opened_in qs) s.0)).1
+pub dropped_step : (c : ConfigParts) (line : ℕ) (s : SessionNo) (H : List Entry) (ls qs qs2 : List (Option Held)) → qs2 ≡ query_dropped s qs (slot qs s.0) → state_of c H ls qs2 ≡ (query_fails (state_of c H ls qs) line s (slot (opened_in qs) s.0)).1
 dropped_step c line s H ls qs qs2 e =
     rw (slot_map opened_by qs s.0, e) (sym (drop_cases c line s H ls qs (slot qs s.0)))
 
-dropped_kept : (c : Config) (s : SessionNo) (H : List Entry) (qs : List (Option Held)) (held : Option Held) → AreHeld c H qs → AreHeld c H (query_dropped s qs held)
+dropped_kept : (c : ConfigParts) (s : SessionNo) (H : List Entry) (qs : List (Option Held)) (held : Option Held) → AreHeld c H qs → AreHeld c H (query_dropped s qs held)
 dropped_kept c s H qs None h = h
 dropped_kept c s H qs (Some held) h = slots_put c H qs s.0 None tt h
 
-pub kept_dropped : (c : Config) (s : SessionNo) (H : List Entry) (bs : List BundleParts) (ls qs qs2 : List (Option Held)) → qs2 ≡ query_dropped s qs (slot qs s.0) → IsKept c H bs ls qs → IsKept c H bs ls qs2
+pub kept_dropped : (c : ConfigParts) (s : SessionNo) (H : List Entry) (bs : DatabaseParts) (ls qs qs2 : List (Option Held)) → qs2 ≡ query_dropped s qs (slot qs s.0) → IsKept c H bs ls qs → IsKept c H bs ls qs2
 kept_dropped c s H bs ls qs qs2 e k = record {
   present = k.present;
   of_looks = k.of_looks;
@@ -250,26 +250,26 @@ kept_dropped c s H bs ls qs qs2 e k = record {
 
 -- Both ends of the answer of a query under way.
 
-pub kept_tried : (c : Config) (line : ℕ) (s : SessionNo) (H : List Entry) (bs : List BundleParts) (ls qs qs2 : List (Option Held)) (result : Result (Option Reply) Memory) → IfOk result (λ r. (r, qs2) ≡ query_closed c line s qs (slot qs s.0)) → OnErr result (qs2 ≡ query_dropped s qs (slot qs s.0)) → IsKept c H bs ls qs → IsKept c H bs ls qs2
+pub kept_tried : (c : ConfigParts) (line : ℕ) (s : SessionNo) (H : List Entry) (bs : DatabaseParts) (ls qs qs2 : List (Option Held)) (result : Result (Option Reply) Memory) → IfOk result (λ r. (r, qs2) ≡ query_closed c line s qs (slot qs s.0)) → OnErr result (qs2 ≡ query_dropped s qs (slot qs s.0)) → IsKept c H bs ls qs → IsKept c H bs ls qs2
 kept_tried c line s H bs ls qs qs2 (Ok r) e f k = kept_answered c line s H bs ls qs qs2 r e k
 kept_tried c line s H bs ls qs qs2 (Err m) e f k = kept_dropped c s H bs ls qs qs2 f k
 
-pub answered_ok : (c : Config) (line : ℕ) (s : SessionNo) (H : List Entry) (ls qs qs2 : List (Option Held)) (result : Result (Option Reply) Memory) → IfOk result (λ r. (r, qs2) ≡ query_closed c line s qs (slot qs s.0)) → AreHeld c H qs → IfOk result (λ r. query_step (state_of c H ls qs) line s (slot (opened_in qs) s.0) ≡ (r, state_of c H ls qs2))
+pub answered_ok : (c : ConfigParts) (line : ℕ) (s : SessionNo) (H : List Entry) (ls qs qs2 : List (Option Held)) (result : Result (Option Reply) Memory) → IfOk result (λ r. (r, qs2) ≡ query_closed c line s qs (slot qs s.0)) → AreHeld c H qs → IfOk result (λ r. query_step (state_of c H ls qs) line s (slot (opened_in qs) s.0) ≡ (r, state_of c H ls qs2))
 answered_ok c line s H ls qs qs2 (Ok r) e h = answered_step c line s H ls qs qs2 r e h
 answered_ok c line s H ls qs qs2 (Err m) e h = tt
 
-pub answered_err : (c : Config) (line : ℕ) (s : SessionNo) (H : List Entry) (ls qs qs2 : List (Option Held)) (result : Result (Option Reply) Memory) → OnErr result (qs2 ≡ query_dropped s qs (slot qs s.0)) → OnErr result (state_of c H ls qs2 ≡ (query_fails (state_of c H ls qs) line s (slot (opened_in qs) s.0)).1)
+pub answered_err : (c : ConfigParts) (line : ℕ) (s : SessionNo) (H : List Entry) (ls qs qs2 : List (Option Held)) (result : Result (Option Reply) Memory) → OnErr result (qs2 ≡ query_dropped s qs (slot qs s.0)) → OnErr result (state_of c H ls qs2 ≡ (query_fails (state_of c H ls qs) line s (slot (opened_in qs) s.0)).1)
 answered_err c line s H ls qs qs2 (Ok r) e = tt
 answered_err c line s H ls qs qs2 (Err m) e = dropped_step c line s H ls qs qs2 e
 
 -- The same, where the code has counted the entries.
 
-pub kept_looked_at : (c : Config) (head : Head) (ask : Ask) (H : List Entry) (bs : List BundleParts) (ls ls2 qs : List (Option Held)) (r : Reply) (n : ℕ) → n ≡ length H → (r, ls2) ≡ looked head ask n bs ls (slot ls head.session.0) → IsKept c H bs ls qs → IsKept c H bs ls2 qs
+pub kept_looked_at : (c : ConfigParts) (head : Head) (ask : Ask) (H : List Entry) (bs : DatabaseParts) (ls ls2 qs : List (Option Held)) (r : Reply) (n : ℕ) → n ≡ length H → (r, ls2) ≡ looked head ask n bs ls (slot ls head.session.0) → IsKept c H bs ls qs → IsKept c H bs ls2 qs
 kept_looked_at c head ask H bs ls ls2 qs r n m e k =
     let P : ℕ → Type 0 = λ x. (r, ls2) ≡ looked head ask x bs ls (slot ls head.session.0) in
     kept_looked c head ask H bs ls ls2 qs r (subst P m e) k
 
-pub kept_begun_at : (c : Config) (head : Head) (ask : Ask) (H : List Entry) (bs : List BundleParts) (ls qs qs2 : List (Option Held)) (n : ℕ) → n ≡ length H → qs2 ≡ put_slot qs head.session.0 (Some (held_at head ask n bs)) → IsKept c H bs ls qs → IsKept c H bs ls qs2
+pub kept_begun_at : (c : ConfigParts) (head : Head) (ask : Ask) (H : List Entry) (bs : DatabaseParts) (ls qs qs2 : List (Option Held)) (n : ℕ) → n ≡ length H → qs2 ≡ put_slot qs head.session.0 (Some (held_at head ask n bs)) → IsKept c H bs ls qs → IsKept c H bs ls qs2
 kept_begun_at c head ask H bs ls qs qs2 n m e k = rw (e, m) (kept_begun c head ask H bs ls qs k)
 
 -- An event of a kind as the step of its request.
@@ -277,12 +277,12 @@ kept_begun_at c head ask H bs ls qs qs2 n m e k = rw (e, m) (kept_begun c head a
 pub edit_told : (st old : State) (l : Line) (edit : Edit) (out : Option Reply × State) → st ≡ old → l.request ≡ requests.Edit edit → edit_step st l edit (is_full st.entries) (edited st.config st.entries edit) ≡ out → edit_event old l l.request ≡ out
 edit_told st old l edit out e f g = rw (f, ← e) g
 
-pub look_told : (c : Config) (old : State) (l : Line) (ask : Ask) (H : List Entry) (bs : List BundleParts) (ls ls2 qs : List (Option Held)) (r : Reply) (n : ℕ) → state_of c H ls qs ≡ old → l.request ≡ requests.Look ask → n ≡ length H → (r, ls2) ≡ looked (head_of l) ask n bs ls (slot ls l.session.0) → look_event old l l.request ≡ (Some r, state_of c H ls2 qs)
+pub look_told : (c : ConfigParts) (old : State) (l : Line) (ask : Ask) (H : List Entry) (bs : DatabaseParts) (ls ls2 qs : List (Option Held)) (r : Reply) (n : ℕ) → state_of c H ls qs ≡ old → l.request ≡ requests.Look ask → n ≡ length H → (r, ls2) ≡ looked (head_of l) ask n bs ls (slot ls l.session.0) → look_event old l l.request ≡ (Some r, state_of c H ls2 qs)
 look_told c old l ask H bs ls ls2 qs r n old_is f m e =
     let P : ℕ → Type 0 = λ x. (r, ls2) ≡ looked (head_of l) ask x bs ls (slot ls l.session.0) in
     rw (f, ← old_is) (looked_step c l ask H bs ls ls2 qs r (subst P m e))
 
-pub query_told : (c : Config) (old : State) (l : Line) (ask : Ask) (H : List Entry) (bs : List BundleParts) (ls qs qs2 : List (Option Held)) (n : ℕ) → state_of c H ls qs ≡ old → l.request ≡ requests.Query ask → n ≡ length H → qs2 ≡ put_slot qs l.session.0 (Some (held_at (head_of l) ask n bs)) → look_event old l l.request ≡ (None, state_of c H ls qs2)
+pub query_told : (c : ConfigParts) (old : State) (l : Line) (ask : Ask) (H : List Entry) (bs : DatabaseParts) (ls qs qs2 : List (Option Held)) (n : ℕ) → state_of c H ls qs ≡ old → l.request ≡ requests.Query ask → n ≡ length H → qs2 ≡ put_slot qs l.session.0 (Some (held_at (head_of l) ask n bs)) → look_event old l l.request ≡ (None, state_of c H ls qs2)
 query_told c old l ask H bs ls qs qs2 n old_is f m e =
     let told : State → Option Reply × State = λ st. (None, st) in
     rw (f, ← old_is, e, m) (ap told (begun_step c l ask H bs ls qs))

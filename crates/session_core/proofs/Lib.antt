@@ -6,16 +6,11 @@ pub mod Seats
 pub mod Events
 pub mod Runs
 pub mod Worked
-pub mod Builds
 pub mod Kept
-pub mod KeyPlaces
 pub mod Alone
 pub mod Standing
 pub mod Ordered
-pub mod Refusals
 pub mod Walks
-pub mod BuildFaults
-pub mod MadeParts
 pub mod RowLists
 pub mod Keeping
 pub mod Turning

@@ -6,10 +6,10 @@ use Rattle.std.proofs.lemmas.List.Sums.{sum_by-cons}
 use Rattle.std.specs.List.{list_any}
 use Rattle.emu_names.specs.declared.kinds.SessionNo.{SessionNo}
 use Rattle.emu_names.specs.declared.rules.Broken.{Broken}
-use Rattle.session_core.specs.declared.config.Config.{Config}
-use Rattle.session_core.specs.declared.bundle.BundleParts.{BundleParts}
-use Rattle.session_core.specs.declared.edit.Edit.{Edit}
-use Rattle.session_core.specs.declared.edit.Entry.{Entry}
+use Rattle.db_config.specs.declared.parts.ConfigParts.{ConfigParts}
+use Rattle.edit_rules.specs.Database.{DatabaseParts}
+use Rattle.edit_rules.specs.declared.edit.Edit.{Edit}
+use Rattle.edit_rules.specs.declared.edit.Entry.{Entry}
 use Rattle.session_core.specs.declared.event.Event.{Event}
 use Rattle.session_core.specs.declared.event.Event.TheVariants as events
 use Rattle.session_core.specs.declared.line.Ask.{Ask}
@@ -19,7 +19,7 @@ use Rattle.session_core.specs.declared.line.Request.{Request}
 use Rattle.session_core.specs.declared.line.Request.TheVariants as requests
 use Rattle.session_core.specs.declared.line.Line.{Line}
 use Rattle.session_core.specs.declared.line.Reply.{Reply}
-use Rattle.session_core.specs.Effects.{IsLegal, edited}
+use Rattle.edit_rules.specs.Effects.{IsLegal, edited}
 use Rattle.session_core.specs.Steps.{Opened, State, slot, put_slot, session_places, start, is_full, opened_at, edit_step, look_step, finish_step, query_step, query_fails}
 use Rattle.session_core.specs.Worlds.{Turn, Trouble, untroubled, no_memory, store_full, disk_failed, is_disk_failed, Occurrence, World, query_line, query_answered, turns_of, happens, run, opening_world, Each, IsBehind, IsNext, RequestFits, same_command, passes_store, TroubleFits, OccurrenceFits, AllFit, disk_failures, Fits, is_waiting, is_done, lines_done}
 use Rattle.session_core.specs.Legal.{lines_in, replies_in, Legal}
@@ -82,7 +82,7 @@ stored_sound : (passes : Bool) → is_disk_failed (stored_trouble passes false) 
 stored_sound true = refl
 stored_sound false = refl
 
-made_sound : (st : State) (l : Line) (edit : Edit) (full : Bool) (made : Result (List BundleParts) Broken) → is_disk_failed (made_trouble st l edit false full made) ≡ false
+made_sound : (st : State) (l : Line) (edit : Edit) (full : Bool) (made : Result (DatabaseParts) Broken) → is_disk_failed (made_trouble st l edit false full made) ≡ false
 made_sound st l edit true made = refl
 made_sound st l edit false (Err rule) = refl
 made_sound st l edit false (Ok bundles) = stored_sound (passes_store st.config st.entries (entry_of l edit))
@@ -199,12 +199,12 @@ one_turn_of : (l : Line) (reply : Option Reply) → IsSome reply → turns_of (l
 one_turn_of l None is = absurd is
 one_turn_of l (Some reply) is = refl
 
-edit_some : (st : State) (l : Line) (edit : Edit) (full : Bool) (made : Result (List BundleParts) Broken) → IsSome (edit_step st l edit full made).0
+edit_some : (st : State) (l : Line) (edit : Edit) (full : Bool) (made : Result (DatabaseParts) Broken) → IsSome (edit_step st l edit full made).0
 edit_some st l edit true made = tt
 edit_some st l edit false (Ok bundles) = tt
 edit_some st l edit false (Err rule) = tt
 
-edit_queries : (st : State) (l : Line) (edit : Edit) (full : Bool) (made : Result (List BundleParts) Broken) → st.queries ≡ (edit_step st l edit full made).1.queries
+edit_queries : (st : State) (l : Line) (edit : Edit) (full : Bool) (made : Result (DatabaseParts) Broken) → st.queries ≡ (edit_step st l edit full made).1.queries
 edit_queries st l edit true made = refl
 edit_queries st l edit false (Ok bundles) = refl
 edit_queries st l edit false (Err rule) = refl
@@ -330,7 +330,7 @@ module _ (store : Bool) (before : List Line) (w : World) (b : Between before w) 
     edit_answers_at store_full may = record { fits = (record { event = edit_may; trouble = may }, tt); state = refl; lines = refl; turns = refl; count = b.count; idle = b.idle }
     edit_answers_at disk_failed may = record { fits = (record { event = edit_may; trouble = may }, tt); state = refl; lines = refl; turns = refl; count = b.count; idle = b.idle }
 
-    stored_fits : (bundles : List BundleParts) (passes fails : Bool) → is_full w.state.entries ≡ false → edited w.state.config w.state.entries edit ≡ Ok bundles
+    stored_fits : (bundles : DatabaseParts) (passes fails : Bool) → is_full w.state.entries ≡ false → edited w.state.config w.state.entries edit ≡ Ok bundles
         → store ≡ true → passes_store w.state.config w.state.entries (entry_of edit_line edit) ≡ passes
         → TroubleFits store w.state (events.Edit edit_line) (stored_trouble passes fails)
     stored_fits bundles true fails room made stored passes_is =
@@ -338,7 +338,7 @@ module _ (store : Bool) (before : List Line) (w : World) (b : Between before w) 
     stored_fits bundles false true room made stored passes_is = stored
     stored_fits bundles false false room made stored passes_is = tt
 
-    made_fits : (fails full : Bool) (made : Result (List BundleParts) Broken) → is_full w.state.entries ≡ full → edited w.state.config w.state.entries edit ≡ made → store ≡ true
+    made_fits : (fails full : Bool) (made : Result (DatabaseParts) Broken) → is_full w.state.entries ≡ full → edited w.state.config w.state.entries edit ≡ made → store ≡ true
         → TroubleFits store w.state (events.Edit edit_line) (made_trouble w.state edit_line edit fails full made)
     made_fits fails true made full_is made_is stored = tt
     made_fits fails false (Err rule) full_is made_is stored = tt
@@ -537,7 +537,7 @@ module _ (store : Bool) (before : List Line) (w : World) (b : Between before w) 
   of_query : (line : ℕ) (s : SessionNo) (command : Command) (ask : Ask) (outage : Outage) → same_command command commands.Query ≡ true → ComesNext before (line_of line s command (requests.Query ask))
       → Answers store w (line_of line s command (requests.Query ask)) (query_moments (line_of line s command (requests.Query ask)) outage) (request_turn store w.state (line_of line s command (requests.Query ask)) (requests.Query ask) outage)
   of_query line s commands.Query ask outage is comes = query_answers line s ask comes outage
-  of_query line s commands.Config ask outage is comes = absurd (false≢true is)
+  of_query line s commands.ConfigParts ask outage is comes = absurd (false≢true is)
   of_query line s commands.AddBundle ask outage is comes = absurd (false≢true is)
   of_query line s commands.Look ask outage is comes = absurd (false≢true is)
   of_query line s commands.Finish ask outage is comes = absurd (false≢true is)
@@ -546,7 +546,7 @@ module _ (store : Bool) (before : List Line) (w : World) (b : Between before w) 
   of_finish : (line : ℕ) (s : SessionNo) (command : Command) (outage : Outage) → same_command command commands.Finish ≡ true → ComesNext before (line_of line s command requests.Finish)
       → Answers store w (line_of line s command requests.Finish) (request_moments store w.state (line_of line s command requests.Finish) requests.Finish outage) (request_turn store w.state (line_of line s command requests.Finish) requests.Finish outage)
   of_finish line s commands.Finish outage is comes = finish_answers line s outage comes
-  of_finish line s commands.Config outage is comes = absurd (false≢true is)
+  of_finish line s commands.ConfigParts outage is comes = absurd (false≢true is)
   of_finish line s commands.AddBundle outage is comes = absurd (false≢true is)
   of_finish line s commands.Look outage is comes = absurd (false≢true is)
   of_finish line s commands.Query outage is comes = absurd (false≢true is)
@@ -628,18 +628,18 @@ all_done st idle (l ∷ ls) = (line_done st idle l, all_done st idle ls)
 whole_script : (w : World) → ((s : ℕ) → slot w.state.queries s ≡ None) → lines_done w ≡ w.lines
 whole_script w idle = filter_all (is_done w.state) w.lines (all_done w.state idle w.lines)
 
-at_start : (c : Config) (opening : List Entry) → Between [] (opening_world c opening)
+at_start : (c : ConfigParts) (opening : List Entry) → Between [] (opening_world c opening)
 at_start c opening = record { came = refl; told = refl; count = refl; idle = λ s. slot_none session_places s }
 
 -- a legal run whose turns stand in the order of the lines, with the numbers of the moment
-abbrev IsRunInOrder : Config → List Entry → List Line → List Line → List Reply → List Entry → Bool → ℕ → ℕ → Type 0
+abbrev IsRunInOrder : ConfigParts → List Entry → List Line → List Line → List Reply → List Entry → Bool → ℕ → ℕ → Type 0
 IsRunInOrder c opening lines script replies H store before now =
     (legal_run : Legal c opening script replies H store before now) × IsInOrder opening lines legal_run.turns
 
 fewer_rise : (j k before now : ℕ) → j ≤ k → RoseBy k before now → RoseBy j before now
 fewer_rise j k before now fewer rose = search rules
 
-module _ (c : Config) (opening : List Entry) (lines : List Line) (outages : List Outage) (store : Bool) (before now : ℕ)
+module _ (c : ConfigParts) (opening : List Entry) (lines : List Line) (outages : List Outage) (store : Bool) (before now : ℕ)
     (legal : IsLegal c opening) (most : length opening ≤ HISTORY_EDITS) (comes : ComeInOrder [] lines) (long : length outages ≡ length lines)
     (rose : RoseBy (disk_outages store outages) before now) where
   abbrev went_through : List Occurrence

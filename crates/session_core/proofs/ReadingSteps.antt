@@ -3,10 +3,10 @@ use Rattle.std.proofs.Common.{◌≡◌, ◌≢◌, ⊎_elim, ℕ, ◌+◌, ◌<
 use Rattle.std.proofs.lemmas.Bool.{cases_eq, lt-leb, le-leb, false≢true}
 use Rattle.std.proofs.lemmas.List.{take_at}
 use Rattle.emu_names.specs.declared.rules.Broken.{Broken}
-use Rattle.session_core.specs.declared.config.Config.{Config}
-use Rattle.session_core.specs.declared.bundle.BundleParts.{BundleParts}
-use Rattle.session_core.specs.declared.edit.Edit.{Edit}
-use Rattle.session_core.specs.declared.edit.Entry.{Entry}
+use Rattle.db_config.specs.declared.parts.ConfigParts.{ConfigParts}
+use Rattle.edit_rules.specs.Database.{DatabaseParts}
+use Rattle.edit_rules.specs.declared.edit.Edit.{Edit}
+use Rattle.edit_rules.specs.declared.edit.Entry.{Entry}
 use Rattle.session_core.specs.declared.line.Command.{Command}
 use Rattle.session_core.specs.declared.line.Ask.{Ask}
 use Rattle.session_core.specs.declared.line.AskFault.{AskFault}
@@ -18,9 +18,9 @@ use Rattle.session_core.specs.declared.line.Request.{Request}
 use Rattle.session_core.specs.declared.line.Request.TheVariants as requests
 use Rattle.session_core.specs.declared.line.Line.{Line}
 use Rattle.session_core.specs.declared.line.Reply.{Reply}
-use Rattle.session_core.specs.Effects.{edited}
+use Rattle.edit_rules.specs.Effects.{edited}
 use Rattle.session_core.specs.Queries.{Asked, resolved}
-use Rattle.session_core.specs.Effects.{bundles_after}
+use Rattle.edit_rules.specs.Effects.{bundles_after}
 use Rattle.session_core.specs.Answers.{rows_over, query_answer, answer_at, memory, reply_to, entry_of}
 use Rattle.session_core.specs.Steps.{Opened, State, slot, put_slot, session_places, is_full, opened_at, with_look, with_query, with_entry, present, edit_step, look_step, finish_step, query_step}
 use Rattle.session_core.specs.Legal.{accepting, IsAcceptance, IsRightAt, IsRightUnnumbered, IsRight, Look, open_behind, LookReplyFits, FinishReplyFits, ReplyFits}
@@ -48,7 +48,7 @@ not_memory : (answer : Answer) → is_memory answer ≡ false → answer ≡ mem
 not_memory answer other same = false≢true (sym other ∙ ap is_memory same)
 
 -- a query's answer is no want of memory
-query_fine : (c : Config) (bundles : List BundleParts) (found : Result Asked AskFault) → outage_in (query_answer (rows_over c bundles found)) ≡ fine
+query_fine : (c : ConfigParts) (bundles : DatabaseParts) (found : Result Asked AskFault) → outage_in (query_answer (rows_over c bundles found)) ≡ fine
 query_fine c bundles (Ok asked) = refl
 query_fine c bundles (Err fault) = refl
 
@@ -70,7 +70,7 @@ next_entry (x ∷ E) more e found = next_entry E more e found
 
 -- Where a run stands: k entries of the history are there, and each open look is over some of them.
 
-pub record Stands (c : Config) (H : List Entry) (k : ℕ) (st : State) : Type 0 where
+pub record Stands (c : ConfigParts) (H : List Entry) (k : ℕ) (st : State) : Type 0 where
   pub config : st.config ≡ c
   pub more : List Entry
   pub prefix : H ≡ st.entries ++ more
@@ -85,22 +85,22 @@ seen_look held = option_map look_of held
 
 -- One line: its reply is the one in turn, and its session's look is the one that the reply leaves.
 
-pub record Follows (c : Config) (H : List Entry) (k : ℕ) (st : State) (l : Line) (request : Request) (n : Option ℕ) (answer : Answer) (out : Reply × State) : Type 0 where
+pub record Follows (c : ConfigParts) (H : List Entry) (k : ℕ) (st : State) (l : Line) (request : Request) (n : Option ℕ) (answer : Answer) (out : Reply × State) : Type 0 where
   pub reply : out.0 ≡ reply_to l n answer
   pub there : Stands c H (k + length (accepting l request n answer)) out.1
   pub own : seen_look (slot out.1.looks l.session.0) ≡ open_behind (seen_look (slot st.looks l.session.0)) request n
   pub others : (s : ℕ) → l.session.0 ≢ s → slot out.1.looks s ≡ slot st.looks s
 
 -- what is right of an answer, with the request told
-abbrev pub IsRightFor : Config → ℕ → List Entry → Line → Request → Option ℕ → Answer → Type 0
+abbrev pub IsRightFor : ConfigParts → ℕ → List Entry → Line → Request → Option ℕ → Answer → Type 0
 IsRightFor c m H l request None answer = IsRightUnnumbered false request answer
 IsRightFor c m H l request (Some n) answer = (m ≤ n) × (n ≤ length H) × IsRightAt c H false l request n answer
 
-pub right_for : (c : Config) (m : ℕ) (H : List Entry) (l : Line) (n : Option ℕ) (answer : Answer) → IsRight c m H false l n answer → IsRightFor c m H l l.request n answer
+pub right_for : (c : ConfigParts) (m : ℕ) (H : List Entry) (l : Line) (n : Option ℕ) (answer : Answer) → IsRight c m H false l n answer → IsRightFor c m H l l.request n answer
 right_for c m H l None answer right = right
 right_for c m H l (Some n) answer right = right
 
-module _ (c : Config) (m : ℕ) (H : List Entry) (k : ℕ) (st : State) (r : Stands c H k st) (l : Line) (place : l.session.0 < session_places) where
+module _ (c : ConfigParts) (m : ℕ) (H : List Entry) (k : ℕ) (st : State) (r : Stands c H k st) (l : Line) (place : l.session.0 < session_places) where
   abbrev held : Option Opened
   held = slot st.looks l.session.0
 
@@ -124,15 +124,15 @@ module _ (c : Config) (m : ℕ) (H : List Entry) (k : ℕ) (st : State) (r : Sta
       let at : length st.entries ≡ n = r.count ∙ sym is in
       ap (λ (es : List Entry). take n es) r.prefix ∙ take_at st.entries r.more n at
 
-  edit_is : (n : ℕ) (edit : Edit) (made : Result (List BundleParts) Broken) → n ≡ k → edited c (take n H) edit ≡ made → edited st.config st.entries edit ≡ made
+  edit_is : (n : ℕ) (edit : Edit) (made : Result (DatabaseParts) Broken) → n ≡ k → edited c (take n H) edit ≡ made → edited st.config st.entries edit ≡ made
   edit_is n edit made is right =
-      ap (λ (d : Config). edited d st.entries edit) r.config
+      ap (λ (d : ConfigParts). edited d st.entries edit) r.config
       ∙ ap (λ (es : List Entry). edited c es edit) (sym (front n is))
       ∙ right
 
   answer_is : (n : ℕ) (ask : Ask) (answer : Answer) → n ≤ length st.entries → answer ≡ answer_at c H n ask → answer_at st.config st.entries n ask ≡ answer
   answer_is n ask answer low right =
-      ap (λ (d : Config). answer_at d st.entries n ask) r.config
+      ap (λ (d : ConfigParts). answer_at d st.entries n ask) r.config
       ∙ sym (answer_same c st.entries r.more n ask low)
       ∙ ap (λ (es : List Entry). answer_at c es n ask) (sym r.prefix)
       ∙ sym right
@@ -161,13 +161,13 @@ module _ (c : Config) (m : ℕ) (H : List Entry) (k : ℕ) (st : State) (r : Sta
 
   -- The five requests, in turn.
 
-  abbrev edit_out : Edit → Bool → Result (List BundleParts) Broken → Reply × State
+  abbrev edit_out : Edit → Bool → Result (DatabaseParts) Broken → Reply × State
   edit_out edit full made = replied l (edit_step st l edit full made)
 
-  edit_made_is : (edit : Edit) (full : Bool) (made : Result (List BundleParts) Broken) → is_full st.entries ≡ full → edited st.config st.entries edit ≡ made
+  edit_made_is : (edit : Edit) (full : Bool) (made : Result (DatabaseParts) Broken) → is_full st.entries ≡ full → edited st.config st.entries edit ≡ made
       → edit_out edit full made ≡ request_turn false st l (requests.Edit edit) fine
   edit_made_is edit full made full_is made_is =
-      sym (ap (λ (b : Bool). edit_out edit b (edited st.config st.entries edit)) full_is ∙ ap (λ (found : Result (List BundleParts) Broken). edit_out edit full found) made_is)
+      sym (ap (λ (b : Bool). edit_out edit b (edited st.config st.entries edit)) full_is ∙ ap (λ (found : Result (DatabaseParts) Broken). edit_out edit full found) made_is)
 
   not_full : k < HISTORY_EDITS → is_full st.entries ≡ false
   not_full room =

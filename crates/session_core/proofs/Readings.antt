@@ -2,8 +2,8 @@
 use Rattle.std.proofs.Common.{◌≡◌, ◌≢◌, ⊎_elim, ℕ, suc, ◌+◌, ◌<◌, ◌≤◌, Bool, true, false, cond, List, [], ◌∷◌, ◌++◌, length, map, Option, Some, None, nat_eq, refl, sym, ◌∙◌, ap, subst, arith, length-append, eq-eqb}
 use Rattle.std.proofs.lemmas.Bool.{cases_eq, ne_eqb, false≢true}
 use Rattle.std.proofs.lemmas.List.{append-nil}
-use Rattle.session_core.specs.declared.config.Config.{Config}
-use Rattle.session_core.specs.declared.edit.Entry.{Entry}
+use Rattle.db_config.specs.declared.parts.ConfigParts.{ConfigParts}
+use Rattle.edit_rules.specs.declared.edit.Entry.{Entry}
 use Rattle.session_core.specs.declared.line.Answer.{Answer}
 use Rattle.session_core.specs.declared.line.Answer.TheVariants.{Done, Segments, Refused}
 use Rattle.session_core.specs.declared.line.Request.{Request}
@@ -28,7 +28,7 @@ abbrev standing_after : ℕ → List Turn → ℕ
 standing_after k [] = k
 standing_after k (t ∷ ts) = standing_after (standing k t) ts
 
-module _ (c : Config) (m : ℕ) (H : List Entry) where
+module _ (c : ConfigParts) (m : ℕ) (H : List Entry) where
   record AllFollow (k : ℕ) (st : State) (ts : List Turn) : Type 0 where
     replies : replies_in ts ≡ (in_turn false st (lines_in ts) (map outage_of (replies_in ts))).0
     there : Stands c H (standing_after k ts) (in_turn false st (lines_in ts) (map outage_of (replies_in ts))).1
@@ -151,13 +151,13 @@ places_of : (before lines : List Line) → ComeInOrder before lines → Each (λ
 places_of before [] comes = tt
 places_of before (l ∷ ls) comes = (comes.0.place, places_of (before ++ l ∷ []) ls comes.1)
 
-sound_of : (c : Config) (m : ℕ) (H : List Entry) (ts : List Turn) → Each (IsRightTurn c m H false) ts → Each IsNamed ts → Each (λ (t : Turn). t.line.session.0 < session_places) ts
+sound_of : (c : ConfigParts) (m : ℕ) (H : List Entry) (ts : List Turn) → Each (IsRightTurn c m H false) ts → Each IsNamed ts → Each (λ (t : Turn). t.line.session.0 < session_places) ts
     → Each (IsSound c m H) ts
 sound_of c m H [] right named place = tt
 sound_of c m H (t ∷ ts) right named place =
     (record { right = right.0; named = named.0; place = place.0 }, sound_of c m H ts right.1 named.1 place.1)
 
-module _ (c : Config) (opening : List Entry) (lines : List Line) (replies : List Reply) (H : List Entry) (before now : ℕ)
+module _ (c : ConfigParts) (opening : List Entry) (lines : List Line) (replies : List Reply) (H : List Entry) (before now : ℕ)
     (comes : ComeInOrder [] lines) (run : Legal c opening lines replies H false before now) (is : IsInOrder opening lines run.turns) where
   begins : Stands c H (length opening) (start c opening)
   begins = record {

@@ -6,10 +6,10 @@ use Rattle.std.proofs.lemmas.List.Elements.{filter-append}
 use Rattle.std.proofs.lemmas.List.Sums.{sum_by-cons}
 use Rattle.emu_names.specs.declared.kinds.SessionNo.{SessionNo}
 use Rattle.emu_names.specs.declared.rules.Broken.{Broken}
-use Rattle.session_core.specs.declared.config.Config.{Config}
-use Rattle.session_core.specs.declared.bundle.BundleParts.{BundleParts}
-use Rattle.session_core.specs.declared.edit.Edit.{Edit}
-use Rattle.session_core.specs.declared.edit.Entry.{Entry}
+use Rattle.db_config.specs.declared.parts.ConfigParts.{ConfigParts}
+use Rattle.edit_rules.specs.Database.{DatabaseParts}
+use Rattle.edit_rules.specs.declared.edit.Edit.{Edit}
+use Rattle.edit_rules.specs.declared.edit.Entry.{Entry}
 use Rattle.session_core.specs.declared.event.Event.{Event}
 use Rattle.session_core.specs.declared.event.Event.TheVariants as events
 use Rattle.session_core.specs.declared.line.Ask.{Ask}
@@ -19,7 +19,7 @@ use Rattle.session_core.specs.declared.line.Request.{Request}
 use Rattle.session_core.specs.declared.line.Request.TheVariants as requests
 use Rattle.session_core.specs.declared.line.Line.{Line}
 use Rattle.session_core.specs.declared.line.Reply.{Reply}
-use Rattle.session_core.specs.Effects.{IsLegal, edited}
+use Rattle.edit_rules.specs.Effects.{IsLegal, edited}
 use Rattle.session_core.specs.Steps.{Opened, State, start, slot, session_places, present, is_full, edit_step, edit_event, look_step, look_event, finish_step, query_step, Asker, by_look, by_query, by_none, asker_of, finish_by, core_step, query_fails, finish_fails_by, core_fails, option_list, steps}
 use Rattle.session_core.specs.Worlds.{Turn, Trouble, untroubled, no_memory, store_full, disk_failed, is_disk_failed, Occurrence, World, edit_kept_out, outcome_of, query_line, finish_line, query_answered, answered_by, answered, turns_of, happens, run, opening_world, Each, AllFit, disk_failures, is_waiting, is_done, lines_done}
 use Rattle.session_core.specs.Legal.{of_session, lines_of_session, is_of, is_line_of, lines_in, replies_in, with_number, HasSeenTurn, disk_replies, Legal}
@@ -33,7 +33,7 @@ use Rattle.session_core.proofs.Events.{occurrence_good}
 
 -- The beginning, and each run.
 
-start_seat : (c : Config) (opening : List Entry) (s : ℕ) → Seat c (length opening) opening s [] [] (slot (start c opening).looks s) (slot (start c opening).queries s)
+start_seat : (c : ConfigParts) (opening : List Entry) (s : ℕ) → Seat c (length opening) opening s [] [] (slot (start c opening).looks s) (slot (start c opening).queries s)
 start_seat c opening s =
     let none : slot (replicate {A = Option Opened} session_places None) s ≡ None = slot_none session_places s in
     record {
@@ -47,7 +47,7 @@ start_seat c opening s =
       waits = subst (λ (o : Option Opened). IsWaiting (length opening) opening [] o) (sym none) tt;
     }
 
-start_good : (c : Config) (opening : List Entry) (store : Bool) → IsLegal c opening → length opening ≤ HISTORY_EDITS → Good opening store 0 (opening_world c opening)
+start_good : (c : ConfigParts) (opening : List Entry) (store : Bool) → IsLegal c opening → length opening ≤ HISTORY_EDITS → Good opening store 0 (opening_world c opening)
 start_good c opening store legal most = record {
   more = [];
   prefix = sym (append-nil opening);
@@ -75,7 +75,7 @@ run_good opening store faults w (m ∷ ms) g fits =
 
 -- The configuration stays.
 
-edit_config : (st : State) (l : Line) (edit : Edit) (full : Bool) (made : Result (List BundleParts) Broken) → (edit_step st l edit full made).1.config ≡ st.config
+edit_config : (st : State) (l : Line) (edit : Edit) (full : Bool) (made : Result (DatabaseParts) Broken) → (edit_step st l edit full made).1.config ≡ st.config
 edit_config st l edit true made = refl
 edit_config st l edit false (Ok bundles) = refl
 edit_config st l edit false (Err rule) = refl
@@ -224,7 +224,7 @@ module _ (opening : List Entry) (store : Bool) (faults : ℕ) (w : World) (g : G
 -- What is kept makes a run legal.
 
 -- a legal run whose turns are those of the world
-abbrev pub HasTurns : Config → List Entry → World → Bool → ℕ → ℕ → Type 0
+abbrev pub HasTurns : ConfigParts → List Entry → World → Bool → ℕ → ℕ → Type 0
 HasTurns c opening w store before now = (legal_run : IsLegalWorld c opening w store before now) × (legal_run.turns ≡ w.turns)
 
 fewer_rise : (j k before now : ℕ) → j ≤ k → RoseBy k before now → RoseBy j before now
@@ -256,11 +256,11 @@ good_legal opening store faults before now w g rose = (
   refl,
 )
 
-module _ (c : Config) (opening : List Entry) (ms : List Occurrence) (store : Bool) (before now : ℕ) where
+module _ (c : ConfigParts) (opening : List Entry) (ms : List Occurrence) (store : Bool) (before now : ℕ) where
   pub run_legal_turns : IsLegal c opening → length opening ≤ HISTORY_EDITS → AllFit store (opening_world c opening) ms → RoseBy (disk_failures ms) before now
       → HasTurns c opening (run (opening_world c opening) ms) store before now
   run_legal_turns legal most fits rose =
-      subst (λ (k : Config). HasTurns k opening (run (opening_world c opening) ms) store before now) (run_config (opening_world c opening) ms)
+      subst (λ (k : ConfigParts). HasTurns k opening (run (opening_world c opening) ms) store before now) (run_config (opening_world c opening) ms)
       (good_legal opening store (0 + disk_failures ms) before now (run (opening_world c opening) ms)
       (run_good opening store 0 (opening_world c opening) ms (start_good c opening store legal most) fits)
       (fewer_rise (0 + disk_failures ms) (disk_failures ms) before now (omega arith) rose))
@@ -311,7 +311,7 @@ none_failed (e ∷ es) = sum_by-cons (λ (n : Occurrence). cond (is_disk_failed 
 none_rise : (k : ℕ) → k ≡ 0 → RoseBy k 0 0
 none_rise k none = omega arith
 
-pub core_run_legal : (c : Config) (opening : List Entry) (es : List Event) → IsLegal c opening → length opening ≤ HISTORY_EDITS → AllFit false (opening_world c opening) (map taken es)
+pub core_run_legal : (c : ConfigParts) (opening : List Entry) (es : List Event) → IsLegal c opening → length opening ≤ HISTORY_EDITS → AllFit false (opening_world c opening) (map taken es)
     → Legal c opening (lines_done (run (opening_world c opening) (map taken es))) (steps (start c opening) es).0 (steps (start c opening) es).1.entries false 0 0
 core_run_legal c opening es legal most fits =
     let last : World = run (opening_world c opening) (map taken es) in

@@ -4,9 +4,9 @@ use Rattle.std.proofs.lemmas.Bool.{cases_eq}
 use Rattle.std.proofs.lemmas.List.{append-nil, take-append-le}
 use Rattle.emu_names.specs.declared.kinds.SessionNo.{SessionNo}
 use Rattle.emu_names.specs.declared.limits.TheConstants.{HISTORY_EDITS}
-use Rattle.session_core.specs.declared.config.Config.{Config}
-use Rattle.session_core.specs.declared.edit.Edit.{Edit}
-use Rattle.session_core.specs.declared.edit.Entry.{Entry}
+use Rattle.db_config.specs.declared.parts.ConfigParts.{ConfigParts}
+use Rattle.edit_rules.specs.declared.edit.Edit.{Edit}
+use Rattle.edit_rules.specs.declared.edit.Entry.{Entry}
 use Rattle.session_core.specs.declared.line.Ask.{Ask}
 use Rattle.session_core.specs.declared.line.Answer.{Answer}
 use Rattle.session_core.specs.declared.line.Answer.TheVariants.{Done, Segments, Refused}
@@ -15,7 +15,7 @@ use Rattle.session_core.specs.declared.line.Refusal.TheVariants as refusals
 use Rattle.session_core.specs.declared.line.Request.{Request}
 use Rattle.session_core.specs.declared.line.Request.TheVariants as requests
 use Rattle.session_core.specs.declared.line.Line.{Line}
-use Rattle.session_core.specs.Effects.{IsLegal, edited, bundles_after}
+use Rattle.edit_rules.specs.Effects.{IsLegal, edited, bundles_after}
 use Rattle.session_core.specs.Answers.{answer_over, answer_at, entry_of}
 use Rattle.session_core.specs.Steps.{Opened, slot, session_places}
 use Rattle.session_core.specs.Worlds.{Turn, World, Each, query_answered, passes_store}
@@ -24,10 +24,10 @@ use Rattle.session_core.proofs.Turns.{each_push, each_map, each_filter, turns_ow
 
 -- A longer history changes nothing of what was said of a shorter one.
 
-pub answer_same : (c : Config) (H new : List Entry) (n : ℕ) (ask : Ask) → n ≤ length H → answer_at c (H ++ new) n ask ≡ answer_at c H n ask
+pub answer_same : (c : ConfigParts) (H new : List Entry) (n : ℕ) (ask : Ask) → n ≤ length H → answer_at c (H ++ new) n ask ≡ answer_at c H n ask
 answer_same c H new n ask high = ap (λ (xs : List Entry). answer_over c (bundles_after c xs) ask) (take-append-le n H new high)
 
-edited_same : (c : Config) (H new : List Entry) (n : ℕ) (edit : Edit) → n ≤ length H → edited c (take n (H ++ new)) edit ≡ edited c (take n H) edit
+edited_same : (c : ConfigParts) (H new : List Entry) (n : ℕ) (edit : Edit) → n ≤ length H → edited c (take n (H ++ new)) edit ≡ edited c (take n H) edit
 edited_same c H new n edit high = ap (λ (xs : List Entry). edited c xs edit) (take-append-le n H new high)
 
 pub slice_get_more : {A : Type 0} (xs ys : List A) (n : ℕ) → n < length xs → slice_get (xs ++ ys) n ≡ slice_get xs n
@@ -39,7 +39,7 @@ pub slice_get_last : {A : Type 0} (xs : List A) (x : A) → slice_get (xs ++ x �
 slice_get_last [] x = refl
 slice_get_last (y ∷ xs) x = slice_get_last xs x
 
-module _ (store : Bool) (c : Config) (m : ℕ) (H new : List Entry) where
+module _ (store : Bool) (c : ConfigParts) (m : ℕ) (H new : List Entry) where
   refusal_more : (l : Line) (edit : Edit) (n : ℕ) (r : Refusal) → n ≤ length H → IsRightRefusal c H store l edit n r → IsRightRefusal c (H ++ new) store l edit n r
   refusal_more l edit n (refusals.Rule rule) high right = (right.0, edited_same c H new n edit high ∙ right.1)
   refusal_more l edit n refusals.HistoryFull high right = right
@@ -135,7 +135,7 @@ IsWaiting low H ts None = Unit {0}
 IsWaiting low H ts (Some held) = (low ≤ held.n) × (held.n ≤ length H) × Each (λ t. t.line.line < held.line) ts
 
 -- the turns and lines of a session, with its open look and its query under way
-pub record Seat (c : Config) (m : ℕ) (H : List Entry) (s : ℕ) (ts : List Turn) (ls : List Line) (look query : Option Opened) : Type 0 where
+pub record Seat (c : ConfigParts) (m : ℕ) (H : List Entry) (s : ℕ) (ts : List Turn) (ls : List Line) (look query : Option Opened) : Type 0 where
   pub lines : ls ≡ lines_in ts ++ query_answered (session_no s) query
   pub falls : NeverFalls m ts
   pub from : m ≤ low_of m ts
@@ -153,7 +153,7 @@ waits_more : (low : ℕ) (H new : List Entry) (ts : List Turn) (query : Option O
 waits_more low H new ts None is = tt
 waits_more low H new ts (Some held) is = (is.0, omega (arith, is.1, length-append H new), is.2)
 
-pub seat_more : (c : Config) (m : ℕ) (H new : List Entry) (s : ℕ) (ts : List Turn) (ls : List Line) (look query : Option Opened) → Each (λ t. IsTo (length H) t.reply.n) ts
+pub seat_more : (c : ConfigParts) (m : ℕ) (H new : List Entry) (s : ℕ) (ts : List Turn) (ls : List Line) (look query : Option Opened) → Each (λ t. IsTo (length H) t.reply.n) ts
     → Seat c m H s ts ls look query → Seat c m (H ++ new) s ts ls look query
 seat_more c m H new s ts ls look query to seat = record {
   lines = seat.lines;
@@ -167,7 +167,7 @@ seat_more c m H new s ts ls look query to seat = record {
 }
 
 -- a reply came in this session, and no query is under way now
-pub seat_told : (c : Config) (m : ℕ) (H : List Entry) (s : ℕ) (ts : List Turn) (ls : List Line) (look query : Option Opened) → Seat c m H s ts ls look query
+pub seat_told : (c : ConfigParts) (m : ℕ) (H : List Entry) (s : ℕ) (ts : List Turn) (ls : List Line) (look query : Option Opened) → Seat c m H s ts ls look query
     → (t : Turn) (ls' : List Line) (look' : Option Opened)
     → KeepsUp (low_of m ts) t.line.request t.reply.n
     → m ≤ low_behind (low_of m ts) t.line.request t.reply.n
@@ -205,7 +205,7 @@ pub record Good (opening : List Entry) (store : Bool) (faults : ℕ) (w : World)
   pub queries_count : length w.state.queries ≡ session_places
   pub seats : (s : ℕ) → Seat w.state.config (length opening) w.state.entries s (of_session s w.turns) (lines_of_session s w.lines) (slot w.state.looks s) (slot w.state.queries s)
 
-abbrev pub world_of : Config → List Entry → List (Option Opened) → List (Option Opened) → List Line → List Turn → World
+abbrev pub world_of : ConfigParts → List Entry → List (Option Opened) → List (Option Opened) → List Line → List Turn → World
 world_of c H looks queries lines turns = record {
   state = record { config = c; entries = H; looks = looks; queries = queries };
   lines = lines;

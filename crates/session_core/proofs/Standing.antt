@@ -2,8 +2,8 @@
 -- stand behind each of them.
 use Rattle.std.proofs.Common.{◌≡◌, ℕ, zero, suc, ◌+◌, Bool, true, false, List, [], ◌∷◌, length, Option, Some, None, Result, Ok, Err, refl, ap, subst, arith, length-append}
 use Rattle.emu_names.specs.declared.rules.Broken.{Broken}
-use Rattle.session_core.specs.declared.bundle.BundleParts.{BundleParts}
-use Rattle.session_core.specs.declared.edit.Edit.{Edit}
+use Rattle.edit_rules.specs.Database.{DatabaseParts}
+use Rattle.edit_rules.specs.declared.edit.Edit.{Edit}
 use Rattle.session_core.specs.declared.line.Ask.{Ask}
 use Rattle.session_core.specs.declared.line.Answer.TheVariants.{Refused}
 use Rattle.session_core.specs.declared.line.Refusal.{Refusal}
@@ -12,7 +12,7 @@ use Rattle.session_core.specs.declared.line.Request.{Request}
 use Rattle.session_core.specs.declared.line.Request.TheVariants as requests
 use Rattle.session_core.specs.declared.line.Line.{Line}
 use Rattle.session_core.specs.declared.line.Reply.{Reply}
-use Rattle.session_core.specs.Effects.{edited}
+use Rattle.edit_rules.specs.Effects.{edited}
 use Rattle.session_core.specs.Answers.{memory, reply_to, entry_of}
 use Rattle.session_core.specs.Steps.{Opened, State, slot, put_slot, present, is_full, opened_at, edit_step, look_step, finish_step, query_step, query_fails}
 use Rattle.session_core.specs.Worlds.{Turn, Trouble, untroubled, no_memory, store_full, disk_failed}
@@ -56,7 +56,7 @@ module _ (st : State) (l : Line) where
   memory_counts requests.Finish = record { stands = tt; count = omega arith }
   memory_counts (requests.After earlier) = record { stands = tt; count = omega arith }
 
-  edit_counts : (edit : Edit) (full : Bool) (made : Result (List BundleParts) Broken) → Counts st l (requests.Edit edit) (replied l (edit_step st l edit full made))
+  edit_counts : (edit : Edit) (full : Bool) (made : Result (DatabaseParts) Broken) → Counts st l (requests.Edit edit) (replied l (edit_step st l edit full made))
   edit_counts edit true made = record { stands = omega arith; count = omega arith }
   edit_counts edit false (Ok bundles) = record { stands = refl; count = length-append st.entries (entry_of l edit ∷ []) }
   edit_counts edit false (Err rule) = record { stands = omega arith; count = omega arith }

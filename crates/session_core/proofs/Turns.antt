@@ -6,8 +6,8 @@ use Rattle.std.proofs.lemmas.List.{append-nil}
 use Rattle.std.proofs.lemmas.List.Elements.{filter-append}
 use Rattle.std.proofs.lemmas.List.Sums.{sum_by-cons}
 use Rattle.std.proofs.Math.Nat.{max-le}
-use Rattle.session_core.specs.declared.config.Config.{Config}
-use Rattle.session_core.specs.declared.edit.Entry.{Entry}
+use Rattle.db_config.specs.declared.parts.ConfigParts.{ConfigParts}
+use Rattle.edit_rules.specs.declared.edit.Entry.{Entry}
 use Rattle.session_core.specs.declared.line.Answer.{Answer}
 use Rattle.session_core.specs.declared.line.Request.{Request}
 use Rattle.session_core.specs.declared.line.Request.TheVariants as requests
@@ -119,7 +119,7 @@ abbrev pub held_of : Option Look → List Turn → Option Look
 held_of held [] = held
 held_of held (t ∷ ts) = held_of (open_behind held t.line.request t.reply.n) ts
 
-pub looks_push : (c : Config) (H : List Entry) (held : Option Look) (ts : List Turn) (t : Turn)
+pub looks_push : (c : ConfigParts) (H : List Entry) (held : Option Look) (ts : List Turn) (t : Turn)
     → LooksFit c H held ts → ReplyFits c H (held_of held ts) t.line.request t.reply.n t.reply.answer → LooksFit c H held (ts ++ t ∷ [])
 looks_push c H held [] t looks fits = (fits, tt)
 looks_push c H held (u ∷ ts) t looks fits = (looks.0, looks_push c H (open_behind held u.line.request u.reply.n) ts t looks.1 fits)

@@ -1,9 +1,9 @@
 -- The reply to a request over a state.
 use Rattle.std.specs.Prelude.{ℕ, List, Option, Result, Ok, Err, take}
-use Rattle.session_core.specs.declared.config.Config.{Config}
-use Rattle.session_core.specs.declared.edit.Edit.{Edit}
-use Rattle.session_core.specs.declared.edit.Entry.{Entry}
-use Rattle.session_core.specs.declared.bundle.BundleParts.{BundleParts}
+use Rattle.db_config.specs.declared.parts.ConfigParts.{ConfigParts}
+use Rattle.edit_rules.specs.declared.edit.Edit.{Edit}
+use Rattle.edit_rules.specs.declared.edit.Entry.{Entry}
+use Rattle.edit_rules.specs.Database.{DatabaseParts}
 use Rattle.session_core.specs.declared.row.Row.{Row}
 use Rattle.session_core.specs.declared.line.Ask.{Ask}
 use Rattle.session_core.specs.declared.line.AskFault.{AskFault}
@@ -13,11 +13,11 @@ use Rattle.session_core.specs.declared.line.Refusal.{Refusal}
 use Rattle.session_core.specs.declared.line.Refusal.TheVariants as refusals
 use Rattle.session_core.specs.declared.line.Line.{Line}
 use Rattle.session_core.specs.declared.line.Reply.{Reply}
-use Rattle.session_core.specs.Effects.{bundles_after}
+use Rattle.edit_rules.specs.Effects.{bundles_after}
 use Rattle.session_core.specs.Queries.{Asked, resolved, segment_list}
 
 -- the rows of a query over a state, or why it is refused: first its meaning, and then its list
-abbrev pub rows_over : Config → List BundleParts → Result Asked AskFault → Result (List Row) Refusal
+abbrev pub rows_over : ConfigParts → DatabaseParts → Result Asked AskFault → Result (List Row) Refusal
 rows_over c bundles (Ok asked) = Ok (segment_list c asked bundles)
 rows_over c bundles (Err fault) = Err (refusals.Resolve fault)
 
@@ -27,11 +27,11 @@ query_answer (Ok rows) = Segments rows
 query_answer (Err refusal) = Refused refusal
 
 -- the answer to a query over a state
-abbrev pub answer_over : Config → List BundleParts → Ask → Answer
+abbrev pub answer_over : ConfigParts → DatabaseParts → Ask → Answer
 answer_over c bundles ask = query_answer (rows_over c bundles (resolved c ask))
 
 -- the answer to a query over the state after the first n entries
-abbrev pub answer_at : Config → List Entry → ℕ → Ask → Answer
+abbrev pub answer_at : ConfigParts → List Entry → ℕ → Ask → Answer
 answer_at c history n ask = answer_over c (bundles_after c (take n history)) ask
 
 -- want of memory, which is an answer to every request

@@ -7,10 +7,10 @@ use Rattle.session_core.specs.declared.annot.Time.TheVariants.{Span}
 use Rattle.session_core.specs.declared.annot.AnnotItem.{AnnotItem}
 use Rattle.session_core.specs.declared.annot.Annot.{Annot}
 use Rattle.session_core.specs.declared.config.LevelDef.{LevelDef}
-use Rattle.session_core.specs.declared.config.Config.{Config}
-use Rattle.session_core.specs.declared.edit.Edit.{Edit}
-use Rattle.session_core.specs.declared.edit.Edit.TheVariants as edits
-use Rattle.session_core.specs.declared.edit.Entry.{Entry}
+use Rattle.db_config.specs.declared.parts.ConfigParts.{ConfigParts}
+use Rattle.edit_rules.specs.declared.edit.Edit.{Edit}
+use Rattle.edit_rules.specs.declared.edit.Edit.TheVariants as edits
+use Rattle.edit_rules.specs.declared.edit.Entry.{Entry}
 use Rattle.session_core.specs.declared.event.Event.{Event}
 use Rattle.session_core.specs.declared.event.Event.TheVariants as events
 use Rattle.session_core.specs.declared.row.Row.{Row}
@@ -30,7 +30,7 @@ phonetic_level = record {
 }
 
 -- a configuration of that level alone
-abbrev pub example_config : Config
+abbrev pub example_config : ConfigParts
 example_config = record { name = codes "t"; uuid = []; extension = []; levels = phonetic_level ∷ [] }
 
 -- a segment with one label

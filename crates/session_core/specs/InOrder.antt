@@ -3,8 +3,8 @@
 use Rattle.std.specs.Prelude.{◌≡◌, ℕ, ◌<◌, Bool, true, false, ◌&&◌, List, [], ◌∷◌, ◌++◌, count_by, Option, Some, None, Result, Ok, Err, nat_eq}
 use Rattle.std.specs.List.{list_any}
 use Rattle.emu_names.specs.declared.rules.Broken.{Broken}
-use Rattle.session_core.specs.declared.bundle.BundleParts.{BundleParts}
-use Rattle.session_core.specs.declared.edit.Edit.{Edit}
+use Rattle.edit_rules.specs.Database.{DatabaseParts}
+use Rattle.edit_rules.specs.declared.edit.Edit.{Edit}
 use Rattle.session_core.specs.declared.line.Ask.{Ask}
 use Rattle.session_core.specs.declared.line.Answer.TheVariants.{Refused}
 use Rattle.session_core.specs.declared.line.Refusal.TheVariants as refusals
@@ -13,7 +13,7 @@ use Rattle.session_core.specs.declared.line.Request.TheVariants as requests
 use Rattle.session_core.specs.declared.line.Line.{Line}
 use Rattle.session_core.specs.declared.line.Reply.{Reply}
 use Rattle.session_core.specs.declared.line.Command.TheVariants as commands
-use Rattle.session_core.specs.Effects.{edited}
+use Rattle.edit_rules.specs.Effects.{edited}
 use Rattle.session_core.specs.Answers.{memory, reply_to, entry_of}
 use Rattle.session_core.specs.Steps.{State, present, is_full, edit_event, look_event, finish_event, finish_fails, opened_at, with_query, session_places}
 use Rattle.session_core.specs.Worlds.{Trouble, untroubled, no_memory, store_full, disk_failed, passes_store, Each, is_command_of}
@@ -61,7 +61,7 @@ stored_trouble false true = disk_failed
 stored_trouble false false = untroubled
 
 -- an edit that the history or a rule refuses meets neither the store nor the disk
-abbrev pub made_trouble : State → Line → Edit → Bool → Bool → Result (List BundleParts) Broken → Trouble
+abbrev pub made_trouble : State → Line → Edit → Bool → Bool → Result (DatabaseParts) Broken → Trouble
 made_trouble st l edit fails true made = untroubled
 made_trouble st l edit fails false (Err rule) = untroubled
 made_trouble st l edit fails false (Ok bundles) =

@@ -1,11 +1,11 @@
 -- Laws over the definitions: what histories and runs have in common.
 use Rattle.std.specs.Prelude.{◌≡◌, ℕ, ◌≤◌, true, false, List, [], ◌∷◌, ◌++◌, length, map, take, Bool}
-use Rattle.session_core.specs.declared.config.Config.{Config}
-use Rattle.session_core.specs.declared.edit.Entry.{Entry}
+use Rattle.db_config.specs.declared.parts.ConfigParts.{ConfigParts}
+use Rattle.edit_rules.specs.declared.edit.Entry.{Entry}
 use Rattle.session_core.specs.declared.event.Event.{Event}
 use Rattle.session_core.specs.declared.row.Row.{Row}
 use Rattle.session_core.specs.Configs.{is_valid_config}
-use Rattle.session_core.specs.Effects.{after, edited, IsLegal, bundles_after}
+use Rattle.edit_rules.specs.Effects.{after, edited, IsLegal, bundles_after}
 use Rattle.session_core.specs.Valid.{is_valid_state}
 use Rattle.session_core.specs.Steps.{start, steps}
 use Rattle.session_core.specs.Worlds.{Occurrence, untroubled, World, run, opening_world, AllFit, disk_failures, lines_done}
@@ -16,25 +16,25 @@ use Rattle.session_core.specs.Example.{add_line, replies_with, no_memory_reply, 
 
 -- one more entry changes the state as its edit does
 abbrev pub ReplayGoesOn : Type 0
-ReplayGoesOn = (c : Config) (history : List Entry) (entry : Entry) → after c (history ++ entry ∷ []) ≡ edited c history entry.edit
+ReplayGoesOn = (c : ConfigParts) (history : List Entry) (entry : Entry) → after c (history ++ entry ∷ []) ≡ edited c history entry.edit
 
 -- each beginning of a legal history is legal
 abbrev pub PrefixesAreLegal : Type 0
-PrefixesAreLegal = (c : Config) (history : List Entry) → IsLegal c history → (n : ℕ) → IsLegal c (take n history)
+PrefixesAreLegal = (c : ConfigParts) (history : List Entry) → IsLegal c history → (n : ℕ) → IsLegal c (take n history)
 
 -- under a valid configuration the state after each beginning of a legal history keeps the rules
 abbrev pub StatesKeepRules : Type 0
-StatesKeepRules = (c : Config) (history : List Entry)
+StatesKeepRules = (c : ConfigParts) (history : List Entry)
     → is_valid_config c ≡ true → IsLegal c history → (n : ℕ) → is_valid_state c (bundles_after c (take n history)) ≡ true
 
 -- the replies of a run are legal beside the history that it leaves
-abbrev pub IsLegalWorld : Config → List Entry → World → Bool → ℕ → ℕ → Type 0
+abbrev pub IsLegalWorld : ConfigParts → List Entry → World → Bool → ℕ → ℕ → Type 0
 IsLegalWorld c opening w store before now =
     Legal c opening (lines_done w) (replies_in w.turns) w.state.entries store before now
 
 -- whatever events fit, whenever memory runs out, and whatever the store and the disk refuse
 abbrev pub EveryRunIsLegal : Type 0
-EveryRunIsLegal = (c : Config) (opening : List Entry) (occurrences : List Occurrence) (store : Bool) (before now : ℕ)
+EveryRunIsLegal = (c : ConfigParts) (opening : List Entry) (occurrences : List Occurrence) (store : Bool) (before now : ℕ)
     → IsLegal c opening → length opening ≤ HISTORY_EDITS → AllFit store (opening_world c opening) occurrences
     → RoseBy (disk_failures occurrences) before now
     → IsLegalWorld c opening (run (opening_world c opening) occurrences) store before now
@@ -45,7 +45,7 @@ taken e = record { event = e; trouble = untroubled }
 
 -- the replies and the history of the core's steps, where memory does not run out and there is no store
 abbrev pub EveryCoreRunIsLegal : Type 0
-EveryCoreRunIsLegal = (c : Config) (opening : List Entry) (events : List Event)
+EveryCoreRunIsLegal = (c : ConfigParts) (opening : List Entry) (events : List Event)
     → IsLegal c opening → length opening ≤ HISTORY_EDITS → AllFit false (opening_world c opening) (map taken events)
     → Legal c opening (lines_done (run (opening_world c opening) (map taken events)))
     (steps (start c opening) events).0 (steps (start c opening) events).1.entries false 0 0

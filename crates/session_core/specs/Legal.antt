@@ -1,9 +1,9 @@
 -- Legal runs: which replies to the lines of a script may stand beside a history, whatever ran at once.
 use Rattle.std.specs.Prelude.{◌≡◌, ◌⊎◌, ℕ, ◌+◌, ◌<◌, ◌≤◌, max, Bool, true, false, ◌&&◌, List, [], ◌∷◌, ◌++◌, length, map, filter, count_by, take, Option, Some, None, Ok, Err, nat_eq, nat_le, if◌then◌else◌, slice_get}
-use Rattle.session_core.specs.declared.config.Config.{Config}
-use Rattle.session_core.specs.declared.edit.Edit.{Edit}
-use Rattle.session_core.specs.declared.edit.Entry.{Entry}
-use Rattle.session_core.specs.declared.bundle.BundleParts.{BundleParts}
+use Rattle.db_config.specs.declared.parts.ConfigParts.{ConfigParts}
+use Rattle.edit_rules.specs.declared.edit.Edit.{Edit}
+use Rattle.edit_rules.specs.declared.edit.Entry.{Entry}
+use Rattle.edit_rules.specs.Database.{DatabaseParts}
 use Rattle.session_core.specs.declared.line.Command.{Command}
 use Rattle.session_core.specs.declared.line.Ask.{Ask}
 use Rattle.session_core.specs.declared.line.Answer.{Answer}
@@ -14,7 +14,7 @@ use Rattle.session_core.specs.declared.line.Request.{Request}
 use Rattle.session_core.specs.declared.line.Request.TheVariants as requests
 use Rattle.session_core.specs.declared.line.Line.{Line}
 use Rattle.session_core.specs.declared.line.Reply.{Reply}
-use Rattle.session_core.specs.Effects.{IsLegal, edited}
+use Rattle.edit_rules.specs.Effects.{IsLegal, edited}
 use Rattle.session_core.specs.Answers.{answer_at, memory, entry_of}
 use Rattle.session_core.specs.Worlds.{Turn, Each, passes_store}
 use Rattle.fault_counts.specs.Count.{RoseBy}
@@ -92,25 +92,25 @@ with_number n marks = filter (has_number n) marks
 -- 3. Each answer is right for the state that its number names.
 
 -- an acceptance at n is right for the state after n - 1, and its edit is the n-th entry
-pub record IsAcceptance (c : Config) (H : List Entry) (l : Line) (edit : Edit) (n : ℕ) (command : Command) : Type 0 where
+pub record IsAcceptance (c : ConfigParts) (H : List Entry) (l : Line) (edit : Edit) (n : ℕ) (command : Command) : Type 0 where
   pub own : command ≡ l.command
   pub before : ℕ
   pub number : n ≡ before + 1
   pub room : before < HISTORY_EDITS
-  pub bundles : List BundleParts
+  pub bundles : DatabaseParts
   pub right : edited c (take before H) edit ≡ Ok bundles
   pub entry : slice_get H before ≡ Some (entry_of l edit)
 
 -- the store has no room for the entry, whose edit breaks no rule after n
-pub record IsStoreFull (c : Config) (H : List Entry) (store : Bool) (l : Line) (edit : Edit) (n : ℕ) : Type 0 where
+pub record IsStoreFull (c : ConfigParts) (H : List Entry) (store : Bool) (l : Line) (edit : Edit) (n : ℕ) : Type 0 where
   pub room : n < HISTORY_EDITS
   pub stored : store ≡ true
-  pub bundles : List BundleParts
+  pub bundles : DatabaseParts
   pub right : edited c (take n H) edit ≡ Ok bundles
   pub passes : passes_store c (take n H) (entry_of l edit) ≡ true
 
 -- a refusal of an edit at n is right
-abbrev pub IsRightRefusal : Config → List Entry → Bool → Line → Edit → ℕ → Refusal → Type 0
+abbrev pub IsRightRefusal : ConfigParts → List Entry → Bool → Line → Edit → ℕ → Refusal → Type 0
 IsRightRefusal c H store l edit n (refusals.Rule rule) = (n < HISTORY_EDITS) × (edited c (take n H) edit ≡ Err rule)
 IsRightRefusal c H store l edit n refusals.HistoryFull = n ≡ HISTORY_EDITS
 IsRightRefusal c H store l edit n refusals.StoreFull = IsStoreFull c H store l edit n
@@ -121,13 +121,13 @@ IsRightRefusal c H store l edit n refusals.Disk = ⊥
 IsRightRefusal c H store l edit n refusals.Memory = ⊥
 
 -- an answer to an edit at n is right
-abbrev pub IsRightEdit : Config → List Entry → Bool → Line → Edit → ℕ → Answer → Type 0
+abbrev pub IsRightEdit : ConfigParts → List Entry → Bool → Line → Edit → ℕ → Answer → Type 0
 IsRightEdit c H store l edit n (Done command) = IsAcceptance c H l edit n command
 IsRightEdit c H store l edit n (Refused refusal) = IsRightRefusal c H store l edit n refusal
 IsRightEdit c H store l edit n (Segments rows) = ⊥
 
 -- an answer with a number, which names a state from the opening's to the last one
-abbrev pub IsRightAt : Config → List Entry → Bool → Line → Request → ℕ → Answer → Type 0
+abbrev pub IsRightAt : ConfigParts → List Entry → Bool → Line → Request → ℕ → Answer → Type 0
 IsRightAt c H store l (requests.Edit edit) n answer = IsRightEdit c H store l edit n answer
 IsRightAt c H store l (requests.Query ask) n answer = answer ≡ answer_at c H n ask
 IsRightAt c H store l (requests.Look ask) n answer = answer ≡ Done l.command
@@ -178,12 +178,12 @@ IsRightUnnumbered store request (Done command) = ⊥
 IsRightUnnumbered store request (Segments rows) = ⊥
 
 -- an answer is right, with a number and without
-abbrev pub IsRight : Config → ℕ → List Entry → Bool → Line → Option ℕ → Answer → Type 0
+abbrev pub IsRight : ConfigParts → ℕ → List Entry → Bool → Line → Option ℕ → Answer → Type 0
 IsRight c m H store l None answer = IsRightUnnumbered store l.request answer
 IsRight c m H store l (Some n) answer = (m ≤ n) × (n ≤ length H) × IsRightAt c H store l l.request n answer
 
 -- the reply of a turn is right
-abbrev pub IsRightTurn : Config → ℕ → List Entry → Bool → Turn → Type 0
+abbrev pub IsRightTurn : ConfigParts → ℕ → List Entry → Bool → Turn → Type 0
 IsRightTurn c m H store t = IsRight c m H store t.line t.reply.n t.reply.answer
 
 -- 4. What a session sees. Its numbers never fall, a `finish` apart, which has the number and the
@@ -246,14 +246,14 @@ LookReplyFits (Some held) (Some n) answer = ⊥
 LookReplyFits (Some held) None answer = (answer ≡ Refused refusals.LookOpen) ⊎ (answer ≡ memory)
 
 -- the reply to a `finish` fits the look that is open before it
-abbrev pub FinishReplyFits : Config → List Entry → Option Look → Option ℕ → Answer → Type 0
+abbrev pub FinishReplyFits : ConfigParts → List Entry → Option Look → Option ℕ → Answer → Type 0
 FinishReplyFits c H None (Some n) answer = ⊥
 FinishReplyFits c H None None answer = (answer ≡ Refused refusals.NoLook) ⊎ (answer ≡ memory)
 FinishReplyFits c H (Some held) (Some n) answer = (n ≡ held.n) × (answer ≡ answer_at c H held.n held.ask)
 FinishReplyFits c H (Some held) None answer = answer ≡ memory
 
 -- a reply fits the look that is open before it
-abbrev pub ReplyFits : Config → List Entry → Option Look → Request → Option ℕ → Answer → Type 0
+abbrev pub ReplyFits : ConfigParts → List Entry → Option Look → Request → Option ℕ → Answer → Type 0
 ReplyFits c H held (requests.Look ask) n answer = LookReplyFits held n answer
 ReplyFits c H held requests.Finish n answer = FinishReplyFits c H held n answer
 ReplyFits c H held (requests.Edit edit) n answer = Unit {0}
@@ -261,7 +261,7 @@ ReplyFits c H held (requests.Query ask) n answer = Unit {0}
 ReplyFits c H held (requests.After earlier) n answer = Unit {0}
 
 -- the replies of a session fit its looks, one after another
-abbrev pub LooksFit : Config → List Entry → Option Look → List Turn → Type 0
+abbrev pub LooksFit : ConfigParts → List Entry → Option Look → List Turn → Type 0
 LooksFit c H held [] = Unit {0}
 LooksFit c H held (t ∷ ts) =
     ReplyFits c H held t.line.request t.reply.n t.reply.answer
@@ -328,7 +328,7 @@ disk_replies replies = count_by (λ r. is_disk r.answer) replies
 
 -- What holds of the lines and replies of one session alone: m is the number of entries before the run,
 -- and H the history.
-pub record KeepsSession (c : Config) (m : ℕ) (H : List Entry) (script : List Line) (turns : List Turn) (s : ℕ) : Type 0 where
+pub record KeepsSession (c : ConfigParts) (m : ℕ) (H : List Entry) (script : List Line) (turns : List Turn) (s : ℕ) : Type 0 where
   -- each line of the session has one reply, and the replies stand in the order of the lines
   pub in_order : lines_in (of_session s turns) ≡ lines_of_session s script
   -- its numbers never fall, those of a `finish` apart
@@ -338,7 +338,7 @@ pub record KeepsSession (c : Config) (m : ℕ) (H : List Entry) (script : List L
 
 -- What holds of all lines and replies together: m entries stood before the run, and these came in it. `store`
 -- says whether there is a store; the disk's count of faults went from one number to another.
-pub record KeepsRun (c : Config) (m : ℕ) (H more : List Entry) (turns : List Turn) (store : Bool) (before now : ℕ) : Type 0 where
+pub record KeepsRun (c : ConfigParts) (m : ℕ) (H more : List Entry) (turns : List Turn) (store : Bool) (before now : ℕ) : Type 0 where
   -- each reply names its line and its session
   pub named : Each IsNamed turns
   -- each new entry has exactly one accepting reply, and each accepting reply has its entry
@@ -352,7 +352,7 @@ pub record KeepsRun (c : Config) (m : ℕ) (H more : List Entry) (turns : List T
 
 -- The replies to the lines of a script are legal beside a history that begins with the opening's entries;
 -- `store` says whether there is a store, and the disk's count of faults went from one number to another.
-pub record Legal (c : Config) (opening : List Entry) (script : List Line) (replies : List Reply) (H : List Entry) (store : Bool) (before now : ℕ) : Type 0 where
+pub record Legal (c : ConfigParts) (opening : List Entry) (script : List Line) (replies : List Reply) (H : List Entry) (store : Bool) (before now : ℕ) : Type 0 where
   -- the entries that came in the run
   pub more : List Entry
   -- the history goes on from the opening's

@@ -1,10 +1,3 @@
-pub mod Times
-pub mod Configs
-pub mod Build
-pub mod Valid
-pub mod Rules
-pub mod Effects
-pub mod Sets
 pub mod Queries
 pub mod Answers
 pub mod Sizes

@@ -2,10 +2,10 @@
 use Rattle.std.specs.Prelude.{◌≡◌, ℕ, ◌≤◌, Bool, List, [], length}
 use Rattle.emu_names.specs.declared.limits.TheConstants.{HISTORY_EDITS}
 use Rattle.fault_counts.specs.Count.{RoseBy}
-use Rattle.session_core.specs.declared.config.Config.{Config}
-use Rattle.session_core.specs.declared.edit.Entry.{Entry}
+use Rattle.db_config.specs.declared.parts.ConfigParts.{ConfigParts}
+use Rattle.edit_rules.specs.declared.edit.Entry.{Entry}
 use Rattle.session_core.specs.declared.line.Line.{Line}
-use Rattle.session_core.specs.Effects.{IsLegal}
+use Rattle.edit_rules.specs.Effects.{IsLegal}
 use Rattle.session_core.specs.Steps.{start}
 use Rattle.session_core.specs.Legal.{Legal}
 use Rattle.session_core.specs.InOrder.{Outage, disk_outages, in_turn, ComeInOrder}
@@ -14,7 +14,7 @@ use Rattle.session_core.specs.InOrder.{Outage, disk_outages, in_turn, ComeInOrde
 -- fails: the replies in turn are legal beside the history that they leave, which begins with any legal history
 -- that is not too long
 abbrev pub InOrderIsLegal : Type 0
-InOrderIsLegal = (c : Config) (opening : List Entry) (lines : List Line) (outages : List Outage) (store : Bool) (before now : ℕ)
+InOrderIsLegal = (c : ConfigParts) (opening : List Entry) (lines : List Line) (outages : List Outage) (store : Bool) (before now : ℕ)
     → IsLegal c opening → length opening ≤ HISTORY_EDITS
     → ComeInOrder [] lines → length outages ≡ length lines → RoseBy (disk_outages store outages) before now
     → Legal c opening lines (in_turn store (start c opening) lines outages).0

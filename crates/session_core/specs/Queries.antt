@@ -7,9 +7,9 @@ use Rattle.session_core.specs.declared.annot.Time.{Time}
 use Rattle.session_core.specs.declared.annot.Time.TheVariants.{NoTime, Span, Point}
 use Rattle.session_core.specs.declared.config.AttributeDef.{AttributeDef}
 use Rattle.session_core.specs.declared.config.LevelDef.{LevelDef}
-use Rattle.session_core.specs.declared.config.Config.{Config}
+use Rattle.db_config.specs.declared.parts.ConfigParts.{ConfigParts}
 use Rattle.session_core.specs.declared.bundle.Item.{Item}
-use Rattle.session_core.specs.declared.bundle.BundleParts.{BundleParts}
+use Rattle.edit_rules.specs.Database.{DatabaseParts}
 use Rattle.session_core.specs.declared.line.Ask.{Ask}
 use Rattle.session_core.specs.declared.line.AskFault.{AskFault}
 use Rattle.session_core.specs.declared.line.AskFault.TheVariants.{UnknownName}
@@ -50,7 +50,7 @@ level_place level (def ∷ defs) name =
     if same_text def.name name then Some (record { level = level; attribute = 0 }) else level_place (level + 1) defs name
 
 -- what a name stands for: an attribute, else a level
-abbrev pub name_place : Config → List ℕ → Option Place
+abbrev pub name_place : ConfigParts → List ℕ → Option Place
 name_place c name = or_place (attribute_place 0 c.levels name) (level_place 0 c.levels name)
 
 -- The rows of one bundle.
@@ -64,15 +64,15 @@ abbrev pub label_at : ℕ → Item → List ℕ
 label_at attribute item = unwrap_or (slice_get item.labels attribute) []
 
 -- the names to show
-abbrev pub level_name : Config → ℕ → List ℕ
+abbrev pub level_name : ConfigParts → ℕ → List ℕ
 level_name c level = unwrap_or (option_map (λ (def : LevelDef). def.name) (slice_get c.levels level)) []
 
 -- the attributes of a level
-abbrev pub attributes_at : Config → ℕ → List AttributeDef
+abbrev pub attributes_at : ConfigParts → ℕ → List AttributeDef
 attributes_at c level = unwrap_or (option_map (λ (def : LevelDef). def.attributes) (slice_get c.levels level)) []
 
 -- the name of the attribute at a place
-abbrev pub attribute_name : Config → Place → List ℕ
+abbrev pub attribute_name : ConfigParts → Place → List ℕ
 attribute_name c place = unwrap_or (option_map (λ (def : AttributeDef). def.name) (slice_get (attributes_at c place.level) place.attribute)) []
 
 -- When a row begins and ends: a segment's samples and its borders in microseconds, a point's
@@ -100,7 +100,7 @@ times_of rate (Point at) = record {
 }
 
 -- the row of the item at a position
-abbrev pub row_of : Config → Place → BundleParts → ℕ × Item → Row
+abbrev pub row_of : ConfigParts → Place → BundleParts → ℕ × Item → Row
 row_of c place b (position, item) = record {
   session = b.key.session;
   bundle = b.key.bundle;
@@ -128,13 +128,13 @@ pub record Asked : Type 0 where
   pub label : List ℕ
 
 -- the items with the wanted label, in order of position
-abbrev pub rows_in : Config → Asked → BundleParts → List Row
+abbrev pub rows_in : ConfigParts → Asked → BundleParts → List Row
 rows_in c asked b =
     map (row_of c asked.place b)
     (filter (is_asked asked.place.attribute asked.label) (enumerate_from 0 (items_at b asked.place.level)))
 
 -- the segment list over a state: the rows of one bundle after another, in order of their keys
-abbrev pub segment_list : Config → Asked → List BundleParts → List Row
+abbrev pub segment_list : ConfigParts → Asked → DatabaseParts → List Row
 segment_list c asked bundles = flat_map (rows_in c asked) bundles
 
 -- what is asked for at a place of the configuration
@@ -147,5 +147,5 @@ asked_at ask None = Err (UnknownName ask.name)
 asked_at ask (Some place) = Ok (record { place = place; label = ask.label })
 
 -- a query with its names found in the configuration, or why it has no meaning; no state is looked at
-abbrev pub resolved : Config → Ask → Result Asked AskFault
+abbrev pub resolved : ConfigParts → Ask → Result Asked AskFault
 resolved c ask = asked_at ask (name_place c ask.name)

@@ -3,8 +3,8 @@
 use Rattle.std.specs.Prelude.{◌≡◌, ℕ, ◌+◌, ◌≤◌, Bool, false, List, [], ◌∷◌, length, map, Option, Some, None}
 use Rattle.emu_names.specs.declared.limits.TheConstants.{HISTORY_EDITS}
 use Rattle.fault_counts.specs.Count.{RoseBy}
-use Rattle.session_core.specs.declared.config.Config.{Config}
-use Rattle.session_core.specs.declared.edit.Entry.{Entry}
+use Rattle.db_config.specs.declared.parts.ConfigParts.{ConfigParts}
+use Rattle.edit_rules.specs.declared.edit.Entry.{Entry}
 use Rattle.session_core.specs.declared.line.Answer.{Answer}
 use Rattle.session_core.specs.declared.line.Answer.TheVariants.{Done, Segments, Refused}
 use Rattle.session_core.specs.declared.line.Refusal.{Refusal}
@@ -13,7 +13,7 @@ use Rattle.session_core.specs.declared.line.Request.{Request}
 use Rattle.session_core.specs.declared.line.Request.TheVariants as requests
 use Rattle.session_core.specs.declared.line.Line.{Line}
 use Rattle.session_core.specs.declared.line.Reply.{Reply}
-use Rattle.session_core.specs.Effects.{IsLegal}
+use Rattle.edit_rules.specs.Effects.{IsLegal}
 use Rattle.session_core.specs.Steps.{start}
 use Rattle.session_core.specs.Worlds.{Turn}
 use Rattle.session_core.specs.Legal.{Legal, lines_in, accepting}
@@ -67,7 +67,7 @@ pub record IsInOrder (opening : List Entry) (lines : List Line) (turns : List Tu
 -- the replies of a legal run in order, with no store, are those that the definition gives in turn,
 -- and the history is the one that it leaves
 abbrev pub RepliesFollow : Type 0
-RepliesFollow = (c : Config) (opening : List Entry) (lines : List Line) (replies : List Reply) (H : List Entry) (before now : ℕ)
+RepliesFollow = (c : ConfigParts) (opening : List Entry) (lines : List Line) (replies : List Reply) (H : List Entry) (before now : ℕ)
     → ComeInOrder [] lines → (run : Legal c opening lines replies H false before now) → IsInOrder opening lines run.turns
     → (replies ≡ (in_turn false (start c opening) lines (map outage_of replies)).0)
     × (H ≡ (in_turn false (start c opening) lines (map outage_of replies)).1.entries)
@@ -75,7 +75,7 @@ RepliesFollow = (c : Config) (opening : List Entry) (lines : List Line) (replies
 -- two legal runs in order of the same lines, from the same history, in which memory ran out at the
 -- same lines, have the same replies and the same history
 abbrev pub OneReading : Type 0
-OneReading = (c : Config) (opening : List Entry) (lines : List Line)
+OneReading = (c : ConfigParts) (opening : List Entry) (lines : List Line)
     (replies replies' : List Reply) (H H' : List Entry) (before now before' now' : ℕ)
     → ComeInOrder [] lines
     → (run : Legal c opening lines replies H false before now) → IsInOrder opening lines run.turns
@@ -87,7 +87,7 @@ OneReading = (c : Config) (opening : List Entry) (lines : List Line)
 -- without, whatever the configuration and the lines, and wherever memory runs out or the disk fails, from
 -- any legal history that is not too long. So without a store the legal replies in order are exactly these.
 abbrev pub InTurnIsInOrder : Type 0
-InTurnIsInOrder = (c : Config) (opening : List Entry) (lines : List Line) (outages : List Outage) (store : Bool) (before now : ℕ)
+InTurnIsInOrder = (c : ConfigParts) (opening : List Entry) (lines : List Line) (outages : List Outage) (store : Bool) (before now : ℕ)
     → IsLegal c opening → length opening ≤ HISTORY_EDITS
     → ComeInOrder [] lines → length outages ≡ length lines → RoseBy (disk_outages store outages) before now
     → (run : Legal c opening lines (in_turn store (start c opening) lines outages).0

@@ -9,10 +9,10 @@ use Rattle.session_core.specs.declared.annot.AnnotLevel.{AnnotLevel}
 use Rattle.session_core.specs.declared.annot.Annot.{Annot}
 use Rattle.session_core.specs.declared.config.AttributeDef.{AttributeDef}
 use Rattle.session_core.specs.declared.config.LevelDef.{LevelDef}
-use Rattle.session_core.specs.declared.config.Config.{Config}
-use Rattle.session_core.specs.declared.edit.Edit.{Edit}
-use Rattle.session_core.specs.declared.edit.Edit.TheVariants as edits
-use Rattle.session_core.specs.declared.edit.Entry.{Entry}
+use Rattle.db_config.specs.declared.parts.ConfigParts.{ConfigParts}
+use Rattle.edit_rules.specs.declared.edit.Edit.{Edit}
+use Rattle.edit_rules.specs.declared.edit.Edit.TheVariants as edits
+use Rattle.edit_rules.specs.declared.edit.Entry.{Entry}
 
 -- a text is its length and its bytes
 abbrev pub text_size : List ℕ → ℕ
@@ -27,7 +27,7 @@ abbrev pub level_size : LevelDef → ℕ
 level_size def = text_size def.name + 1 + (4 + sum_by attribute_size def.attributes)
 
 -- the form, name, UUID, extension, no track, the levels, no label group, no link definition
-abbrev pub head_size : Config → ℕ
+abbrev pub head_size : ConfigParts → ℕ
 head_size c = 1 + text_size c.name + text_size c.uuid + text_size c.extension + 4 + (4 + sum_by level_size c.levels) + 4 + 4
 
 -- a time: none, a start and a duration, or a point
@@ -65,5 +65,5 @@ abbrev pub frame_size : ℕ → ℕ
 frame_size body = 5 + body
 
 -- the place of the last gate of the store of a configuration and its entries: eight bytes open it
-abbrev pub store_size : Config → List Entry → ℕ
+abbrev pub store_size : ConfigParts → List Entry → ℕ
 store_size c history = 8 + frame_size (head_size c) + sum_by (λ e. frame_size (entry_size e)) history

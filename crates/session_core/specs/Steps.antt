@@ -3,10 +3,10 @@ use Rattle.std.specs.Prelude.{ℕ, zero, suc, ◌+◌, Bool, true, false, List, 
 use Rattle.emu_names.specs.declared.kinds.SessionNo.{SessionNo}
 use Rattle.emu_names.specs.declared.limits.TheConstants.{HISTORY_EDITS, SESSIONS}
 use Rattle.emu_names.specs.declared.rules.Broken.{Broken}
-use Rattle.session_core.specs.declared.config.Config.{Config}
-use Rattle.session_core.specs.declared.bundle.BundleParts.{BundleParts}
-use Rattle.session_core.specs.declared.edit.Edit.{Edit}
-use Rattle.session_core.specs.declared.edit.Entry.{Entry}
+use Rattle.db_config.specs.declared.parts.ConfigParts.{ConfigParts}
+use Rattle.edit_rules.specs.Database.{DatabaseParts}
+use Rattle.edit_rules.specs.declared.edit.Edit.{Edit}
+use Rattle.edit_rules.specs.declared.edit.Entry.{Entry}
 use Rattle.session_core.specs.declared.event.Event.{Event}
 use Rattle.session_core.specs.declared.event.Event.TheVariants as events
 use Rattle.session_core.specs.declared.line.Command.{Command}
@@ -19,7 +19,7 @@ use Rattle.session_core.specs.declared.line.Request.{Request}
 use Rattle.session_core.specs.declared.line.Request.TheVariants as requests
 use Rattle.session_core.specs.declared.line.Line.{Line}
 use Rattle.session_core.specs.declared.line.Reply.{Reply}
-use Rattle.session_core.specs.Effects.{edited}
+use Rattle.edit_rules.specs.Effects.{edited}
 use Rattle.session_core.specs.Answers.{answer_at, memory, reply_to, entry_of}
 
 -- a query that holds the state after the first n entries, and the line that it came from
@@ -30,7 +30,7 @@ pub record Opened : Type 0 where
 
 -- the configuration, the history, and for each session its open look and its query under way
 pub record State : Type 0 where
-  pub config : Config
+  pub config : ConfigParts
   pub entries : List Entry
   pub looks : List (Option Opened)
   pub queries : List (Option Opened)
@@ -40,7 +40,7 @@ abbrev pub session_places : ℕ
 session_places = SESSIONS + 1
 
 -- the state of a configuration and a history, with no look open
-abbrev pub start : Config → List Entry → State
+abbrev pub start : ConfigParts → List Entry → State
 start c history = record {
   config = c;
   entries = history;
@@ -83,12 +83,12 @@ abbrev pub is_full : List Entry → Bool
 is_full history = nat_le HISTORY_EDITS (length history)
 
 -- an edit behind the limit of the history: it is accepted, or the rule that it breaks is told
-abbrev pub edit_made : State → Line → Edit → Result (List BundleParts) Broken → Option Reply × State
+abbrev pub edit_made : State → Line → Edit → Result (DatabaseParts) Broken → Option Reply × State
 edit_made st l edit (Ok bundles) = (Some (reply_to l (Some (present st + 1)) (Done l.command)), with_entry st (entry_of l edit))
 edit_made st l edit (Err rule) = (Some (reply_to l (Some (present st)) (Refused (refusals.Rule rule))), st)
 
 -- an edit: a full history comes before the rules
-abbrev pub edit_step : State → Line → Edit → Bool → Result (List BundleParts) Broken → Option Reply × State
+abbrev pub edit_step : State → Line → Edit → Bool → Result (DatabaseParts) Broken → Option Reply × State
 edit_step st l edit true made = (Some (reply_to l (Some (present st)) (Refused refusals.HistoryFull)), st)
 edit_step st l edit false made = edit_made st l edit made
 

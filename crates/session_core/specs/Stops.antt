@@ -3,12 +3,12 @@ use Rattle.std.specs.Prelude.{◌≡◌, ◌≤◌, ◌⊎◌, ℕ, List, Some, 
 use Rattle.emu_names.specs.declared.rules.Broken.{Broken}
 use Rattle.emu_names.specs.declared.rules.Fault.{Fault}
 use Rattle.emu_names.specs.declared.rules.Fault.TheVariants as faults
-use Rattle.session_core.specs.declared.bundle.BundleParts.{BundleParts}
+use Rattle.edit_rules.specs.Database.{DatabaseParts}
 use Rattle.session_core.specs.declared.event.Event.{Event}
 use Rattle.session_core.specs.Steps.{State, core_fails, steps}
 
 -- a history that is refused breaks this rule first; want of memory says nothing
-abbrev pub IsFirstFault : Fault → Result (List BundleParts) Broken → Type 0
+abbrev pub IsFirstFault : Fault → Result (DatabaseParts) Broken → Type 0
 IsFirstFault (faults.Broken rule) there = there ≡ Err rule
 IsFirstFault faults.Memory there = Unit {0}
 

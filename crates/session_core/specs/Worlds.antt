@@ -3,8 +3,8 @@ use Rattle.std.specs.Prelude.{◌≡◌, ◌≢◌, ℕ, ◌+◌, ◌<◌, Bool,
 use Rattle.std.specs.List.{list_any}
 use Rattle.emu_names.specs.declared.kinds.SessionNo.{SessionNo}
 use Rattle.emu_names.specs.declared.limits.TheConstants.{STORE_BYTES}
-use Rattle.session_core.specs.declared.config.Config.{Config}
-use Rattle.session_core.specs.declared.edit.Entry.{Entry}
+use Rattle.db_config.specs.declared.parts.ConfigParts.{ConfigParts}
+use Rattle.edit_rules.specs.declared.edit.Entry.{Entry}
 use Rattle.session_core.specs.declared.event.Event.{Event}
 use Rattle.session_core.specs.declared.event.Event.TheVariants as events
 use Rattle.session_core.specs.declared.line.Command.{Command}
@@ -16,10 +16,10 @@ use Rattle.session_core.specs.declared.line.Answer.TheVariants.{Refused}
 use Rattle.session_core.specs.declared.line.Refusal.{Refusal}
 use Rattle.session_core.specs.declared.line.Refusal.TheVariants as refusals
 use Rattle.session_core.specs.declared.line.Reply.{Reply}
-use Rattle.session_core.specs.declared.bundle.BundleParts.{BundleParts}
-use Rattle.session_core.specs.declared.edit.Edit.{Edit}
-use Rattle.session_core.specs.declared.edit.Edit.TheVariants as edits
-use Rattle.session_core.specs.Effects.{edited}
+use Rattle.edit_rules.specs.Database.{DatabaseParts}
+use Rattle.edit_rules.specs.declared.edit.Edit.{Edit}
+use Rattle.edit_rules.specs.declared.edit.Edit.TheVariants as edits
+use Rattle.edit_rules.specs.Effects.{edited}
 use Rattle.session_core.specs.Answers.{reply_to, entry_of}
 use Rattle.session_core.specs.Sizes.{store_size, entry_size}
 use Rattle.session_core.specs.Steps.{Opened, State, slot, present, is_full, core_step, core_fails, start, session_places, Asker, by_look, by_query, by_none, asker_of}
@@ -66,7 +66,7 @@ outcome st m = outcome_of st m.event m.trouble
 
 -- the same command
 abbrev pub same_command : Command → Command → Bool
-same_command commands.Config commands.Config = true
+same_command commands.ConfigParts commands.ConfigParts = true
 same_command commands.AddBundle commands.AddBundle = true
 same_command commands.Query commands.Query = true
 same_command commands.Look commands.Look = true
@@ -145,7 +145,7 @@ run w [] = w
 run w (m ∷ ms) = run (happens w m) ms
 
 -- before the first event
-abbrev pub opening_world : Config → List Entry → World
+abbrev pub opening_world : ConfigParts → List Entry → World
 opening_world c history = record { state = start c history; lines = []; turns = [] }
 
 -- Which events fit. The lines of a session rise, no number stands in two sessions, a query under
@@ -233,14 +233,14 @@ Fits w (events.Finish line s command) = FinishFits w line s (asker_of command)
 
 -- the store has no room for an entry behind a history: a frame has a gate byte and four bytes of length, and a gate
 -- closes the store
-abbrev pub passes_store : Config → List Entry → Entry → Bool
+abbrev pub passes_store : ConfigParts → List Entry → Entry → Bool
 passes_store c history entry = nat_lt STORE_BYTES (store_size c history + 6 + entry_size entry)
 
 -- the edit of a line would be accepted, and there is a store that has no room for its entry
 pub record IsOverStore (store : Bool) (st : State) (l : Line) (edit : Edit) : Type 0 where
   pub stored : store ≡ true
   pub room : is_full st.entries ≡ false
-  pub bundles : List BundleParts
+  pub bundles : DatabaseParts
   pub made : edited st.config st.entries edit ≡ Ok bundles
   pub passes : passes_store st.config st.entries (entry_of l edit) ≡ true
 

@@ -1,11 +1,12 @@
 //! The lines of a script as the core takes them, and the replies that it gives.
 ghost use Rattle.std.specs.Prelude.{◌≡◌, IfOk};
 
-use crate::edit::Edit;
 use crate::row::SegmentList;
+use edit_rules::Edit;
 use emu_lists::{PlainData, Series};
 use emu_names::{Broken, Memory, SessionNo, Text};
 use std::alloc::Global;
+use textgrid::GridFault;
 
 /// The commands of a script.
 #[derive(Clone, Copy, Debug, PartialEq, Eq)]
@@ -14,6 +15,30 @@ pub enum Command {
     Config,
     /// `add_bundle`: adds a bundle with an annotation.
     AddBundle,
+    /// `add_textgrid`: adds a bundle with the annotation of a TextGrid.
+    AddTextgrid,
+    /// `drop_bundle`: takes a bundle out.
+    DropBundle,
+    /// `add_item`: puts an item on a level.
+    AddItem,
+    /// `remove_item`: takes an item out, with its links.
+    RemoveItem,
+    /// `set_label`: gives an item another label.
+    SetLabel,
+    /// `set_segment`: gives a segment another time.
+    SetSegment,
+    /// `move_boundary`: moves the boundary between two segments.
+    MoveBoundary,
+    /// `set_point`: gives a point another time.
+    SetPoint,
+    /// `split`: cuts a segment in two.
+    Split,
+    /// `merge`: joins a segment with the one that follows it.
+    Merge,
+    /// `add_link`: links two items.
+    AddLink,
+    /// `remove_link`: takes a link out.
+    RemoveLink,
     /// `query`: asks for a segment list.
     Query,
     /// `look`: keeps the present state for a query.
@@ -43,8 +68,8 @@ pub enum AskFault {
 /// What a line asks for.
 #[derive(Drop)]
 pub enum Request {
-    /// A change.
-    Edit(Edit),
+    /// A change, or the fault of the TextGrid that was to be added.
+    Edit(Result<Edit, GridFault>),
     /// The answer to a query over the present state.
     Query(Ask),
     /// To keep the present state for this query.
@@ -76,8 +101,13 @@ pub type Lines = Series<Line>;
 pub enum Refusal {
     /// The edit breaks this rule.
     Rule(Broken),
+    /// The TextGrid that was to be added has this fault.
+    Grid(GridFault),
     /// The query has no meaning.
     Resolve(AskFault),
+    /// The query asks for what is not built yet: times of an ITEM level from a SEGMENT level below it, or a
+    /// label group.
+    NotBuilt,
     /// The session has no open look.
     NoLook,
     /// The session has an open look already.

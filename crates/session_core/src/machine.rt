@@ -1,7 +1,7 @@
 //! The core: a configuration, a history, and what each session holds, changed by one event at a time.
 ghost use Rattle.emu_names.specs.declared.limits.TheConstants.{HISTORY_EDITS};
 ghost use Rattle.emu_names.specs.declared.rules.Fault.{Fault};
-ghost use Rattle.session_core.specs.Effects.{after, IsLegal};
+ghost use Rattle.edit_rules.specs.Effects.{after, IsLegal};
 ghost use Rattle.session_core.specs.Steps.{core_fails, core_step, edit_event, finish_step, look_event, option_list, place_of, query_fails, query_step, session_places, slot, start, steps};
 ghost use Rattle.session_core.specs.Stops.{IsFirstFault, StopsAt};
 ghost use Rattle.std.specs.Prelude.{◌≡◌, ◌⊎◌, ◌++◌, ◌<◌, ◌≤◌, All, IfErr, IfOk, OnErr, OnOk, Some, length};

@@ -1,5 +1,5 @@
 //! What one event does to the parts of the core, each part on its own.
-ghost use Rattle.session_core.specs.Effects.{after};
+ghost use Rattle.edit_rules.specs.Effects.{after};
 ghost use Rattle.emu_names.specs.Gives.{GivesOrBroken};
 ghost use Rattle.session_core.specs.Kept.{edit_tried, head_reply, held_answer, held_at, look_closed, looked, query_closed, query_dropped};
 ghost use Rattle.session_core.specs.Steps.{is_full as is_full_list, put_slot, slot};

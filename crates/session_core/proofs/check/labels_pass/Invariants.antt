@@ -1,9 +1,0 @@
-use Rattle.std.proofs.Common.{◌≡◌, [], map, take, drop}
-use Rattle.session_core.specs.Build.{labels_fault}
-use Rattle.session_core.specs.declared.annot.AnnotLabel.{AnnotLabel}
-use Rattle.session_core.proofs.check.labels_pass.Given as goal
-
-abbrev pub invariant-loop-place : goal.invariant-loop-place
-invariant-loop-place l =
-    labels_fault l.defs (map (λ (a : AnnotLabel). a.name) (take l.place l.labels)) (drop l.place l.labels)
-    ≡ labels_fault l.defs [] l.fn.labels

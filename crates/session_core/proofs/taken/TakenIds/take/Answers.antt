@@ -1,5 +1,0 @@
-use Rattle.session_core.proofs.Walks.{id_more}
-use Rattle.session_core.proofs.taken.TakenIds.take.Goals as goal
-
-pub returns-clause-taken : goal.returns-clause-taken
-returns-clause-taken c = λ q. rw (← c.self.view_is) (id_more c.self.inside.ids.keys c.insert.new.self.keys c.args.id.0 q (c.in_ok-fresh.ensures.updates.0 q))
