@@ -1,5 +1,8 @@
 pub mod BuiltKept
 pub mod BuiltRefusals
+pub mod ChangedKept
+pub mod ChangedLevels
+pub mod ChangedLinks
 pub mod FaultSteps
 pub mod IdLevels
 pub mod LevelsKept

@@ -74,7 +74,7 @@ leads_parts upper lower def h =
     let parts : ((def.upper == upper) ≡ true) × ((def.lower == lower) ≡ true) = and_parts (def.upper == upper) (def.lower == lower) h in
     (eqb-true def.upper upper parts.0, eqb-true def.lower lower parts.1)
 
-level_parts : (defs : List LinkDef) (level : ℕ → Option ℕ) (given : AnnotLink) (upper lower : Option ℕ) (number : ℕ) →
+pub level_parts : (defs : List LinkDef) (level : ℕ → Option ℕ) (given : AnnotLink) (upper lower : Option ℕ) (number : ℕ) →
     level given.from.0 ≡ upper → level given.to.0 ≡ lower → definition_for defs given upper lower ≡ Ok number →
     IsBetween defs level (link_of number given.from given.to)
 level_parts defs level given None lower number is_upper is_lower found = cc
@@ -111,7 +111,7 @@ module _ (defs : List LinkDef) (level : ℕ → Option ℕ) where
           subst P (eqb-true link.definition number is) (keep_added (kind_of defs link.definition) link links free (rule.kinds link.definition))
       by false is = keep_other (kind_of defs number) number link links (eqb-false link.definition number is) (rule.kinds number)
 
-  grown : (link : Link) (links : List Link) → list_any (joins link.from link.to) links ≡ false →
+  pub grown : (link : Link) (links : List Link) → list_any (joins link.from link.to) links ≡ false →
       add_fault (kind_of defs link.definition) link.definition link.from link.to links ≡ None → IsBetween defs level link →
       AreFineLinks defs level links → AreFineLinks defs level (links ++ link ∷ [])
   grown link links apart free between fine =

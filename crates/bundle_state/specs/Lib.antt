@@ -5,6 +5,7 @@ pub mod Made
 pub mod Linked
 pub mod Built
 pub mod Changed
+pub mod ChangedLaws
 pub mod Valid
 pub mod Rules
 pub mod Placed

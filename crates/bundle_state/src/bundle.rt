@@ -15,14 +15,16 @@ ghost use Rattle.bundle_state.specs.Changed.{attributes_with, item_added, item_r
 ghost use Rattle.bundle_state.specs.Kept.{ArePlacesOf};
 ghost use Rattle.bundle_state.specs.Valid.{KeepsBundleRules};
 
-use crate::given_levels::{SharedLevels, levels_for};
-use crate::given_links::made_links;
+use crate::changes::{put_item, take_linked};
+use crate::given_levels::levels_for;
+use crate::given_links::{definition_for, made_links};
 use crate::handle::Handle;
 use crate::places::{Places, places_of};
+use crate::shared_levels::SharedLevels;
 use db_config::{Config, LinkDefs};
 use emu_lists::PlainData;
-use emu_names::{BundleKey, Fault, ItemId, Memory, Text};
-use level_items::{Annot, Item, LevelList, Time};
+use emu_names::{Broken, BundleKey, Fault, ItemId, Memory, Text};
+use level_items::{Annot, AnnotLink, Item, LevelList, Time};
 use link_graph::Links;
 use std::alloc::Global;
 use std::marker::Model;
@@ -237,7 +239,10 @@ impl Bundle {
             → item_added level position item self.old ≡ Err rule }
         ensures kept { OnErr result (self.new ≡ self.old) }
     {
-        Err(Fault::Memory)
+        if self.level_with(item.id).is_some() {
+            return Err(Fault::Broken(Broken::IdTaken(item.id)));
+        }
+        put_item(&mut self.levels, &mut self.places, level, position, item)
     }
 
     /// Takes an item from its level, and all links that name it. `NoItem` comes exactly where no item has the
@@ -248,7 +253,18 @@ impl Bundle {
             → item_removed id self.old ≡ Err rule }
         ensures kept { OnErr result (self.new ≡ self.old) }
     {
-        Err(Fault::Memory)
+        let Some((level, position)) = self.place(id) else {
+            return Err(Fault::Broken(Broken::NoItem(id)));
+        };
+        take_linked(
+            &mut self.levels,
+            &mut self.places,
+            &mut self.links,
+            id,
+            level,
+            position,
+        )?;
+        Ok(())
     }
 
     /// Sets one label of an item, by the attribute's number on its level. `NoItem` comes exactly where no item
@@ -262,7 +278,11 @@ impl Bundle {
             → label_set id attribute label self.old ≡ Err rule }
         ensures kept { OnErr result (self.new ≡ self.old) }
     {
-        Err(Fault::Memory)
+        let Some((level, position)) = self.place(id) else {
+            return Err(Fault::Broken(Broken::NoItem(id)));
+        };
+        self.levels.set_label(level, position, attribute, label)?;
+        Ok(())
     }
 
     /// Sets the time of an item, which keeps its place.
@@ -277,7 +297,10 @@ impl Bundle {
             → item_retimed id time self.old ≡ Err rule }
         ensures kept { OnErr result (self.new ≡ self.old) }
     {
-        Err(Fault::Memory)
+        let Some((level, position)) = self.place(id) else {
+            return Err(Fault::Broken(Broken::NoItem(id)));
+        };
+        self.levels.retime(level, position, time)
     }
 
     /// Puts a link last, of the definition that leads from the level of the one item to that of the other.
@@ -293,7 +316,9 @@ impl Bundle {
             → link_added from to self.old ≡ Err rule }
         ensures kept { OnErr result (self.new ≡ self.old) }
     {
-        Err(Fault::Memory)
+        let number = definition_for(config, self.places.as_ref(), &AnnotLink { from, to })?;
+        self.links
+            .add(number, config.link_kind(number), from, to)
     }
 
     /// Takes the link of a pair out; the links behind it move up. `NoLink` comes exactly where the pair is not
@@ -304,7 +329,7 @@ impl Bundle {
             → link_removed from to self.old ≡ Err rule }
         ensures kept { OnErr result (self.new ≡ self.old) }
     {
-        Err(Fault::Memory)
+        self.links.remove(from, to)
     }
 
     /// The same bundle again, which shares its levels and links. The only refusal is want of memory.

@@ -8,14 +8,11 @@ ghost use Rattle.bundle_state.specs.Made.{label_named, made_labels, made_item, i
 
 use crate::annot_rules::annot_passes;
 use crate::handle::Handle;
+use crate::shared_levels::SharedLevels;
 use db_config::{AttributeDef, Config, LevelDef};
-use emu_lists::Series;
 use emu_names::{Fault, Memory, Text};
 use level_items::{Annot, AnnotItem, AnnotLabel, AnnotLevel, Item, Labels, LevelList};
 use std::alloc::Global;
-
-/// The levels of a bundle, which copies of the bundle share.
-pub(crate) type SharedLevels = Series<Handle<LevelList>>;
 
 /// The label of an attribute, which is empty where it is not given.
 fn label_named<'a>(def: &AttributeDef, labels: &'a [AnnotLabel]) -> &'a str
@@ -103,7 +100,7 @@ fn made_levels(
     requires { All KeepsLevelRule (made_levels defs.now levels.now) }
     ensures { IfOk result (λ made. made ≡ made_levels defs.now levels.now) }
 {
-    let mut made = Series::new(alloc);
+    let mut made = SharedLevels::new(alloc);
     for def in defs {
         let level = made_level(alloc, levels, def)?;
         made.push(Handle::new(alloc, level)?)?;

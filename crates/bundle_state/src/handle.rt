@@ -11,7 +11,7 @@ use std::sync::Arc;
 /// is one owner more, and takes the same time however large the value is.
 #[derive(Drop)]
 pub(crate) struct Handle<T> {
-    inside: Arc<T>,
+    pub(crate) inside: Arc<T>,
 }
 
 impl<T> Model for Handle<T> {

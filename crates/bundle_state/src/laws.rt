@@ -1,4 +1,13 @@
 //! Laws with nothing to run: what building a bundle comes to.
+ghost use Rattle.std.specs.Prelude.{◌≡◌, ℕ, List, Option, Ok, IsTrue};
+ghost use Rattle.emu_names.specs.declared.kinds.ItemId.{ItemId};
+ghost use Rattle.level_items.specs.declared.items.Item.{Item};
+ghost use Rattle.level_items.specs.declared.times.Time.{Time};
+ghost use Rattle.level_items.specs.Levels.{is_short};
+ghost use Rattle.bundle_state.specs.Bundle.{BundleParts};
+ghost use Rattle.bundle_state.specs.Valid.{KeepsBundleRules};
+ghost use Rattle.bundle_state.specs.Changed.{item_added, item_removed, label_set, item_retimed, link_added, link_removed};
+ghost use Rattle.bundle_state.specs.ChangedLaws.{KeepsForm, KeepsRules, HasRoomFor};
 ghost use Rattle.bundle_state.specs.Laws.{BuiltKeepsRules, BuiltFitsConfig, BuiltKeepLinkRule, BuiltLinksAreGiven, LevelsRefuseExactly, BuildingRefusesExactly};
 
 /// A bundle that is built under a valid configuration keeps the rules of bundles.
@@ -29,4 +38,30 @@ pub fn levels_refuse_exactly()
 /// An annotation is refused exactly where it breaks a rule, be it of levels or of links.
 pub fn building_refuses_exactly()
     ensures { BuildingRefusesExactly }
+{}
+
+/// A bundle that fits a configuration fits it also after each change.
+pub fn changed_bundles_fit()
+    ensures added { (level : ℕ) → (position : Option ℕ) → (item : Item)
+        → KeepsForm (item_added level position item) }
+    ensures removed { (id : ItemId) → KeepsForm (item_removed id) }
+    ensures labelled { (id : ItemId) → (attribute : ℕ) → (label : List ℕ)
+        → KeepsForm (label_set id attribute label) }
+    ensures retimed { (id : ItemId) → (time : Time) → KeepsForm (item_retimed id time) }
+    ensures linked { (from : ItemId) → (to : ItemId) → KeepsForm (link_added from to) }
+    ensures unlinked { (from : ItemId) → (to : ItemId) → KeepsForm (link_removed from to) }
+{}
+
+/// A bundle that keeps the rules of bundles keeps them also after each change.
+pub fn changed_bundles_keep_rules()
+    ensures added { (level : ℕ) → (position : Option ℕ) → (item : Item)
+        → (before : BundleParts) → (after : BundleParts)
+        → HasRoomFor level item before → KeepsBundleRules before
+        → item_added level position item before ≡ Ok after → KeepsBundleRules after }
+    ensures removed { (id : ItemId) → KeepsRules (item_removed id) }
+    ensures labelled { (id : ItemId) → (attribute : ℕ) → (label : List ℕ) → IsTrue (is_short label)
+        → KeepsRules (label_set id attribute label) }
+    ensures retimed { (id : ItemId) → (time : Time) → KeepsRules (item_retimed id time) }
+    ensures linked { (from : ItemId) → (to : ItemId) → KeepsRules (link_added from to) }
+    ensures unlinked { (from : ItemId) → (to : ItemId) → KeepsRules (link_removed from to) }
 {}

@@ -1,5 +1,5 @@
 //! For each id of a bundle the level of its item.
-ghost use Rattle.std.specs.Prelude.{◌≡◌, ℕ, nat_eq, take, IfOk, OnOk, Some, None, if◌then◌else◌};
+ghost use Rattle.std.specs.Prelude.{◌≡◌, ℕ, nat_eq, take, IfOk, OnOk, OnErr, Some, None, if◌then◌else◌};
 ghost use Rattle.std.specs.Option.{option_or};
 ghost use Rattle.std.specs.List.{list_any};
 ghost use Rattle.level_items.specs.Levels.{ids_of};
@@ -9,7 +9,7 @@ ghost use Rattle.bundle_state.specs.Kept.{ArePlacesOf};
 use crate::handle::Handle;
 use emu_names::{ItemId, Memory};
 use level_items::{Item, LevelList};
-use std::alloc::Global;
+use std::alloc::{AllocError, Global};
 use std::collections::BTreeMap;
 
 /// The number of the level of each id.
@@ -35,13 +35,23 @@ impl Places {
         self.levels.get(&id.0).copied()
     }
 
-    /// Keeps the level of an id that has none yet. The only refusal is want of memory.
-    fn put(&mut self, id: ItemId, level: usize) -> Result<(), Memory>
-        ensures { OnOk result ((q : ℕ) → level_in self.new q
+    /// Keeps the level of an id that has none yet. The only refusal is want of memory, which changes
+    /// nothing.
+    pub(crate) fn put(&mut self, id: ItemId, level: usize) -> Result<(), Memory>
+        ensures ok { OnOk result ((q : ℕ) → level_in self.new q
             ≡ option_or (level_in self.old q) (if nat_eq q id.0 then Some level else None)) }
+        ensures err { OnErr result ((q : ℕ) → level_in self.new q ≡ level_in self.old q) }
     {
         self.levels.entry(id.0)?.or_insert(level);
         Ok(())
+    }
+
+    /// Forgets an id.
+    pub(crate) fn forget(&mut self, id: ItemId)
+        ensures { (q : ℕ) → level_in self.new q
+            ≡ (if nat_eq q id.0 then None else level_in self.old q) }
+    {
+        self.levels.remove(&id.0);
     }
 
     /// Keeps the level of all ids of these items. The only refusal is want of memory.
@@ -54,6 +64,18 @@ impl Places {
             self.put(item.id, level)?;
         }
         Ok(())
+    }
+}
+
+impl Clone for Places {
+    ghost use Rattle.std.specs.Prelude.{◌≡◌, ℕ};
+    ghost use Rattle.bundle_state.specs.Placed.{level_in};
+
+    ghost is_clone = { λ s t. (q : ℕ) → level_in t q ≡ level_in s q };
+
+    fn clone(&self) -> Result<Places, AllocError> {
+        let levels = self.levels.clone()?;
+        Ok(Places { levels })
     }
 }
 

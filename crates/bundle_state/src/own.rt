@@ -1,0 +1,102 @@
+//! Changes of what handles share: where another owner has the value too, this one takes a copy of it first.
+ghost use Rattle.std.specs.Prelude.{◌≡◌, ◌<◌, ◌++◌, ◌∷◌, [], length, not, IsTrue, OnErr, OnOk};
+ghost use Rattle.std.specs.List.{filter};
+ghost use Rattle.emu_names.specs.Gives.{FindsFault};
+ghost use Rattle.level_items.specs.Levels.{are_labels_for, is_short, relabelled, retimed};
+ghost use Rattle.level_items.specs.Faults.{insert_fault, retime_fault};
+ghost use Rattle.link_graph.specs.Link.{add_fault, joins, link_of};
+ghost use Rattle.bundle_state.specs.Changed.{missing_fault, with_item, without_item, with_changed};
+
+use crate::handle::Handle;
+use emu_names::{Broken, Fault, ItemId, LinkKind, Memory, Text};
+use level_items::{Item, LevelList, Time};
+use link_graph::Links;
+use std::sync::Arc;
+
+impl Handle<LevelList> {
+    /// Puts an item in, as the level's list does.
+    pub(crate) fn insert(&mut self, position: Option<u32>, item: Item) -> Result<(), Fault>
+        requires { IsTrue (are_labels_for self.old.attributes item.labels) }
+        ensures fault { FindsFault result (insert_fault self.old.kind self.old.items position item) }
+        ensures inserted { OnOk result (self.new ≡ with_item position item self.old) }
+        ensures kept { OnErr result (self.new ≡ self.old) }
+    {
+        let list = Arc::make_mut(&mut self.inside)?;
+        match list.insert(position, item) {
+            Ok(_) => Ok(()),
+            Err(fault) => Err(fault),
+        }
+    }
+
+    /// Takes the item at a position out. The only refusal is want of memory, which changes nothing.
+    pub(crate) fn remove(&mut self, position: usize) -> Result<(), Memory>
+        requires { position < length self.old.items }
+        ensures removed { OnOk result (self.new ≡ without_item position self.old) }
+        ensures kept { OnErr result (self.new ≡ self.old) }
+    {
+        let list = Arc::make_mut(&mut self.inside)?;
+        list.remove(position);
+        Ok(())
+    }
+
+    /// Sets one label of the item at a position. The only refusal is want of memory, which changes nothing.
+    pub(crate) fn set_label(
+        &mut self,
+        position: usize,
+        attribute: usize,
+        label: Text,
+    ) -> Result<(), Memory>
+        requires position { position < length self.old.items }
+        requires attribute { attribute < self.old.attributes }
+        requires label { IsTrue (is_short label) }
+        ensures labelled { OnOk result
+            (self.new ≡ with_changed (relabelled attribute label) position self.old) }
+        ensures kept { OnErr result (self.new ≡ self.old) }
+    {
+        let list = Arc::make_mut(&mut self.inside)?;
+        list.set_label(position, attribute, label);
+        Ok(())
+    }
+
+    /// Sets the time of the item at a position, as the level's list does.
+    pub(crate) fn retime(&mut self, position: usize, time: Time) -> Result<(), Fault>
+        requires { position < length self.old.items }
+        ensures fault { FindsFault result (retime_fault self.old.kind self.old.items position time) }
+        ensures retimed { OnOk result (self.new ≡ with_changed (retimed time) position self.old) }
+        ensures kept { OnErr result (self.new ≡ self.old) }
+    {
+        let list = Arc::make_mut(&mut self.inside)?;
+        list.retime(position, time)
+    }
+}
+
+impl Handle<Links> {
+    /// Puts a link last, as the list of links does.
+    pub(crate) fn add(
+        &mut self,
+        definition: u32,
+        kind: LinkKind,
+        from: ItemId,
+        to: ItemId,
+    ) -> Result<(), Fault>
+        ensures fault { FindsFault result (add_fault kind definition from to self.old) }
+        ensures added { OnOk result (self.new ≡ self.old ++ link_of definition from to ∷ []) }
+        ensures kept { OnErr result (self.new ≡ self.old) }
+    {
+        let links = Arc::make_mut(&mut self.inside)?;
+        links.add(definition, kind, from, to)
+    }
+
+    /// Takes the link of a pair out. `NoLink` comes exactly where the pair is not there.
+    pub(crate) fn remove(&mut self, from: ItemId, to: ItemId) -> Result<(), Fault>
+        ensures fault { FindsFault result (missing_fault from to self.old) }
+        ensures removed { OnOk result (self.new ≡ filter (λ link. not (joins from to link)) self.old) }
+        ensures kept { OnErr result (self.new ≡ self.old) }
+    {
+        if !self.as_ref().has(from, to) {
+            return Err(Fault::Broken(Broken::NoLink));
+        }
+        let links = Arc::make_mut(&mut self.inside)?;
+        links.remove(from, to)
+    }
+}
