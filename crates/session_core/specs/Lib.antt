@@ -2,6 +2,7 @@ pub mod Queries
 pub mod Answers
 pub mod Sizes
 pub mod Steps
+pub mod Commands
 pub mod Worlds
 pub mod Legal
 pub mod InOrder
