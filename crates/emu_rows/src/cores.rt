@@ -2,17 +2,17 @@
 ghost use Rattle.std.specs.Prelude.{◌<◌, All, IfOk};
 ghost use Rattle.session_core.specs.Steps.{place_of, session_places};
 
-use crate::annots::{annot, config, key};
+use crate::made::{config, key, words};
+use db_config::Config;
+use edit_rules::{Edit, Entries, Entry};
 use emu_names::{Broken, Fault, Memory, SessionNo, Text};
 use script_lines::print_reply;
-use session_core::{
-    Ask, Command, Config, Core, Edit, Entries, Entry, Event, Events, Line, Replies, Request,
-};
+use session_core::{Ask, Command, Core, Event, Events, Line, Replies, Request};
 use std::alloc::Global;
 use std::test::Fail;
 
 fn query(alloc: Global) -> Result<Request, Memory> {
-    let name = Text::new(alloc, "Phonetic")?;
+    let name = Text::new(alloc, "Word")?;
     let label = Text::new(alloc, "m")?;
     Ok(Request::Query(Ask { name, label }))
 }
@@ -65,10 +65,10 @@ fn a_query_is_run(rt: HostRuntime) -> Result<(), Fail> {
     Ok(())
 }
 
-/// The entry that adds a bundle without levels.
+/// The entry that adds a bundle without items.
 fn entry(alloc: Global) -> Result<Entry, Fail> {
     let key = key(alloc, "s1", "b1")?;
-    let annot = annot(alloc, 20000, Vec::new(alloc))?;
+    let annot = words(alloc, 0)?;
     Ok(Entry {
         session: SessionNo(1),
         line: 2,

@@ -14,17 +14,10 @@ const ADDED: &str = "{\"line\":2,\"n\":1,\"ok\":\"add_bundle\"}";
 const SHORT: &str =
     r#"{"do":"config","config":{"name":"t","levelDefinitions":[{"name":"P","type":"SEGMENT","attributeDefinitions":[{"name":"A"}]}]}}"#;
 
-/// A configuration of the narrow form with all members that it may have.
-const WHOLE: &str =
-    r#"{"do":"config","config":{"name":"t","UUID":"u","mediafileExtension":"wav","levelDefinitions":[{"name":"P","type":"SEGMENT","attributeDefinitions":[{"name":"A","type":null}]}]}}"#;
-
 const NO_CONFIG: &str =
     "{\"cause\":\"Shape\",\"line\":1,\"path\":\"$.config\",\"status\":3,\"wanted\":\"object\"}";
 
 const NO_PLACE: &str = "{\"cause\":\"ConfigPlace\",\"line\":1,\"status\":3}";
-
-const NO_ANNOT: &str =
-    "{\"cause\":\"Shape\",\"line\":2,\"path\":\"$.annot\",\"status\":3,\"wanted\":\"object\"}";
 
 const NO_ROW: &str = "{\"line\":3,\"n\":1,\"segments\":[]}";
 
@@ -82,7 +75,7 @@ static CAUSES: [(&str, &str); 8] = [
 ];
 
 /// Lines of a wrong form, with the path and what is wanted there.
-static SHAPES: [(&str, &str, &str); 31] = [
+static SHAPES: [(&str, &str, &str); 43] = [
     ("[]", "$", "object"),
     ("7", "$", "object"),
     ("{}", "$.do", "text"),
@@ -142,6 +135,62 @@ static SHAPES: [(&str, &str, &str); 31] = [
     (r#"{"do":"query","s":1,"eql":"== b"}"#, "$.eql", "text"),
     (r#"{"do":"query","s":1,"eql":"a === b"}"#, "$.eql", "text"),
     (r#"{"do":"query","s":1,"eql":""}"#, "$.eql", "text"),
+    (
+        r#"{"do":"add_textgrid","s":1,"session":"a","bundle":"b","sampleRate":0,"text":7}"#,
+        "$.sampleRate",
+        "whole number",
+    ),
+    (
+        r#"{"do":"add_textgrid","s":1,"session":"a","bundle":"b","sampleRate":1000001}"#,
+        "$.sampleRate",
+        "whole number",
+    ),
+    (
+        r#"{"do":"add_textgrid","s":1,"session":"a","bundle":"b","sampleRate":1,"text":7}"#,
+        "$.text",
+        "text",
+    ),
+    (
+        r#"{"do":"add_item","s":1,"session":"a","bundle":"b","level":7}"#,
+        "$.level",
+        "text",
+    ),
+    (
+        r#"{"do":"add_item","s":1,"session":"a","bundle":"b","level":"P","position":-1}"#,
+        "$.position",
+        "whole number",
+    ),
+    (
+        r#"{"do":"add_item","s":1,"session":"a","bundle":"b","level":"P","id":1,"sampleStart":1,"samplePoint":1}"#,
+        "$.sampleDur",
+        "whole number",
+    ),
+    (
+        r#"{"do":"add_item","s":1,"session":"a","bundle":"b","level":"P","id":1,"labels":[7]}"#,
+        "$.labels[0]",
+        "object",
+    ),
+    (
+        r#"{"do":"set_label","s":1,"session":"a","bundle":"b","id":1,"value":"x"}"#,
+        "$.attribute",
+        "text",
+    ),
+    (
+        r#"{"do":"split","s":1,"session":"a","bundle":"b","id":1,"sampleStart":1}"#,
+        "$.newId",
+        "whole number",
+    ),
+    (
+        r#"{"do":"set_point","s":1,"session":"a","bundle":"b","id":1,"samplePoint":9223372036854775808}"#,
+        "$.samplePoint",
+        "whole number",
+    ),
+    (
+        r#"{"do":"add_link","s":1,"session":"a","bundle":"b","toID":1}"#,
+        "$.fromID",
+        "whole number",
+    ),
+    (r#"{"do":"merge","s":1,"session":7}"#, "$.session", "name"),
 ];
 
 /// First lines, with the last line that they end a run with.
@@ -157,99 +206,93 @@ static FIRST: [(&str, &str); 6] = [
     (r#"{"do":"config"}"#, NO_CONFIG),
 ];
 
-/// Configurations of another form than the narrow one.
-static CONFIGS: [&str; 15] = [
-    r#"null"#,
-    r#"7"#,
-    r#"{"levelDefinitions":[{"name":"P","type":"SEGMENT","attributeDefinitions":[{"name":"A"}]}]}"#,
-    r#"{"name":"t","UUID":5,"levelDefinitions":[{"name":"P","type":"SEGMENT","attributeDefinitions":[{"name":"A"}]}]}"#,
-    r#"{"name":"t","levelDefinitions":[]}"#,
-    r#"{"name":"t","levelDefinitions":[{"name":"P","type":"SEGMENT","attributeDefinitions":[{"name":"A"}]},{"name":"Q","type":"SEGMENT","attributeDefinitions":[{"name":"B"}]}]}"#,
-    r#"{"name":"t","levelDefinitions":[{"name":"P","type":"ITEM","attributeDefinitions":[{"name":"A"}]}]}"#,
-    r#"{"name":"t","levelDefinitions":[{"name":"P","type":"SEGMENT","attributeDefinitions":[]}]}"#,
-    r#"{"name":"t","levelDefinitions":[{"name":"P","type":"SEGMENT","attributeDefinitions":[{"name":"A"},{"name":"B"}]}]}"#,
-    r#"{"name":"t","levelDefinitions":[{"name":"P","type":"SEGMENT","attributeDefinitions":[{"name":"A","type":"NUMBER"}]}]}"#,
-    r#"{"name":"t","levelDefinitions":[{"name":"P","type":"SEGMENT","attributeDefinitions":[{"name":"A","legalLabels":[]}]}]}"#,
-    r#"{"name":"t","levelDefinitions":[{"name":"P","type":"SEGMENT","attributeDefinitions":[{"name":"A","labelGroups":[]}]}]}"#,
-    r#"{"name":"t","labelGroups":[],"levelDefinitions":[{"name":"P","type":"SEGMENT","attributeDefinitions":[{"name":"A"}]}]}"#,
-    r#"{"name":"t","ssffTrackDefinitions":[],"levelDefinitions":[{"name":"P","type":"SEGMENT","attributeDefinitions":[{"name":"A"}]}]}"#,
-    r#"{"name":"t","linkDefinitions":[{}],"levelDefinitions":[{"name":"P","type":"SEGMENT","attributeDefinitions":[{"name":"A"}]}]}"#,
+/// Configurations, each with the member and the word of its first fault.
+static CONFIGS: [(&str, &str, &str); 12] = [
+    ("null", "", "object"),
+    ("7", "", "object"),
+    (r#"{"levelDefinitions":[]}"#, ".name", "name"),
+    (r#"{"name":"","levelDefinitions":[]}"#, ".name", "name"),
+    (
+        r#"{"name":"t","UUID":5,"levelDefinitions":[]}"#,
+        ".UUID",
+        "text",
+    ),
+    (r#"{"name":"t"}"#, ".levelDefinitions", "list"),
+    (
+        r#"{"name":"t","levelDefinitions":[{"name":"P","type":"LEVEL"}]}"#,
+        ".levelDefinitions[0].type",
+        "kind",
+    ),
+    (
+        r#"{"name":"t","levelDefinitions":[{"name":"P","type":"ITEM","attributeDefinitions":[]}]}"#,
+        ".levelDefinitions[0].attributeDefinitions",
+        "non-empty list",
+    ),
+    (
+        r#"{"name":"t","levelDefinitions":[{"name":"P","type":"ITEM","attributeDefinitions":[{"name":"A","type":"NUMBER"}]}]}"#,
+        ".levelDefinitions[0].attributeDefinitions[0].type",
+        "kind",
+    ),
+    (
+        r#"{"name":"t","levelDefinitions":[],"linkDefinitions":[{}]}"#,
+        ".linkDefinitions[0].type",
+        "kind",
+    ),
+    (
+        r#"{"name":"t","levelDefinitions":[],"labelGroups":[{"name":"g","values":["a",7]}]}"#,
+        ".labelGroups[0].values[1]",
+        "text",
+    ),
+    (
+        r#"{"name":"t","levelDefinitions":[],"ssffTrackDefinitions":[{"name":7}]}"#,
+        ".ssffTrackDefinitions[0].name",
+        "text",
+    ),
 ];
 
-/// Levels that are refused in an annotation.
-static LEVELS: [&str; 3] = [
-    "[]",
-    r#"[{"name":"P","type":"SEGMENT"},{"name":"Q","type":"SEGMENT"}]"#,
-    r#"[{"name":"P","type":"EVENT"}]"#,
-];
-
-const LABEL: &str = r#"[{"name":"A","value":"x"}]"#;
-
-const TWO: &str = r#"[{"name":"A","value":"x"},{"name":"A","value":"y"}]"#;
-
-/// First item, its labels, second item, and what is written.
-static ITEMS: [(&str, &str, &str, &str); 9] = [
+/// Annotations, each with the member and the word of its first fault.
+static ANNOTATIONS: [(&str, &str, &str); 8] = [
+    ("{}", ".sampleRate", "whole number"),
     (
-        r#""id":1,"sampleStart":0,"sampleDur":4"#,
-        LABEL,
-        r#""id":2,"sampleStart":5,"sampleDur":0"#,
-        ADDED,
+        r#"{"name":7,"sampleRate":-1}"#,
+        ".name",
+        "text",
     ),
     (
-        r#""id":1,"sampleStart":0,"sampleDur":5"#,
-        LABEL,
-        r#""id":2,"sampleStart":5,"sampleDur":0"#,
-        NO_ANNOT,
+        r#"{"sampleRate":9223372036854775808}"#,
+        ".sampleRate",
+        "whole number",
     ),
     (
-        r#""id":1,"sampleStart":0,"sampleDur":4"#,
-        LABEL,
-        r#""id":1,"sampleStart":5,"sampleDur":0"#,
-        NO_ANNOT,
+        r#"{"sampleRate":1,"levels":{}}"#,
+        ".levels",
+        "list",
     ),
     (
-        r#""id":1,"sampleStart":0,"sampleDur":4"#,
-        TWO,
-        r#""id":2,"sampleStart":5,"sampleDur":0"#,
-        NO_ANNOT,
+        r#"{"sampleRate":1,"levels":[{"name":"P","type":"SEGMENT","items":[{"id":4294967296}]}]}"#,
+        ".levels[0].items[0].id",
+        "whole number",
     ),
     (
-        r#""id":1,"sampleStart":0,"sampleDur":4"#,
-        "[]",
-        r#""id":2,"sampleStart":5,"sampleDur":0"#,
-        NO_ANNOT,
+        r#"{"sampleRate":1,"levels":[{"name":"P","type":"SEGMENT","items":[{"id":1,"sampleStart":0}]}]}"#,
+        ".levels[0].items[0].sampleDur",
+        "whole number",
     ),
     (
-        r#""id":1,"sampleDur":4"#,
-        LABEL,
-        r#""id":2,"sampleStart":5,"sampleDur":0"#,
-        NO_ANNOT,
+        r#"{"sampleRate":1,"levels":[{"name":"P","type":"SEGMENT","items":[{"id":1,"labels":[{"name":"A"}]}]}]}"#,
+        ".levels[0].items[0].labels[0].value",
+        "text",
     ),
     (
-        r#""id":1,"sampleStart":0,"sampleDur":4"#,
-        LABEL,
-        r#""id":2,"sampleStart":5,"sampleDur":1099511627771"#,
-        NO_ANNOT,
-    ),
-    (
-        r#""id":1,"sampleStart":0,"sampleDur":4"#,
-        LABEL,
-        r#""id":4294967295,"sampleStart":5,"sampleDur":1099511627770"#,
-        ADDED,
-    ),
-    (
-        r#""id":1,"sampleStart":0,"sampleDur":4"#,
-        LABEL,
-        r#""id":4294967296,"sampleStart":5,"sampleDur":0"#,
-        NO_ANNOT,
+        r#"{"sampleRate":1,"links":[{"fromID":1}]}"#,
+        ".links[0].toID",
+        "whole number",
     ),
 ];
 
 /// The last line of a run that ends at line 3 for its form.
 fn shape(alloc: Global, path: &str, wanted: &str) -> Result<String, AllocError> {
-    format!(in alloc;
-        "{{\"cause\":\"Shape\",\"line\":3,\"path\":\"{path}\",\"status\":3,\"wanted\":\"{wanted}\"}}"
-    )
+    member_shape(alloc, 3, path, wanted)
 }
 
 /// The last line of a run that ends at line 3 for another cause.
@@ -303,79 +346,39 @@ fn the_configuration_has_its_place(rt: HostRuntime) -> Result<(), Fail> {
     Ok(())
 }
 
+/// The last line of a run that ends at a line for the form of a member.
+fn member_shape(
+    alloc: Global,
+    line: u32,
+    path: &str,
+    wanted: &str,
+) -> Result<String, AllocError> {
+    format!(in alloc;
+        "{{\"cause\":\"Shape\",\"line\":{line},\"path\":\"{path}\",\"status\":3,\"wanted\":\"{wanted}\"}}"
+    )
+}
+
 #[test]
 fn configurations(rt: HostRuntime) -> Result<(), Fail> {
-    for config in &CONFIGS {
+    for (config, member, wanted) in &CONFIGS {
         let line = format!(in rt.alloc(); "{{\"do\":\"config\",\"config\":{config}}}")?;
-        expect(&rt, rt.alloc(), &[line.as_str()], 3, &[NO_CONFIG])?;
+        let path = format!(in rt.alloc(); "$.config{member}")?;
+        let last = member_shape(rt.alloc(), 1, path.as_str(), wanted)?;
+        expect(&rt, rt.alloc(), &[line.as_str()], 3, &[last.as_str()])?;
     }
-    expect(&rt, rt.alloc(), &[WHOLE], 0, &[CONFIGURED])
-}
-
-/// The line that adds an annotation of this rate, these levels and these links.
-fn annot_line(alloc: Global, rate: &str, levels: &str, links: &str) -> Result<String, AllocError> {
-    format!(in alloc;
-        "{{\"do\":\"add_bundle\",\"s\":1,\"session\":\"a\",\"bundle\":\"b\",\"annot\":{{\"sampleRate\":{rate},\"levels\":{levels},\"links\":{links}}}}}"
-    )
-}
-
-/// Runs the line that adds an annotation, behind the short configuration.
-fn expect_annot<R: Abort + Threads + Wait + Sync>(
-    rt: &R,
-    alloc: Global,
-    rate: &str,
-    levels: &str,
-    links: &str,
-    wanted: &str,
-) -> Result<(), Fail> {
-    let line = annot_line(alloc, rate, levels, links)?;
-    let status = if wanted == ADDED { 0 } else { 3 };
-    expect(
-        rt,
-        alloc,
-        &[SHORT, line.as_str()],
-        status,
-        &[CONFIGURED, wanted],
-    )
+    Ok(())
 }
 
 #[test]
 fn annotations(rt: HostRuntime) -> Result<(), Fail> {
-    let empty = r#"[{"name":"P","type":"SEGMENT"}]"#;
-    for (rate, links, wanted) in [
-        ("1", "null", ADDED),
-        ("1000000", "[]", ADDED),
-        ("0", "[]", NO_ANNOT),
-        ("1000001", "[]", NO_ANNOT),
-        ("1", "[{}]", NO_ANNOT),
-    ] {
-        expect_annot(&rt, rt.alloc(), rate, empty, links, wanted)?;
-    }
-    for levels in &LEVELS {
-        expect_annot(&rt, rt.alloc(), "1", levels, "[]", NO_ANNOT)?;
-    }
-    Ok(())
-}
-
-#[test]
-fn items(rt: HostRuntime) -> Result<(), Fail> {
-    for (first, labels, second, wanted) in &ITEMS {
-        let levels = format!(in rt.alloc();
-            "[{{\"name\":\"P\",\"type\":\"SEGMENT\",\"items\":[{{{first},\"labels\":{labels}}},{{{second},\"labels\":{LABEL}}}]}}]"
+    for (annot, member, wanted) in &ANNOTATIONS {
+        let line = format!(in rt.alloc();
+            "{{\"do\":\"add_bundle\",\"s\":1,\"session\":\"a\",\"bundle\":\"b\",\"annot\":{annot}}}"
         )?;
-        expect_annot(&rt, rt.alloc(), "1", levels.as_str(), "[]", wanted)?;
-    }
-    Ok(())
-}
-
-#[test]
-fn labels_have_a_limit(rt: HostRuntime) -> Result<(), Fail> {
-    for (count, wanted) in [(4096, ADDED), (4097, NO_ANNOT)] {
-        let word = repeated(rt.alloc(), "x", count)?;
-        let levels = format!(in rt.alloc();
-            "[{{\"name\":\"P\",\"type\":\"SEGMENT\",\"items\":[{{\"id\":1,\"sampleStart\":0,\"sampleDur\":0,\"labels\":[{{\"name\":\"A\",\"value\":\"{word}\"}}]}}]}}]"
-        )?;
-        expect_annot(&rt, rt.alloc(), "1", levels.as_str(), "[]", wanted)?;
+        let path = format!(in rt.alloc(); "$.annot{member}")?;
+        let last = member_shape(rt.alloc(), 2, path.as_str(), wanted)?;
+        let lines = [SHORT, line.as_str()];
+        expect(&rt, rt.alloc(), &lines, 3, &[CONFIGURED, last.as_str()])?;
     }
     Ok(())
 }

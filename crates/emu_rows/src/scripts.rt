@@ -19,6 +19,13 @@ pub const BUNDLE: &str =
 pub const OTHER_BUNDLE: &str =
     "{\"s\":2,\"do\":\"add_bundle\",\"session\":\"s1\",\"bundle\":\"b2\",\"annot\":{\"name\":\"b1\",\"annotates\":\"b1.wav\",\"sampleRate\":20000,\"levels\":[{\"name\":\"Phonetic\",\"type\":\"SEGMENT\",\"items\":[{\"id\":1,\"sampleStart\":3749,\"sampleDur\":1389,\"labels\":[{\"name\":\"Phonetic\",\"value\":\"V\"}]},{\"id\":2,\"sampleStart\":5139,\"sampleDur\":1664,\"labels\":[{\"name\":\"Phonetic\",\"value\":\"m\"}]}]}],\"links\":[]}}";
 
+/// A script, line by line, and how its run ends and what it writes.
+pub struct Row {
+    pub lines: &'static [&'static str],
+    pub status: u8,
+    pub output: &'static [&'static str],
+}
+
 /// What a run answered and wrote.
 #[derive(Drop)]
 pub struct Ran {
@@ -75,6 +82,18 @@ pub fn expect<R: Abort + Threads + Wait + Sync>(
 ) -> Result<(), Fail> {
     let script = joined(alloc, lines, "\n")?;
     expect_run(rt, alloc, script, &[], &[], status, wanted)
+}
+
+/// Runs the scripts of a table.
+pub fn expect_rows<R: Abort + Threads + Wait + Sync>(
+    rt: &R,
+    alloc: Global,
+    rows: &[Row],
+) -> Result<(), Fail> {
+    for row in rows {
+        expect(rt, alloc, row.lines, row.status, row.output)?;
+    }
+    Ok(())
 }
 
 /// As `expect`, of bytes, with a source and a sink that fail on these calls.

@@ -1,13 +1,6 @@
 //! Worked runs: whole scripts and the exact output of each.
-use crate::scripts::{BUNDLE, CONFIG, OTHER_BUNDLE, expect};
+use crate::scripts::{BUNDLE, CONFIG, OTHER_BUNDLE, Row, expect_rows};
 use std::test::Fail;
-
-/// A script, line by line, and how its run ends and what it writes.
-struct Row {
-    lines: &'static [&'static str],
-    status: u8,
-    output: &'static [&'static str],
-}
 
 static ROWS: [Row; 16] = [
     // one segment
@@ -216,8 +209,5 @@ static ROWS: [Row; 16] = [
 
 #[test]
 fn rows_are_answered(rt: HostRuntime) -> Result<(), Fail> {
-    for row in &ROWS {
-        expect(&rt, rt.alloc(), row.lines, row.status, row.output)?;
-    }
-    Ok(())
+    expect_rows(&rt, rt.alloc(), &ROWS)
 }
