@@ -1,14 +1,14 @@
 -- The requests of a script come in order, so that their run is legal.
-use Rattle.std.proofs.Common.{◌≡◌, ℕ, ◌+◌, Bool, true, false, List, [], ◌∷◌, ◌++◌, length, Option, Some, None, Result, Ok, Err, refl, sym, ◌∙◌, subst, arith, nat_eq, is_none, append-nil, append_assoc}
+use Rattle.std.proofs.Common.{IsTrue, ◌≡◌, ℕ, ◌+◌, Bool, true, false, List, [], ◌∷◌, ◌++◌, length, Option, Some, None, Result, Ok, Err, refl, sym, ◌∙◌, subst, arith, nat_eq, is_none, append-nil, append_assoc}
 use Rattle.std.specs.List.{list_any}
-use Rattle.session_core.specs.declared.config.Config.{Config}
+use Rattle.db_config.specs.declared.parts.ConfigParts.{ConfigParts}
 use Rattle.session_core.specs.declared.line.Line.{Line}
 use Rattle.session_core.specs.declared.line.Request.{Request}
 use Rattle.session_core.specs.declared.line.Request.TheVariants as requests
 use Rattle.session_core.specs.Worlds.{Each}
 use Rattle.session_core.specs.InOrder.{Outage, disk_outages, in_turn, ComeInOrder, ComesNext, NamesEarlier, IsBelow}
 use Rattle.session_core.proofs.Turns.{each_push, each_map}
-use Rattle.session_core.specs.Configs.{is_valid_config}
+use Rattle.db_config.specs.Valid.{is_valid}
 use Rattle.session_core.specs.Steps.{start}
 use Rattle.session_core.proofs.Kept.{prefixes_valid}
 use Rattle.session_core.proofs.Ordered.{in_turn_is_in_order, none_out, none_rise}
@@ -41,9 +41,9 @@ come_push before [] l h next = (subst (λ ks. ComesNext ks l) (append-nil before
 come_push before (k ∷ ks) l h next = (h.0, come_push (before ++ k ∷ []) ks l h.1 (subst (λ x. ComesNext x l) (sym (append_assoc before (k ∷ []) ks)) next))
 
 -- a configuration that was given keeps its rules
-abbrev IsValidGiven : Option Config → Type 0
+abbrev IsValidGiven : Option ConfigParts → Type 0
 IsValidGiven None = Unit {0}
-IsValidGiven (Some c) = is_valid_config c ≡ true
+IsValidGiven (Some c) = IsTrue (is_valid c)
 
 -- the requests that were read so far
 record Ordered (p : Parsed) : Type 0 where
@@ -68,13 +68,13 @@ parsed_ok x = Ok x
 parsed_same : {x y : Parsed} → parsed_ok x ≡ parsed_ok y → x ≡ y
 parsed_same e = cc
 
-abbrev some_config : Config → Option Config
+abbrev some_config : ConfigParts → Option ConfigParts
 some_config c = Some c
 
-abbrev no_config : Option Config
+abbrev no_config : Option ConfigParts
 no_config = None
 
-none_some : (c : Config) → no_config ≡ some_config c → ⊥
+none_some : (c : ConfigParts) → no_config ≡ some_config c → ⊥
 none_some c h = cc
 
 -- what line_at read is what request_of gave
@@ -84,7 +84,7 @@ over_ok false number (Ok x) read h = stop_same h
 over_ok false number (Err f) read h = absurd (cc)
 
 -- one more line
-read_more : (p : Parsed) (config : Option Config) (read : ReadLine) → p.config ≡ config → Ordered p → Known (p.number + 1) (is_none config) (numbers_of p.requests) read → Ordered (with_read p read)
+read_more : (p : Parsed) (config : Option ConfigParts) (read : ReadLine) → p.config ≡ config → Ordered p → Known (p.number + 1) (is_none config) (numbers_of p.requests) read → Ordered (with_read p read)
 read_more p None (reads.Config config) e o k = record {
   come = o.come;
   below = each_map (IsBelow (p.number + 1)) (IsBelow (p.number + 1 + 1)) (λ l h. omega arith) p.requests o.below;
@@ -132,7 +132,7 @@ ordered : (lines : List (List ℕ)) (p q : Parsed) → Ordered p → parse p lin
 ordered [] p q o h = let same : p ≡ q = parsed_same h in subst (λ x. Ordered x) same o
 ordered (line ∷ lines) p q o h = ordered_first (parse_line p line) lines q (λ n e. ordered_line p n line o e) (λ n k e. ordered lines n q k e) h
 
-runs_from : (p : Parsed) (config : Option Config) (requests : List Line) (outages : List Outage) → ComeInOrder [] requests → length outages ≡ length requests
+runs_from : (p : Parsed) (config : Option ConfigParts) (requests : List Line) (outages : List Outage) → ComeInOrder [] requests → length outages ≡ length requests
     → (config ≡ None → requests ≡ []) → IsValidGiven config
     → Runs (alone p) config requests (run_from [] false config requests outages).0 (history_in [] (run_from [] false config requests outages).1)
 runs_from p None requests outages come each begun valid = (begun refl, refl)

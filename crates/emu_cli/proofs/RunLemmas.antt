@@ -5,7 +5,7 @@ use Rattle.std.proofs.Math.Seq.{take-length, take-append_seam}
 use Rattle.std.specs.Io.KnownBytes.{Appends}
 use Rattle.std.proofs.KnownBytes.{Appends-nil}
 use Rattle.emu_io.specs.Fronts.{WritesFront}
-use Rattle.session_core.specs.declared.config.Config.{Config}
+use Rattle.db_config.specs.declared.parts.ConfigParts.{ConfigParts}
 use Rattle.session_core.specs.declared.line.Line.{Line}
 use Rattle.session_core.specs.declared.line.Reply.{Reply}
 use Rattle.session_core.specs.Steps.{State, start}
@@ -26,17 +26,17 @@ use Rattle.emu_cli.proofs.ParseLemmas.{parse_push, parse_stop, front_stop, front
 use Rattle.emu_cli.proofs.TextLemmas.{turns_push, text_begun, begun_push, front_all, front_more, whole_more}
 
 -- what the code reads behind a run is what the definition reads behind the script so far
-read_there : (running : Running) (config : Config) (p : Parsed) (outages : List Outage) (line : List ℕ) → IsAt running config p outages → line_at (p.number + 1) p.wants (numbers_of p.requests) line ≡ line_at (running.number + 1) false running.earlier line
+read_there : (running : Running) (config : ConfigParts) (p : Parsed) (outages : List Outage) (line : List ℕ) → IsAt running config p outages → line_at (p.number + 1) p.wants (numbers_of p.requests) line ≡ line_at (running.number + 1) false running.earlier line
 read_there running config p outages line at = rw (at.wants, at.number, at.earlier) refl
 
-next_read : (running : Running) (config : Config) (p : Parsed) (outages : List Outage) (line : List ℕ) (read : ReadLine) → IsAt running config p outages → line_at (running.number + 1) false running.earlier line ≡ Ok read → parse_line p line ≡ Ok (with_read p read)
+next_read : (running : Running) (config : ConfigParts) (p : Parsed) (outages : List Outage) (line : List ℕ) (read : ReadLine) → IsAt running config p outages → line_at (running.number + 1) false running.earlier line ≡ Ok read → parse_line p line ≡ Ok (with_read p read)
 next_read running config p outages line read at h = ap (λ r. r >>= λ x. Ok (with_read p x)) (read_there running config p outages line at ∙ h)
 
-next_stop : (running : Running) (config : Config) (p : Parsed) (outages : List Outage) (line : List ℕ) (stop : Stop) → IsAt running config p outages → line_at (running.number + 1) false running.earlier line ≡ Err stop → parse_line p line ≡ Err stop
+next_stop : (running : Running) (config : ConfigParts) (p : Parsed) (outages : List Outage) (line : List ℕ) (stop : Stop) → IsAt running config p outages → line_at (running.number + 1) false running.earlier line ≡ Err stop → parse_line p line ≡ Err stop
 next_stop running config p outages line stop at h = ap (λ r. r >>= λ x. Ok (with_read p x)) (read_there running config p outages line at ∙ h)
 
 -- a line of white space alone
-pub reached_blank : (config : Config) (lines : List (List ℕ)) (line : List ℕ) (running new : Running) (before now : Option (List ℕ)) →
+pub reached_blank : (config : ConfigParts) (lines : List (List ℕ)) (line : List ℕ) (running new : Running) (before now : Option (List ℕ)) →
     Reached config lines running before now → line_at (running.number + 1) false running.earlier line ≡ Ok reads.Blank →
     new.core ≡ running.core → new.earlier ≡ running.earlier → new.number ≡ running.number + 1 →
     Reached config (lines ++ line ∷ []) new before now
@@ -58,7 +58,7 @@ reached_blank config lines line running new before now r h core earlier number =
 
 -- Behind a request that was answered.
 
-record Answered (config : Config) (p : Parsed) (outages : List Outage) (l : Line) (new : Running) (reply : Reply) (o : Outage) : Type 0 where
+record Answered (config : ConfigParts) (p : Parsed) (outages : List Outage) (l : Line) (new : Running) (reply : Reply) (o : Outage) : Type 0 where
   at : IsAt new config (with_read p (reads.Request l)) (outages ++ o ∷ [])
   text : run_text (with_read p (reads.Request l)) (outages ++ o ∷ []) ≡ run_text p outages ++ reply_text reply
 
@@ -68,7 +68,7 @@ one_more os ls o l h = omega (arith, length-append os (o ∷ []), length-append 
 turn_there : (st mid : State) (l : Line) (o : Outage) (reply : Reply) (new : State) → mid ≡ st → one_turn false mid l o ≡ (reply, new) → one_turn false st l o ≡ (reply, new)
 turn_there st mid l o reply new same h = rw (← same) h
 
-answered : (config : Config) (p : Parsed) (outages : List Outage) (running new : Running) (l : Line) (reply : Reply) (t : TakesLine running l reply new) → IsAt running config p outages → Answered config p outages l new reply t.outage
+answered : (config : ConfigParts) (p : Parsed) (outages : List Outage) (running new : Running) (l : Line) (reply : Reply) (t : TakesLine running l reply new) → IsAt running config p outages → Answered config p outages l new reply t.outage
 answered config p outages running new l reply t at =
     let here : one_turn false (in_turn false (start config []) p.requests outages).1 l t.outage ≡ (reply, new.core) = turn_there _ running.core l t.outage reply new.core at.core t.turn in
     record {
@@ -86,7 +86,7 @@ answered config p outages running new l reply t at =
     }
 
 -- its reply was written
-pub reached_request : (config : Config) (lines : List (List ℕ)) (line : List ℕ) (running new : Running) (l : Line) (reply : Reply) (before now after : Option (List ℕ)) →
+pub reached_request : (config : ConfigParts) (lines : List (List ℕ)) (line : List ℕ) (running new : Running) (l : Line) (reply : Reply) (before now after : Option (List ℕ)) →
     Reached config lines running before now → line_at (running.number + 1) false running.earlier line ≡ Ok (reads.Request l) →
     TakesLine running l reply new → Appends now after (reply_text reply) →
     Reached config (lines ++ line ∷ []) new before after
@@ -101,7 +101,7 @@ reached_request config lines line running new l reply before now after r h t wri
     }
 
 -- a front of its reply was written, or nothing of it
-pub broke_request : (config : Config) (lines : List (List ℕ)) (line : List ℕ) (running new : Running) (l : Line) (reply : Reply) (before now after : Option (List ℕ)) →
+pub broke_request : (config : ConfigParts) (lines : List (List ℕ)) (line : List ℕ) (running new : Running) (l : Line) (reply : Reply) (before now after : Option (List ℕ)) →
     Reached config lines running before now → line_at (running.number + 1) false running.earlier line ≡ Ok (reads.Request l) →
     TakesLine running l reply new → WritesFront now after (reply_text reply) →
     Broke (lines ++ line ∷ []) before after
@@ -116,7 +116,7 @@ broke_request config lines line running new l reply before now after r h t writt
     }
 
 -- the run breaks off before the line is done
-pub broke_here : (config : Config) (lines : List (List ℕ)) (running : Running) (before now : Option (List ℕ)) → Reached config lines running before now → Broke lines before now
+pub broke_here : (config : ConfigParts) (lines : List (List ℕ)) (running : Running) (before now : Option (List ℕ)) → Reached config lines running before now → Broke lines before now
 broke_here config lines running before now r = record {
   parsed = r.parsed;
   script = r.script;
@@ -125,7 +125,7 @@ broke_here config lines running before now r = record {
   output = front_all before now (run_text r.parsed r.outages) r.output;
 }
 
-stopped_here : (config : Config) (lines : List (List ℕ)) (line : List ℕ) (running : Running) (before now : Option (List ℕ)) (stop : Stop) → Reached config lines running before now → line_at (running.number + 1) false running.earlier line ≡ Err stop → Stopped stop lines line before now
+stopped_here : (config : ConfigParts) (lines : List (List ℕ)) (line : List ℕ) (running : Running) (before now : Option (List ℕ)) (stop : Stop) → Reached config lines running before now → line_at (running.number + 1) false running.earlier line ≡ Err stop → Stopped stop lines line before now
 stopped_here config lines line running before now stop r h = record {
   parsed = r.parsed;
   script = r.script;
@@ -136,14 +136,14 @@ stopped_here config lines line running before now stop r h = record {
 }
 
 -- the line could not be read, or stops the script
-pub ends_unread : (config : Config) (lines : List (List ℕ)) (line : List ℕ) (running : Running) (before now : Option (List ℕ)) (end : Ended) → Reached config lines running before now → ReadsNext (Err end) (line_at (running.number + 1) false running.earlier line) → EndsOnLine end lines line before now
+pub ends_unread : (config : ConfigParts) (lines : List (List ℕ)) (line : List ℕ) (running : Running) (before now : Option (List ℕ)) (end : Ended) → Reached config lines running before now → ReadsNext (Err end) (line_at (running.number + 1) false running.earlier line) → EndsOnLine end lines line before now
 ends_unread config lines line running before now ends.Limit r h = stopped_here config lines line running before now limit r h
 ends_unread config lines line running before now (ends.AtFault number fault) r h = (stopped_here config lines line running before now (at_fault number fault) r h.0, h.1)
 ends_unread config lines line running before now ends.Memory r h = inl (broke_here config lines running before now r)
 ends_unread config lines line running before now ends.Write r h = absurd h
 
 -- whatever became of the reply
-pub runs_request : {A : Type 0} (result : Result A Ended) (config : Config) (lines : List (List ℕ)) (line : List ℕ) (running new : Running) (l : Line) (reply : Reply) (before now after : Option (List ℕ)) →
+pub runs_request : {A : Type 0} (result : Result A Ended) (config : ConfigParts) (lines : List (List ℕ)) (line : List ℕ) (running new : Running) (l : Line) (reply : Reply) (before now after : Option (List ℕ)) →
     Reached config lines running before now → line_at (running.number + 1) false running.earlier line ≡ Ok (reads.Request l) →
     TakesLine running l reply new → WritesText result now after (reply_text reply) →
     RunsLine result new config lines line before after
@@ -190,11 +190,11 @@ ends_in ends.Write all done line rest before now split b = either_broke all done
 ends_in ends.Memory all done line rest before now split b = either_broke all done line rest before now split b
 
 -- the loop goes on by one line
-pub lines_more : (config : Config) (all : List (List ℕ)) (line : List ℕ) (rest done : List (List ℕ)) (new : Running) (before after : Option (List ℕ)) → all ≡ done ++ line ∷ rest → Reached config (done ++ line ∷ []) new before after → InLines config all rest new before after
+pub lines_more : (config : ConfigParts) (all : List (List ℕ)) (line : List ℕ) (rest done : List (List ℕ)) (new : Running) (before after : Option (List ℕ)) → all ≡ done ++ line ∷ rest → Reached config (done ++ line ∷ []) new before after → InLines config all rest new before after
 lines_more config all line rest done new before after split r = record { done = done ++ line ∷ []; split = on_line all done line rest split; reached = r }
 
 -- the loop is at its end
-pub lines_end : (config : Config) (all : List (List ℕ)) (running : Running) (before now : Option (List ℕ)) → InLines config all [] running before now → RanAll all before now
+pub lines_end : (config : ConfigParts) (all : List (List ℕ)) (running : Running) (before now : Option (List ℕ)) → InLines config all [] running before now → RanAll all before now
 lines_end config all running before now i =
     let r = i.reached in record {
       parsed = r.parsed;
@@ -210,13 +210,13 @@ lines_end config all running before now i =
 pub split_more : (all done rest next : List (List ℕ)) → all ≡ done ++ rest → rest ≡ next → all ≡ done ++ next
 split_more all done rest next split h = split ∙ ap (λ x. done ++ x) h
 
-pub rest_is : (config : Config) (all rest : List (List ℕ)) (running : Running) (before now : Option (List ℕ)) → rest ≡ [] → InLines config all rest running before now → InLines config all [] running before now
+pub rest_is : (config : ConfigParts) (all rest : List (List ℕ)) (running : Running) (before now : Option (List ℕ)) → rest ≡ [] → InLines config all rest running before now → InLines config all [] running before now
 rest_is config all rest running before now h i = record { done = i.done; split = split_more all i.done rest [] i.split h; reached = i.reached }
 
 -- The first line, and the end of a script.
 
 -- behind the line of the configuration, whose reply was written
-pub begun : (config : Config) (line : List ℕ) (running : Running) (before now : Option (List ℕ)) →
+pub begun : (config : ConfigParts) (line : List ℕ) (running : Running) (before now : Option (List ℕ)) →
     parse_line nothing_read line ≡ Ok (with_read nothing_read (reads.Config config)) →
     running.core ≡ start config [] → running.earlier ≡ [] → running.number ≡ 1 → Appends before now (reply_text config_reply) →
     Reached config (line ∷ []) running before now
@@ -228,7 +228,7 @@ begun config line running before now h core earlier number written = record {
   output = subst (λ t. Appends before now t) (sym (append-nil (reply_text config_reply))) written;
 }
 
-broke_begun : (config : Config) (line : List ℕ) (before now : Option (List ℕ)) →
+broke_begun : (config : ConfigParts) (line : List ℕ) (before now : Option (List ℕ)) →
     parse_line nothing_read line ≡ Ok (with_read nothing_read (reads.Config config)) → WritesFront before now (reply_text config_reply) → Broke (line ∷ []) before now
 broke_begun config line before now h written = record {
   parsed = with_read nothing_read (reads.Config config);
@@ -242,7 +242,7 @@ broke_begun config line before now h written = record {
 pub broke_unbegun : (lines : List (List ℕ)) (now : Option (List ℕ)) → BrokeIn lines now now
 broke_unbegun lines now = record { done = 0; broke = record { parsed = nothing_read; script = refl; outages = []; each = refl; output = (0, Appends-nil now) } }
 
-pub ends_unbegun : (A : Type 0) (end : Ended) (config : Config) (past : Bool) (line : List ℕ) (rest : List (List ℕ)) (before now : Option (List ℕ)) →
+pub ends_unbegun : (A : Type 0) (end : Ended) (config : ConfigParts) (past : Bool) (line : List ℕ) (rest : List (List ℕ)) (before now : Option (List ℕ)) →
     parse_line nothing_read line ≡ Ok (with_read nothing_read (reads.Config config)) → WritesText {A = A} (Err end) before now (reply_text config_reply) →
     RunsScript {A = A} (Err end) past (line ∷ rest) before now
 ends_unbegun A ends.Write config past line rest before now h w = broke_in (line ∷ rest) (line ∷ []) rest before now refl (broke_begun config line before now h w)
@@ -310,7 +310,7 @@ ends_first A ends.Memory past line rest all now split h = broke_unbegun all now
 ends_first A ends.Write past line rest all now split h = absurd h
 
 -- the first line is the configuration
-pub first_read : (config : Config) (line : List ℕ) → line_at 1 true [] line ≡ Ok (reads.Config config) → parse_line nothing_read line ≡ Ok (with_read nothing_read (reads.Config config))
+pub first_read : (config : ConfigParts) (line : List ℕ) → line_at 1 true [] line ≡ Ok (reads.Config config) → parse_line nothing_read line ≡ Ok (with_read nothing_read (reads.Config config))
 first_read config line h = ap (λ r. r >>= λ x. Ok (with_read nothing_read x)) h
 
 -- a script without a line

@@ -4,7 +4,7 @@ use Rattle.std.proofs.Math.Seq.{take-length, take-append-add}
 use Rattle.std.proofs.KnownBytes.{Appends-trans}
 use Rattle.std.specs.Io.KnownBytes.{Appends}
 use Rattle.emu_io.specs.Fronts.{WritesFront}
-use Rattle.session_core.specs.declared.config.Config.{Config}
+use Rattle.db_config.specs.declared.parts.ConfigParts.{ConfigParts}
 use Rattle.session_core.specs.declared.line.Line.{Line}
 use Rattle.session_core.specs.declared.line.Reply.{Reply}
 use Rattle.session_core.specs.Steps.{State, start}
@@ -28,13 +28,13 @@ texts_push [] r = append-nil (reply_text r)
 texts_push (x ∷ xs) r = ap (λ t. reply_text x ++ t) (texts_push xs r) ∙ sym (append_assoc (reply_text x) (flat_map reply_text xs) (reply_text r))
 
 -- the text of a run under a configuration
-abbrev pub begun_text : Config → List Line → List Outage → List ℕ
+abbrev pub begun_text : ConfigParts → List Line → List Outage → List ℕ
 begun_text config requests outages = reply_text config_reply ++ flat_map reply_text (in_turn false (start config []) requests outages).0
 
-pub text_begun : (p : Parsed) (config : Config) (outages : List Outage) → p.config ≡ Some config → run_text p outages ≡ begun_text config p.requests outages
+pub text_begun : (p : Parsed) (config : ConfigParts) (outages : List Outage) → p.config ≡ Some config → run_text p outages ≡ begun_text config p.requests outages
 text_begun p config outages h = ap (λ c. config_text c ++ flat_map reply_text (run_from [] false c p.requests outages).0) h
 
-pub begun_push : (config : Config) (requests : List Line) (outages : List Outage) (l : Line) (o : Outage) (reply : Reply) (st : State) → length outages ≡ length requests →
+pub begun_push : (config : ConfigParts) (requests : List Line) (outages : List Outage) (l : Line) (o : Outage) (reply : Reply) (st : State) → length outages ≡ length requests →
     one_turn false (in_turn false (start config []) requests outages).1 l o ≡ (reply, st) →
     begun_text config (requests ++ l ∷ []) (outages ++ o ∷ []) ≡ begun_text config requests outages ++ reply_text reply
 begun_push config requests outages l o reply st h turn =

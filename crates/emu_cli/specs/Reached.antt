@@ -3,7 +3,7 @@ use Rattle.std.specs.Prelude.{false, ◌≡◌, ◌≢◌, ◌⊎◌, ℕ, Bool,
 use Rattle.std.specs.Io.KnownBytes.{Appends}
 use Rattle.emu_io.specs.Fronts.{WritesFront}
 use Rattle.fault_counts.specs.Count.{Rose}
-use Rattle.session_core.specs.declared.config.Config.{Config}
+use Rattle.db_config.specs.declared.parts.ConfigParts.{ConfigParts}
 use Rattle.session_core.specs.Steps.{start}
 use Rattle.session_core.specs.InOrder.{Outage, in_turn}
 use Rattle.script_lines.specs.declared.faults.LineFault.TheVariants as faults
@@ -14,7 +14,7 @@ use Rattle.emu_cli.specs.Scripts.{Parsed, nothing_read, parse, parse_line, parse
 use Rattle.emu_cli.specs.Runs.{run_text}
 
 -- the run stands behind what was read of the script
-pub record IsAt (running : Running) (config : Config) (p : Parsed) (outages : List Outage) : Type 0 where
+pub record IsAt (running : Running) (config : ConfigParts) (p : Parsed) (outages : List Outage) : Type 0 where
   pub begun : p.config ≡ Some config
   pub wants : p.wants ≡ false
   pub core : running.core ≡ (in_turn false (start config []) p.requests outages).1
@@ -23,13 +23,13 @@ pub record IsAt (running : Running) (config : Config) (p : Parsed) (outages : Li
   pub each : length outages ≡ length p.requests
 
 -- the run stands behind the line of its configuration
-pub record IsBegun (config : Config) (running : Running) : Type 0 where
+pub record IsBegun (config : ConfigParts) (running : Running) : Type 0 where
   pub core : running.core ≡ start config []
   pub earlier : running.earlier ≡ []
   pub number : running.number ≡ 1
 
 -- the lines so far were run, and their replies written
-pub record Reached (config : Config) (lines : List (List ℕ)) (running : Running) (before now : Option (List ℕ)) : Type 0 where
+pub record Reached (config : ConfigParts) (lines : List (List ℕ)) (running : Running) (before now : Option (List ℕ)) : Type 0 where
   pub parsed : Parsed
   pub script : parse nothing_read lines ≡ Ok parsed
   pub outages : List Outage
@@ -61,14 +61,14 @@ EndsOnLine ends.Write lines line before now = Broke lines before now ⊎ Broke (
 EndsOnLine ends.Memory lines line before now = Broke lines before now ⊎ Broke (lines ++ line ∷ []) before now
 
 -- one line was run
-abbrev pub RunsLine : {A : Type 0} → Result A Ended → Running → Config → List (List ℕ) → List ℕ → Option (List ℕ) → Option (List ℕ) → Type 0
+abbrev pub RunsLine : {A : Type 0} → Result A Ended → Running → ConfigParts → List (List ℕ) → List ℕ → Option (List ℕ) → Option (List ℕ) → Type 0
 RunsLine (Ok x) running config lines line before now = Reached config (lines ++ line ∷ []) running before now
 RunsLine (Err end) running config lines line before now = EndsOnLine end lines line before now
 
 -- all lines were run and their replies written
 pub record RanAll (lines : List (List ℕ)) (before now : Option (List ℕ)) : Type 0 where
   pub parsed : Parsed
-  pub config : Config
+  pub config : ConfigParts
   pub begun : parsed.config ≡ Some config
   pub wants : parsed.wants ≡ false
   pub script : parse nothing_read lines ≡ Ok parsed
@@ -126,7 +126,7 @@ RunsScript (Err ends.Write) past lines before now = BrokeIn lines before now
 RunsScript (Err ends.Memory) past lines before now = BrokeIn lines before now
 
 -- between two lines of a loop: these lines were run, and those of the rest come next
-pub record InLines (config : Config) (all : List (List ℕ)) (rest : List (List ℕ)) (running : Running) (before now : Option (List ℕ)) : Type 0 where
+pub record InLines (config : ConfigParts) (all : List (List ℕ)) (rest : List (List ℕ)) (running : Running) (before now : Option (List ℕ)) : Type 0 where
   pub done : List (List ℕ)
   pub split : all ≡ done ++ rest
   pub reached : Reached config done running before now

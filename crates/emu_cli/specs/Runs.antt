@@ -1,15 +1,15 @@
 -- The run of a script in order, and the text that it writes.
-use Rattle.std.specs.Prelude.{◌≡◌, ℕ, Bool, true, false, List, [], ◌++◌, length, take, flat_map, Option, Some, None, codes}
-use Rattle.session_core.specs.declared.config.Config.{Config}
-use Rattle.session_core.specs.declared.edit.Entry.{Entry}
+use Rattle.std.specs.Prelude.{IsTrue, ◌≡◌, ℕ, Bool, true, false, List, [], ◌++◌, length, take, flat_map, Option, Some, None, codes}
+use Rattle.db_config.specs.declared.parts.ConfigParts.{ConfigParts}
+use Rattle.edit_rules.specs.declared.edit.Entry.{Entry}
 use Rattle.session_core.specs.declared.line.Command.TheVariants as commands
 use Rattle.session_core.specs.declared.line.Answer.TheVariants.{Done}
 use Rattle.session_core.specs.declared.line.Line.{Line}
 use Rattle.session_core.specs.declared.line.Reply.{Reply}
 use Rattle.session_core.specs.Steps.{State, start}
-use Rattle.session_core.specs.Configs.{is_valid_config}
-use Rattle.session_core.specs.Valid.{is_valid_state}
-use Rattle.session_core.specs.Effects.{bundles_after}
+use Rattle.db_config.specs.Valid.{is_valid}
+use Rattle.edit_rules.specs.Database.{KeepsDatabaseRules}
+use Rattle.edit_rules.specs.Effects.{database_after}
 use Rattle.session_core.specs.InOrder.{Outage, in_turn, ComeInOrder}
 use Rattle.session_core.specs.Readings.{IsInOrder}
 use Rattle.session_core.specs.Legal.{Legal}
@@ -24,7 +24,7 @@ config_reply = record { line = 1; session = record { 0 = 0 }; n = Some 0; answer
 -- What a run is given beside its script: its configuration, once there is one; the history before it; whether
 -- there is a store; and the disk's count of faults before and after the run.
 pub record Setting : Type 0 where
-  pub config : Option Config
+  pub config : Option ConfigParts
   pub opening : List Entry
   pub store : Bool
   pub faults : ℕ
@@ -35,7 +35,7 @@ abbrev pub alone : Parsed → Setting
 alone p = record { config = p.config; opening = []; store = false; faults = 0; faults_after = 0 }
 
 -- the replies to requests, and the state behind them once there is a configuration
-abbrev pub run_from : List Entry → Bool → Option Config → List Line → List Outage → List Reply × Option State
+abbrev pub run_from : List Entry → Bool → Option ConfigParts → List Line → List Outage → List Reply × Option State
 run_from opening store None requests outages = ([], None)
 run_from opening store (Some config) requests outages =
     ((in_turn store (start config opening) requests outages).0, Some (in_turn store (start config opening) requests outages).1)
@@ -53,7 +53,7 @@ abbrev pub history_from : Setting → Parsed → List Outage → List Entry
 history_from setting p outages =
     history_in setting.opening (run_from setting.opening setting.store setting.config p.requests outages).1
 
-abbrev pub config_text : Option Config → List ℕ
+abbrev pub config_text : Option ConfigParts → List ℕ
 config_text None = []
 config_text (Some config) = reply_text config_reply
 
@@ -62,9 +62,9 @@ abbrev pub text_from : Setting → Parsed → List Outage → List ℕ
 text_from setting p outages = config_text p.config ++ flat_map reply_text (replies_from setting p outages)
 
 -- A run under a configuration: its replies to these requests, beside the history that it leaves.
-pub record RunsUnder (setting : Setting) (config : Config) (requests : List Line) (replies : List Reply) (history : List Entry) : Type 0 where
+pub record RunsUnder (setting : Setting) (config : ConfigParts) (requests : List Line) (replies : List Reply) (history : List Entry) : Type 0 where
   -- the configuration keeps its rules
-  pub valid : is_valid_config config ≡ true
+  pub valid : IsTrue (is_valid config)
   -- the numbers of the requests rise, and what they name stands before them
   pub come : ComeInOrder [] requests
   -- the replies are legal beside the history
@@ -72,10 +72,10 @@ pub record RunsUnder (setting : Setting) (config : Config) (requests : List Line
   -- each number but a `finish`'s is the number of the entries that stand when its line is done
   pub in_order : IsInOrder setting.opening requests legal.turns
   -- the state after each beginning of the history keeps the rules
-  pub states : (n : ℕ) → is_valid_state config (bundles_after config (take n history)) ≡ true
+  pub states : (n : ℕ) → KeepsDatabaseRules (database_after config (take n history))
 
 -- before there is a configuration there is no request and no reply
-abbrev pub Runs : Setting → Option Config → List Line → List Reply → List Entry → Type 0
+abbrev pub Runs : Setting → Option ConfigParts → List Line → List Reply → List Entry → Type 0
 Runs setting None requests replies history = (requests ≡ []) × (replies ≡ [])
 Runs setting (Some config) requests replies history = RunsUnder setting config requests replies history
 

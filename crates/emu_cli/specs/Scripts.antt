@@ -1,7 +1,7 @@
 -- A script: its configuration and its requests, or the limit or the line at fault that ends it.
 use Rattle.std.specs.Prelude.{ℕ, ◌+◌, Bool, true, false, ◌||◌, List, [], ◌∷◌, ◌++◌, length, map, take, Option, Some, None, Result, Ok, Err, nat_lt}
 use Rattle.emu_names.specs.declared.limits.TheConstants.{LINE_BYTES, SCRIPT_BYTES, SCRIPT_LINES}
-use Rattle.session_core.specs.declared.config.Config.{Config}
+use Rattle.db_config.specs.declared.parts.ConfigParts.{ConfigParts}
 use Rattle.session_core.specs.declared.line.Line.{Line}
 use Rattle.script_lines.specs.declared.faults.LineFault.{LineFault}
 use Rattle.script_lines.specs.declared.faults.LineFault.TheVariants as faults
@@ -15,7 +15,7 @@ use Rattle.emu_cli.specs.Cuts.{cut}
 pub record Parsed : Type 0 where
   pub number : ℕ
   pub wants : Bool
-  pub config : Option Config
+  pub config : Option ConfigParts
   pub requests : List Line
 
 -- a script before its first line, which gives a configuration where one is wanted

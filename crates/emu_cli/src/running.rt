@@ -13,7 +13,9 @@ use crate::ended::Ended;
 use emu_names::limits::{LINE_BYTES, SCRIPT_LINES};
 use emu_names::{Memory, SessionNo};
 use script_lines::{LineFault, LineSet, ReadLine, read_line};
-use session_core::{Answer, Command, Config, Core, Entries, Event, Line, Refusal, Reply, Request};
+use db_config::Config;
+use edit_rules::Entries;
+use session_core::{Answer, Command, Core, Event, Line, Refusal, Reply, Request};
 use std::alloc::Global;
 
 /// A run between two lines.

@@ -1,6 +1,6 @@
 //! The lines of a script, run one after another.
 ghost use Rattle.std.specs.Prelude.{◌≡◌, ◌≤◌, ℕ, List, [], ◌∷◌, ◌++◌, All, Option, IfErr, OnOk, if◌then◌else◌};
-ghost use Rattle.session_core.specs.declared.config.Config.{Config as Configuration};
+ghost use Rattle.db_config.specs.declared.parts.ConfigParts.{ConfigParts as Configuration};
 ghost use Rattle.emu_cli.specs.Cuts.{cut};
 ghost use Rattle.emu_cli.specs.Reached.{EndHasCause, IsBegun, Reached, RunsLine, RunsLines, RunsScript, WritesText};
 ghost use Rattle.script_lines.specs.Texts.{reply_text};
@@ -14,7 +14,8 @@ use crate::running::{Running, begin, read_next};
 use emu_io::Sink;
 use emu_names::SessionNo;
 use script_lines::{LineFault, LineSet, ReadLine};
-use session_core::{Answer, Command, Config, Reply};
+use db_config::Config;
+use session_core::{Answer, Command, Reply};
 use std::alloc::Global;
 
 /// Runs one line behind that of the configuration, and writes its reply.

@@ -1,5 +1,5 @@
 use Rattle.std.proofs.Common.{◌≤◌, ℕ, All, List, ◌++◌, length, Option}
-use Rattle.session_core.specs.declared.config.Config.{Config}
+use Rattle.db_config.specs.declared.parts.ConfigParts.{ConfigParts}
 use Rattle.emu_cli.specs.Cuts.{cut}
 use Rattle.emu_cli.specs.Reached.{Reached, InLines}
 use Rattle.emu_cli.proofs.script.run_rest.Given as goal
@@ -8,7 +8,7 @@ use Rattle.emu_cli.proofs.script.run_rest.Given as goal
 abbrev pub invariant-lines : goal.invariant-lines
 invariant-lines g l = record {
   rises : All (λ n. n ≤ l.running.number) l.running.earlier;
-  ran : (config : Config) (lines : List (List ℕ)) (before : Option (List ℕ)) → Reached config lines l.fn.running before (g.K.Sink.written l.fn.out) → InLines config (lines ++ cut l.past l.bytes) (cut l.past l.rest) l.running before (g.K.Sink.written l.out);
+  ran : (config : ConfigParts) (lines : List (List ℕ)) (before : Option (List ℕ)) → Reached config lines l.fn.running before (g.K.Sink.written l.fn.out) → InLines config (lines ++ cut l.past l.bytes) (cut l.past l.rest) l.running before (g.K.Sink.written l.out);
   later : g.K.Sink.faults l.fn.out ≤ g.K.Sink.faults l.out;
 }
 
