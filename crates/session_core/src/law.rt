@@ -1,34 +1,9 @@
-//! Laws of the definitions, with nothing to run: what every history and every run of the core keeps.
-ghost use Rattle.session_core.specs.Laws.{PrefixesAreLegal, ReplayGoesOn, StatesKeepRules};
+//! Laws of the definitions, with nothing to run: what every run of the core keeps.
 ghost use Rattle.session_core.specs.Laws.{EveryCoreRunIsLegal, EveryRunIsLegal};
 ghost use Rattle.session_core.specs.Laws.{ExampleFits, ExampleHistory, ExampleIsLegal, ExampleReplies};
 ghost use Rattle.session_core.specs.Laws.{AcceptedIsRecorded, AnswerIsExact, RecordedIsAccepted, StaleIsNotLegal};
 ghost use Rattle.session_core.specs.OrderLaws.{InOrderIsLegal};
 ghost use Rattle.session_core.specs.Readings.{InTurnIsInOrder, OneReading, RepliesFollow};
-ghost use Rattle.session_core.specs.Rules.{BuildingRefusesExactly};
-
-/// One more entry changes the state after a history as its edit does.
-pub fn replay_goes_on()
-    ensures goes_on { ReplayGoesOn }
-{}
-
-/// Each beginning of a legal history is legal, and under a valid configuration each of its states
-/// keeps the rules: at most 10,000 bundles in order of their keys and 2,000,000 items in all, each
-/// bundle with a rate of 1 to 1,000,000 Hz, at most 65,536 items, ids that differ, and levels that
-/// keep the level rule (EMU-SDMS Manual, "The emuDB format").
-pub fn states_keep_rules()
-    ensures prefixes { PrefixesAreLegal }
-    ensures valid { StatesKeepRules }
-{}
-
-/// An annotation is refused exactly where it breaks a rule, each said by itself: its rate is 1 to
-/// 1,000,000 Hz; it has at most 65,536 items, whose ids differ over all levels; each level is one of
-/// the configuration's, with its kind, and none is given twice; each item has a time of that kind
-/// that ends below sample 2^40, and labels of at most 4,096 bytes for attributes of the level, no
-/// two for one; segments do not overlap, and points rise (EMU-SDMS Manual, "The emuDB format").
-pub fn building_refuses_exactly()
-    ensures exactly { BuildingRefusesExactly }
-{}
 
 /// Every run is legal: from a legal history of at most 100,000 entries, whatever events fit one
 /// another in whatever order, and whether or not memory runs out at any of them, the replies are
