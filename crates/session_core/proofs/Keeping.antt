@@ -16,6 +16,7 @@ use Rattle.session_core.specs.declared.line.Refusal.TheVariants as refusals
 use Rattle.session_core.specs.declared.line.Ask.{Ask}
 use Rattle.session_core.specs.declared.line.Line.{Line}
 use Rattle.session_core.specs.declared.line.Reply.{Reply}
+use Rattle.session_core.specs.declared.line.Request.{Request}
 use Rattle.session_core.specs.declared.line.Request.TheVariants as requests
 use Rattle.session_core.specs.declared.slots.Held.{Held}
 use Rattle.session_core.specs.declared.moves.Head.{Head}
@@ -131,7 +132,10 @@ given_told old l given H H2 bs bs2 ls qs r old_is f e k =
     let told : Reply × List Entry × DatabaseParts → Option Reply × State = λ t. (Some t.0, state_of bs.config t.1 ls qs) in
     let under : ConfigParts → Option Reply × State = λ c. (Some r, state_of c H2 ls qs) in
     let next : IsKept bs.config H2 bs2 ls qs = kept_tried_at bs.config (head_of l) given H H2 bs bs2 ls qs r e k in
-    rw (f, ← old_is) (given_cases bs.config l given H bs ls qs k.present ∙ ap told (sym e) ∙ ap under (sym (after_config bs.config H2 bs2 next.present)))
+    let from : State → Type 0 = λ st. edit_event st l l.request ≡ (Some r, state_of bs2.config H2 ls qs) in
+    let asks : Request → Type 0 = λ request. edit_event (state_of bs.config H ls qs) l request ≡ (Some r, state_of bs2.config H2 ls qs) in
+    subst from old_is
+    (subst asks (sym f) (given_cases bs.config l given H bs ls qs k.present ∙ ap told (sym e) ∙ ap under (sym (after_config bs.config H2 bs2 next.present))))
 
 some_same : (x y : Entry) → Some x ≡ Some y → x ≡ y
 some_same x y e = ap (λ (o : Option Entry). option_get o x) e
