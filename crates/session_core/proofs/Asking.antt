@@ -1,5 +1,5 @@
 -- What a query may be answered: rows, a fault of its meaning, or that it is not built.
-use Rattle.std.proofs.Common.{◌≡◌, Bool, true, false, cond, List, Option, Some, None, Result, Ok, Err, refl}
+use Rattle.std.proofs.Common.{Bool, true, false, cond, List, Option, Some, None, Ok, Err}
 use Rattle.db_config.specs.declared.parts.AttributePlace.{AttributePlace}
 use Rattle.db_config.specs.Lookups.{name_place}
 use Rattle.edit_rules.specs.Database.{DatabaseParts}

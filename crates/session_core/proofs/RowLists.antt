@@ -1,8 +1,9 @@
 -- What a bundle's rules say of the items of one of its levels, and a bundle that has no such level.
-use Rattle.std.proofs.Common.{◌≡◌, ◌≤◌, ℕ, zero, suc, ◌+◌, true, List, [], ◌∷◌, ◌++◌, length, take, flat_map, add-one, append-nil, append_assoc, ap, ◌∙◌, sym, refl, Some, slice_get, arith, rules}
+use Rattle.std.proofs.Common.{◌≡◌, ◌≤◌, ℕ, zero, suc, ◌+◌, true, List, [], ◌∷◌, ◌++◌, length, take, flat_map, add-one, append-nil, ap, ◌∙◌, sym, refl, Some, slice_get, arith, rules}
 use Rattle.std.specs.List.{list_all}
 use Rattle.std.proofs.lemmas.Bool.{and_parts, and_from}
 use Rattle.std.proofs.lemmas.List.Sums.{sum_by-cons}
+use Rattle.std.proofs.lemmas.Grind.{flat_map-append}
 use Rattle.std.proofs.lemmas.Option.{slice_get_past}
 use Rattle.emu_names.specs.declared.kinds.LevelKind.{LevelKind}
 use Rattle.level_items.specs.declared.items.Item.{Item}
@@ -50,8 +51,7 @@ take_one (y ∷ xs) zero x found = cc
 take_one (y ∷ xs) (suc n) x found = ap (λ ys. y ∷ ys) (take_one xs n x found)
 
 flat_map_push : {A B : Type 0} (f : A → List B) (xs : List A) (x : A) → flat_map f (xs ++ x ∷ []) ≡ flat_map f xs ++ f x
-flat_map_push f [] x = append-nil (f x)
-flat_map_push f (y ∷ xs) x = ap (λ ys. f y ++ ys) (flat_map_push f xs x) ∙ sym (append_assoc (f y) (flat_map f xs) (f x))
+flat_map_push f xs x = flat_map-append f xs (x ∷ []) ∙ ap (λ ys. flat_map f xs ++ ys) (append-nil (f x))
 
 pub rows_more : (c : ConfigParts) (asked : Asked) (bundles : List BundleParts) (place : ℕ) (b : BundleParts) (rows rows2 : List Row)
     → rows ≡ segment_list c asked (take place bundles) → slice_get bundles place ≡ Some b → rows2 ≡ rows ++ rows_in c asked b

@@ -91,9 +91,13 @@ example_lines = add_line ∷ ask_line ∷ []
 abbrev pub example_events : List Event
 example_events = events.Edit add_line ∷ events.Look ask_line ∷ events.Piece first_session ∷ events.Finish 3 first_session commands.Query ∷ []
 
+-- the entry of the edit
+abbrev pub adding : Entry
+adding = record { session = first_session; line = 2; edit = example_edit }
+
 -- the one entry that they leave
 abbrev pub example_history : List Entry
-example_history = (record { session = first_session; line = 2; edit = example_edit }) ∷ []
+example_history = adding ∷ []
 
 -- m, from 256925 to 340175 microseconds
 abbrev pub example_row : Row
@@ -127,3 +131,11 @@ example_replies = replies_with 1 (example_row ∷ [])
 -- the edit is answered want of memory
 abbrev pub no_memory_reply : Reply
 no_memory_reply = record { line = 2; session = first_session; n = None; answer = memory }
+
+-- another entry: session 1, at line 3, takes item 7 out of (s1, b1)
+abbrev pub removing : Entry
+removing = record {
+  session = first_session;
+  line = 3;
+  edit = edits.RemoveItem (record { session = codes "s1"; bundle = codes "b1" }) (record { 0 = 7 });
+}

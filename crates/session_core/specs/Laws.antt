@@ -1,5 +1,5 @@
 -- Laws over the definitions: what runs have in common.
-use Rattle.std.specs.Prelude.{◌≡◌, ℕ, ◌≤◌, true, false, List, [], ◌∷◌, ◌++◌, length, map, take, Bool}
+use Rattle.std.specs.Prelude.{◌≡◌, ℕ, ◌≤◌, false, List, [], ◌∷◌, length, map, Bool}
 use Rattle.db_config.specs.declared.parts.ConfigParts.{ConfigParts}
 use Rattle.edit_rules.specs.declared.edit.Entry.{Entry}
 use Rattle.session_core.specs.declared.event.Event.{Event}
@@ -7,10 +7,11 @@ use Rattle.session_core.specs.declared.row.Row.{Row}
 use Rattle.edit_rules.specs.Effects.{IsLegal}
 use Rattle.session_core.specs.Steps.{start, steps}
 use Rattle.session_core.specs.Worlds.{Occurrence, untroubled, World, run, opening_world, AllFit, disk_failures, lines_done}
+use Rattle.session_core.specs.Sizes.{head_size, entry_size}
 use Rattle.session_core.specs.Legal.{Legal, replies_in}
 use Rattle.emu_names.specs.declared.limits.TheConstants.{HISTORY_EDITS}
 use Rattle.fault_counts.specs.Count.{RoseBy}
-use Rattle.session_core.specs.Example.{add_line, replies_with, no_memory_reply, example_row, example_config, example_events, example_lines, example_history, example_replies}
+use Rattle.session_core.specs.Example.{add_line, replies_with, no_memory_reply, example_row, example_config, example_events, example_lines, adding, example_history, example_replies, removing}
 
 -- the replies of a run are legal beside the history that it leaves
 abbrev pub IsLegalWorld : ConfigParts → List Entry → World → Bool → ℕ → ℕ → Type 0
@@ -71,3 +72,11 @@ AcceptedIsRecorded = (store : Bool) (before now : ℕ)
 abbrev pub RecordedIsAccepted : Type 0
 RecordedIsAccepted = (store : Bool) (before now : ℕ)
     → Legal example_config [] (add_line ∷ []) (no_memory_reply ∷ []) example_history store before now → ⊥
+
+-- The example's sizes in a store, counted by hand: a head, the entry with the annotation, and one that takes an
+-- item out.
+abbrev pub ExampleSizes : Type 0
+ExampleSizes =
+    (head_size example_config ≡ 64)
+    × (entry_size adding ≡ 149)
+    × (entry_size removing ≡ 26)

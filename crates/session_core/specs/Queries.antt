@@ -1,6 +1,6 @@
 -- What a query means, and the rows that it gives (EMU-SDMS Manual, "The EMU Query Language").
 -- Of the query language this has the label test with `==` and one label.
-use Rattle.std.specs.Prelude.{ℕ, ◌+◌, Bool, true, false, ◌&&◌, not, List, [], map, filter, flat_map, Option, Some, None, Result, Ok, Err, if◌then◌else◌, slice_get, unwrap_or, option_map}
+use Rattle.std.specs.Prelude.{ℕ, ◌+◌, Bool, true, false, ◌&&◌, List, [], map, filter, flat_map, Option, Some, None, Result, Ok, Err, if◌then◌else◌, slice_get, unwrap_or, option_map}
 use Rattle.std.specs.List.{enumerate_from, list_any}
 use Rattle.std.specs.Option.{is_some, option_map_or}
 use Rattle.sample_time.specs.Micros.{micros_of_start, micros_of_end, micros_of_point}

@@ -1,5 +1,5 @@
 -- Whole runs of the core: which lists of events fit, and the lines and replies that they bring.
-use Rattle.std.specs.Prelude.{◌≡◌, ◌≢◌, ℕ, ◌+◌, ◌<◌, Bool, true, false, not, List, [], ◌∷◌, ◌++◌, count_by, filter, Option, Some, None, Ok, Err, nat_eq, nat_lt}
+use Rattle.std.specs.Prelude.{◌≡◌, ◌≢◌, ℕ, ◌+◌, ◌<◌, Bool, true, false, not, List, [], ◌∷◌, ◌++◌, count_by, filter, Option, Some, None, Ok, nat_eq, nat_lt}
 use Rattle.std.specs.List.{list_any}
 use Rattle.emu_names.specs.declared.kinds.SessionNo.{SessionNo}
 use Rattle.emu_names.specs.declared.limits.TheConstants.{STORE_BYTES}

@@ -1,6 +1,6 @@
 //! Laws of the definitions, with nothing to run: what every run of the core keeps.
 ghost use Rattle.session_core.specs.Laws.{EveryCoreRunIsLegal, EveryRunIsLegal};
-ghost use Rattle.session_core.specs.Laws.{ExampleFits, ExampleHistory, ExampleIsLegal, ExampleReplies};
+ghost use Rattle.session_core.specs.Laws.{ExampleFits, ExampleHistory, ExampleIsLegal, ExampleReplies, ExampleSizes};
 ghost use Rattle.session_core.specs.Laws.{AcceptedIsRecorded, AnswerIsExact, RecordedIsAccepted, StaleIsNotLegal};
 ghost use Rattle.session_core.specs.OrderLaws.{InOrderIsLegal};
 ghost use Rattle.session_core.specs.Readings.{InTurnIsInOrder, OneReading, RepliesFollow};
@@ -20,12 +20,14 @@ pub fn every_core_run_is_legal()
 
 /// Legal runs say something: a bundle with the segments V (3749, 1389) and m (5139, 1664) is added
 /// at 20,000 Hz and accepted as entry 1, and `Phonetic == m` is answered after it by the one
-/// segment m from 256,925 to 340,175 microseconds.
+/// segment m from 256,925 to 340,175 microseconds. In a store its head has 64 bytes and its entry 149,
+/// and an entry that takes an item out of it 26.
 pub fn an_example_is_legal()
     ensures fits { ExampleFits }
     ensures replies { ExampleReplies }
     ensures history { ExampleHistory }
     ensures legal { ExampleIsLegal }
+    ensures sizes { ExampleSizes }
 {}
 
 /// Wrong replies are no legal run: of the example, a query that is answered over the state before

@@ -1,4 +1,4 @@
-use Rattle.std.proofs.Common.{◌≡◌, ◌++◌, ◌≤◌, length, ap, sym, ◌∙◌, append-nil, arith}
+use Rattle.std.proofs.Common.{◌++◌, ◌≤◌, length, ap, sym, ◌∙◌, append-nil, arith}
 use Rattle.bundle_state.specs.Bundle.{item_count}
 use Rattle.emu_names.specs.declared.limits.TheConstants.{BUNDLE_ITEMS}
 use Rattle.session_core.specs.Queries.{asked_by}
