@@ -6,14 +6,13 @@ use Rattle.std.proofs.Math.Seq.{take-length, take-append_seam}
 use Rattle.emu_names.specs.declared.kinds.SessionNo.{SessionNo}
 use Rattle.emu_names.specs.declared.limits.TheConstants.{HISTORY_EDITS}
 use Rattle.emu_names.specs.declared.rules.Broken.{Broken}
-use Rattle.db_config.specs.declared.parts.ConfigParts.{ConfigParts}
+use Rattle.textgrid.specs.declared.fault.GridFault.{GridFault}
 use Rattle.edit_rules.specs.Database.{DatabaseParts}
 use Rattle.edit_rules.specs.declared.edit.Edit.{Edit}
 use Rattle.edit_rules.specs.declared.edit.Entry.{Entry}
 use Rattle.session_core.specs.declared.event.Event.{Event}
 use Rattle.session_core.specs.declared.event.Event.TheVariants as events
 use Rattle.session_core.specs.declared.line.Ask.{Ask}
-use Rattle.session_core.specs.declared.line.AskFault.{AskFault}
 use Rattle.session_core.specs.declared.line.Command.{Command}
 use Rattle.session_core.specs.declared.line.Command.TheVariants as commands
 use Rattle.session_core.specs.declared.line.Answer.{Answer}
@@ -23,12 +22,13 @@ use Rattle.session_core.specs.declared.line.Request.{Request}
 use Rattle.session_core.specs.declared.line.Request.TheVariants as requests
 use Rattle.session_core.specs.declared.line.Line.{Line}
 use Rattle.session_core.specs.declared.line.Reply.{Reply}
-use Rattle.edit_rules.specs.Effects.{IsLegal, edited, bundles_after}
-use Rattle.session_core.specs.Queries.{Asked, resolved}
-use Rattle.session_core.specs.Answers.{rows_over, query_answer, answer_at, memory, reply_to, entry_of}
+use Rattle.edit_rules.specs.Effects.{IsLegal, edited, database_after}
+use Rattle.session_core.specs.Answers.{answer_at, memory, is_want_of_memory, grid_number, grid_answer, reply_to, entry_of}
 use Rattle.session_core.specs.Steps.{Opened, State, slot, put_slot, session_places, is_full, opened_at, edit_step, look_step, finish_step, query_step, query_fails, Asker, by_look, by_query, by_none, asker_of, finish_by, finish_fails_by}
-use Rattle.session_core.specs.Worlds.{Turn, Trouble, untroubled, no_memory, store_full, disk_failed, is_disk_failed, Occurrence, World, outcome_of, same_command, query_line, finish_line, brought_by, brought, query_answered, answered_by, answered, turns_of, happens, Each, IsBehind, IsNext, is_answered, RequestFits, EditFits, LookFits, IsUnderWay, FinishFits, Fits, passes_store, IsOverStore, TroubleFits, OccurrenceFits}
+use Rattle.session_core.specs.Worlds.{Turn, Trouble, untroubled, no_memory, store_full, disk_failed, is_disk_failed, Occurrence, World, outcome_of, query_line, finish_line, brought_by, brought, query_answered, answered_by, answered, turns_of, happens, Each, IsBehind, IsNext, is_answered, RequestFits, EditFits, LookFits, IsUnderWay, FinishFits, Fits, passes_store, IsOverStore, TroubleFits, OccurrenceFits}
 use Rattle.session_core.specs.Legal.{of_session, lines_of_session, is_of, is_line_of, lines_in, accepting, numbered, IsRight, low_behind, KeepsUp, Look, open_behind, look_behind, finish_behind, LookReplyFits, FinishReplyFits, ReplyFits, session_of, is_disk}
+use Rattle.session_core.proofs.Asking.{answers}
+use Rattle.session_core.proofs.OfCommand.{query_is}
 use Rattle.session_core.proofs.Replay.{after_push}
 use Rattle.session_core.proofs.Turns.{each_map, each_passing, each_kept, each_of_map, filter_more, filter_same, low_of, IsPast, HasSeenStill, seen_in_to, disk_of}
 use Rattle.session_core.proofs.Places.{slot_put, slot_other, put_length}
@@ -167,7 +167,8 @@ module _ (opening : List Entry) (store : Bool) (faults : ℕ) (w : World) (g : G
   -- Want of memory.
 
   mark_none : (l : Line) (r : Request) (answer : Answer) → accepting l r None answer ≡ []
-  mark_none l (requests.Edit edit) answer = refl
+  mark_none l (requests.Edit (Ok edit)) answer = refl
+  mark_none l (requests.Edit (Err fault)) answer = refl
   mark_none l (requests.Query ask) answer = refl
   mark_none l (requests.Look ask) answer = refl
   mark_none l requests.Finish answer = refl
@@ -175,7 +176,7 @@ module _ (opening : List Entry) (store : Bool) (faults : ℕ) (w : World) (g : G
 
   still_none : (r : Request) → RequestFits w r → HasSeenStill (length opening) w.turns r None
   still_none (requests.After earlier) fits = (fits, tt)
-  still_none (requests.Edit edit) fits = tt
+  still_none (requests.Edit given) fits = tt
   still_none (requests.Query ask) fits = tt
   still_none (requests.Look ask) fits = tt
   still_none requests.Finish fits = tt
@@ -191,14 +192,14 @@ module _ (opening : List Entry) (store : Bool) (faults : ℕ) (w : World) (g : G
   memory_fits : (held : Option Look) (r : Request) → ReplyFits w.state.config w.state.entries held r None memory
   memory_fits held (requests.Look ask) = look_memory held
   memory_fits held requests.Finish = finish_memory held
-  memory_fits held (requests.Edit edit) = tt
+  memory_fits held (requests.Edit given) = tt
   memory_fits held (requests.Query ask) = tt
   memory_fits held (requests.After earlier) = tt
 
   open_none : (held : Option Look) (r : Request) → open_behind held r None ≡ held
   open_none held (requests.Look ask) = refl
   open_none held requests.Finish = refl
-  open_none held (requests.Edit edit) = refl
+  open_none held (requests.Edit given) = refl
   open_none held (requests.Query ask) = refl
   open_none held (requests.After earlier) = refl
 
@@ -214,7 +215,7 @@ module _ (opening : List Entry) (store : Bool) (faults : ℕ) (w : World) (g : G
 
   module _ (line : ℕ) (s : SessionNo) (command : Command) (edit : Edit) (next : IsNext w line s.0) where
     abbrev edit_line : Line
-    edit_line = line_of line s command (requests.Edit edit)
+    edit_line = line_of line s command (requests.Edit (Ok edit))
 
     edit_full : nat_le HISTORY_EDITS (length w.state.entries) ≡ true
         → Good opening store faults (world_of w.state.config w.state.entries w.state.looks w.state.queries (w.lines ++ edit_line ∷ []) (w.turns ++ turn_of edit_line (Some (length w.state.entries)) (Refused refusals.HistoryFull) ∷ []))
@@ -232,16 +233,16 @@ module _ (opening : List Entry) (store : Bool) (faults : ℕ) (w : World) (g : G
         (opening_below, omega arith, (leb-false HISTORY_EDITS (length w.state.entries) room, ap (λ (xs : List Entry). edited w.state.config xs edit) (take-length w.state.entries) ∙ broken)) tt refl
         (λ low high. high) (λ low above. opening_below) (λ low high. omega arith) tt refl
 
-    edit_done : (bundles : DatabaseParts) → nat_le HISTORY_EDITS (length w.state.entries) ≡ false → edited w.state.config w.state.entries edit ≡ Ok bundles
+    edit_done : (database : DatabaseParts) → nat_le HISTORY_EDITS (length w.state.entries) ≡ false → edited w.state.config w.state.entries edit ≡ Ok database
         → Good opening store faults (world_of w.state.config (w.state.entries ++ entry_of edit_line edit ∷ []) w.state.looks w.state.queries (w.lines ++ edit_line ∷ []) (w.turns ++ turn_of edit_line (Some (length w.state.entries + 1)) (Done command) ∷ []))
-    edit_done bundles room made =
+    edit_done database room made =
         let below : length w.state.entries < HISTORY_EDITS = leb-false HISTORY_EDITS (length w.state.entries) room in
         let count : length (w.state.entries ++ entry_of edit_line edit ∷ []) ≡ length w.state.entries + 1 = length_push w.state.entries (entry_of edit_line edit) in
         let opened : length opening ≤ length w.state.entries = opening_below in
         once faults edit_line (w.state.entries ++ entry_of edit_line edit ∷ []) w.state.looks (Some (length w.state.entries + 1)) (Done command) (entry_of edit_line edit ∷ []) next (record {
           grown = refl;
           most = omega arith;
-          legal = (bundles, after_push w.state.config w.state.entries (entry_of edit_line edit) ∙ made);
+          legal = (database, after_push w.state.config w.state.entries (entry_of edit_line edit) ∙ made);
           mark = refl;
           right = (
             omega arith,
@@ -251,7 +252,7 @@ module _ (opening : List Entry) (store : Bool) (faults : ℕ) (w : World) (g : G
               before = length w.state.entries;
               number = refl;
               room = below;
-              bundles = bundles;
+              database = database;
               right = ap (λ (xs : List Entry). edited w.state.config xs edit) (take-append_seam w.state.entries (entry_of edit_line edit ∷ [])) ∙ made;
               entry = slice_get_last w.state.entries (entry_of edit_line edit);
             },
@@ -268,11 +269,21 @@ module _ (opening : List Entry) (store : Bool) (faults : ℕ) (w : World) (g : G
           look_in = in_more (length opening) w.state.entries (entry_of edit_line edit ∷ []) (slot w.state.looks s.0) (g.seats s.0).look_in;
         })
 
-    edit_good : (full : Bool) (made : Result (DatabaseParts) Broken) → is_full w.state.entries ≡ full → edited w.state.config w.state.entries edit ≡ made
+    edit_good : (full : Bool) (made : Result DatabaseParts Broken) → is_full w.state.entries ≡ full → edited w.state.config w.state.entries edit ≡ made
         → Good opening store faults (told w (edit_line ∷ []) (edit_line ∷ []) (edit_step w.state edit_line edit full made))
     edit_good true made full_is made_is = edit_full full_is
     edit_good false (Err rule) full_is made_is = edit_refused rule full_is made_is
-    edit_good false (Ok bundles) full_is made_is = edit_done bundles full_is made_is
+    edit_good false (Ok database) full_is made_is = edit_done database full_is made_is
+
+  -- a line whose TextGrid has a fault
+  grid_good : (line : ℕ) (s : SessionNo) (command : Command) (fault : GridFault) → IsNext w line s.0 → (short : Bool) → is_want_of_memory fault ≡ short
+      → Good opening store faults (told w (line_of line s command (requests.Edit (Err fault)) ∷ []) (line_of line s command (requests.Edit (Err fault)) ∷ [])
+      (Some (reply_to (line_of line s command (requests.Edit (Err fault))) (grid_number (length w.state.entries) short) (grid_answer fault short)), w.state))
+  grid_good line s command fault next true is = no_memory_good (line_of line s command (requests.Edit (Err fault))) next tt
+  grid_good line s command fault next false is =
+      same (line_of line s command (requests.Edit (Err fault))) (Some (length w.state.entries)) (Refused (refusals.Grid fault)) next refl
+      (opening_below, omega arith, record { told = refl; is_fault = is }) tt refl
+      (λ low high. high) (λ low above. opening_below) (λ low high. omega arith) tt refl
 
   -- A look, a query, an `after`.
 
@@ -382,14 +393,11 @@ module _ (opening : List Entry) (store : Bool) (faults : ℕ) (w : World) (g : G
 
   -- The answers of open looks and of queries under way.
 
-  rows_not_disk : (c : ConfigParts) (bundles : DatabaseParts) (found : Result Asked AskFault) → is_disk (query_answer (rows_over c bundles found)) ≡ false
-  rows_not_disk c bundles (Ok asked) = refl
-  rows_not_disk c bundles (Err fault) = refl
-
   -- the answer to a query is no failed disk
   not_disk : (held : Opened) → is_disk (answer_at w.state.config w.state.entries held.n held.ask) ≡ false
   not_disk held =
-      rows_not_disk w.state.config (bundles_after w.state.config (take held.n w.state.entries)) (resolved w.state.config held.ask)
+      answers (λ answer. is_disk answer ≡ false) (database_after w.state.config (take held.n w.state.entries))
+      (λ rows. refl) (λ fault. refl) refl held.ask
 
   finish_good : (line : ℕ) (s : SessionNo) → IsNext w line s.0 → (look : Option Opened) → slot w.state.looks s.0 ≡ look
       → Good opening store faults (told w (finish_line line s ∷ []) (finish_line line s ∷ []) (finish_step w.state line s look))
@@ -479,7 +487,7 @@ module _ (opening : List Entry) (store : Bool) (faults : ℕ) (w : World) (g : G
 
   module _ (line : ℕ) (s : SessionNo) (command : Command) (edit : Edit) (next : IsNext w line s.0) where
     abbrev kept_line : Line
-    kept_line = line_of line s command (requests.Edit edit)
+    kept_line = line_of line s command (requests.Edit (Ok edit))
 
     -- the store has no room
     over_good : IsOverStore store w.state kept_line edit
@@ -492,7 +500,7 @@ module _ (opening : List Entry) (store : Bool) (faults : ℕ) (w : World) (g : G
           record {
             room = leb-false HISTORY_EDITS (length w.state.entries) over.room;
             stored = over.stored;
-            bundles = over.bundles;
+            database = over.database;
             right = ap (λ (xs : List Entry). edited w.state.config xs edit) whole ∙ over.made;
             passes = ap (λ (xs : List Entry). passes_store w.state.config xs (entry_of kept_line edit)) whole ∙ over.passes;
           },
@@ -533,34 +541,31 @@ module _ (opening : List Entry) (store : Bool) (faults : ℕ) (w : World) (g : G
   edit_event_good : (line : ℕ) (s : SessionNo) (command : Command) (r : Request) (trouble : Trouble) → EditFits w (line_of line s command r)
       → TroubleFits store w.state (events.Edit (line_of line s command r)) trouble
       → Good opening store (faults_with trouble) (told w (line_of line s command r ∷ []) (line_of line s command r ∷ []) (outcome_of w.state (events.Edit (line_of line s command r)) trouble))
-  edit_event_good line s command (requests.Edit edit) no_memory fits may = no_more (no_memory_good (line_of line s command (requests.Edit edit)) fits.next tt)
-  edit_event_good line s command (requests.Edit edit) untroubled fits may =
+  edit_event_good line s command (requests.Edit (Ok edit)) no_memory fits may = no_more (no_memory_good (line_of line s command (requests.Edit (Ok edit))) fits.next tt)
+  edit_event_good line s command (requests.Edit (Ok edit)) untroubled fits may =
       no_more (edit_good line s command edit fits.next (is_full w.state.entries) (edited w.state.config w.state.entries edit) refl refl)
-  edit_event_good line s command (requests.Edit edit) store_full fits may = no_more (over_good line s command edit fits.next may)
-  edit_event_good line s command (requests.Edit edit) disk_failed fits may = disk_good line s command edit fits.next may
+  edit_event_good line s command (requests.Edit (Ok edit)) store_full fits may = no_more (over_good line s command edit fits.next may)
+  edit_event_good line s command (requests.Edit (Ok edit)) disk_failed fits may = disk_good line s command edit fits.next may
+  edit_event_good line s command (requests.Edit (Err fault)) no_memory fits may = no_more (no_memory_good (line_of line s command (requests.Edit (Err fault))) fits.next tt)
+  edit_event_good line s command (requests.Edit (Err fault)) untroubled fits may =
+      no_more (grid_good line s command fault fits.next (is_want_of_memory fault) refl)
+  edit_event_good line s command (requests.Edit (Err fault)) store_full fits may = absurd may
+  edit_event_good line s command (requests.Edit (Err fault)) disk_failed fits may = absurd may
   edit_event_good line s command (requests.Query ask) trouble fits may = absurd (false≢true fits.kind)
   edit_event_good line s command (requests.Look ask) trouble fits may = absurd (false≢true fits.kind)
   edit_event_good line s command requests.Finish trouble fits may = absurd (false≢true fits.kind)
   edit_event_good line s command (requests.After earlier) trouble fits may = absurd (false≢true fits.kind)
 
-  command_is : (command : Command) → same_command command commands.Query ≡ true → command ≡ commands.Query
-  command_is commands.Query is = refl
-  command_is commands.ConfigParts is = absurd (false≢true is)
-  command_is commands.AddBundle is = absurd (false≢true is)
-  command_is commands.Look is = absurd (false≢true is)
-  command_is commands.Finish is = absurd (false≢true is)
-  command_is commands.After is = absurd (false≢true is)
-
   look_event_good : (line : ℕ) (s : SessionNo) (command : Command) (r : Request) (trouble : Trouble) → LookFits w (line_of line s command r)
       → TroubleFits store w.state (events.Look (line_of line s command r)) trouble
       → Good opening store (faults_with trouble) (told w (line_of line s command r ∷ []) (line_of line s command r ∷ []) (outcome_of w.state (events.Look (line_of line s command r)) trouble))
   look_event_good line s command (requests.Query ask) no_memory fits may = no_more (no_memory_good (line_of line s command (requests.Query ask)) fits.next tt)
-  look_event_good line s command (requests.Query ask) untroubled fits may = no_more (query_good line s command ask (command_is command fits.command) fits.next)
+  look_event_good line s command (requests.Query ask) untroubled fits may = no_more (query_good line s command ask (query_is command ask fits.command) fits.next)
   look_event_good line s command (requests.Look ask) no_memory fits may = no_more (no_memory_good (line_of line s command (requests.Look ask)) fits.next tt)
   look_event_good line s command (requests.Look ask) untroubled fits may = no_more (look_good line s command ask fits.next (slot w.state.looks s.0) refl)
   look_event_good line s command (requests.After earlier) no_memory fits may = no_more (no_memory_good (line_of line s command (requests.After earlier)) fits.next fits.answered)
   look_event_good line s command (requests.After earlier) untroubled fits may = no_more (after_good line s command earlier fits.next fits.answered)
-  look_event_good line s command (requests.Edit edit) trouble fits may = absurd (false≢true fits.kind)
+  look_event_good line s command (requests.Edit given) trouble fits may = absurd (false≢true fits.kind)
   look_event_good line s command requests.Finish trouble fits may = absurd (false≢true fits.kind)
   look_event_good line s command r store_full fits may = absurd may
   look_event_good line s command r disk_failed fits may = absurd may

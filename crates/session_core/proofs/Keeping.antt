@@ -7,6 +7,7 @@ use Rattle.emu_names.specs.declared.kinds.SessionNo.{SessionNo}
 use Rattle.emu_names.specs.declared.rules.Broken.{Broken}
 use Rattle.emu_names.specs.declared.shortage.Memory.{Memory}
 use Rattle.db_config.specs.declared.parts.ConfigParts.{ConfigParts}
+use Rattle.textgrid.specs.declared.fault.GridFault.{GridFault}
 use Rattle.edit_rules.specs.Database.{DatabaseParts}
 use Rattle.edit_rules.specs.declared.edit.Edit.{Edit}
 use Rattle.edit_rules.specs.declared.edit.Entry.{Entry}
@@ -15,35 +16,22 @@ use Rattle.session_core.specs.declared.line.Refusal.TheVariants as refusals
 use Rattle.session_core.specs.declared.line.Ask.{Ask}
 use Rattle.session_core.specs.declared.line.Line.{Line}
 use Rattle.session_core.specs.declared.line.Reply.{Reply}
+use Rattle.session_core.specs.declared.line.Request.{Request}
 use Rattle.session_core.specs.declared.line.Request.TheVariants as requests
 use Rattle.session_core.specs.declared.slots.Held.{Held}
 use Rattle.session_core.specs.declared.moves.Head.{Head}
-use Rattle.edit_rules.specs.Effects.{◌>>=◌, after, replayed, effect, edited}
-use Rattle.session_core.specs.Steps.{State, slot, put_slot, is_full, session_places, edit_event, look_event, edit_step, look_step, finish_step, query_step, with_query, opened_at, query_fails}
-use Rattle.session_core.specs.Kept.{head_reply, opened_by, opened_in, state_of, IsMoment, IsHeld, AreHeld, IsKept, head_entry, held_at, edit_tried, edit_tried_step, looked, look_closed, query_closed, query_dropped}
+use Rattle.edit_rules.specs.Effects.{after, effect, edited}
+use Rattle.session_core.specs.Steps.{State, slot, put_slot, is_full, session_places, start, edit_event, look_event, edit_step, look_step, finish_step, query_step, with_query, opened_at, query_fails}
+use Rattle.session_core.specs.Kept.{head_reply, opened_by, opened_in, state_of, IsMoment, IsHeld, AreHeld, IsKept, head_entry, held_at, edit_tried, edit_tried_step, given_tried, looked, look_closed, query_closed, query_dropped}
+use Rattle.session_core.proofs.Replay.{after_push, after_config}
 use Rattle.session_core.proofs.SlotPlaces.{slot_put, length_put_slot, slot_map, put_slot_map}
 
 -- A history that grows.
 
-and_ok : (r : Result (DatabaseParts) Broken) → (r >>= λ next. Ok next) ≡ r
-and_ok (Ok x) = refl
-and_ok (Err x) = refl
-
-step_push : (c : ConfigParts) (H : List Entry) (e : Entry) → ((next : DatabaseParts) → replayed c next (H ++ e ∷ []) ≡ (replayed c next H >>= λ last. effect c last e.edit)) → (r : Result (DatabaseParts) Broken) → (r >>= λ next. replayed c next (H ++ e ∷ [])) ≡ ((r >>= λ next. replayed c next H) >>= λ last. effect c last e.edit)
-step_push c H e more (Ok next) = more next
-step_push c H e more (Err r) = refl
-
-pub replayed_push : (c : ConfigParts) (bs : DatabaseParts) (H : List Entry) (e : Entry) → replayed c bs (H ++ e ∷ []) ≡ (replayed c bs H >>= λ last. effect c last e.edit)
-replayed_push c bs [] e = and_ok (effect c bs e.edit)
-replayed_push c bs (x ∷ H) e = step_push c H e (λ next. replayed_push c next H e) (effect c bs x.edit)
-
-pub after_push : (c : ConfigParts) (H : List Entry) (e : Entry) → after c (H ++ e ∷ []) ≡ edited c H e.edit
-after_push c H e = replayed_push c [] H e
-
 moment_longer : (c : ConfigParts) (H more : List Entry) (held : Held) → IsMoment c H held → IsMoment c (H ++ more) held
 moment_longer c H more held m = record {
   past = omega (arith, m.past, length-append H more);
-  bundles = rw (take-append-le held.n H more m.past) m.bundles;
+  database = rw (take-append-le held.n H more m.past) m.database;
 }
 
 held_longer : (c : ConfigParts) (H more : List Entry) (o : Option Held) → IsHeld c H o → IsHeld c (H ++ more) o
@@ -65,7 +53,7 @@ slots_put c H xs s v new h = record {
 moment_now : (c : ConfigParts) (H : List Entry) (bs : DatabaseParts) (head : Head) (ask : Ask) → after c H ≡ Ok bs → IsMoment c H (held_at head ask (length H) bs)
 moment_now c H bs head ask e = record {
   past = omega arith;
-  bundles = rw (take_all (length H) H (omega arith)) e;
+  database = rw (take_all (length H) H (omega arith)) e;
 }
 
 -- The beginning.
@@ -81,15 +69,27 @@ slots_empty c H = record {
   each = empty_each c H session_places;
 }
 
-pub kept_start : (c : ConfigParts) (H : List Entry) (bs : DatabaseParts) → after c H ≡ Ok bs → IsKept c H bs (replicate session_places None) (replicate session_places None)
+kept_start : (c : ConfigParts) (H : List Entry) (bs : DatabaseParts) → after c H ≡ Ok bs → IsKept c H bs (replicate session_places None) (replicate session_places None)
 kept_start c H bs e = record { present = e; of_looks = slots_empty c H; of_queries = slots_empty c H }
+
+-- the configuration is the database's own
+kept_own : (c : ConfigParts) (H : List Entry) (bs : DatabaseParts) (ls qs : List (Option Held)) → IsKept c H bs ls qs → IsKept bs.config H bs ls qs
+kept_own c H bs ls qs k = subst (λ (d : ConfigParts). IsKept d H bs ls qs) (sym (after_config c H bs k.present)) k
+
+pub kept_begin : (c : ConfigParts) (H : List Entry) (bs : DatabaseParts) (ls qs : List (Option Held)) → after c H ≡ Ok bs
+    → ls ≡ replicate session_places None → qs ≡ replicate session_places None → IsKept bs.config H bs ls qs
+kept_begin c H bs ls qs e no_looks no_queries = rw (no_looks, no_queries) (kept_own c H bs (replicate session_places None) (replicate session_places None) (kept_start c H bs e))
+
+pub begun : (c : ConfigParts) (H : List Entry) (bs : DatabaseParts) (ls qs : List (Option Held)) → after c H ≡ Ok bs
+    → ls ≡ replicate session_places None → qs ≡ replicate session_places None → state_of bs.config H ls qs ≡ start c H
+begun c H bs ls qs e no_looks no_queries = rw (no_looks, no_queries, after_config c H bs e) refl
 
 -- An edit.
 
 abbrev pub head_of : Line → Head
 head_of l = record { line = l.line; session = l.session; command = l.command }
 
-kept_step : (c : ConfigParts) (head : Head) (edit : Edit) (H : List Entry) (bs : DatabaseParts) (ls qs : List (Option Held)) (full : Bool) (made : Result (DatabaseParts) Broken) → effect c bs edit ≡ made → IsKept c H bs ls qs → IsKept c (edit_tried_step head edit H bs full made).1 (edit_tried_step head edit H bs full made).2 ls qs
+kept_step : (c : ConfigParts) (head : Head) (edit : Edit) (H : List Entry) (bs : DatabaseParts) (ls qs : List (Option Held)) (full : Bool) (made : Result DatabaseParts Broken) → effect bs edit ≡ made → IsKept c H bs ls qs → IsKept c (edit_tried_step head edit H bs full made).1 (edit_tried_step head edit H bs full made).2 ls qs
 kept_step c head edit H bs ls qs true made e k = k
 kept_step c head edit H bs ls qs false (Err rule) e k = k
 kept_step c head edit H bs ls qs false (Ok next) e k = record {
@@ -98,20 +98,44 @@ kept_step c head edit H bs ls qs false (Ok next) e k = record {
   of_queries = slots_longer c H (head_entry head edit ∷ []) qs k.of_queries;
 }
 
-pub kept_changed : (c : ConfigParts) (head : Head) (edit : Edit) (H H2 : List Entry) (bs bs2 : DatabaseParts) (ls qs : List (Option Held)) (r : Reply) → (r, H2, bs2) ≡ edit_tried c head edit H bs → IsKept c H bs ls qs → IsKept c H2 bs2 ls qs
-kept_changed c head edit H H2 bs bs2 ls qs r e k =
-    let P : Reply × List Entry × DatabaseParts → Type 0 = λ t. IsKept c t.1 t.2 ls qs in
-    subst P (sym e) (kept_step c head edit H bs ls qs (is_full H) (effect c bs edit) refl k)
+kept_given : (c : ConfigParts) (head : Head) (given : Result Edit GridFault) (H : List Entry) (bs : DatabaseParts) (ls qs : List (Option Held)) → IsKept c H bs ls qs
+    → IsKept c (given_tried head given H bs).1 (given_tried head given H bs).2 ls qs
+kept_given c head (Ok edit) H bs ls qs k = kept_step c head edit H bs ls qs (is_full H) (effect bs edit) refl k
+kept_given c head (Err fault) H bs ls qs k = k
 
-step_cases : (c : ConfigParts) (l : Line) (edit : Edit) (H : List Entry) (bs : DatabaseParts) (ls qs : List (Option Held)) (full : Bool) (made : Result (DatabaseParts) Broken) → edit_step (state_of c H ls qs) l edit full made ≡ (Some (edit_tried_step (head_of l) edit H bs full made).0, state_of c (edit_tried_step (head_of l) edit H bs full made).1 ls qs)
+kept_tried_at : (c : ConfigParts) (head : Head) (given : Result Edit GridFault) (H H2 : List Entry) (bs bs2 : DatabaseParts) (ls qs : List (Option Held)) (r : Reply) → (r, H2, bs2) ≡ given_tried head given H bs → IsKept c H bs ls qs → IsKept c H2 bs2 ls qs
+kept_tried_at c head given H H2 bs bs2 ls qs r e k =
+    let P : Reply × List Entry × DatabaseParts → Type 0 = λ t. IsKept c t.1 t.2 ls qs in
+    subst P (sym e) (kept_given c head given H bs ls qs k)
+
+pub kept_changed : (head : Head) (given : Result Edit GridFault) (H H2 : List Entry) (bs bs2 : DatabaseParts) (ls qs : List (Option Held)) (r : Reply) → (r, H2, bs2) ≡ given_tried head given H bs → IsKept bs.config H bs ls qs → IsKept bs2.config H2 bs2 ls qs
+kept_changed head given H H2 bs bs2 ls qs r e k =
+    kept_own bs.config H2 bs2 ls qs (kept_tried_at bs.config head given H H2 bs bs2 ls qs r e k)
+
+step_cases : (c : ConfigParts) (l : Line) (edit : Edit) (H : List Entry) (bs : DatabaseParts) (ls qs : List (Option Held)) (full : Bool) (made : Result DatabaseParts Broken) → edit_step (state_of c H ls qs) l edit full made ≡ (Some (edit_tried_step (head_of l) edit H bs full made).0, state_of c (edit_tried_step (head_of l) edit H bs full made).1 ls qs)
 step_cases c l edit H bs ls qs true made = refl
 step_cases c l edit H bs ls qs false (Ok next) = refl
 step_cases c l edit H bs ls qs false (Err rule) = refl
 
-pub changed_step : (c : ConfigParts) (l : Line) (edit : Edit) (H H2 : List Entry) (bs bs2 : DatabaseParts) (ls qs : List (Option Held)) (r : Reply) → (r, H2, bs2) ≡ edit_tried c (head_of l) edit H bs → IsKept c H bs ls qs → edit_step (state_of c H ls qs) l edit (is_full H) (edited c H edit) ≡ (Some r, state_of c H2 ls qs)
-changed_step c l edit H H2 bs bs2 ls qs r e k =
-    let told : Reply × List Entry × DatabaseParts → Option Reply × State = λ t. (Some t.0, state_of c t.1 ls qs) in
-    rw k.present (step_cases c l edit H bs ls qs (is_full H) (effect c bs edit) ∙ ap told (sym e))
+edit_cases : (c : ConfigParts) (l : Line) (edit : Edit) (H : List Entry) (bs : DatabaseParts) (ls qs : List (Option Held)) → after c H ≡ Ok bs
+    → edit_step (state_of c H ls qs) l edit (is_full H) (edited c H edit) ≡ (Some (edit_tried (head_of l) edit H bs).0, state_of c (edit_tried (head_of l) edit H bs).1 ls qs)
+edit_cases c l edit H bs ls qs present = rw present (step_cases c l edit H bs ls qs (is_full H) (effect bs edit))
+
+given_cases : (c : ConfigParts) (l : Line) (given : Result Edit GridFault) (H : List Entry) (bs : DatabaseParts) (ls qs : List (Option Held)) → after c H ≡ Ok bs
+    → edit_event (state_of c H ls qs) l (requests.Edit given) ≡ (Some (given_tried (head_of l) given H bs).0, state_of c (given_tried (head_of l) given H bs).1 ls qs)
+given_cases c l (Ok edit) H bs ls qs present = edit_cases c l edit H bs ls qs present
+given_cases c l (Err fault) H bs ls qs present = refl
+
+pub given_told : (old : State) (l : Line) (given : Result Edit GridFault) (H H2 : List Entry) (bs bs2 : DatabaseParts) (ls qs : List (Option Held)) (r : Reply) → state_of bs.config H ls qs ≡ old → l.request ≡ requests.Edit given
+    → (r, H2, bs2) ≡ given_tried (head_of l) given H bs → IsKept bs.config H bs ls qs → edit_event old l l.request ≡ (Some r, state_of bs2.config H2 ls qs)
+given_told old l given H H2 bs bs2 ls qs r old_is f e k =
+    let told : Reply × List Entry × DatabaseParts → Option Reply × State = λ t. (Some t.0, state_of bs.config t.1 ls qs) in
+    let under : ConfigParts → Option Reply × State = λ c. (Some r, state_of c H2 ls qs) in
+    let next : IsKept bs.config H2 bs2 ls qs = kept_tried_at bs.config (head_of l) given H H2 bs bs2 ls qs r e k in
+    let from : State → Type 0 = λ st. edit_event st l l.request ≡ (Some r, state_of bs2.config H2 ls qs) in
+    let asks : Request → Type 0 = λ request. edit_event (state_of bs.config H ls qs) l request ≡ (Some r, state_of bs2.config H2 ls qs) in
+    subst from old_is
+    (subst asks (sym f) (given_cases bs.config l given H bs ls qs k.present ∙ ap told (sym e) ∙ ap under (sym (after_config bs.config H2 bs2 next.present))))
 
 some_same : (x y : Entry) → Some x ≡ Some y → x ≡ y
 some_same x y e = ap (λ (o : Option Entry). option_get o x) e
@@ -126,22 +150,22 @@ last_entry : (H : List Entry) (e found : Entry) → slice_get (H ++ e ∷ []) (l
 last_entry [] e found is = some_same found e (sym is)
 last_entry (x ∷ H) e found is = last_entry H e found is
 
-change_refused : (c : ConfigParts) (head : Head) (edit : Edit) (H : List Entry) (bs : DatabaseParts) (full : Bool) (made : Result (DatabaseParts) Broken) (rule : Broken)
+change_refused : (head : Head) (edit : Edit) (H : List Entry) (bs : DatabaseParts) (full : Bool) (made : Result DatabaseParts Broken) (rule : Broken)
     → full ≡ false → made ≡ Err rule → edit_tried_step head edit H bs full made ≡ (head_reply head (Some (length H)) (Refused (refusals.Rule rule)), H, bs)
-change_refused c head edit H bs full made rule room broken = rw (room, broken) refl
+change_refused head edit H bs full made rule room broken = rw (room, broken) refl
 
-pub refused_change : (c : ConfigParts) (head : Head) (edit : Edit) (H H2 H3 : List Entry) (bs bs2 : DatabaseParts) (found : Entry) (rule : Broken) (reply : Reply) (n : ℕ) (full : Bool)
+pub refused_change : (head : Head) (edit : Edit) (H H2 H3 : List Entry) (bs bs2 : DatabaseParts) (found : Entry) (rule : Broken) (reply : Reply) (n : ℕ) (full : Bool)
     → full ≡ is_full H → full ≡ false → n ≡ length H → H2 ≡ H ++ head_entry head edit ∷ [] → slice_get H2 n ≡ Some found
-    → effect c bs found.edit ≡ Err rule → bs2 ≡ bs → H3 ≡ take n H2 → reply ≡ head_reply head (Some n) (Refused (refusals.Rule rule))
-    → (reply, H3, bs2) ≡ edit_tried c head edit H bs
-refused_change c head edit H H2 H3 bs bs2 found rule reply n full counted room count pushed there broken same cut told =
+    → effect bs found.edit ≡ Err rule → bs2 ≡ bs → H3 ≡ take n H2 → reply ≡ head_reply head (Some n) (Refused (refusals.Rule rule))
+    → (reply, H3, bs2) ≡ edit_tried head edit H bs
+refused_change head edit H H2 H3 bs bs2 found rule reply n full counted room count pushed there broken same cut told =
     let place : slice_get (H ++ head_entry head edit ∷ []) (length H) ≡ Some found =
     subst (λ (k : ℕ). slice_get (H ++ head_entry head edit ∷ []) k ≡ Some found) count (subst (λ (xs : List Entry). slice_get xs n ≡ Some found) pushed there) in
     let own : found ≡ head_entry head edit = last_entry H (head_entry head edit) found place in
-    let refused : effect c bs edit ≡ Err rule = subst (λ (e : Entry). effect c bs e.edit ≡ Err rule) own broken in
+    let refused : effect bs edit ≡ Err rule = subst (λ (e : Entry). effect bs e.edit ≡ Err rule) own broken in
     let back : take n H2 ≡ H = ap (λ (k : ℕ). take k H2) count ∙ ap (λ (xs : List Entry). take (length H) xs) pushed ∙ take-append_seam H (head_entry head edit ∷ []) in
     let as_was : (reply, H3, bs2) ≡ (head_reply head (Some (length H)) (Refused (refusals.Rule rule)), H, bs) = rw (told, cut, back, same, count) refl in
-    as_was ∙ sym (change_refused c head edit H bs (is_full H) (effect c bs edit) rule (sym counted ∙ room) refused)
+    as_was ∙ sym (change_refused head edit H bs (is_full H) (effect bs edit) rule (sym counted ∙ room) refused)
 
 -- A look.
 
@@ -181,20 +205,20 @@ kept_begun c head ask H bs ls qs k = record {
 
 -- The answer of a look.
 
-close_cases : (c : ConfigParts) (line : ℕ) (s : SessionNo) (H : List Entry) (ls qs : List (Option Held)) (held : Option Held) → IsHeld c H held → finish_step (state_of c H ls qs) line s (option_map opened_by held) ≡ (Some (look_closed c line s ls held).0, state_of c H (look_closed c line s ls held).1 qs)
+close_cases : (c : ConfigParts) (line : ℕ) (s : SessionNo) (H : List Entry) (ls qs : List (Option Held)) (held : Option Held) → IsHeld c H held → finish_step (state_of c H ls qs) line s (option_map opened_by held) ≡ (Some (look_closed line s ls held).0, state_of c H (look_closed line s ls held).1 qs)
 close_cases c line s H ls qs None h = refl
-close_cases c line s H ls qs (Some held) h = rw (h.bundles, put_slot_map opened_by ls s.0 None) refl
+close_cases c line s H ls qs (Some held) h = rw (h.database, put_slot_map opened_by ls s.0 None) refl
 
-pub closed_step : (c : ConfigParts) (line : ℕ) (s : SessionNo) (H : List Entry) (ls ls2 qs : List (Option Held)) (r : Reply) → (r, ls2) ≡ look_closed c line s ls (slot ls s.0) → AreHeld c H ls → finish_step (state_of c H ls qs) line s (slot (opened_in ls) s.0) ≡ (Some r, state_of c H ls2 qs)
+pub closed_step : (c : ConfigParts) (line : ℕ) (s : SessionNo) (H : List Entry) (ls ls2 qs : List (Option Held)) (r : Reply) → (r, ls2) ≡ look_closed line s ls (slot ls s.0) → AreHeld c H ls → finish_step (state_of c H ls qs) line s (slot (opened_in ls) s.0) ≡ (Some r, state_of c H ls2 qs)
 closed_step c line s H ls ls2 qs r e h =
     let told : Reply × List (Option Held) → Option Reply × State = λ t. (Some t.0, state_of c H t.1 qs) in
     rw (slot_map opened_by ls s.0) (close_cases c line s H ls qs (slot ls s.0) (h.each s.0) ∙ ap told (sym e))
 
-closed_kept : (c : ConfigParts) (line : ℕ) (s : SessionNo) (H : List Entry) (ls : List (Option Held)) (held : Option Held) → AreHeld c H ls → AreHeld c H (look_closed c line s ls held).1
+closed_kept : (c : ConfigParts) (line : ℕ) (s : SessionNo) (H : List Entry) (ls : List (Option Held)) (held : Option Held) → AreHeld c H ls → AreHeld c H (look_closed line s ls held).1
 closed_kept c line s H ls None h = h
 closed_kept c line s H ls (Some held) h = slots_put c H ls s.0 None tt h
 
-pub kept_closed : (c : ConfigParts) (line : ℕ) (s : SessionNo) (H : List Entry) (bs : DatabaseParts) (ls ls2 qs : List (Option Held)) (r : Reply) → (r, ls2) ≡ look_closed c line s ls (slot ls s.0) → IsKept c H bs ls qs → IsKept c H bs ls2 qs
+pub kept_closed : (c : ConfigParts) (line : ℕ) (s : SessionNo) (H : List Entry) (bs : DatabaseParts) (ls ls2 qs : List (Option Held)) (r : Reply) → (r, ls2) ≡ look_closed line s ls (slot ls s.0) → IsKept c H bs ls qs → IsKept c H bs ls2 qs
 kept_closed c line s H bs ls ls2 qs r e k =
     let P : Reply × List (Option Held) → Type 0 = λ t. AreHeld c H t.1 in
     record {
@@ -205,20 +229,20 @@ kept_closed c line s H bs ls ls2 qs r e k =
 
 -- The answer of a query under way.
 
-answer_cases : (c : ConfigParts) (line : ℕ) (s : SessionNo) (H : List Entry) (ls qs : List (Option Held)) (held : Option Held) → IsHeld c H held → query_step (state_of c H ls qs) line s (option_map opened_by held) ≡ ((query_closed c line s qs held).0, state_of c H ls (query_closed c line s qs held).1)
+answer_cases : (c : ConfigParts) (line : ℕ) (s : SessionNo) (H : List Entry) (ls qs : List (Option Held)) (held : Option Held) → IsHeld c H held → query_step (state_of c H ls qs) line s (option_map opened_by held) ≡ ((query_closed line s qs held).0, state_of c H ls (query_closed line s qs held).1)
 answer_cases c line s H ls qs None h = refl
-answer_cases c line s H ls qs (Some held) h = rw (h.bundles, put_slot_map opened_by qs s.0 None) refl
+answer_cases c line s H ls qs (Some held) h = rw (h.database, put_slot_map opened_by qs s.0 None) refl
 
-pub answered_step : (c : ConfigParts) (line : ℕ) (s : SessionNo) (H : List Entry) (ls qs qs2 : List (Option Held)) (r : Option Reply) → (r, qs2) ≡ query_closed c line s qs (slot qs s.0) → AreHeld c H qs → query_step (state_of c H ls qs) line s (slot (opened_in qs) s.0) ≡ (r, state_of c H ls qs2)
+pub answered_step : (c : ConfigParts) (line : ℕ) (s : SessionNo) (H : List Entry) (ls qs qs2 : List (Option Held)) (r : Option Reply) → (r, qs2) ≡ query_closed line s qs (slot qs s.0) → AreHeld c H qs → query_step (state_of c H ls qs) line s (slot (opened_in qs) s.0) ≡ (r, state_of c H ls qs2)
 answered_step c line s H ls qs qs2 r e h =
     let told : Option Reply × List (Option Held) → Option Reply × State = λ t. (t.0, state_of c H ls t.1) in
     rw (slot_map opened_by qs s.0) (answer_cases c line s H ls qs (slot qs s.0) (h.each s.0) ∙ ap told (sym e))
 
-answered_kept : (c : ConfigParts) (line : ℕ) (s : SessionNo) (H : List Entry) (qs : List (Option Held)) (held : Option Held) → AreHeld c H qs → AreHeld c H (query_closed c line s qs held).1
+answered_kept : (c : ConfigParts) (line : ℕ) (s : SessionNo) (H : List Entry) (qs : List (Option Held)) (held : Option Held) → AreHeld c H qs → AreHeld c H (query_closed line s qs held).1
 answered_kept c line s H qs None h = h
 answered_kept c line s H qs (Some held) h = slots_put c H qs s.0 None tt h
 
-pub kept_answered : (c : ConfigParts) (line : ℕ) (s : SessionNo) (H : List Entry) (bs : DatabaseParts) (ls qs qs2 : List (Option Held)) (r : Option Reply) → (r, qs2) ≡ query_closed c line s qs (slot qs s.0) → IsKept c H bs ls qs → IsKept c H bs ls qs2
+pub kept_answered : (c : ConfigParts) (line : ℕ) (s : SessionNo) (H : List Entry) (bs : DatabaseParts) (ls qs qs2 : List (Option Held)) (r : Option Reply) → (r, qs2) ≡ query_closed line s qs (slot qs s.0) → IsKept c H bs ls qs → IsKept c H bs ls qs2
 kept_answered c line s H bs ls qs qs2 r e k =
     let P : Option Reply × List (Option Held) → Type 0 = λ t. AreHeld c H t.1 in
     record {
@@ -250,11 +274,11 @@ kept_dropped c s H bs ls qs qs2 e k = record {
 
 -- Both ends of the answer of a query under way.
 
-pub kept_tried : (c : ConfigParts) (line : ℕ) (s : SessionNo) (H : List Entry) (bs : DatabaseParts) (ls qs qs2 : List (Option Held)) (result : Result (Option Reply) Memory) → IfOk result (λ r. (r, qs2) ≡ query_closed c line s qs (slot qs s.0)) → OnErr result (qs2 ≡ query_dropped s qs (slot qs s.0)) → IsKept c H bs ls qs → IsKept c H bs ls qs2
+pub kept_tried : (c : ConfigParts) (line : ℕ) (s : SessionNo) (H : List Entry) (bs : DatabaseParts) (ls qs qs2 : List (Option Held)) (result : Result (Option Reply) Memory) → IfOk result (λ r. (r, qs2) ≡ query_closed line s qs (slot qs s.0)) → OnErr result (qs2 ≡ query_dropped s qs (slot qs s.0)) → IsKept c H bs ls qs → IsKept c H bs ls qs2
 kept_tried c line s H bs ls qs qs2 (Ok r) e f k = kept_answered c line s H bs ls qs qs2 r e k
 kept_tried c line s H bs ls qs qs2 (Err m) e f k = kept_dropped c s H bs ls qs qs2 f k
 
-pub answered_ok : (c : ConfigParts) (line : ℕ) (s : SessionNo) (H : List Entry) (ls qs qs2 : List (Option Held)) (result : Result (Option Reply) Memory) → IfOk result (λ r. (r, qs2) ≡ query_closed c line s qs (slot qs s.0)) → AreHeld c H qs → IfOk result (λ r. query_step (state_of c H ls qs) line s (slot (opened_in qs) s.0) ≡ (r, state_of c H ls qs2))
+pub answered_ok : (c : ConfigParts) (line : ℕ) (s : SessionNo) (H : List Entry) (ls qs qs2 : List (Option Held)) (result : Result (Option Reply) Memory) → IfOk result (λ r. (r, qs2) ≡ query_closed line s qs (slot qs s.0)) → AreHeld c H qs → IfOk result (λ r. query_step (state_of c H ls qs) line s (slot (opened_in qs) s.0) ≡ (r, state_of c H ls qs2))
 answered_ok c line s H ls qs qs2 (Ok r) e h = answered_step c line s H ls qs qs2 r e h
 answered_ok c line s H ls qs qs2 (Err m) e h = tt
 
@@ -273,9 +297,6 @@ pub kept_begun_at : (c : ConfigParts) (head : Head) (ask : Ask) (H : List Entry)
 kept_begun_at c head ask H bs ls qs qs2 n m e k = rw (e, m) (kept_begun c head ask H bs ls qs k)
 
 -- An event of a kind as the step of its request.
-
-pub edit_told : (st old : State) (l : Line) (edit : Edit) (out : Option Reply × State) → st ≡ old → l.request ≡ requests.Edit edit → edit_step st l edit (is_full st.entries) (edited st.config st.entries edit) ≡ out → edit_event old l l.request ≡ out
-edit_told st old l edit out e f g = rw (f, ← e) g
 
 pub look_told : (c : ConfigParts) (old : State) (l : Line) (ask : Ask) (H : List Entry) (bs : DatabaseParts) (ls ls2 qs : List (Option Held)) (r : Reply) (n : ℕ) → state_of c H ls qs ≡ old → l.request ≡ requests.Look ask → n ≡ length H → (r, ls2) ≡ looked (head_of l) ask n bs ls (slot ls l.session.0) → look_event old l l.request ≡ (Some r, state_of c H ls2 qs)
 look_told c old l ask H bs ls ls2 qs r n old_is f m e =

@@ -6,11 +6,11 @@ pub mod Seats
 pub mod Events
 pub mod Runs
 pub mod Worked
-pub mod Kept
+pub mod Asking
+pub mod OfCommand
 pub mod Alone
 pub mod Standing
 pub mod Ordered
-pub mod Walks
 pub mod RowLists
 pub mod Keeping
 pub mod Turning

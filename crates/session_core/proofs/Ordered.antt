@@ -1,12 +1,13 @@
 -- A run in order is a run of events that fit: each line's events come one after another.
 use Rattle.std.proofs.Common.{◌≡◌, ◌≢◌, ⊎_elim, ℕ, suc, ◌+◌, ◌<◌, ◌≤◌, Bool, true, false, cond, ◌&&◌, ◌||◌, not, List, [], ◌∷◌, ◌++◌, length, map, Option, Some, None, Result, Ok, Err, nat_eq, refl, sym, ◌∙◌, ap, subst, arith, rules, append_assoc}
-use Rattle.std.proofs.lemmas.Bool.{cases_eq, false≢true}
+use Rattle.std.proofs.lemmas.Bool.{cases_eq}
 use Rattle.std.proofs.lemmas.List.{append-nil}
 use Rattle.std.proofs.lemmas.List.Sums.{sum_by-cons}
 use Rattle.std.specs.List.{list_any}
 use Rattle.emu_names.specs.declared.kinds.SessionNo.{SessionNo}
 use Rattle.emu_names.specs.declared.rules.Broken.{Broken}
 use Rattle.db_config.specs.declared.parts.ConfigParts.{ConfigParts}
+use Rattle.textgrid.specs.declared.fault.GridFault.{GridFault}
 use Rattle.edit_rules.specs.Database.{DatabaseParts}
 use Rattle.edit_rules.specs.declared.edit.Edit.{Edit}
 use Rattle.edit_rules.specs.declared.edit.Entry.{Entry}
@@ -21,13 +22,14 @@ use Rattle.session_core.specs.declared.line.Line.{Line}
 use Rattle.session_core.specs.declared.line.Reply.{Reply}
 use Rattle.edit_rules.specs.Effects.{IsLegal, edited}
 use Rattle.session_core.specs.Steps.{Opened, State, slot, put_slot, session_places, start, is_full, opened_at, edit_step, look_step, finish_step, query_step, query_fails}
-use Rattle.session_core.specs.Worlds.{Turn, Trouble, untroubled, no_memory, store_full, disk_failed, is_disk_failed, Occurrence, World, query_line, query_answered, turns_of, happens, run, opening_world, Each, IsBehind, IsNext, RequestFits, same_command, passes_store, TroubleFits, OccurrenceFits, AllFit, disk_failures, Fits, is_waiting, is_done, lines_done}
+use Rattle.session_core.specs.Worlds.{Turn, Trouble, untroubled, no_memory, store_full, disk_failed, is_disk_failed, Occurrence, World, query_line, query_answered, turns_of, happens, run, opening_world, Each, IsBehind, IsNext, RequestFits, passes_store, TroubleFits, OccurrenceFits, AllFit, disk_failures, Fits, is_waiting, is_done, lines_done}
 use Rattle.session_core.specs.Legal.{lines_in, replies_in, Legal}
 use Rattle.session_core.specs.InOrder.{Outage, fine, at_first, at_last, disk_fails, is_disk_outage, disk_outages, given, replied, query_begun, stored_trouble, made_trouble, edit_trouble, trouble_at, edit_outcome, request_turn, one_turn, in_turn, NamesEarlier, IsBelow, ComesNext, ComeInOrder}
 use Rattle.session_core.specs.Answers.{entry_of}
 use Rattle.emu_names.specs.declared.limits.TheConstants.{HISTORY_EDITS}
 use Rattle.fault_counts.specs.Count.{RoseBy}
 use Rattle.session_core.specs.Readings.{IsInOrder}
+use Rattle.session_core.proofs.OfCommand.{query_is, finish_is}
 use Rattle.session_core.proofs.Turns.{each_map, lines_push}
 use Rattle.session_core.proofs.Places.{slot_put, slot_other, put_length, slot_none}
 use Rattle.session_core.proofs.Runs.{filter_all, HasTurns, run_legal_turns}
@@ -52,7 +54,8 @@ query_moments l at_last = moment (events.Look l) untroubled ∷ moment (events.F
 query_moments l disk_fails = moment (events.Look l) untroubled ∷ moment (events.Finish l.line l.session commands.Query) untroubled ∷ []
 
 abbrev request_moments : Bool → State → Line → Request → Outage → List Occurrence
-request_moments store st l (requests.Edit edit) outage = moment (events.Edit l) (trouble_at store st l edit outage) ∷ []
+request_moments store st l (requests.Edit (Ok edit)) outage = moment (events.Edit l) (trouble_at store st l edit outage) ∷ []
+request_moments store st l (requests.Edit (Err fault)) outage = moment (events.Edit l) (memory_at outage) ∷ []
 request_moments store st l (requests.Query ask) outage = query_moments l outage
 request_moments store st l (requests.Look ask) outage = moment (events.Look l) (memory_at outage) ∷ []
 request_moments store st l requests.Finish outage = moment (events.Finish l.line l.session commands.Finish) (memory_at outage) ∷ []
@@ -82,10 +85,10 @@ stored_sound : (passes : Bool) → is_disk_failed (stored_trouble passes false) 
 stored_sound true = refl
 stored_sound false = refl
 
-made_sound : (st : State) (l : Line) (edit : Edit) (full : Bool) (made : Result (DatabaseParts) Broken) → is_disk_failed (made_trouble st l edit false full made) ≡ false
+made_sound : (st : State) (l : Line) (edit : Edit) (full : Bool) (made : Result DatabaseParts Broken) → is_disk_failed (made_trouble st l edit false full made) ≡ false
 made_sound st l edit true made = refl
 made_sound st l edit false (Err rule) = refl
-made_sound st l edit false (Ok bundles) = stored_sound (passes_store st.config st.entries (entry_of l edit))
+made_sound st l edit false (Ok database) = stored_sound (passes_store st.config st.entries (entry_of l edit))
 
 edit_sound : (store : Bool) (st : State) (l : Line) (edit : Edit) → is_disk_failed (edit_trouble store st l edit false) ≡ false
 edit_sound false st l edit = refl
@@ -127,7 +130,9 @@ query_failures most l at_last = omega arith
 query_failures most l disk_fails = omega arith
 
 line_failures : (store : Bool) (st : State) (l : Line) (request : Request) (outage : Outage) → disk_failures (request_moments store st l request outage) ≤ failures_at store outage
-line_failures store st l (requests.Edit edit) outage =
+line_failures store st l (requests.Edit (Err fault)) outage =
+    one_failures (moment (events.Edit l) (memory_at outage)) (failures_at store outage) (memory_failures (failures_at store outage) outage)
+line_failures store st l (requests.Edit (Ok edit)) outage =
     one_failures (moment (events.Edit l) (trouble_at store st l edit outage)) (failures_at store outage) (edit_failures store st l edit outage)
 line_failures store st l (requests.Query ask) outage = query_failures (failures_at store outage) l outage
 line_failures store st l (requests.Look ask) outage =
@@ -199,14 +204,14 @@ one_turn_of : (l : Line) (reply : Option Reply) → IsSome reply → turns_of (l
 one_turn_of l None is = absurd is
 one_turn_of l (Some reply) is = refl
 
-edit_some : (st : State) (l : Line) (edit : Edit) (full : Bool) (made : Result (DatabaseParts) Broken) → IsSome (edit_step st l edit full made).0
+edit_some : (st : State) (l : Line) (edit : Edit) (full : Bool) (made : Result DatabaseParts Broken) → IsSome (edit_step st l edit full made).0
 edit_some st l edit true made = tt
-edit_some st l edit false (Ok bundles) = tt
+edit_some st l edit false (Ok database) = tt
 edit_some st l edit false (Err rule) = tt
 
-edit_queries : (st : State) (l : Line) (edit : Edit) (full : Bool) (made : Result (DatabaseParts) Broken) → st.queries ≡ (edit_step st l edit full made).1.queries
+edit_queries : (st : State) (l : Line) (edit : Edit) (full : Bool) (made : Result DatabaseParts Broken) → st.queries ≡ (edit_step st l edit full made).1.queries
 edit_queries st l edit true made = refl
-edit_queries st l edit false (Ok bundles) = refl
+edit_queries st l edit false (Ok database) = refl
 edit_queries st l edit false (Err rule) = refl
 
 look_some : (st : State) (l : Line) (ask : Ask) (held : Option Opened) → IsSome (look_step st l ask held).0
@@ -272,7 +277,7 @@ module _ (store : Bool) (before : List Line) (w : World) (b : Between before w) 
       sym (any_map (λ (l : Line). nat_eq l.line earlier) (λ (t : Turn). t.line) w.turns)
       ∙ ap (λ (ls : List Line). list_any (λ (l : Line). nat_eq l.line earlier) ls) b.told
       ∙ names
-  request_fits (requests.Edit edit) names = tt
+  request_fits (requests.Edit given) names = tt
   request_fits (requests.Query ask) names = tt
   request_fits (requests.Look ask) names = tt
   request_fits requests.Finish names = tt
@@ -307,9 +312,9 @@ module _ (store : Bool) (before : List Line) (w : World) (b : Between before w) 
 
   -- The five requests, in turn.
 
-  module _ (line : ℕ) (s : SessionNo) (command : Command) (edit : Edit) (comes : ComesNext before (line_of line s command (requests.Edit edit))) where
+  module _ (line : ℕ) (s : SessionNo) (command : Command) (edit : Edit) (comes : ComesNext before (line_of line s command (requests.Edit (Ok edit)))) where
     abbrev edit_line : Line
-    edit_line = line_of line s command (requests.Edit edit)
+    edit_line = line_of line s command (requests.Edit (Ok edit))
 
     edit_may : Fits w (events.Edit edit_line)
     edit_may = record { next = next edit_line comes; kind = refl; command = comes.command }
@@ -330,20 +335,20 @@ module _ (store : Bool) (before : List Line) (w : World) (b : Between before w) 
     edit_answers_at store_full may = record { fits = (record { event = edit_may; trouble = may }, tt); state = refl; lines = refl; turns = refl; count = b.count; idle = b.idle }
     edit_answers_at disk_failed may = record { fits = (record { event = edit_may; trouble = may }, tt); state = refl; lines = refl; turns = refl; count = b.count; idle = b.idle }
 
-    stored_fits : (bundles : DatabaseParts) (passes fails : Bool) → is_full w.state.entries ≡ false → edited w.state.config w.state.entries edit ≡ Ok bundles
+    stored_fits : (database : DatabaseParts) (passes fails : Bool) → is_full w.state.entries ≡ false → edited w.state.config w.state.entries edit ≡ Ok database
         → store ≡ true → passes_store w.state.config w.state.entries (entry_of edit_line edit) ≡ passes
         → TroubleFits store w.state (events.Edit edit_line) (stored_trouble passes fails)
-    stored_fits bundles true fails room made stored passes_is =
-        record { stored = stored; room = room; bundles = bundles; made = made; passes = passes_is }
-    stored_fits bundles false true room made stored passes_is = stored
-    stored_fits bundles false false room made stored passes_is = tt
+    stored_fits database true fails room made stored passes_is =
+        record { stored = stored; room = room; database = database; made = made; passes = passes_is }
+    stored_fits database false true room made stored passes_is = stored
+    stored_fits database false false room made stored passes_is = tt
 
-    made_fits : (fails full : Bool) (made : Result (DatabaseParts) Broken) → is_full w.state.entries ≡ full → edited w.state.config w.state.entries edit ≡ made → store ≡ true
+    made_fits : (fails full : Bool) (made : Result DatabaseParts Broken) → is_full w.state.entries ≡ full → edited w.state.config w.state.entries edit ≡ made → store ≡ true
         → TroubleFits store w.state (events.Edit edit_line) (made_trouble w.state edit_line edit fails full made)
     made_fits fails true made full_is made_is stored = tt
     made_fits fails false (Err rule) full_is made_is stored = tt
-    made_fits fails false (Ok bundles) full_is made_is stored =
-        stored_fits bundles (passes_store w.state.config w.state.entries (entry_of edit_line edit)) fails full_is made_is stored refl
+    made_fits fails false (Ok database) full_is made_is stored =
+        stored_fits database (passes_store w.state.config w.state.entries (entry_of edit_line edit)) fails full_is made_is stored refl
 
     edit_fits : (there : Bool) (fails : Bool) → store ≡ there → TroubleFits store w.state (events.Edit edit_line) (edit_trouble there w.state edit_line edit fails)
     edit_fits false fails is = tt
@@ -355,8 +360,28 @@ module _ (store : Bool) (before : List Line) (w : World) (b : Between before w) 
     trouble_fits at_last = tt
     trouble_fits disk_fails = edit_fits store true refl
 
-    edit_answers : (outage : Outage) → Answers store w edit_line (request_moments store w.state edit_line (requests.Edit edit) outage) (request_turn store w.state edit_line (requests.Edit edit) outage)
+    edit_answers : (outage : Outage) → Answers store w edit_line (request_moments store w.state edit_line (requests.Edit (Ok edit)) outage) (request_turn store w.state edit_line (requests.Edit (Ok edit)) outage)
     edit_answers outage = edit_answers_at (trouble_at store w.state edit_line edit outage) (trouble_fits outage)
+
+  -- a line whose TextGrid has a fault
+  module _ (line : ℕ) (s : SessionNo) (command : Command) (fault : GridFault) (comes : ComesNext before (line_of line s command (requests.Edit (Err fault)))) where
+    abbrev grid_line : Line
+    grid_line = line_of line s command (requests.Edit (Err fault))
+
+    grid_may : Fits w (events.Edit grid_line)
+    grid_may = record { next = next grid_line comes; kind = refl; command = comes.command }
+
+    grid_taken : Answers store w grid_line (moment (events.Edit grid_line) untroubled ∷ []) (request_turn store w.state grid_line (requests.Edit (Err fault)) fine)
+    grid_taken = record { fits = (record { event = grid_may; trouble = tt }, tt); state = refl; lines = refl; turns = refl; count = b.count; idle = b.idle }
+
+    grid_failed : Answers store w grid_line (moment (events.Edit grid_line) no_memory ∷ []) (request_turn store w.state grid_line (requests.Edit (Err fault)) at_first)
+    grid_failed = record { fits = (record { event = grid_may; trouble = tt }, tt); state = refl; lines = refl; turns = refl; count = b.count; idle = b.idle }
+
+    grid_answers : (outage : Outage) → Answers store w grid_line (request_moments store w.state grid_line (requests.Edit (Err fault)) outage) (request_turn store w.state grid_line (requests.Edit (Err fault)) outage)
+    grid_answers fine = grid_taken
+    grid_answers disk_fails = grid_taken
+    grid_answers at_first = grid_failed
+    grid_answers at_last = grid_failed
 
   -- nothing fails
   look_taken : (line : ℕ) (s : SessionNo) (command : Command) (ask : Ask) → ComesNext before (line_of line s command (requests.Look ask))
@@ -534,30 +559,35 @@ module _ (store : Bool) (before : List Line) (w : World) (b : Between before w) 
     }
     query_answers at_last = query_failed
 
-  of_query : (line : ℕ) (s : SessionNo) (command : Command) (ask : Ask) (outage : Outage) → same_command command commands.Query ≡ true → ComesNext before (line_of line s command (requests.Query ask))
-      → Answers store w (line_of line s command (requests.Query ask)) (query_moments (line_of line s command (requests.Query ask)) outage) (request_turn store w.state (line_of line s command (requests.Query ask)) (requests.Query ask) outage)
-  of_query line s commands.Query ask outage is comes = query_answers line s ask comes outage
-  of_query line s commands.ConfigParts ask outage is comes = absurd (false≢true is)
-  of_query line s commands.AddBundle ask outage is comes = absurd (false≢true is)
-  of_query line s commands.Look ask outage is comes = absurd (false≢true is)
-  of_query line s commands.Finish ask outage is comes = absurd (false≢true is)
-  of_query line s commands.After ask outage is comes = absurd (false≢true is)
+  abbrev QueryAnswers : ℕ → SessionNo → Ask → Outage → Command → Type 0
+  QueryAnswers line s ask outage command =
+      Answers store w (line_of line s command (requests.Query ask)) (query_moments (line_of line s command (requests.Query ask)) outage)
+      (request_turn store w.state (line_of line s command (requests.Query ask)) (requests.Query ask) outage)
 
-  of_finish : (line : ℕ) (s : SessionNo) (command : Command) (outage : Outage) → same_command command commands.Finish ≡ true → ComesNext before (line_of line s command requests.Finish)
-      → Answers store w (line_of line s command requests.Finish) (request_moments store w.state (line_of line s command requests.Finish) requests.Finish outage) (request_turn store w.state (line_of line s command requests.Finish) requests.Finish outage)
-  of_finish line s commands.Finish outage is comes = finish_answers line s outage comes
-  of_finish line s commands.ConfigParts outage is comes = absurd (false≢true is)
-  of_finish line s commands.AddBundle outage is comes = absurd (false≢true is)
-  of_finish line s commands.Look outage is comes = absurd (false≢true is)
-  of_finish line s commands.Query outage is comes = absurd (false≢true is)
-  of_finish line s commands.After outage is comes = absurd (false≢true is)
+  of_query : (line : ℕ) (s : SessionNo) (command : Command) (ask : Ask) (outage : Outage) → commands.Query ≡ command → ComesNext before (line_of line s command (requests.Query ask))
+      → QueryAnswers line s ask outage command
+  of_query line s command ask outage is =
+      subst (λ (c : Command). ComesNext before (line_of line s c (requests.Query ask)) → QueryAnswers line s ask outage c) is
+      (λ comes. query_answers line s ask comes outage)
+
+  abbrev FinishAnswers : ℕ → SessionNo → Outage → Command → Type 0
+  FinishAnswers line s outage command =
+      Answers store w (line_of line s command requests.Finish) (request_moments store w.state (line_of line s command requests.Finish) requests.Finish outage)
+      (request_turn store w.state (line_of line s command requests.Finish) requests.Finish outage)
+
+  of_finish : (line : ℕ) (s : SessionNo) (command : Command) (outage : Outage) → commands.Finish ≡ command → ComesNext before (line_of line s command requests.Finish)
+      → FinishAnswers line s outage command
+  of_finish line s command outage is =
+      subst (λ (c : Command). ComesNext before (line_of line s c requests.Finish) → FinishAnswers line s outage c) is
+      (λ comes. finish_answers line s outage comes)
 
   request_answers : (line : ℕ) (s : SessionNo) (command : Command) (r : Request) (outage : Outage) → ComesNext before (line_of line s command r)
       → Answers store w (line_of line s command r) (request_moments store w.state (line_of line s command r) r outage) (request_turn store w.state (line_of line s command r) r outage)
-  request_answers line s command (requests.Edit edit) outage comes = edit_answers line s command edit comes outage
-  request_answers line s command (requests.Query ask) outage comes = of_query line s command ask outage comes.command comes
+  request_answers line s command (requests.Edit (Ok edit)) outage comes = edit_answers line s command edit comes outage
+  request_answers line s command (requests.Edit (Err fault)) outage comes = grid_answers line s command fault comes outage
+  request_answers line s command (requests.Query ask) outage comes = of_query line s command ask outage (sym (query_is command ask comes.command)) comes
   request_answers line s command (requests.Look ask) outage comes = look_answers line s command ask outage comes
-  request_answers line s command requests.Finish outage comes = of_finish line s command outage comes.command comes
+  request_answers line s command requests.Finish outage comes = of_finish line s command outage (sym (finish_is command comes.command)) comes
   request_answers line s command (requests.After earlier) outage comes = after_answers line s command earlier outage comes
 
   -- the world behind the line

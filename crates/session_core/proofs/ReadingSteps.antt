@@ -4,12 +4,12 @@ use Rattle.std.proofs.lemmas.Bool.{cases_eq, lt-leb, le-leb, false≢true}
 use Rattle.std.proofs.lemmas.List.{take_at}
 use Rattle.emu_names.specs.declared.rules.Broken.{Broken}
 use Rattle.db_config.specs.declared.parts.ConfigParts.{ConfigParts}
+use Rattle.textgrid.specs.declared.fault.GridFault.{GridFault}
 use Rattle.edit_rules.specs.Database.{DatabaseParts}
 use Rattle.edit_rules.specs.declared.edit.Edit.{Edit}
 use Rattle.edit_rules.specs.declared.edit.Entry.{Entry}
 use Rattle.session_core.specs.declared.line.Command.{Command}
 use Rattle.session_core.specs.declared.line.Ask.{Ask}
-use Rattle.session_core.specs.declared.line.AskFault.{AskFault}
 use Rattle.session_core.specs.declared.line.Answer.{Answer}
 use Rattle.session_core.specs.declared.line.Answer.TheVariants.{Done, Segments, Refused}
 use Rattle.session_core.specs.declared.line.Refusal.{Refusal}
@@ -18,15 +18,14 @@ use Rattle.session_core.specs.declared.line.Request.{Request}
 use Rattle.session_core.specs.declared.line.Request.TheVariants as requests
 use Rattle.session_core.specs.declared.line.Line.{Line}
 use Rattle.session_core.specs.declared.line.Reply.{Reply}
-use Rattle.edit_rules.specs.Effects.{edited}
-use Rattle.session_core.specs.Queries.{Asked, resolved}
-use Rattle.edit_rules.specs.Effects.{bundles_after}
-use Rattle.session_core.specs.Answers.{rows_over, query_answer, answer_at, memory, reply_to, entry_of}
+use Rattle.edit_rules.specs.Effects.{edited, database_after}
+use Rattle.session_core.specs.Answers.{answer_at, memory, is_want_of_memory, grid_number, grid_answer, reply_to, entry_of}
 use Rattle.session_core.specs.Steps.{Opened, State, slot, put_slot, session_places, is_full, opened_at, with_look, with_query, with_entry, present, edit_step, look_step, finish_step, query_step}
 use Rattle.session_core.specs.Legal.{accepting, IsAcceptance, IsRightAt, IsRightUnnumbered, IsRight, Look, open_behind, LookReplyFits, FinishReplyFits, ReplyFits}
 use Rattle.session_core.specs.InOrder.{Outage, fine, replied, query_begun, query_turn, unless_outage, request_turn}
 use Rattle.emu_names.specs.declared.limits.TheConstants.{HISTORY_EDITS}
 use Rattle.session_core.specs.Readings.{IsStanding, outage_in}
+use Rattle.session_core.proofs.Asking.{answers}
 use Rattle.session_core.proofs.Places.{slot_put, slot_other, put_length}
 use Rattle.session_core.proofs.Seats.{answer_same, look_of, IsIn, in_more}
 
@@ -35,7 +34,9 @@ use Rattle.session_core.proofs.Seats.{answer_same, look_of, IsIn, in_more}
 abbrev is_memory : Answer → Bool
 is_memory (Refused refusals.Memory) = true
 is_memory (Refused (refusals.Rule rule)) = false
+is_memory (Refused (refusals.Grid fault)) = false
 is_memory (Refused (refusals.Resolve fault)) = false
+is_memory (Refused refusals.NotBuilt) = false
 is_memory (Refused refusals.NoLook) = false
 is_memory (Refused refusals.LookOpen) = false
 is_memory (Refused refusals.HistoryFull) = false
@@ -46,11 +47,6 @@ is_memory (Segments rows) = false
 
 not_memory : (answer : Answer) → is_memory answer ≡ false → answer ≡ memory → ⊥
 not_memory answer other same = false≢true (sym other ∙ ap is_memory same)
-
--- a query's answer is no want of memory
-query_fine : (c : ConfigParts) (bundles : DatabaseParts) (found : Result Asked AskFault) → outage_in (query_answer (rows_over c bundles found)) ≡ fine
-query_fine c bundles (Ok asked) = refl
-query_fine c bundles (Err fault) = refl
 
 some_same : {A : Type 0} (x y : A) → Some x ≡ Some y → x ≡ y
 some_same {A = A} x y e = ap (λ (o : Option A). unwrapped x o) e
@@ -124,7 +120,7 @@ module _ (c : ConfigParts) (m : ℕ) (H : List Entry) (k : ℕ) (st : State) (r 
       let at : length st.entries ≡ n = r.count ∙ sym is in
       ap (λ (es : List Entry). take n es) r.prefix ∙ take_at st.entries r.more n at
 
-  edit_is : (n : ℕ) (edit : Edit) (made : Result (DatabaseParts) Broken) → n ≡ k → edited c (take n H) edit ≡ made → edited st.config st.entries edit ≡ made
+  edit_is : (n : ℕ) (edit : Edit) (made : Result DatabaseParts Broken) → n ≡ k → edited c (take n H) edit ≡ made → edited st.config st.entries edit ≡ made
   edit_is n edit made is right =
       ap (λ (d : ConfigParts). edited d st.entries edit) r.config
       ∙ ap (λ (es : List Entry). edited c es edit) (sym (front n is))
@@ -161,13 +157,13 @@ module _ (c : ConfigParts) (m : ℕ) (H : List Entry) (k : ℕ) (st : State) (r 
 
   -- The five requests, in turn.
 
-  abbrev edit_out : Edit → Bool → Result (DatabaseParts) Broken → Reply × State
+  abbrev edit_out : Edit → Bool → Result DatabaseParts Broken → Reply × State
   edit_out edit full made = replied l (edit_step st l edit full made)
 
-  edit_made_is : (edit : Edit) (full : Bool) (made : Result (DatabaseParts) Broken) → is_full st.entries ≡ full → edited st.config st.entries edit ≡ made
-      → edit_out edit full made ≡ request_turn false st l (requests.Edit edit) fine
+  edit_made_is : (edit : Edit) (full : Bool) (made : Result DatabaseParts Broken) → is_full st.entries ≡ full → edited st.config st.entries edit ≡ made
+      → edit_out edit full made ≡ request_turn false st l (requests.Edit (Ok edit)) fine
   edit_made_is edit full made full_is made_is =
-      sym (ap (λ (b : Bool). edit_out edit b (edited st.config st.entries edit)) full_is ∙ ap (λ (found : Result (DatabaseParts) Broken). edit_out edit full found) made_is)
+      sym (ap (λ (b : Bool). edit_out edit b (edited st.config st.entries edit)) full_is ∙ ap (λ (found : Result DatabaseParts Broken). edit_out edit full found) made_is)
 
   not_full : k < HISTORY_EDITS → is_full st.entries ≡ false
   not_full room =
@@ -183,7 +179,7 @@ module _ (c : ConfigParts) (m : ℕ) (H : List Entry) (k : ℕ) (st : State) (r 
   numbered_as answer n j next same = ap (numbered_reply answer next) same
 
   accepted_follows : (edit : Edit) (n : ℕ) (command : Command) → IsAcceptance c H l edit n command → n ≡ k + 1
-      → Follows c H k st l (requests.Edit edit) (Some n) (Done command) (request_turn false st l (requests.Edit edit) fine)
+      → Follows c H k st l (requests.Edit (Ok edit)) (Some n) (Done command) (request_turn false st l (requests.Edit (Ok edit)) fine)
   accepted_follows edit n command right is =
       let before_is : right.before ≡ k = omega (arith, right.number, is) in
       let count : length st.entries ≡ k = r.count in
@@ -192,10 +188,10 @@ module _ (c : ConfigParts) (m : ℕ) (H : List Entry) (k : ℕ) (st : State) (r 
       ap (λ (es : List Entry). slice_get es (length st.entries)) (sym r.prefix) ∙ ap (λ (j : ℕ). slice_get H j) (count ∙ sym before_is) ∙ right.entry in
       let next : _ = next_entry st.entries r.more (entry_of l edit) at in
       let n_is : n ≡ present st + 1 = omega (arith, is, count) in
-      moved (requests.Edit edit) (Some n) (Done command) (reply_to l (Some n) (Done command), with_entry st (entry_of l edit)) _
+      moved (requests.Edit (Ok edit)) (Some n) (Done command) (reply_to l (Some n) (Done command), with_entry st (entry_of l edit)) _
       (numbered_as (Done command) n (present st + 1) (with_entry st (entry_of l edit)) n_is
       ∙ ap (λ (made : Command). (reply_to l (Some (present st + 1)) (Done made), with_entry st (entry_of l edit))) right.own
-      ∙ edit_made_is edit false (Ok right.bundles) (not_full room) (edit_is right.before edit (Ok right.bundles) before_is right.right))
+      ∙ edit_made_is edit false (Ok right.database) (not_full room) (edit_is right.before edit (Ok right.database) before_is right.right))
       (record {
         reply = refl;
         there = record {
@@ -211,46 +207,84 @@ module _ (c : ConfigParts) (m : ℕ) (H : List Entry) (k : ℕ) (st : State) (r 
         others = λ s ne. refl;
       })
 
-  refused_edit : (edit : Edit) (n : ℕ) (refusal : Refusal) → IsRightAt c H false l (requests.Edit edit) n (Refused refusal) → n ≡ k
-      → Follows c H k st l (requests.Edit edit) (Some n) (Refused refusal) (request_turn false st l (requests.Edit edit) (outage_in (Refused refusal)))
+  refused_edit : (edit : Edit) (n : ℕ) (refusal : Refusal) → IsRightAt c H false l (requests.Edit (Ok edit)) n (Refused refusal) → n ≡ k
+      → Follows c H k st l (requests.Edit (Ok edit)) (Some n) (Refused refusal) (request_turn false st l (requests.Edit (Ok edit)) (outage_in (Refused refusal)))
   refused_edit edit n (refusals.Rule rule) right is =
-      moved (requests.Edit edit) (Some n) (Refused (refusals.Rule rule)) (reply_to l (Some n) (Refused (refusals.Rule rule)), st) _
+      moved (requests.Edit (Ok edit)) (Some n) (Refused (refusals.Rule rule)) (reply_to l (Some n) (Refused (refusals.Rule rule)), st) _
       (numbered_as (Refused (refusals.Rule rule)) n (present st) st (is ∙ sym r.count)
       ∙ edit_made_is edit false (Err rule) (not_full (subst (λ (j : ℕ). j < HISTORY_EDITS) is right.0)) (edit_is n edit (Err rule) is right.1))
-      (stays (requests.Edit edit) (Some n) (Refused (refusals.Rule rule)) refl refl)
+      (stays (requests.Edit (Ok edit)) (Some n) (Refused (refusals.Rule rule)) refl refl)
   refused_edit edit n refusals.HistoryFull right is =
       let full : is_full st.entries ≡ true = le-leb HISTORY_EDITS (length st.entries) (omega (arith, right, is, r.count)) in
-      moved (requests.Edit edit) (Some n) (Refused refusals.HistoryFull) (reply_to l (Some n) (Refused refusals.HistoryFull), st) _
+      moved (requests.Edit (Ok edit)) (Some n) (Refused refusals.HistoryFull) (reply_to l (Some n) (Refused refusals.HistoryFull), st) _
       (numbered_as (Refused refusals.HistoryFull) n (present st) st (is ∙ sym r.count)
       ∙ edit_made_is edit true (edited st.config st.entries edit) full refl)
-      (stays (requests.Edit edit) (Some n) (Refused refusals.HistoryFull) refl refl)
+      (stays (requests.Edit (Ok edit)) (Some n) (Refused refusals.HistoryFull) refl refl)
   refused_edit edit n refusals.StoreFull right is = absurd (false≢true right.stored)
+  refused_edit edit n (refusals.Grid fault) right is = absurd right
   refused_edit edit n (refusals.Resolve fault) right is = absurd right
+  refused_edit edit n refusals.NotBuilt right is = absurd right
   refused_edit edit n refusals.NoLook right is = absurd right
   refused_edit edit n refusals.LookOpen right is = absurd right
   refused_edit edit n refusals.Disk right is = absurd right
   refused_edit edit n refusals.Memory right is = absurd right
 
-  edit_alone : (edit : Edit) (answer : Answer) → IsRightUnnumbered false (requests.Edit edit) answer
-      → Follows c H k st l (requests.Edit edit) None answer (request_turn false st l (requests.Edit edit) (outage_in answer))
-  edit_alone edit (Refused refusals.Memory) right = stays (requests.Edit edit) None memory refl refl
+  edit_alone : (edit : Edit) (answer : Answer) → IsRightUnnumbered false (requests.Edit (Ok edit)) answer
+      → Follows c H k st l (requests.Edit (Ok edit)) None answer (request_turn false st l (requests.Edit (Ok edit)) (outage_in answer))
+  edit_alone edit (Refused refusals.Memory) right = stays (requests.Edit (Ok edit)) None memory refl refl
   edit_alone edit (Refused refusals.Disk) right = absurd (false≢true right)
   edit_alone edit (Refused refusals.LookOpen) right = absurd right
   edit_alone edit (Refused refusals.NoLook) right = absurd right
   edit_alone edit (Refused (refusals.Rule rule)) right = absurd right
+  edit_alone edit (Refused (refusals.Grid fault)) right = absurd right
   edit_alone edit (Refused (refusals.Resolve fault)) right = absurd right
+  edit_alone edit (Refused refusals.NotBuilt) right = absurd right
   edit_alone edit (Refused refusals.HistoryFull) right = absurd right
   edit_alone edit (Refused refusals.StoreFull) right = absurd right
   edit_alone edit (Done command) right = absurd right
   edit_alone edit (Segments rows) right = absurd right
 
-  edit_follows : (edit : Edit) (n : Option ℕ) (answer : Answer) → IsRightFor c m H l (requests.Edit edit) n answer
-      → IsStanding (k + length (accepting l (requests.Edit edit) n answer)) (requests.Edit edit) n
-      → Follows c H k st l (requests.Edit edit) n answer (request_turn false st l (requests.Edit edit) (outage_in answer))
+  edit_follows : (edit : Edit) (n : Option ℕ) (answer : Answer) → IsRightFor c m H l (requests.Edit (Ok edit)) n answer
+      → IsStanding (k + length (accepting l (requests.Edit (Ok edit)) n answer)) (requests.Edit (Ok edit)) n
+      → Follows c H k st l (requests.Edit (Ok edit)) n answer (request_turn false st l (requests.Edit (Ok edit)) (outage_in answer))
   edit_follows edit None answer right stand = edit_alone edit answer right
   edit_follows edit (Some n) (Done command) right stand = accepted_follows edit n command right.2 stand
   edit_follows edit (Some n) (Refused refusal) right stand = refused_edit edit n refusal right.2 (let is : n ≡ k + 0 = stand in omega arith)
   edit_follows edit (Some n) (Segments rows) right stand = absurd right.2
+
+  -- a line whose TextGrid has a fault
+  abbrev grid_out : GridFault → Bool → Reply × State
+  grid_out fault short = (reply_to l (grid_number (present st) short) (grid_answer fault short), st)
+
+  grid_alone : (fault : GridFault) (answer : Answer) → IsRightUnnumbered false (requests.Edit (Err fault)) answer
+      → Follows c H k st l (requests.Edit (Err fault)) None answer (request_turn false st l (requests.Edit (Err fault)) (outage_in answer))
+  grid_alone fault (Refused refusals.Memory) right = stays (requests.Edit (Err fault)) None memory refl refl
+  grid_alone fault (Refused refusals.Disk) right = absurd right
+  grid_alone fault (Refused refusals.LookOpen) right = absurd right
+  grid_alone fault (Refused refusals.NoLook) right = absurd right
+  grid_alone fault (Refused (refusals.Rule rule)) right = absurd right
+  grid_alone fault (Refused (refusals.Grid other)) right = absurd right
+  grid_alone fault (Refused (refusals.Resolve other)) right = absurd right
+  grid_alone fault (Refused refusals.NotBuilt) right = absurd right
+  grid_alone fault (Refused refusals.HistoryFull) right = absurd right
+  grid_alone fault (Refused refusals.StoreFull) right = absurd right
+  grid_alone fault (Done command) right = absurd right
+  grid_alone fault (Segments rows) right = absurd right
+
+  grid_refused : (fault : GridFault) (n : ℕ) → is_want_of_memory fault ≡ false → n ≡ k
+      → Follows c H k st l (requests.Edit (Err fault)) (Some n) (Refused (refusals.Grid fault)) (request_turn false st l (requests.Edit (Err fault)) fine)
+  grid_refused fault n other is =
+      moved (requests.Edit (Err fault)) (Some n) (Refused (refusals.Grid fault)) (reply_to l (Some n) (Refused (refusals.Grid fault)), st) _
+      (numbered_as (Refused (refusals.Grid fault)) n (present st) st (is ∙ sym r.count) ∙ ap (λ (short : Bool). grid_out fault short) (sym other))
+      (stays (requests.Edit (Err fault)) (Some n) (Refused (refusals.Grid fault)) refl refl)
+
+  grid_follows : (fault : GridFault) (n : Option ℕ) (answer : Answer) → IsRightFor c m H l (requests.Edit (Err fault)) n answer
+      → IsStanding (k + length (accepting l (requests.Edit (Err fault)) n answer)) (requests.Edit (Err fault)) n
+      → Follows c H k st l (requests.Edit (Err fault)) n answer (request_turn false st l (requests.Edit (Err fault)) (outage_in answer))
+  grid_follows fault None answer right stand = grid_alone fault answer right
+  grid_follows fault (Some n) answer right stand =
+      subst (λ (a : Answer). Follows c H k st l (requests.Edit (Err fault)) (Some n) a (request_turn false st l (requests.Edit (Err fault)) (outage_in a))) (sym right.2.told)
+      (grid_refused fault n right.2.is_fault (let is : n ≡ k + 0 = stand in omega arith))
 
   -- a query is put under way and answered
   abbrev query_out : Ask → Option Opened → Reply × State
@@ -293,7 +327,9 @@ module _ (c : ConfigParts) (m : ℕ) (H : List Entry) (k : ℕ) (st : State) (r 
   query_alone ask (Refused refusals.LookOpen) right = absurd right
   query_alone ask (Refused refusals.NoLook) right = absurd right
   query_alone ask (Refused (refusals.Rule rule)) right = absurd right
+  query_alone ask (Refused (refusals.Grid fault)) right = absurd right
   query_alone ask (Refused (refusals.Resolve fault)) right = absurd right
+  query_alone ask (Refused refusals.NotBuilt) right = absurd right
   query_alone ask (Refused refusals.HistoryFull) right = absurd right
   query_alone ask (Refused refusals.StoreFull) right = absurd right
   query_alone ask (Done command) right = absurd right
@@ -301,7 +337,8 @@ module _ (c : ConfigParts) (m : ℕ) (H : List Entry) (k : ℕ) (st : State) (r 
 
   -- a query's answer tells of no want of memory
   told_fine : (n : ℕ) (ask : Ask) (answer : Answer) → answer ≡ answer_at c H n ask → fine ≡ outage_in answer
-  told_fine n ask answer right = sym (ap outage_in right ∙ query_fine c (bundles_after c (take n H)) (resolved c ask))
+  told_fine n ask answer right =
+      sym (ap outage_in right ∙ answers (λ told. outage_in told ≡ fine) (database_after c (take n H)) (λ rows. refl) (λ fault. refl) refl ask)
 
   query_follows : (ask : Ask) (n : Option ℕ) (answer : Answer) → IsRightFor c m H l (requests.Query ask) n answer
       → IsStanding (k + length (accepting l (requests.Query ask) n answer)) (requests.Query ask) n
@@ -347,7 +384,9 @@ module _ (c : ConfigParts) (m : ℕ) (H : List Entry) (k : ℕ) (st : State) (r 
   look_alone ask (Refused refusals.Disk) right fits = absurd right
   look_alone ask (Refused refusals.NoLook) right fits = absurd right
   look_alone ask (Refused (refusals.Rule rule)) right fits = absurd right
+  look_alone ask (Refused (refusals.Grid fault)) right fits = absurd right
   look_alone ask (Refused (refusals.Resolve fault)) right fits = absurd right
+  look_alone ask (Refused refusals.NotBuilt) right fits = absurd right
   look_alone ask (Refused refusals.HistoryFull) right fits = absurd right
   look_alone ask (Refused refusals.StoreFull) right fits = absurd right
   look_alone ask (Done command) right fits = absurd right
@@ -398,7 +437,9 @@ module _ (c : ConfigParts) (m : ℕ) (H : List Entry) (k : ℕ) (st : State) (r 
   finish_alone (Refused refusals.LookOpen) right fits = absurd right
   finish_alone (Refused refusals.Disk) right fits = absurd right
   finish_alone (Refused (refusals.Rule rule)) right fits = absurd right
+  finish_alone (Refused (refusals.Grid fault)) right fits = absurd right
   finish_alone (Refused (refusals.Resolve fault)) right fits = absurd right
+  finish_alone (Refused refusals.NotBuilt) right fits = absurd right
   finish_alone (Refused refusals.HistoryFull) right fits = absurd right
   finish_alone (Refused refusals.StoreFull) right fits = absurd right
   finish_alone (Done command) right fits = absurd right
@@ -417,7 +458,9 @@ module _ (c : ConfigParts) (m : ℕ) (H : List Entry) (k : ℕ) (st : State) (r 
   after_alone earlier (Refused refusals.LookOpen) right = absurd right
   after_alone earlier (Refused refusals.NoLook) right = absurd right
   after_alone earlier (Refused (refusals.Rule rule)) right = absurd right
+  after_alone earlier (Refused (refusals.Grid fault)) right = absurd right
   after_alone earlier (Refused (refusals.Resolve fault)) right = absurd right
+  after_alone earlier (Refused refusals.NotBuilt) right = absurd right
   after_alone earlier (Refused refusals.HistoryFull) right = absurd right
   after_alone earlier (Refused refusals.StoreFull) right = absurd right
   after_alone earlier (Done command) right = absurd right
@@ -438,7 +481,8 @@ module _ (c : ConfigParts) (m : ℕ) (H : List Entry) (k : ℕ) (st : State) (r 
   pub follows : (request : Request) (n : Option ℕ) (answer : Answer) → IsRightFor c m H l request n answer
       → IsStanding (k + length (accepting l request n answer)) request n → ReplyFits c H (seen_look (slot st.looks l.session.0)) request n answer
       → Follows c H k st l request n answer (request_turn false st l request (outage_in answer))
-  follows (requests.Edit edit) n answer right stand fits = edit_follows edit n answer right stand
+  follows (requests.Edit (Ok edit)) n answer right stand fits = edit_follows edit n answer right stand
+  follows (requests.Edit (Err fault)) n answer right stand fits = grid_follows fault n answer right stand
   follows (requests.Query ask) n answer right stand fits = query_follows ask n answer right stand
   follows (requests.Look ask) n answer right stand fits = look_follows ask n answer right stand fits
   follows requests.Finish n answer right stand fits = finish_follows n answer right fits

@@ -1,5 +1,5 @@
 -- A legal run in order has one reading: one line after another, and at the end every entry stands.
-use Rattle.std.proofs.Common.{◌≡◌, ◌≢◌, ⊎_elim, ℕ, suc, ◌+◌, ◌<◌, ◌≤◌, Bool, true, false, cond, List, [], ◌∷◌, ◌++◌, length, map, Option, Some, None, nat_eq, refl, sym, ◌∙◌, ap, subst, arith, length-append, eq-eqb}
+use Rattle.std.proofs.Common.{◌≡◌, ◌≢◌, ⊎_elim, ℕ, suc, ◌+◌, ◌<◌, ◌≤◌, Bool, true, false, cond, List, [], ◌∷◌, ◌++◌, length, map, Option, Some, None, Ok, Err, nat_eq, refl, sym, ◌∙◌, ap, subst, arith, length-append, eq-eqb}
 use Rattle.std.proofs.lemmas.Bool.{cases_eq, ne_eqb, false≢true}
 use Rattle.std.proofs.lemmas.List.{append-nil}
 use Rattle.db_config.specs.declared.parts.ConfigParts.{ConfigParts}
@@ -104,12 +104,13 @@ each_joined P [] ys each more = more
 each_joined P (x ∷ xs) ys each more = (each.0, each_joined P xs ys each.1 more)
 
 accepting_to : (k high : ℕ) (l : Line) (request : Request) (n : Option ℕ) (answer : Answer) → IsStanding k request n → k ≤ high → Each (IsMarkTo high) (accepting l request n answer)
-accepting_to k high l (requests.Edit edit) (Some n) (Done command) stand low =
+accepting_to k high l (requests.Edit (Ok edit)) (Some n) (Done command) stand low =
     let is : n ≡ k = stand in
     (omega arith, tt)
-accepting_to k high l (requests.Edit edit) (Some n) (Segments rows) stand low = tt
-accepting_to k high l (requests.Edit edit) (Some n) (Refused refusal) stand low = tt
-accepting_to k high l (requests.Edit edit) None answer stand low = tt
+accepting_to k high l (requests.Edit (Ok edit)) (Some n) (Segments rows) stand low = tt
+accepting_to k high l (requests.Edit (Ok edit)) (Some n) (Refused refusal) stand low = tt
+accepting_to k high l (requests.Edit (Ok edit)) None answer stand low = tt
+accepting_to k high l (requests.Edit (Err fault)) n answer stand low = tt
 accepting_to k high l (requests.Query ask) n answer stand low = tt
 accepting_to k high l (requests.Look ask) n answer stand low = tt
 accepting_to k high l requests.Finish n answer stand low = tt

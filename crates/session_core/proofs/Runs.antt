@@ -75,13 +75,14 @@ run_good opening store faults w (m ∷ ms) g fits =
 
 -- The configuration stays.
 
-edit_config : (st : State) (l : Line) (edit : Edit) (full : Bool) (made : Result (DatabaseParts) Broken) → (edit_step st l edit full made).1.config ≡ st.config
+edit_config : (st : State) (l : Line) (edit : Edit) (full : Bool) (made : Result DatabaseParts Broken) → (edit_step st l edit full made).1.config ≡ st.config
 edit_config st l edit true made = refl
-edit_config st l edit false (Ok bundles) = refl
+edit_config st l edit false (Ok database) = refl
 edit_config st l edit false (Err rule) = refl
 
 edit_event_config : (st : State) (l : Line) (r : Request) → (edit_event st l r).1.config ≡ st.config
-edit_event_config st l (requests.Edit edit) = edit_config st l edit (is_full st.entries) (edited st.config st.entries edit)
+edit_event_config st l (requests.Edit (Ok edit)) = edit_config st l edit (is_full st.entries) (edited st.config st.entries edit)
+edit_event_config st l (requests.Edit (Err fault)) = refl
 edit_event_config st l (requests.Query ask) = refl
 edit_event_config st l (requests.Look ask) = refl
 edit_event_config st l requests.Finish = refl
@@ -95,7 +96,7 @@ look_event_config : (st : State) (l : Line) (r : Request) → (look_event st l r
 look_event_config st l (requests.Look ask) = look_config st l ask (slot st.looks l.session.0)
 look_event_config st l (requests.Query ask) = refl
 look_event_config st l (requests.After earlier) = refl
-look_event_config st l (requests.Edit edit) = refl
+look_event_config st l (requests.Edit given) = refl
 look_event_config st l requests.Finish = refl
 
 finish_config : (st : State) (line : ℕ) (s : SessionNo) (look : Option Opened) → (finish_step st line s look).1.config ≡ st.config

@@ -1,5 +1,5 @@
 -- What a run of the core keeps true: of the whole, and of each session.
-use Rattle.std.proofs.Common.{◌≡◌, ◌≢◌, ⊎_elim, ℕ, zero, suc, ◌+◌, ◌<◌, ◌≤◌, Bool, false, List, [], ◌∷◌, ◌++◌, length, Option, Some, None, slice_get, take, option_map, refl, sym, ◌∙◌, ap, subst, arith, append_assoc, length-append}
+use Rattle.std.proofs.Common.{◌≡◌, ◌≢◌, ⊎_elim, ℕ, zero, suc, ◌+◌, ◌<◌, ◌≤◌, Bool, false, List, [], ◌∷◌, ◌++◌, length, Option, Some, None, Ok, Err, slice_get, take, option_map, refl, sym, ◌∙◌, ap, subst, arith, append_assoc, length-append}
 use Rattle.std.proofs.lemmas.Bool.{cases_eq}
 use Rattle.std.proofs.lemmas.List.{append-nil, take-append-le}
 use Rattle.emu_names.specs.declared.kinds.SessionNo.{SessionNo}
@@ -15,7 +15,7 @@ use Rattle.session_core.specs.declared.line.Refusal.TheVariants as refusals
 use Rattle.session_core.specs.declared.line.Request.{Request}
 use Rattle.session_core.specs.declared.line.Request.TheVariants as requests
 use Rattle.session_core.specs.declared.line.Line.{Line}
-use Rattle.edit_rules.specs.Effects.{IsLegal, edited, bundles_after}
+use Rattle.edit_rules.specs.Effects.{IsLegal, edited, database_after}
 use Rattle.session_core.specs.Answers.{answer_over, answer_at, entry_of}
 use Rattle.session_core.specs.Steps.{Opened, slot, session_places}
 use Rattle.session_core.specs.Worlds.{Turn, World, Each, query_answered, passes_store}
@@ -25,7 +25,7 @@ use Rattle.session_core.proofs.Turns.{each_push, each_map, each_filter, turns_ow
 -- A longer history changes nothing of what was said of a shorter one.
 
 pub answer_same : (c : ConfigParts) (H new : List Entry) (n : ℕ) (ask : Ask) → n ≤ length H → answer_at c (H ++ new) n ask ≡ answer_at c H n ask
-answer_same c H new n ask high = ap (λ (xs : List Entry). answer_over c (bundles_after c xs) ask) (take-append-le n H new high)
+answer_same c H new n ask high = ap (λ (xs : List Entry). answer_over (database_after c xs) ask) (take-append-le n H new high)
 
 edited_same : (c : ConfigParts) (H new : List Entry) (n : ℕ) (edit : Edit) → n ≤ length H → edited c (take n (H ++ new)) edit ≡ edited c (take n H) edit
 edited_same c H new n edit high = ap (λ (xs : List Entry). edited c xs edit) (take-append-le n H new high)
@@ -46,11 +46,13 @@ module _ (store : Bool) (c : ConfigParts) (m : ℕ) (H new : List Entry) where
   refusal_more l edit n refusals.StoreFull high right = record {
     room = right.room;
     stored = right.stored;
-    bundles = right.bundles;
+    database = right.database;
     right = edited_same c H new n edit high ∙ right.right;
     passes = ap (λ (xs : List Entry). passes_store c xs (entry_of l edit)) (take-append-le n H new high) ∙ right.passes;
   }
+  refusal_more l edit n (refusals.Grid fault) high right = right
   refusal_more l edit n (refusals.Resolve fault) high right = right
+  refusal_more l edit n refusals.NotBuilt high right = right
   refusal_more l edit n refusals.NoLook high right = right
   refusal_more l edit n refusals.LookOpen high right = right
   refusal_more l edit n refusals.Disk high right = right
@@ -66,7 +68,7 @@ module _ (store : Bool) (c : ConfigParts) (m : ℕ) (H new : List Entry) where
         before = right.before;
         number = right.number;
         room = right.room;
-        bundles = right.bundles;
+        database = right.database;
         right = edited_same c H new right.before edit low_le ∙ right.right;
         entry = slice_get_more H new right.before low ∙ right.entry;
       }
@@ -74,7 +76,8 @@ module _ (store : Bool) (c : ConfigParts) (m : ℕ) (H new : List Entry) where
   edit_more l edit n (Segments rows) high right = right
 
   right_at_more : (l : Line) (r : Request) (n : ℕ) (answer : Answer) → n ≤ length H → IsRightAt c H store l r n answer → IsRightAt c (H ++ new) store l r n answer
-  right_at_more l (requests.Edit edit) n answer high right = edit_more l edit n answer high right
+  right_at_more l (requests.Edit (Ok edit)) n answer high right = edit_more l edit n answer high right
+  right_at_more l (requests.Edit (Err fault)) n answer high right = right
   right_at_more l (requests.Query ask) n answer high right = right ∙ sym (answer_same c H new n ask high)
   right_at_more l (requests.Look ask) n answer high right = right
   right_at_more l (requests.After earlier) n answer high right = right
@@ -106,7 +109,7 @@ module _ (store : Bool) (c : ConfigParts) (m : ℕ) (H new : List Entry) where
   fits_more : (held : Option Look) (r : Request) (n : Option ℕ) (answer : Answer) → IsTo (length H) n → ReplyFits c H held r n answer → ReplyFits c (H ++ new) held r n answer
   fits_more held (requests.Look ask) n answer to fits = fits
   fits_more held requests.Finish n answer to fits = finish_more held n answer to fits
-  fits_more held (requests.Edit edit) n answer to fits = fits
+  fits_more held (requests.Edit given) n answer to fits = fits
   fits_more held (requests.Query ask) n answer to fits = fits
   fits_more held (requests.After earlier) n answer to fits = fits
 

@@ -2,6 +2,7 @@
 -- stand behind each of them.
 use Rattle.std.proofs.Common.{◌≡◌, ℕ, zero, suc, ◌+◌, Bool, true, false, List, [], ◌∷◌, length, Option, Some, None, Result, Ok, Err, refl, ap, subst, arith, length-append}
 use Rattle.emu_names.specs.declared.rules.Broken.{Broken}
+use Rattle.textgrid.specs.declared.fault.GridFault.{GridFault}
 use Rattle.edit_rules.specs.Database.{DatabaseParts}
 use Rattle.edit_rules.specs.declared.edit.Edit.{Edit}
 use Rattle.session_core.specs.declared.line.Ask.{Ask}
@@ -13,7 +14,7 @@ use Rattle.session_core.specs.declared.line.Request.TheVariants as requests
 use Rattle.session_core.specs.declared.line.Line.{Line}
 use Rattle.session_core.specs.declared.line.Reply.{Reply}
 use Rattle.edit_rules.specs.Effects.{edited}
-use Rattle.session_core.specs.Answers.{memory, reply_to, entry_of}
+use Rattle.session_core.specs.Answers.{memory, is_want_of_memory, grid_number, grid_answer, reply_to, entry_of}
 use Rattle.session_core.specs.Steps.{Opened, State, slot, put_slot, present, is_full, opened_at, edit_step, look_step, finish_step, query_step, query_fails}
 use Rattle.session_core.specs.Worlds.{Turn, Trouble, untroubled, no_memory, store_full, disk_failed}
 use Rattle.session_core.specs.Legal.{lines_in, replies_in, accepting}
@@ -50,15 +51,16 @@ record Counts (st : State) (l : Line) (request : Request) (out : Reply × State)
 module _ (st : State) (l : Line) where
   -- want of memory, which has no number and leaves the state
   memory_counts : (request : Request) → Counts st l request (reply_to l None memory, st)
-  memory_counts (requests.Edit edit) = record { stands = tt; count = omega arith }
+  memory_counts (requests.Edit (Ok edit)) = record { stands = tt; count = omega arith }
+  memory_counts (requests.Edit (Err fault)) = record { stands = tt; count = omega arith }
   memory_counts (requests.Query ask) = record { stands = tt; count = omega arith }
   memory_counts (requests.Look ask) = record { stands = tt; count = omega arith }
   memory_counts requests.Finish = record { stands = tt; count = omega arith }
   memory_counts (requests.After earlier) = record { stands = tt; count = omega arith }
 
-  edit_counts : (edit : Edit) (full : Bool) (made : Result (DatabaseParts) Broken) → Counts st l (requests.Edit edit) (replied l (edit_step st l edit full made))
+  edit_counts : (edit : Edit) (full : Bool) (made : Result DatabaseParts Broken) → Counts st l (requests.Edit (Ok edit)) (replied l (edit_step st l edit full made))
   edit_counts edit true made = record { stands = omega arith; count = omega arith }
-  edit_counts edit false (Ok bundles) = record { stands = refl; count = length-append st.entries (entry_of l edit ∷ []) }
+  edit_counts edit false (Ok database) = record { stands = refl; count = length-append st.entries (entry_of l edit ∷ []) }
   edit_counts edit false (Err rule) = record { stands = omega arith; count = omega arith }
 
   look_counts : (ask : Ask) (held : Option Opened) → Counts st l (requests.Look ask) (replied l (look_step st l ask held))
@@ -92,17 +94,29 @@ module _ (st : State) (l : Line) where
   under_way ask = slot (put_slot st.queries l.session.0 (Some (opened_at st l ask))) l.session.0
 
   -- an edit that is answered without an entry
-  kept_counts : (edit : Edit) (n : ℕ) (refusal : Refusal) → n ≡ present st → Counts st l (requests.Edit edit) (reply_to l (Some n) (Refused refusal), st)
+  kept_counts : (edit : Edit) (n : ℕ) (refusal : Refusal) → n ≡ present st → Counts st l (requests.Edit (Ok edit)) (reply_to l (Some n) (Refused refusal), st)
   kept_counts edit n refusal is = record { stands = omega arith; count = omega arith }
 
-  trouble_counts : (edit : Edit) (trouble : Trouble) → Counts st l (requests.Edit edit) (replied l (edit_outcome st l edit trouble))
+  trouble_counts : (edit : Edit) (trouble : Trouble) → Counts st l (requests.Edit (Ok edit)) (replied l (edit_outcome st l edit trouble))
   trouble_counts edit untroubled = edit_counts edit (is_full st.entries) (edited st.config st.entries edit)
-  trouble_counts edit no_memory = memory_counts (requests.Edit edit)
+  trouble_counts edit no_memory = memory_counts (requests.Edit (Ok edit))
   trouble_counts edit store_full = kept_counts edit (present st) refusals.StoreFull refl
   trouble_counts edit disk_failed = record { stands = tt; count = omega arith }
 
+  -- a line whose TextGrid has a fault
+  abbrev grid_out : GridFault → Bool → Reply × State
+  grid_out fault short = (reply_to l (grid_number (present st) short) (grid_answer fault short), st)
+
+  grid_counts : (fault : GridFault) (short : Bool) → Counts st l (requests.Edit (Err fault)) (grid_out fault short)
+  grid_counts fault true = memory_counts (requests.Edit (Err fault))
+  grid_counts fault false = record { stands = omega arith; count = omega arith }
+
   request_counts : (store : Bool) (request : Request) (outage : Outage) → Counts st l request (request_turn store st l request outage)
-  request_counts store (requests.Edit edit) outage = trouble_counts edit (trouble_at store st l edit outage)
+  request_counts store (requests.Edit (Ok edit)) outage = trouble_counts edit (trouble_at store st l edit outage)
+  request_counts store (requests.Edit (Err fault)) fine = grid_counts fault (is_want_of_memory fault)
+  request_counts store (requests.Edit (Err fault)) at_first = memory_counts (requests.Edit (Err fault))
+  request_counts store (requests.Edit (Err fault)) at_last = memory_counts (requests.Edit (Err fault))
+  request_counts store (requests.Edit (Err fault)) disk_fails = grid_counts fault (is_want_of_memory fault)
   request_counts store (requests.Query ask) fine = query_counts ask (under_way ask) (now_put st.queries l.session.0 (opened_at st l ask) refl)
   request_counts store (requests.Query ask) at_first = memory_counts (requests.Query ask)
   request_counts store (requests.Query ask) at_last = fails_counts ask (under_way ask)

@@ -215,7 +215,7 @@ seen_in_to m line high (Some s) ts from to = seen_by_to m s line high ts from to
 -- an `after` names an answered line, and has seen what that line had
 abbrev pub HasSeenStill : ℕ → List Turn → Request → Option ℕ → Type 0
 HasSeenStill m ts (requests.After earlier) n = (is_answered earlier ts ≡ true) × HasSeen m ts (requests.After earlier) n
-HasSeenStill m ts (requests.Edit edit) n = Unit {0}
+HasSeenStill m ts (requests.Edit given) n = Unit {0}
 HasSeenStill m ts (requests.Query ask) n = Unit {0}
 HasSeenStill m ts (requests.Look ask) n = Unit {0}
 HasSeenStill m ts requests.Finish n = Unit {0}
@@ -228,7 +228,7 @@ seen_still m earlier ts t (Some n) known past has = subst (λ (k : ℕ). k ≤ n
 still_push : (m : ℕ) (ts : List Turn) (t : Turn) (r : Request) (n : Option ℕ) → IsPast t ts → HasSeenStill m ts r n → HasSeenStill m (ts ++ t ∷ []) r n
 still_push m ts t (requests.After earlier) n past has =
     (any_more (λ (u : Turn). nat_eq u.line.line earlier) ts t has.0, seen_still m earlier ts t n has.0 past has.1)
-still_push m ts t (requests.Edit edit) n past has = tt
+still_push m ts t (requests.Edit given) n past has = tt
 still_push m ts t (requests.Query ask) n past has = tt
 still_push m ts t (requests.Look ask) n past has = tt
 still_push m ts t requests.Finish n past has = tt
@@ -242,7 +242,7 @@ all_still m ts t past each here =
 
 pub still_seen : (m : ℕ) (ts : List Turn) (r : Request) (n : Option ℕ) → HasSeenStill m ts r n → HasSeen m ts r n
 still_seen m ts (requests.After earlier) n has = has.1
-still_seen m ts (requests.Edit edit) n has = tt
+still_seen m ts (requests.Edit given) n has = tt
 still_seen m ts (requests.Query ask) n has = tt
 still_seen m ts (requests.Look ask) n has = tt
 still_seen m ts requests.Finish n has = tt

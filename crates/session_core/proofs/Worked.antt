@@ -1,7 +1,8 @@
 -- The example's run, worked out.
 use Rattle.std.proofs.Common.{[], refl, arith}
+use Rattle.edit_rules.specs.Database.{empty_database}
 use Rattle.session_core.specs.Example.{example_config, example_events}
-use Rattle.session_core.specs.Laws.{ExampleFits, ExampleReplies, ExampleHistory, ExampleIsLegal}
+use Rattle.session_core.specs.Laws.{ExampleFits, ExampleReplies, ExampleHistory, ExampleIsLegal, ExampleSizes}
 use Rattle.session_core.proofs.Runs.{core_run_legal}
 
 pub example_replies_are : ExampleReplies
@@ -26,4 +27,7 @@ example_fits = (
 )
 
 pub example_legal : ExampleIsLegal
-example_legal = core_run_legal example_config [] example_events ([], refl) (omega arith) example_fits
+example_legal = core_run_legal example_config [] example_events (empty_database example_config, refl) (omega arith) example_fits
+
+pub example_sizes : ExampleSizes
+example_sizes = (refl, refl, refl)

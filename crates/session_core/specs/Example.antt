@@ -1,12 +1,12 @@
 -- A small run, worked out: one bundle with two segments is added, and one of them is asked for
 -- (EMU-SDMS Manual, "The EMU Query Language": `Phonetic == m`).
-use Rattle.std.specs.Prelude.{ℕ, List, [], ◌∷◌, Some, codes, None}
+use Rattle.std.specs.Prelude.{ℕ, List, [], ◌∷◌, Some, codes, None, Ok}
 use Rattle.emu_names.specs.declared.kinds.LevelKind.TheVariants as kinds
 use Rattle.emu_names.specs.declared.kinds.SessionNo.{SessionNo}
-use Rattle.session_core.specs.declared.annot.Time.TheVariants.{Span}
-use Rattle.session_core.specs.declared.annot.AnnotItem.{AnnotItem}
-use Rattle.session_core.specs.declared.annot.Annot.{Annot}
-use Rattle.session_core.specs.declared.config.LevelDef.{LevelDef}
+use Rattle.level_items.specs.declared.times.Time.TheVariants.{Span}
+use Rattle.level_items.specs.declared.annot.AnnotItem.{AnnotItem}
+use Rattle.level_items.specs.declared.annot.Annot.{Annot}
+use Rattle.db_config.specs.declared.parts.LevelDef.{LevelDef}
 use Rattle.db_config.specs.declared.parts.ConfigParts.{ConfigParts}
 use Rattle.edit_rules.specs.declared.edit.Edit.{Edit}
 use Rattle.edit_rules.specs.declared.edit.Edit.TheVariants as edits
@@ -26,12 +26,20 @@ abbrev pub phonetic_level : LevelDef
 phonetic_level = record {
   name = codes "Phonetic";
   kind = kinds.Segment;
-  attributes = (record { name = codes "Phonetic" }) ∷ [];
+  attributes = (record { name = codes "Phonetic"; legal = None; groups = [] }) ∷ [];
 }
 
 -- a configuration of that level alone
 abbrev pub example_config : ConfigParts
-example_config = record { name = codes "t"; uuid = []; extension = []; levels = phonetic_level ∷ [] }
+example_config = record {
+  name = codes "t";
+  uuid = [];
+  extension = [];
+  tracks = [];
+  levels = phonetic_level ∷ [];
+  groups = [];
+  links = [];
+}
 
 -- a segment with one label
 abbrev pub segment : ℕ → ℕ → ℕ → List ℕ → AnnotItem
@@ -46,7 +54,12 @@ abbrev pub example_annot : Annot
 example_annot = record {
   annotates = codes "b1.wav";
   rate = 20000;
-  levels = (record { name = codes "Phonetic"; kind = kinds.Segment; items = segment 1 3749 1389 (codes "V") ∷ segment 2 5139 1664 (codes "m") ∷ [] }) ∷ [];
+  levels = (record {
+    name = codes "Phonetic";
+    kind = kinds.Segment;
+    items = segment 1 3749 1389 (codes "V") ∷ segment 2 5139 1664 (codes "m") ∷ [];
+  }) ∷ [];
+  links = [];
 }
 
 -- that annotation as bundle b1 of session s1
@@ -59,7 +72,7 @@ first_session = record { 0 = 1 }
 
 -- line 2 of a script, whose line 1 gives the configuration
 abbrev pub add_line : Line
-add_line = record { line = 2; session = first_session; command = commands.AddBundle; request = requests.Edit example_edit }
+add_line = record { line = 2; session = first_session; command = commands.AddBundle; request = requests.Edit (Ok example_edit) }
 
 -- line 3 asks for m
 abbrev pub ask_line : Line
@@ -78,9 +91,13 @@ example_lines = add_line ∷ ask_line ∷ []
 abbrev pub example_events : List Event
 example_events = events.Edit add_line ∷ events.Look ask_line ∷ events.Piece first_session ∷ events.Finish 3 first_session commands.Query ∷ []
 
+-- the entry of the edit
+abbrev pub adding : Entry
+adding = record { session = first_session; line = 2; edit = example_edit }
+
 -- the one entry that they leave
 abbrev pub example_history : List Entry
-example_history = (record { session = first_session; line = 2; edit = example_edit }) ∷ []
+example_history = adding ∷ []
 
 -- m, from 256925 to 340175 microseconds
 abbrev pub example_row : Row
@@ -114,3 +131,11 @@ example_replies = replies_with 1 (example_row ∷ [])
 -- the edit is answered want of memory
 abbrev pub no_memory_reply : Reply
 no_memory_reply = record { line = 2; session = first_session; n = None; answer = memory }
+
+-- another entry: session 1, at line 3, takes item 7 out of (s1, b1)
+abbrev pub removing : Entry
+removing = record {
+  session = first_session;
+  line = 3;
+  edit = edits.RemoveItem (record { session = codes "s1"; bundle = codes "b1" }) (record { 0 = 7 });
+}

@@ -16,7 +16,8 @@ use Rattle.session_core.specs.declared.line.Command.TheVariants as commands
 use Rattle.edit_rules.specs.Effects.{edited}
 use Rattle.session_core.specs.Answers.{memory, reply_to, entry_of}
 use Rattle.session_core.specs.Steps.{State, present, is_full, edit_event, look_event, finish_event, finish_fails, opened_at, with_query, session_places}
-use Rattle.session_core.specs.Worlds.{Trouble, untroubled, no_memory, store_full, disk_failed, passes_store, Each, is_command_of}
+use Rattle.session_core.specs.Worlds.{Trouble, untroubled, no_memory, store_full, disk_failed, passes_store, Each}
+use Rattle.session_core.specs.Commands.{is_command_of}
 
 -- the reply that an event gives to its line
 abbrev pub given : Line → Option Reply → Reply
@@ -61,10 +62,10 @@ stored_trouble false true = disk_failed
 stored_trouble false false = untroubled
 
 -- an edit that the history or a rule refuses meets neither the store nor the disk
-abbrev pub made_trouble : State → Line → Edit → Bool → Bool → Result (DatabaseParts) Broken → Trouble
+abbrev pub made_trouble : State → Line → Edit → Bool → Bool → Result DatabaseParts Broken → Trouble
 made_trouble st l edit fails true made = untroubled
 made_trouble st l edit fails false (Err rule) = untroubled
-made_trouble st l edit fails false (Ok bundles) =
+made_trouble st l edit fails false (Ok database) =
     stored_trouble (passes_store st.config st.entries (entry_of l edit)) fails
 
 -- the first flag says whether there is a store, the other whether the disk fails
@@ -82,7 +83,7 @@ trouble_at store st l edit disk_fails = edit_trouble store st l edit true
 
 -- the edit of a line, or what keeps it from its step
 abbrev pub edit_outcome : State → Line → Edit → Trouble → Option Reply × State
-edit_outcome st l edit untroubled = edit_event st l (requests.Edit edit)
+edit_outcome st l edit untroubled = edit_event st l (requests.Edit (Ok edit))
 edit_outcome st l edit no_memory = (Some (reply_to l None memory), st)
 edit_outcome st l edit store_full = (Some (reply_to l (Some (present st)) (Refused refusals.StoreFull)), st)
 edit_outcome st l edit disk_failed = (Some (reply_to l None (Refused refusals.Disk)), st)
@@ -93,7 +94,9 @@ edit_turn store st l edit outage = replied l (edit_outcome st l edit (trouble_at
 
 -- a request is answered over all edits before it; a `finish` over its look
 abbrev pub request_turn : Bool → State → Line → Request → Outage → Reply × State
-request_turn store st l (requests.Edit edit) outage = edit_turn store st l edit outage
+request_turn store st l (requests.Edit (Ok edit)) outage = edit_turn store st l edit outage
+request_turn store st l (requests.Edit (Err fault)) outage =
+    unless_outage st l outage (edit_event st l (requests.Edit (Err fault)))
 request_turn store st l (requests.Query ask) outage = query_turn st l ask outage
 request_turn store st l (requests.Look ask) outage = unless_outage st l outage (look_event st l (requests.Look ask))
 request_turn store st l requests.Finish outage =
@@ -129,7 +132,7 @@ disk_outages store outages = count_by (λ outage. store && is_disk_outage outage
 -- an `after` names a line that stands before it
 abbrev pub NamesEarlier : List Line → Request → Type 0
 NamesEarlier before (requests.After earlier) = list_any (λ (l : Line). nat_eq l.line earlier) before ≡ true
-NamesEarlier before (requests.Edit edit) = Unit {0}
+NamesEarlier before (requests.Edit given) = Unit {0}
 NamesEarlier before (requests.Query ask) = Unit {0}
 NamesEarlier before (requests.Look ask) = Unit {0}
 NamesEarlier before requests.Finish = Unit {0}

@@ -1,11 +1,12 @@
 -- The core's cache. This is no definition of the product: it says what the code keeps beside the state,
--- which saves it to work out bundles again, namely the bundles of the present, and those of each moment
+-- which saves it to work out bundles again, namely the database of the present, and that of each moment
 -- that a look or a query under way is over.
 use Rattle.std.specs.Prelude.{◌≡◌, ◌≤◌, ℕ, ◌+◌, Bool, true, false, List, [], ◌∷◌, ◌++◌, length, map, take, Option, Some, None, Result, Ok, Err}
 use Rattle.std.specs.Option.{option_map}
 use Rattle.emu_names.specs.declared.kinds.SessionNo.{SessionNo}
 use Rattle.emu_names.specs.declared.rules.Broken.{Broken}
 use Rattle.db_config.specs.declared.parts.ConfigParts.{ConfigParts}
+use Rattle.textgrid.specs.declared.fault.GridFault.{GridFault}
 use Rattle.edit_rules.specs.Database.{DatabaseParts}
 use Rattle.edit_rules.specs.declared.edit.Edit.{Edit}
 use Rattle.edit_rules.specs.declared.edit.Entry.{Entry}
@@ -17,16 +18,16 @@ use Rattle.session_core.specs.declared.line.Reply.{Reply}
 use Rattle.session_core.specs.declared.slots.Held.{Held}
 use Rattle.session_core.specs.declared.moves.Head.{Head}
 use Rattle.edit_rules.specs.Effects.{after, effect}
-use Rattle.session_core.specs.Answers.{answer_over}
+use Rattle.session_core.specs.Answers.{answer_over, is_want_of_memory, grid_number, grid_answer}
 use Rattle.session_core.specs.Steps.{Opened, State, slot, put_slot, is_full, session_places, reply_of}
 
 -- The state that the parts of a core stand for.
 
--- the query that is held, without its bundles
+-- the query that is held, without its database
 abbrev pub opened_by : Held → Opened
 opened_by held = record { line = held.line; n = held.n; ask = held.ask }
 
--- what the sessions hold, without the bundles
+-- what the sessions hold, without the databases
 abbrev pub opened_in : List (Option Held) → List (Option Opened)
 opened_in slots = map (option_map opened_by) slots
 
@@ -35,24 +36,24 @@ abbrev pub state_of : ConfigParts → List Entry → List (Option Held) → List
 state_of c history looks queries =
     record { config = c; entries = history; looks = opened_in looks; queries = opened_in queries }
 
--- a query that is held has the bundles of the moment that its number names
+-- a query that is held has the database of the moment that its number names
 pub record IsMoment (c : ConfigParts) (history : List Entry) (held : Held) : Type 0 where
   pub past : held.n ≤ length history
-  pub bundles : after c (take held.n history) ≡ Ok held.bundles
+  pub database : after c (take held.n history) ≡ Ok held.database
 
 -- what is held, if anything is, is of its moment
 abbrev pub IsHeld : ConfigParts → List Entry → Option Held → Type 0
 IsHeld c history None = Unit {0}
 IsHeld c history (Some held) = IsMoment c history held
 
--- each session has a place, and what is held there has the bundles of its moment
+-- each session has a place, and what is held there has the database of its moment
 pub record AreHeld (c : ConfigParts) (history : List Entry) (slots : List (Option Held)) : Type 0 where
   pub places : length slots ≡ session_places
   pub each : (s : ℕ) → IsHeld c history (slot slots s)
 
--- the bundles are those after the history, and what is held is of its moment
-pub record IsKept (c : ConfigParts) (history : List Entry) (bundles : DatabaseParts) (looks queries : List (Option Held)) : Type 0 where
-  pub present : after c history ≡ Ok bundles
+-- the database is that after the history, and what is held is of its moment
+pub record IsKept (c : ConfigParts) (history : List Entry) (database : DatabaseParts) (looks queries : List (Option Held)) : Type 0 where
+  pub present : after c history ≡ Ok database
   pub of_looks : AreHeld c history looks
   pub of_queries : AreHeld c history queries
 
@@ -67,46 +68,55 @@ abbrev pub head_entry : Head → Edit → Entry
 head_entry head edit = record { session = head.session; line = head.line; edit = edit }
 
 -- an edit behind the rules: its entry is put last, or the rule is told
-abbrev pub edit_tried_made : Head → Edit → List Entry → DatabaseParts → Result (DatabaseParts) Broken → Reply × List Entry × DatabaseParts
-edit_tried_made head edit history bundles (Ok next) =
+abbrev pub edit_tried_made : Head → Edit → List Entry → DatabaseParts → Result DatabaseParts Broken → Reply × List Entry × DatabaseParts
+edit_tried_made head edit history database (Ok next) =
     (head_reply head (Some (length history + 1)) (Done head.command), history ++ head_entry head edit ∷ [], next)
-edit_tried_made head edit history bundles (Err rule) =
-    (head_reply head (Some (length history)) (Refused (refusals.Rule rule)), history, bundles)
+edit_tried_made head edit history database (Err rule) =
+    (head_reply head (Some (length history)) (Refused (refusals.Rule rule)), history, database)
 
 -- an edit behind the limit of the history
-abbrev pub edit_tried_step : Head → Edit → List Entry → DatabaseParts → Bool → Result (DatabaseParts) Broken → Reply × List Entry × DatabaseParts
-edit_tried_step head edit history bundles true made =
-    (head_reply head (Some (length history)) (Refused refusals.HistoryFull), history, bundles)
-edit_tried_step head edit history bundles false made = edit_tried_made head edit history bundles made
+abbrev pub edit_tried_step : Head → Edit → List Entry → DatabaseParts → Bool → Result DatabaseParts Broken → Reply × List Entry × DatabaseParts
+edit_tried_step head edit history database true made =
+    (head_reply head (Some (length history)) (Refused refusals.HistoryFull), history, database)
+edit_tried_step head edit history database false made = edit_tried_made head edit history database made
 
--- an edit: the reply, the history and the bundles
-abbrev pub edit_tried : ConfigParts → Head → Edit → List Entry → DatabaseParts → Reply × List Entry × DatabaseParts
-edit_tried c head edit history bundles =
-    edit_tried_step head edit history bundles (is_full history) (effect c bundles edit)
+-- an edit: the reply, the history and the database
+abbrev pub edit_tried : Head → Edit → List Entry → DatabaseParts → Reply × List Entry × DatabaseParts
+edit_tried head edit history database =
+    edit_tried_step head edit history database (is_full history) (effect database edit)
 
--- a query that holds these bundles
+-- the reply to the fault of a line's TextGrid, where n entries stand
+abbrev pub grid_told : Head → ℕ → GridFault → Reply
+grid_told head n fault = head_reply head (grid_number n (is_want_of_memory fault)) (grid_answer fault (is_want_of_memory fault))
+
+-- an edit that was given, or the fault of a TextGrid
+abbrev pub given_tried : Head → Result Edit GridFault → List Entry → DatabaseParts → Reply × List Entry × DatabaseParts
+given_tried head (Ok edit) history database = edit_tried head edit history database
+given_tried head (Err fault) history database = (grid_told head (length history) fault, history, database)
+
+-- a query that holds this database
 abbrev pub held_at : Head → Ask → ℕ → DatabaseParts → Held
-held_at head ask n bundles = record { line = head.line; n = n; ask = ask; bundles = bundles }
+held_at head ask n database = record { line = head.line; n = n; ask = ask; database = database }
 
 -- a look: the reply, and the looks
 abbrev pub looked : Head → Ask → ℕ → DatabaseParts → List (Option Held) → Option Held → Reply × List (Option Held)
-looked head ask n bundles slots None =
-    (head_reply head (Some n) (Done head.command), put_slot slots head.session.0 (Some (held_at head ask n bundles)))
-looked head ask n bundles slots (Some held) = (head_reply head None (Refused refusals.LookOpen), slots)
+looked head ask n database slots None =
+    (head_reply head (Some n) (Done head.command), put_slot slots head.session.0 (Some (held_at head ask n database)))
+looked head ask n database slots (Some held) = (head_reply head None (Refused refusals.LookOpen), slots)
 
 -- the answer to a query that is held
-abbrev pub held_answer : ConfigParts → Held → Answer
-held_answer c held = answer_over c held.bundles held.ask
+abbrev pub held_answer : Held → Answer
+held_answer held = answer_over held.database held.ask
 
 -- the answer of a look: the reply, and the looks
-abbrev pub look_closed : ConfigParts → ℕ → SessionNo → List (Option Held) → Option Held → Reply × List (Option Held)
-look_closed c line s slots None = (reply_of line s None (Refused refusals.NoLook), slots)
-look_closed c line s slots (Some held) = (reply_of line s (Some held.n) (held_answer c held), put_slot slots s.0 None)
+abbrev pub look_closed : ℕ → SessionNo → List (Option Held) → Option Held → Reply × List (Option Held)
+look_closed line s slots None = (reply_of line s None (Refused refusals.NoLook), slots)
+look_closed line s slots (Some held) = (reply_of line s (Some held.n) (held_answer held), put_slot slots s.0 None)
 
 -- the answer of a query under way: the reply where there is one, and the queries
-abbrev pub query_closed : ConfigParts → ℕ → SessionNo → List (Option Held) → Option Held → Option Reply × List (Option Held)
-query_closed c line s slots None = (None, slots)
-query_closed c line s slots (Some held) = (Some (reply_of line s (Some held.n) (held_answer c held)), put_slot slots s.0 None)
+abbrev pub query_closed : ℕ → SessionNo → List (Option Held) → Option Held → Option Reply × List (Option Held)
+query_closed line s slots None = (None, slots)
+query_closed line s slots (Some held) = (Some (reply_of line s (Some held.n) (held_answer held)), put_slot slots s.0 None)
 
 -- the queries where memory runs out at the answer of one
 abbrev pub query_dropped : SessionNo → List (Option Held) → Option Held → List (Option Held)

@@ -1,31 +1,17 @@
--- Laws over the definitions: what histories and runs have in common.
-use Rattle.std.specs.Prelude.{◌≡◌, ℕ, ◌≤◌, true, false, List, [], ◌∷◌, ◌++◌, length, map, take, Bool}
+-- Laws over the definitions: what runs have in common.
+use Rattle.std.specs.Prelude.{◌≡◌, ℕ, ◌≤◌, false, List, [], ◌∷◌, length, map, Bool}
 use Rattle.db_config.specs.declared.parts.ConfigParts.{ConfigParts}
 use Rattle.edit_rules.specs.declared.edit.Entry.{Entry}
 use Rattle.session_core.specs.declared.event.Event.{Event}
 use Rattle.session_core.specs.declared.row.Row.{Row}
-use Rattle.session_core.specs.Configs.{is_valid_config}
-use Rattle.edit_rules.specs.Effects.{after, edited, IsLegal, bundles_after}
-use Rattle.session_core.specs.Valid.{is_valid_state}
+use Rattle.edit_rules.specs.Effects.{IsLegal}
 use Rattle.session_core.specs.Steps.{start, steps}
 use Rattle.session_core.specs.Worlds.{Occurrence, untroubled, World, run, opening_world, AllFit, disk_failures, lines_done}
+use Rattle.session_core.specs.Sizes.{head_size, entry_size}
 use Rattle.session_core.specs.Legal.{Legal, replies_in}
 use Rattle.emu_names.specs.declared.limits.TheConstants.{HISTORY_EDITS}
 use Rattle.fault_counts.specs.Count.{RoseBy}
-use Rattle.session_core.specs.Example.{add_line, replies_with, no_memory_reply, example_row, example_config, example_events, example_lines, example_history, example_replies}
-
--- one more entry changes the state as its edit does
-abbrev pub ReplayGoesOn : Type 0
-ReplayGoesOn = (c : ConfigParts) (history : List Entry) (entry : Entry) → after c (history ++ entry ∷ []) ≡ edited c history entry.edit
-
--- each beginning of a legal history is legal
-abbrev pub PrefixesAreLegal : Type 0
-PrefixesAreLegal = (c : ConfigParts) (history : List Entry) → IsLegal c history → (n : ℕ) → IsLegal c (take n history)
-
--- under a valid configuration the state after each beginning of a legal history keeps the rules
-abbrev pub StatesKeepRules : Type 0
-StatesKeepRules = (c : ConfigParts) (history : List Entry)
-    → is_valid_config c ≡ true → IsLegal c history → (n : ℕ) → is_valid_state c (bundles_after c (take n history)) ≡ true
+use Rattle.session_core.specs.Example.{add_line, replies_with, no_memory_reply, example_row, example_config, example_events, example_lines, adding, example_history, example_replies, removing}
 
 -- the replies of a run are legal beside the history that it leaves
 abbrev pub IsLegalWorld : ConfigParts → List Entry → World → Bool → ℕ → ℕ → Type 0
@@ -86,3 +72,11 @@ AcceptedIsRecorded = (store : Bool) (before now : ℕ)
 abbrev pub RecordedIsAccepted : Type 0
 RecordedIsAccepted = (store : Bool) (before now : ℕ)
     → Legal example_config [] (add_line ∷ []) (no_memory_reply ∷ []) example_history store before now → ⊥
+
+-- The example's sizes in a store, counted by hand: a head, the entry with the annotation, and one that takes an
+-- item out.
+abbrev pub ExampleSizes : Type 0
+ExampleSizes =
+    (head_size example_config ≡ 64)
+    × (entry_size adding ≡ 149)
+    × (entry_size removing ≡ 26)

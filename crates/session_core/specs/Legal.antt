@@ -1,6 +1,7 @@
 -- Legal runs: which replies to the lines of a script may stand beside a history, whatever ran at once.
 use Rattle.std.specs.Prelude.{◌≡◌, ◌⊎◌, ℕ, ◌+◌, ◌<◌, ◌≤◌, max, Bool, true, false, ◌&&◌, List, [], ◌∷◌, ◌++◌, length, map, filter, count_by, take, Option, Some, None, Ok, Err, nat_eq, nat_le, if◌then◌else◌, slice_get}
 use Rattle.db_config.specs.declared.parts.ConfigParts.{ConfigParts}
+use Rattle.textgrid.specs.declared.fault.GridFault.{GridFault}
 use Rattle.edit_rules.specs.declared.edit.Edit.{Edit}
 use Rattle.edit_rules.specs.declared.edit.Entry.{Entry}
 use Rattle.edit_rules.specs.Database.{DatabaseParts}
@@ -15,7 +16,7 @@ use Rattle.session_core.specs.declared.line.Request.TheVariants as requests
 use Rattle.session_core.specs.declared.line.Line.{Line}
 use Rattle.session_core.specs.declared.line.Reply.{Reply}
 use Rattle.edit_rules.specs.Effects.{IsLegal, edited}
-use Rattle.session_core.specs.Answers.{answer_at, memory, entry_of}
+use Rattle.session_core.specs.Answers.{answer_at, memory, is_want_of_memory, entry_of}
 use Rattle.session_core.specs.Worlds.{Turn, Each, passes_store}
 use Rattle.fault_counts.specs.Count.{RoseBy}
 use Rattle.emu_names.specs.declared.limits.TheConstants.{HISTORY_EDITS}
@@ -62,10 +63,11 @@ pub record NumberedEntry : Type 0 where
 
 -- the entry that an accepting reply tells, with its number
 abbrev pub accepting : Line → Request → Option ℕ → Answer → List NumberedEntry
-accepting l (requests.Edit edit) (Some n) (Done command) = record { n = n; entry = entry_of l edit } ∷ []
-accepting l (requests.Edit edit) (Some n) (Segments rows) = []
-accepting l (requests.Edit edit) (Some n) (Refused refusal) = []
-accepting l (requests.Edit edit) None answer = []
+accepting l (requests.Edit (Ok edit)) (Some n) (Done command) = record { n = n; entry = entry_of l edit } ∷ []
+accepting l (requests.Edit (Ok edit)) (Some n) (Segments rows) = []
+accepting l (requests.Edit (Ok edit)) (Some n) (Refused refusal) = []
+accepting l (requests.Edit (Ok edit)) None answer = []
+accepting l (requests.Edit (Err fault)) n answer = []
 accepting l (requests.Query ask) n answer = []
 accepting l (requests.Look ask) n answer = []
 accepting l requests.Finish n answer = []
@@ -97,16 +99,16 @@ pub record IsAcceptance (c : ConfigParts) (H : List Entry) (l : Line) (edit : Ed
   pub before : ℕ
   pub number : n ≡ before + 1
   pub room : before < HISTORY_EDITS
-  pub bundles : DatabaseParts
-  pub right : edited c (take before H) edit ≡ Ok bundles
+  pub database : DatabaseParts
+  pub right : edited c (take before H) edit ≡ Ok database
   pub entry : slice_get H before ≡ Some (entry_of l edit)
 
 -- the store has no room for the entry, whose edit breaks no rule after n
 pub record IsStoreFull (c : ConfigParts) (H : List Entry) (store : Bool) (l : Line) (edit : Edit) (n : ℕ) : Type 0 where
   pub room : n < HISTORY_EDITS
   pub stored : store ≡ true
-  pub bundles : DatabaseParts
-  pub right : edited c (take n H) edit ≡ Ok bundles
+  pub database : DatabaseParts
+  pub right : edited c (take n H) edit ≡ Ok database
   pub passes : passes_store c (take n H) (entry_of l edit) ≡ true
 
 -- a refusal of an edit at n is right
@@ -114,7 +116,9 @@ abbrev pub IsRightRefusal : ConfigParts → List Entry → Bool → Line → Edi
 IsRightRefusal c H store l edit n (refusals.Rule rule) = (n < HISTORY_EDITS) × (edited c (take n H) edit ≡ Err rule)
 IsRightRefusal c H store l edit n refusals.HistoryFull = n ≡ HISTORY_EDITS
 IsRightRefusal c H store l edit n refusals.StoreFull = IsStoreFull c H store l edit n
+IsRightRefusal c H store l edit n (refusals.Grid fault) = ⊥
 IsRightRefusal c H store l edit n (refusals.Resolve fault) = ⊥
+IsRightRefusal c H store l edit n refusals.NotBuilt = ⊥
 IsRightRefusal c H store l edit n refusals.NoLook = ⊥
 IsRightRefusal c H store l edit n refusals.LookOpen = ⊥
 IsRightRefusal c H store l edit n refusals.Disk = ⊥
@@ -126,9 +130,16 @@ IsRightEdit c H store l edit n (Done command) = IsAcceptance c H l edit n comman
 IsRightEdit c H store l edit n (Refused refusal) = IsRightRefusal c H store l edit n refusal
 IsRightEdit c H store l edit n (Segments rows) = ⊥
 
+-- a line whose TextGrid has a fault is refused for it, whatever state its number names; want of memory is no
+-- fault that is told
+pub record IsRightGrid (fault : GridFault) (answer : Answer) : Type 0 where
+  pub told : answer ≡ Refused (refusals.Grid fault)
+  pub is_fault : is_want_of_memory fault ≡ false
+
 -- an answer with a number, which names a state from the opening's to the last one
 abbrev pub IsRightAt : ConfigParts → List Entry → Bool → Line → Request → ℕ → Answer → Type 0
-IsRightAt c H store l (requests.Edit edit) n answer = IsRightEdit c H store l edit n answer
+IsRightAt c H store l (requests.Edit (Ok edit)) n answer = IsRightEdit c H store l edit n answer
+IsRightAt c H store l (requests.Edit (Err fault)) n answer = IsRightGrid fault answer
 IsRightAt c H store l (requests.Query ask) n answer = answer ≡ answer_at c H n ask
 IsRightAt c H store l (requests.Look ask) n answer = answer ≡ Done l.command
 IsRightAt c H store l (requests.After earlier) n answer = answer ≡ Done l.command
@@ -136,9 +147,11 @@ IsRightAt c H store l (requests.After earlier) n answer = answer ≡ Done l.comm
 IsRightAt c H store l requests.Finish n answer = Unit {0}
 
 -- an answer without a number: want of memory, a failed disk for an edit where there is a store, and
--- the two refusals of looks, of which 4 says when they come
+-- the two refusals of looks, of which 4 says when they come; a line whose TextGrid has a fault never reaches
+-- the disk
 abbrev pub IsDiskFor : Bool → Request → Type 0
-IsDiskFor store (requests.Edit edit) = store ≡ true
+IsDiskFor store (requests.Edit (Ok edit)) = store ≡ true
+IsDiskFor store (requests.Edit (Err fault)) = ⊥
 IsDiskFor store (requests.Query ask) = ⊥
 IsDiskFor store (requests.Look ask) = ⊥
 IsDiskFor store requests.Finish = ⊥
@@ -146,7 +159,7 @@ IsDiskFor store (requests.After earlier) = ⊥
 
 -- a request is a `look`
 abbrev pub IsLook : Request → Type 0
-IsLook (requests.Edit edit) = ⊥
+IsLook (requests.Edit given) = ⊥
 IsLook (requests.Query ask) = ⊥
 IsLook (requests.Look ask) = Unit {0}
 IsLook requests.Finish = ⊥
@@ -154,7 +167,7 @@ IsLook (requests.After earlier) = ⊥
 
 -- a request is a `finish`
 abbrev pub IsFinish : Request → Type 0
-IsFinish (requests.Edit edit) = ⊥
+IsFinish (requests.Edit given) = ⊥
 IsFinish (requests.Query ask) = ⊥
 IsFinish (requests.Look ask) = ⊥
 IsFinish requests.Finish = Unit {0}
@@ -167,7 +180,9 @@ IsRefusedUnnumbered store request refusals.Disk = IsDiskFor store request
 IsRefusedUnnumbered store request refusals.LookOpen = IsLook request
 IsRefusedUnnumbered store request refusals.NoLook = IsFinish request
 IsRefusedUnnumbered store request (refusals.Rule rule) = ⊥
+IsRefusedUnnumbered store request (refusals.Grid fault) = ⊥
 IsRefusedUnnumbered store request (refusals.Resolve fault) = ⊥
+IsRefusedUnnumbered store request refusals.NotBuilt = ⊥
 IsRefusedUnnumbered store request refusals.HistoryFull = ⊥
 IsRefusedUnnumbered store request refusals.StoreFull = ⊥
 
@@ -195,7 +210,7 @@ IsRightTurn c m H store t = IsRight c m H store t.line t.reply.n t.reply.answer
 abbrev pub low_behind : ℕ → Request → Option ℕ → ℕ
 low_behind low request None = low
 low_behind low requests.Finish (Some n) = low
-low_behind low (requests.Edit edit) (Some n) = n
+low_behind low (requests.Edit given) (Some n) = n
 low_behind low (requests.Query ask) (Some n) = n
 low_behind low (requests.Look ask) (Some n) = n
 low_behind low (requests.After earlier) (Some n) = n
@@ -204,7 +219,7 @@ low_behind low (requests.After earlier) (Some n) = n
 abbrev pub KeepsUp : ℕ → Request → Option ℕ → Type 0
 KeepsUp low request None = Unit {0}
 KeepsUp low requests.Finish (Some n) = Unit {0}
-KeepsUp low (requests.Edit edit) (Some n) = low ≤ n
+KeepsUp low (requests.Edit given) (Some n) = low ≤ n
 KeepsUp low (requests.Query ask) (Some n) = low ≤ n
 KeepsUp low (requests.Look ask) (Some n) = low ≤ n
 KeepsUp low (requests.After earlier) (Some n) = low ≤ n
@@ -234,7 +249,7 @@ finish_behind held (Some n) = None
 abbrev pub open_behind : Option Look → Request → Option ℕ → Option Look
 open_behind held (requests.Look ask) n = look_behind held ask n
 open_behind held requests.Finish n = finish_behind held n
-open_behind held (requests.Edit edit) n = held
+open_behind held (requests.Edit given) n = held
 open_behind held (requests.Query ask) n = held
 open_behind held (requests.After earlier) n = held
 
@@ -256,7 +271,7 @@ FinishReplyFits c H (Some held) None answer = answer ≡ memory
 abbrev pub ReplyFits : ConfigParts → List Entry → Option Look → Request → Option ℕ → Answer → Type 0
 ReplyFits c H held (requests.Look ask) n answer = LookReplyFits held n answer
 ReplyFits c H held requests.Finish n answer = FinishReplyFits c H held n answer
-ReplyFits c H held (requests.Edit edit) n answer = Unit {0}
+ReplyFits c H held (requests.Edit given) n answer = Unit {0}
 ReplyFits c H held (requests.Query ask) n answer = Unit {0}
 ReplyFits c H held (requests.After earlier) n answer = Unit {0}
 
@@ -301,7 +316,7 @@ seen m turns line = seen_in m line (session_of line turns) turns
 abbrev pub HasSeen : ℕ → List Turn → Request → Option ℕ → Type 0
 HasSeen m turns (requests.After earlier) (Some n) = seen m turns earlier ≤ n
 HasSeen m turns (requests.After earlier) None = Unit {0}
-HasSeen m turns (requests.Edit edit) n = Unit {0}
+HasSeen m turns (requests.Edit given) n = Unit {0}
 HasSeen m turns (requests.Query ask) n = Unit {0}
 HasSeen m turns (requests.Look ask) n = Unit {0}
 HasSeen m turns requests.Finish n = Unit {0}

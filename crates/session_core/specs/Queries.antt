@@ -1,79 +1,95 @@
 -- What a query means, and the rows that it gives (EMU-SDMS Manual, "The EMU Query Language").
 -- Of the query language this has the label test with `==` and one label.
-use Rattle.std.specs.Prelude.{ℕ, ◌+◌, Bool, List, [], ◌∷◌, map, filter, flat_map, Option, Some, None, Result, Ok, Err, if◌then◌else◌, slice_get, unwrap_or, option_map}
-use Rattle.std.specs.List.{enumerate_from}
+use Rattle.std.specs.Prelude.{ℕ, ◌+◌, Bool, true, false, ◌&&◌, List, [], map, filter, flat_map, Option, Some, None, Result, Ok, Err, if◌then◌else◌, slice_get, unwrap_or, option_map}
+use Rattle.std.specs.List.{enumerate_from, list_any}
+use Rattle.std.specs.Option.{is_some, option_map_or}
 use Rattle.sample_time.specs.Micros.{micros_of_start, micros_of_end, micros_of_point}
-use Rattle.session_core.specs.declared.annot.Time.{Time}
-use Rattle.session_core.specs.declared.annot.Time.TheVariants.{NoTime, Span, Point}
-use Rattle.session_core.specs.declared.config.AttributeDef.{AttributeDef}
-use Rattle.session_core.specs.declared.config.LevelDef.{LevelDef}
+use Rattle.emu_names.specs.declared.kinds.LevelKind.{LevelKind}
+use Rattle.emu_names.specs.declared.kinds.LevelKind.TheVariants as kinds
+use Rattle.level_items.specs.declared.items.Item.{Item}
+use Rattle.level_items.specs.declared.times.Time.{Time}
+use Rattle.level_items.specs.declared.times.Time.TheVariants.{NoTime, Span, Point}
+use Rattle.level_items.specs.Levels.{Level}
+use Rattle.db_config.specs.declared.attributes.AttributeDef.{AttributeDef}
+use Rattle.db_config.specs.declared.parts.AttributePlace.{AttributePlace}
 use Rattle.db_config.specs.declared.parts.ConfigParts.{ConfigParts}
-use Rattle.session_core.specs.declared.bundle.Item.{Item}
-use Rattle.edit_rules.specs.Database.{DatabaseParts}
+use Rattle.db_config.specs.declared.parts.LevelDef.{LevelDef}
+use Rattle.db_config.specs.declared.parts.LinkDef.{LinkDef}
+use Rattle.db_config.specs.Above.{is_above}
+use Rattle.db_config.specs.Lookups.{name_place, attribute_at, group_values}
+use Rattle.db_config.specs.Names.{same_text}
+use Rattle.bundle_state.specs.Bundle.{BundleParts}
 use Rattle.session_core.specs.declared.line.Ask.{Ask}
-use Rattle.session_core.specs.declared.line.AskFault.{AskFault}
 use Rattle.session_core.specs.declared.line.AskFault.TheVariants.{UnknownName}
+use Rattle.session_core.specs.declared.line.Refusal.{Refusal}
+use Rattle.session_core.specs.declared.line.Refusal.TheVariants as refusals
 use Rattle.session_core.specs.declared.row.Row.{Row}
-use Rattle.session_core.specs.Configs.{same_text}
 
--- a level and one of its attributes, by their places
-pub record Place : Type 0 where
-  pub level : ℕ
-  pub attribute : ℕ
+-- What a query means.
 
--- the place of an attribute of this name, counted on from a number
-abbrev pub attribute_from : ℕ → List AttributeDef → List ℕ → Option ℕ
-attribute_from place [] name = None
-attribute_from place (def ∷ defs) name =
-    if same_text def.name name then Some place else attribute_from (place + 1) defs name
+-- the kind of ITEM levels
+abbrev pub is_item : LevelKind → Bool
+is_item kinds.Item = true
+is_item kinds.Segment = false
+is_item kinds.Event = false
 
--- an attribute on a level
-abbrev pub place_on : ℕ → Option ℕ → Option Place
-place_on level None = None
-place_on level (Some attribute) = Some (record { level = level; attribute = attribute })
+-- the kind of SEGMENT levels
+abbrev pub is_segment : LevelKind → Bool
+is_segment kinds.Item = false
+is_segment kinds.Segment = true
+is_segment kinds.Event = false
 
--- the first place, or a later one
-abbrev pub or_place : Option Place → Option Place → Option Place
-or_place (Some place) later = Some place
-or_place None later = later
+-- whether a level, with its number, is a SEGMENT level below this one
+abbrev pub is_segment_below : List LinkDef → ℕ → ℕ × LevelDef → Bool
+is_segment_below links upper (lower, def) = is_segment def.kind && is_above links upper lower
 
--- the first level with an attribute of this name
-abbrev pub attribute_place : ℕ → List LevelDef → List ℕ → Option Place
-attribute_place level [] name = None
-attribute_place level (def ∷ defs) name =
-    or_place (place_on level (attribute_from 0 def.attributes name)) (attribute_place (level + 1) defs name)
+-- an ITEM level above a SEGMENT level has its times from there
+abbrev pub takes_times : ConfigParts → ℕ → Bool
+takes_times c level =
+    option_map_or (λ (def : LevelDef). is_item def.kind) (slice_get c.levels level) false
+    && list_any (is_segment_below c.links level) (enumerate_from 0 c.levels)
 
--- the level of this name, which stands for its first attribute
-abbrev pub level_place : ℕ → List LevelDef → List ℕ → Option Place
-level_place level [] name = None
-level_place level (def ∷ defs) name =
-    if same_text def.name name then Some (record { level = level; attribute = 0 }) else level_place (level + 1) defs name
+-- whether a label names a label group of an attribute or of the database
+abbrev pub names_group : ConfigParts → AttributePlace → List ℕ → Bool
+names_group c place label =
+    option_map_or (λ (def : AttributeDef). is_some (group_values label def.groups c.groups))
+    (attribute_at place c.levels) false
 
--- what a name stands for: an attribute, else a level
-abbrev pub name_place : ConfigParts → List ℕ → Option Place
-name_place c name = or_place (attribute_place 0 c.levels name) (level_place 0 c.levels name)
+-- a query whose names have been found: a level and an attribute, and the wanted label
+pub record Asked : Type 0 where
+  pub place : AttributePlace
+  pub label : List ℕ
+
+-- a query at the place of its name, or the name that nothing has; times from below and label groups are not
+-- built yet
+abbrev pub asked_at : ConfigParts → Ask → Option AttributePlace → Result Asked Refusal
+asked_at c ask None = Err (refusals.Resolve (UnknownName ask.name))
+asked_at c ask (Some place) =
+    if takes_times c place.level then Err refusals.NotBuilt
+    else if names_group c place ask.label then Err refusals.NotBuilt
+    else Ok (record { place = place; label = ask.label })
+
+-- a query with its names found in the configuration, or why it is refused; no bundle is looked at
+abbrev pub resolved : ConfigParts → Ask → Result Asked Refusal
+resolved c ask = asked_at c ask (name_place ask.name c.levels)
 
 -- The rows of one bundle.
 
 -- the items of a level
 abbrev pub items_at : BundleParts → ℕ → List Item
-items_at b level = unwrap_or (slice_get b.levels level) []
+items_at b level = unwrap_or (option_map (λ (l : Level). l.items) (slice_get b.levels level)) []
 
 -- the label of an attribute
 abbrev pub label_at : ℕ → Item → List ℕ
 label_at attribute item = unwrap_or (slice_get item.labels attribute) []
 
--- the names to show
+-- the name of a level
 abbrev pub level_name : ConfigParts → ℕ → List ℕ
 level_name c level = unwrap_or (option_map (λ (def : LevelDef). def.name) (slice_get c.levels level)) []
 
--- the attributes of a level
-abbrev pub attributes_at : ConfigParts → ℕ → List AttributeDef
-attributes_at c level = unwrap_or (option_map (λ (def : LevelDef). def.attributes) (slice_get c.levels level)) []
-
 -- the name of the attribute at a place
-abbrev pub attribute_name : ConfigParts → Place → List ℕ
-attribute_name c place = unwrap_or (option_map (λ (def : AttributeDef). def.name) (slice_get (attributes_at c place.level) place.attribute)) []
+abbrev pub attribute_name : ConfigParts → AttributePlace → List ℕ
+attribute_name c place = unwrap_or (option_map (λ (def : AttributeDef). def.name) (attribute_at place c.levels)) []
 
 -- When a row begins and ends: a segment's samples and its borders in microseconds, a point's
 -- sample and its middle. An item without a time has neither.
@@ -100,7 +116,7 @@ times_of rate (Point at) = record {
 }
 
 -- the row of the item at a position
-abbrev pub row_of : ConfigParts → Place → BundleParts → ℕ × Item → Row
+abbrev pub row_of : ConfigParts → AttributePlace → BundleParts → ℕ × Item → Row
 row_of c place b (position, item) = record {
   session = b.key.session;
   bundle = b.key.bundle;
@@ -122,30 +138,20 @@ row_of c place b (position, item) = record {
 abbrev pub is_asked : ℕ → List ℕ → ℕ × Item → Bool
 is_asked attribute label (position, item) = same_text (label_at attribute item) label
 
--- a query whose names have been found: a level and an attribute, and the wanted label
-pub record Asked : Type 0 where
-  pub place : Place
-  pub label : List ℕ
-
--- the items with the wanted label, in order of position
-abbrev pub rows_in : ConfigParts → Asked → BundleParts → List Row
-rows_in c asked b =
+-- the rows of these items at a place of the configuration, in order of position
+abbrev pub rows_among : ConfigParts → Asked → BundleParts → List Item → List Row
+rows_among c asked b items =
     map (row_of c asked.place b)
-    (filter (is_asked asked.place.attribute asked.label) (enumerate_from 0 (items_at b asked.place.level)))
+    (filter (is_asked asked.place.attribute asked.label) (enumerate_from 0 items))
+
+-- the items with the wanted label
+abbrev pub rows_in : ConfigParts → Asked → BundleParts → List Row
+rows_in c asked b = rows_among c asked b (items_at b asked.place.level)
 
 -- the segment list over a state: the rows of one bundle after another, in order of their keys
-abbrev pub segment_list : ConfigParts → Asked → DatabaseParts → List Row
+abbrev pub segment_list : ConfigParts → Asked → List BundleParts → List Row
 segment_list c asked bundles = flat_map (rows_in c asked) bundles
 
 -- what is asked for at a place of the configuration
-abbrev pub asked_by : ℕ → ℕ → List ℕ → Asked
-asked_by level attribute label = record { place = record { level = level; attribute = attribute }; label = label }
-
--- a query at the place of its name, or the name that nothing has
-abbrev pub asked_at : Ask → Option Place → Result Asked AskFault
-asked_at ask None = Err (UnknownName ask.name)
-asked_at ask (Some place) = Ok (record { place = place; label = ask.label })
-
--- a query with its names found in the configuration, or why it has no meaning; no state is looked at
-abbrev pub resolved : ConfigParts → Ask → Result Asked AskFault
-resolved c ask = asked_at ask (name_place c ask.name)
+abbrev pub asked_by : AttributePlace → List ℕ → Asked
+asked_by place label = record { place = place; label = label }

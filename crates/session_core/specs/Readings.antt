@@ -28,7 +28,7 @@ standing n t = n + length (accepting t.line t.line.request t.reply.n t.reply.ans
 abbrev pub IsStanding : ℕ → Request → Option ℕ → Type 0
 IsStanding n request None = Unit {0}
 IsStanding n requests.Finish (Some k) = Unit {0}
-IsStanding n (requests.Edit edit) (Some k) = k ≡ n
+IsStanding n (requests.Edit given) (Some k) = k ≡ n
 IsStanding n (requests.Query ask) (Some k) = k ≡ n
 IsStanding n (requests.Look ask) (Some k) = k ≡ n
 IsStanding n (requests.After earlier) (Some k) = k ≡ n
@@ -42,7 +42,9 @@ AreStanding n (t ∷ ts) = IsStanding (standing n t) t.line.request t.reply.n ×
 abbrev pub outage_at : Refusal → Outage
 outage_at refusals.Memory = at_first
 outage_at (refusals.Rule rule) = fine
+outage_at (refusals.Grid fault) = fine
 outage_at (refusals.Resolve fault) = fine
+outage_at refusals.NotBuilt = fine
 outage_at refusals.NoLook = fine
 outage_at refusals.LookOpen = fine
 outage_at refusals.HistoryFull = fine

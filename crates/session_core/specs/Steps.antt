@@ -20,7 +20,7 @@ use Rattle.session_core.specs.declared.line.Request.TheVariants as requests
 use Rattle.session_core.specs.declared.line.Line.{Line}
 use Rattle.session_core.specs.declared.line.Reply.{Reply}
 use Rattle.edit_rules.specs.Effects.{edited}
-use Rattle.session_core.specs.Answers.{answer_at, memory, reply_to, entry_of}
+use Rattle.session_core.specs.Answers.{answer_at, memory, reply_to, grid_reply, entry_of}
 
 -- a query that holds the state after the first n entries, and the line that it came from
 pub record Opened : Type 0 where
@@ -83,12 +83,12 @@ abbrev pub is_full : List Entry → Bool
 is_full history = nat_le HISTORY_EDITS (length history)
 
 -- an edit behind the limit of the history: it is accepted, or the rule that it breaks is told
-abbrev pub edit_made : State → Line → Edit → Result (DatabaseParts) Broken → Option Reply × State
-edit_made st l edit (Ok bundles) = (Some (reply_to l (Some (present st + 1)) (Done l.command)), with_entry st (entry_of l edit))
+abbrev pub edit_made : State → Line → Edit → Result DatabaseParts Broken → Option Reply × State
+edit_made st l edit (Ok database) = (Some (reply_to l (Some (present st + 1)) (Done l.command)), with_entry st (entry_of l edit))
 edit_made st l edit (Err rule) = (Some (reply_to l (Some (present st)) (Refused (refusals.Rule rule))), st)
 
 -- an edit: a full history comes before the rules
-abbrev pub edit_step : State → Line → Edit → Bool → Result (DatabaseParts) Broken → Option Reply × State
+abbrev pub edit_step : State → Line → Edit → Bool → Result DatabaseParts Broken → Option Reply × State
 edit_step st l edit true made = (Some (reply_to l (Some (present st)) (Refused refusals.HistoryFull)), st)
 edit_step st l edit false made = edit_made st l edit made
 
@@ -108,12 +108,13 @@ abbrev pub look_event : State → Line → Request → Option Reply × State
 look_event st l (requests.Look ask) = look_step st l ask (slot st.looks l.session.0)
 look_event st l (requests.Query ask) = (None, with_query st l.session.0 (Some (opened_at st l ask)))
 look_event st l (requests.After earlier) = (Some (reply_to l (Some (present st)) (Done l.command)), st)
-look_event st l (requests.Edit edit) = (None, st)
+look_event st l (requests.Edit given) = (None, st)
 look_event st l requests.Finish = (None, st)
 
--- an Edit of a line
+-- an Edit of a line: the fault of its TextGrid comes first, and changes nothing
 abbrev pub edit_event : State → Line → Request → Option Reply × State
-edit_event st l (requests.Edit edit) = edit_step st l edit (is_full st.entries) (edited st.config st.entries edit)
+edit_event st l (requests.Edit (Ok edit)) = edit_step st l edit (is_full st.entries) (edited st.config st.entries edit)
+edit_event st l (requests.Edit (Err fault)) = (Some (grid_reply l (present st) fault), st)
 edit_event st l (requests.Query ask) = (None, st)
 edit_event st l (requests.Look ask) = (None, st)
 edit_event st l requests.Finish = (None, st)

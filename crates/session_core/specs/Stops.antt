@@ -1,16 +1,7 @@
--- What the calls of the core say where they refuse.
-use Rattle.std.specs.Prelude.{◌≡◌, ◌≤◌, ◌⊎◌, ℕ, List, Some, Result, Err, length, take, slice_get}
-use Rattle.emu_names.specs.declared.rules.Broken.{Broken}
-use Rattle.emu_names.specs.declared.rules.Fault.{Fault}
-use Rattle.emu_names.specs.declared.rules.Fault.TheVariants as faults
-use Rattle.edit_rules.specs.Database.{DatabaseParts}
+-- Where a run of the core stops for want of memory.
+use Rattle.std.specs.Prelude.{◌≡◌, ◌≤◌, ◌⊎◌, ℕ, List, Some, length, take, slice_get}
 use Rattle.session_core.specs.declared.event.Event.{Event}
 use Rattle.session_core.specs.Steps.{State, core_fails, steps}
-
--- a history that is refused breaks this rule first; want of memory says nothing
-abbrev pub IsFirstFault : Fault → Result (DatabaseParts) Broken → Type 0
-IsFirstFault (faults.Broken rule) there = there ≡ Err rule
-IsFirstFault faults.Memory there = Unit {0}
 
 -- the state after the first events of a list
 abbrev pub state_at : State → List Event → ℕ → State

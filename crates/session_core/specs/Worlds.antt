@@ -7,7 +7,6 @@ use Rattle.db_config.specs.declared.parts.ConfigParts.{ConfigParts}
 use Rattle.edit_rules.specs.declared.edit.Entry.{Entry}
 use Rattle.session_core.specs.declared.event.Event.{Event}
 use Rattle.session_core.specs.declared.event.Event.TheVariants as events
-use Rattle.session_core.specs.declared.line.Command.{Command}
 use Rattle.session_core.specs.declared.line.Command.TheVariants as commands
 use Rattle.session_core.specs.declared.line.Request.{Request}
 use Rattle.session_core.specs.declared.line.Request.TheVariants as requests
@@ -18,9 +17,9 @@ use Rattle.session_core.specs.declared.line.Refusal.TheVariants as refusals
 use Rattle.session_core.specs.declared.line.Reply.{Reply}
 use Rattle.edit_rules.specs.Database.{DatabaseParts}
 use Rattle.edit_rules.specs.declared.edit.Edit.{Edit}
-use Rattle.edit_rules.specs.declared.edit.Edit.TheVariants as edits
 use Rattle.edit_rules.specs.Effects.{edited}
 use Rattle.session_core.specs.Answers.{reply_to, entry_of}
+use Rattle.session_core.specs.Commands.{is_command_of}
 use Rattle.session_core.specs.Sizes.{store_size, entry_size}
 use Rattle.session_core.specs.Steps.{Opened, State, slot, present, is_full, core_step, core_fails, start, session_places, Asker, by_look, by_query, by_none, asker_of}
 
@@ -63,28 +62,6 @@ outcome_of st e disk_failed = edit_kept_out st e None refusals.Disk
 -- what an occurrence makes of a state
 abbrev pub outcome : State → Occurrence → Option Reply × State
 outcome st m = outcome_of st m.event m.trouble
-
--- the same command
-abbrev pub same_command : Command → Command → Bool
-same_command commands.ConfigParts commands.ConfigParts = true
-same_command commands.AddBundle commands.AddBundle = true
-same_command commands.Query commands.Query = true
-same_command commands.Look commands.Look = true
-same_command commands.Finish commands.Finish = true
-same_command commands.After commands.After = true
-same_command a b = false
-
--- whether a command makes an edit
-abbrev pub does_edit : Command → Edit → Bool
-does_edit command (edits.AddBundle key annot) = same_command command commands.AddBundle
-
--- whether a command is one of a request
-abbrev pub is_command_of : Command → Request → Bool
-is_command_of command (requests.Edit edit) = does_edit command edit
-is_command_of command (requests.Query ask) = same_command command commands.Query
-is_command_of command (requests.Look ask) = same_command command commands.Look
-is_command_of command requests.Finish = same_command command commands.Finish
-is_command_of command (requests.After line) = same_command command commands.After
 
 -- the line that a Finish brings with it
 abbrev pub finish_line : ℕ → SessionNo → Line
@@ -174,14 +151,14 @@ is_answered line turns = list_any (λ t. nat_eq t.line.line line) turns
 -- an `after` names an answered line
 abbrev pub RequestFits : World → Request → Type 0
 RequestFits w (requests.After earlier) = is_answered earlier w.turns ≡ true
-RequestFits w (requests.Edit edit) = Unit {0}
+RequestFits w (requests.Edit given) = Unit {0}
 RequestFits w (requests.Query ask) = Unit {0}
 RequestFits w (requests.Look ask) = Unit {0}
 RequestFits w requests.Finish = Unit {0}
 
 -- a request is an edit
 abbrev pub is_edit : Request → Bool
-is_edit (requests.Edit edit) = true
+is_edit (requests.Edit given) = true
 is_edit (requests.Query ask) = false
 is_edit (requests.Look ask) = false
 is_edit requests.Finish = false
@@ -189,7 +166,7 @@ is_edit (requests.After line) = false
 
 -- what a Look event may bring
 abbrev pub is_looking : Request → Bool
-is_looking (requests.Edit edit) = false
+is_looking (requests.Edit given) = false
 is_looking (requests.Query ask) = true
 is_looking (requests.Look ask) = true
 is_looking requests.Finish = false
@@ -240,13 +217,13 @@ passes_store c history entry = nat_lt STORE_BYTES (store_size c history + 6 + en
 pub record IsOverStore (store : Bool) (st : State) (l : Line) (edit : Edit) : Type 0 where
   pub stored : store ≡ true
   pub room : is_full st.entries ≡ false
-  pub bundles : DatabaseParts
-  pub made : edited st.config st.entries edit ≡ Ok bundles
+  pub database : DatabaseParts
+  pub made : edited st.config st.entries edit ≡ Ok database
   pub passes : passes_store st.config st.entries (entry_of l edit) ≡ true
 
 -- the store refuses the request
 abbrev pub StoreRefusesRequest : Bool → State → Line → Request → Type 0
-StoreRefusesRequest store st l (requests.Edit edit) = IsOverStore store st l edit
+StoreRefusesRequest store st l (requests.Edit (Ok edit)) = IsOverStore store st l edit
 StoreRefusesRequest store st l request = ⊥
 
 -- the store refuses the edit of an event
@@ -256,9 +233,14 @@ StoreRefuses store st (events.Look l) = ⊥
 StoreRefuses store st (events.Piece s) = ⊥
 StoreRefuses store st (events.Finish line s command) = ⊥
 
--- the disk may refuse an edit, where there is a store
+-- the disk may refuse an edit, where there is a store; a line whose TextGrid has a fault never reaches it
+abbrev pub DiskMayRefuseRequest : Bool → Request → Type 0
+DiskMayRefuseRequest store (requests.Edit (Ok edit)) = store ≡ true
+DiskMayRefuseRequest store request = ⊥
+
+-- the disk may refuse the edit of an event
 abbrev pub DiskMayRefuse : Bool → Event → Type 0
-DiskMayRefuse store (events.Edit l) = store ≡ true
+DiskMayRefuse store (events.Edit l) = DiskMayRefuseRequest store l.request
 DiskMayRefuse store (events.Look l) = ⊥
 DiskMayRefuse store (events.Piece s) = ⊥
 DiskMayRefuse store (events.Finish line s command) = ⊥

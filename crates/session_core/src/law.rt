@@ -1,34 +1,9 @@
-//! Laws of the definitions, with nothing to run: what every history and every run of the core keeps.
-ghost use Rattle.session_core.specs.Laws.{PrefixesAreLegal, ReplayGoesOn, StatesKeepRules};
+//! Laws of the definitions, with nothing to run: what every run of the core keeps.
 ghost use Rattle.session_core.specs.Laws.{EveryCoreRunIsLegal, EveryRunIsLegal};
-ghost use Rattle.session_core.specs.Laws.{ExampleFits, ExampleHistory, ExampleIsLegal, ExampleReplies};
+ghost use Rattle.session_core.specs.Laws.{ExampleFits, ExampleHistory, ExampleIsLegal, ExampleReplies, ExampleSizes};
 ghost use Rattle.session_core.specs.Laws.{AcceptedIsRecorded, AnswerIsExact, RecordedIsAccepted, StaleIsNotLegal};
 ghost use Rattle.session_core.specs.OrderLaws.{InOrderIsLegal};
 ghost use Rattle.session_core.specs.Readings.{InTurnIsInOrder, OneReading, RepliesFollow};
-ghost use Rattle.session_core.specs.Rules.{BuildingRefusesExactly};
-
-/// One more entry changes the state after a history as its edit does.
-pub fn replay_goes_on()
-    ensures goes_on { ReplayGoesOn }
-{}
-
-/// Each beginning of a legal history is legal, and under a valid configuration each of its states
-/// keeps the rules: at most 10,000 bundles in order of their keys and 2,000,000 items in all, each
-/// bundle with a rate of 1 to 1,000,000 Hz, at most 65,536 items, ids that differ, and levels that
-/// keep the level rule (EMU-SDMS Manual, "The emuDB format").
-pub fn states_keep_rules()
-    ensures prefixes { PrefixesAreLegal }
-    ensures valid { StatesKeepRules }
-{}
-
-/// An annotation is refused exactly where it breaks a rule, each said by itself: its rate is 1 to
-/// 1,000,000 Hz; it has at most 65,536 items, whose ids differ over all levels; each level is one of
-/// the configuration's, with its kind, and none is given twice; each item has a time of that kind
-/// that ends below sample 2^40, and labels of at most 4,096 bytes for attributes of the level, no
-/// two for one; segments do not overlap, and points rise (EMU-SDMS Manual, "The emuDB format").
-pub fn building_refuses_exactly()
-    ensures exactly { BuildingRefusesExactly }
-{}
 
 /// Every run is legal: from a legal history of at most 100,000 entries, whatever events fit one
 /// another in whatever order, and whether or not memory runs out at any of them, the replies are
@@ -45,12 +20,14 @@ pub fn every_core_run_is_legal()
 
 /// Legal runs say something: a bundle with the segments V (3749, 1389) and m (5139, 1664) is added
 /// at 20,000 Hz and accepted as entry 1, and `Phonetic == m` is answered after it by the one
-/// segment m from 256,925 to 340,175 microseconds.
+/// segment m from 256,925 to 340,175 microseconds. In a store its head has 64 bytes and its entry 149,
+/// and an entry that takes an item out of it 26.
 pub fn an_example_is_legal()
     ensures fits { ExampleFits }
     ensures replies { ExampleReplies }
     ensures history { ExampleHistory }
     ensures legal { ExampleIsLegal }
+    ensures sizes { ExampleSizes }
 {}
 
 /// Wrong replies are no legal run: of the example, a query that is answered over the state before

@@ -15,8 +15,7 @@ mod slots;
 pub use event::{Event, Events};
 pub use law::{
     a_run_in_order_has_one_reading, an_example_is_legal, every_core_run_is_legal,
-    every_run_is_legal, in_order_is_legal, replay_goes_on, states_keep_rules,
-    wrong_replies_are_not_legal,
+    every_run_is_legal, in_order_is_legal, wrong_replies_are_not_legal,
 };
 pub use line::{Answer, Ask, AskFault, Command, Line, Lines, Refusal, Replies, Reply, Request};
 pub use machine::Core;

@@ -1,18 +1,17 @@
-//! The core: a configuration, a history, and what each session holds, changed by one event at a time.
+//! The core: a database, the history that made it, and what each session holds, changed by one event at a time.
 ghost use Rattle.emu_names.specs.declared.limits.TheConstants.{HISTORY_EDITS};
 ghost use Rattle.emu_names.specs.declared.rules.Fault.{Fault};
-ghost use Rattle.edit_rules.specs.Effects.{after, IsLegal};
+ghost use Rattle.edit_rules.specs.Effects.{after, IsFirstFault, IsLegal};
 ghost use Rattle.session_core.specs.Steps.{core_fails, core_step, edit_event, finish_step, look_event, option_list, place_of, query_fails, query_step, session_places, slot, start, steps};
-ghost use Rattle.session_core.specs.Stops.{IsFirstFault, StopsAt};
+ghost use Rattle.session_core.specs.Stops.{StopsAt};
 ghost use Rattle.std.specs.Prelude.{◌≡◌, ◌⊎◌, ◌++◌, ◌<◌, ◌≤◌, All, IfErr, IfOk, OnErr, OnOk, Some, length};
 
-use crate::bundle_set::BundleSet;
-use crate::config::Config;
-use crate::edit::Entries;
 use crate::event::{Event, Events};
 use crate::line::{Answer, Command, Line, Replies, Reply, Request};
-use crate::moves::{Head, begin_query, close_look, close_query, open_look, replay, try_edit};
+use crate::moves::{Head, begin_query, close_look, close_query, open_look, replay, try_given};
 use crate::slots::Slots;
+use db_config::Config;
+use edit_rules::{Database, Entries};
 use emu_names::{Fault, Memory, SessionNo};
 use std::alloc::Global;
 use std::marker::Model;
@@ -20,14 +19,13 @@ use std::marker::Model;
 /// The core of a database: its configuration, its history, and for each session its open look and
 /// its query under way.
 ///
-/// It keeps the bundles after the history, and each look and each query under way shares the
-/// bundles of its moment, so that a look costs one owner more and not a copy.
+/// It keeps the database after the history, and each look and each query under way shares the
+/// database of its moment, so that a look costs one owner more and not a copy.
 #[derive(Drop)]
 pub struct Core {
     alloc: Global,
-    config: Config,
     entries: Entries,
-    bundles: BundleSet,
+    database: Database,
     looks: Slots,
     queries: Slots,
 }
@@ -39,9 +37,9 @@ impl Model for Core {
 
     ghost use Rattle.session_core.specs.Kept.{IsKept, state_of};
 
-    ghost view = { λ a. state_of a.config a.entries a.looks a.queries };
+    ghost view = { λ a. state_of a.database.config a.entries a.looks a.queries };
 
-    ghost invariant = { λ a. IsKept a.config a.entries a.bundles a.looks a.queries };
+    ghost invariant = { λ a. IsKept a.database.config a.entries a.database a.looks a.queries };
 }
 
 impl Core {
@@ -53,14 +51,13 @@ impl Core {
         ensures legal { IfOk result (λ core. IsLegal config history) }
         ensures broken { IfErr result (λ fault. IsFirstFault fault (after config history)) }
     {
-        let bundles = replay(alloc, &config, &history)?;
+        let database = replay(alloc, config, &history)?;
         let looks = Slots::new(alloc)?;
         let queries = Slots::new(alloc)?;
         Ok(Core {
             alloc,
-            config,
             entries: history,
-            bundles,
+            database,
             looks,
             queries,
         })
@@ -70,7 +67,7 @@ impl Core {
     pub fn config(&self) -> &Config
         ensures { result.now ≡ self.now.config }
     {
-        &self.config
+        self.database.config()
     }
 
     /// The history, in which no entry breaks a rule.
@@ -100,14 +97,13 @@ impl Core {
             command: line.command,
         };
         match line.request {
-            Request::Edit(edit) => {
-                let reply = try_edit(
+            Request::Edit(given) => {
+                let reply = try_given(
                     self.alloc,
-                    &self.config,
                     &mut self.entries,
-                    &mut self.bundles,
+                    &mut self.database,
                     head,
-                    edit,
+                    given,
                 )?;
                 Ok(Some(reply))
             }
@@ -133,11 +129,11 @@ impl Core {
         let n = self.entries.len() as u64;
         match line.request {
             Request::Look(ask) => {
-                let reply = open_look(self.alloc, &self.bundles, n, &mut self.looks, head, ask)?;
+                let reply = open_look(self.alloc, &self.database, n, &mut self.looks, head, ask)?;
                 Ok(Some(reply))
             }
             Request::Query(ask) => {
-                begin_query(self.alloc, &self.bundles, n, &mut self.queries, head, ask)?;
+                begin_query(self.alloc, &self.database, n, &mut self.queries, head, ask)?;
                 Ok(None)
             }
             Request::After(_) => Ok(Some(head.reply(Some(n), Answer::Done(head.command)))),
@@ -154,7 +150,7 @@ impl Core {
             (reply, self.new)) }
         ensures err { OnErr result (self.new ≡ self.old) }
     {
-        let reply = close_look(self.alloc, &self.config, &mut self.looks, line, session)?;
+        let reply = close_look(self.alloc, &mut self.looks, line, session)?;
         Ok(Some(reply))
     }
 
@@ -167,7 +163,7 @@ impl Core {
         ensures err { OnErr result (self.new ≡
             (query_fails self.old line session (slot self.old.queries session.0)).1) }
     {
-        close_query(self.alloc, &self.config, &mut self.queries, line, session)
+        close_query(self.alloc, &mut self.queries, line, session)
     }
 
     /// Takes one event: the reply that it gives, if it gives one. The only refusal is want of
@@ -188,10 +184,7 @@ impl Core {
             } => match command {
                 Command::Finish => self.finish(line, session),
                 Command::Query => self.query(line, session),
-                Command::Config => Ok(None),
-                Command::AddBundle => Ok(None),
-                Command::Look => Ok(None),
-                Command::After => Ok(None),
+                _ => Ok(None),
             },
         }
     }

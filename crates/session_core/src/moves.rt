@@ -1,19 +1,19 @@
 //! What one event does to the parts of the core, each part on its own.
 ghost use Rattle.edit_rules.specs.Effects.{after};
 ghost use Rattle.emu_names.specs.Gives.{GivesOrBroken};
-ghost use Rattle.session_core.specs.Kept.{edit_tried, head_reply, held_answer, held_at, look_closed, looked, query_closed, query_dropped};
+ghost use Rattle.session_core.specs.Kept.{edit_tried, given_tried, grid_told, head_reply, held_answer, held_at, look_closed, looked, query_closed, query_dropped};
 ghost use Rattle.session_core.specs.Steps.{is_full as is_full_list, put_slot, slot};
 ghost use Rattle.std.specs.Prelude.{◌≡◌, ◌<◌, Ok, Some, IfOk, OnErr, OnOk, length};
 
-use crate::bundle_set::BundleSet;
-use crate::config::Config;
-use crate::edit::{Edit, Entries, Entry};
 use crate::line::{Answer, Ask, Command, Refusal, Reply};
 use crate::queries::answer;
 use crate::slots::{Held, Slots};
+use db_config::Config;
+use edit_rules::{Database, Edit, Entries, Entry, apply};
 use emu_names::limits::HISTORY_EDITS;
 use emu_names::{Fault, Memory, SessionNo};
 use std::alloc::Global;
+use textgrid::GridFault;
 
 /// Where a request comes from, and its command.
 #[derive(Clone, Copy)]
@@ -40,15 +40,15 @@ impl Head {
     }
 }
 
-/// The bundles after a history, or the rule that it breaks first, or want of memory.
-pub fn replay(alloc: Global, config: &Config, history: &Entries) -> Result<BundleSet, Fault>
-    ensures { GivesOrBroken result (after config.now history.now) }
+/// The database after a history, or the rule that it breaks first, or want of memory.
+pub fn replay(alloc: Global, config: Config, history: &Entries) -> Result<Database, Fault>
+    ensures { GivesOrBroken result (after config history.now) }
 {
-    let mut bundles = BundleSet::new(alloc)?;
+    let mut database = Database::new(alloc, config)?;
     for entry in history.as_slice() {
-        bundles.apply(alloc, config, &entry.edit)?;
+        apply(alloc, &mut database, &entry.edit)?;
     }
-    Ok(bundles)
+    Ok(database)
 }
 
 /// Whether a history has no room for one entry more.
@@ -60,18 +60,17 @@ fn is_full(entries: &Entries) -> bool
 
 /// Tries an edit: the reply to it. It is put last in the history first, and taken out again where it
 /// is refused, or where memory runs out, which changes nothing.
-pub fn try_edit(
+fn try_edit(
     alloc: Global,
-    config: &Config,
     entries: &mut Entries,
-    bundles: &mut BundleSet,
+    database: &mut Database,
     head: Head,
     edit: Edit,
 ) -> Result<Reply, Memory>
-    ensures ok { IfOk result (λ reply. (reply, entries.new, bundles.new) ≡
-        edit_tried config.now head edit entries.old bundles.old) }
+    ensures ok { IfOk result (λ reply. (reply, entries.new, database.new) ≡
+        edit_tried head edit entries.old database.old) }
     ensures history { OnErr result (entries.new ≡ entries.old) }
-    ensures present { OnErr result (bundles.new ≡ bundles.old) }
+    ensures present { OnErr result (database.new ≡ database.old) }
 {
     let before = entries.len();
     let n = before as u64;
@@ -83,7 +82,7 @@ pub fn try_edit(
         line: head.line,
         edit,
     })?;
-    match bundles.apply(alloc, config, &entries.get(before).edit) {
+    match apply(alloc, database, &entries.get(before).edit) {
         Ok(()) => Ok(head.reply(Some(n + 1), Answer::Done(head.command))),
         Err(Fault::Broken(rule)) => {
             entries.truncate(before);
@@ -96,16 +95,48 @@ pub fn try_edit(
     }
 }
 
-/// A query that holds the present state, which it shares.
-fn hold(alloc: Global, bundles: &BundleSet, n: u64, head: Head, ask: Ask) -> Result<Held, Memory>
-    ensures { IfOk result (λ held. held ≡ held_at head ask n bundles.now) }
+/// The reply to a line whose TextGrid has a fault. Want of memory is answered as such, with no number.
+fn refuse_grid(head: Head, n: u64, fault: GridFault) -> Reply
+    ensures { result ≡ grid_told head n fault }
 {
-    let bundles = bundles.share(alloc)?;
+    match fault {
+        GridFault::Memory => head.reply(None, Answer::Refused(Refusal::Memory)),
+        _ => head.reply(Some(n), Answer::Refused(Refusal::Grid(fault))),
+    }
+}
+
+/// Tries the edit of a line, unless its TextGrid has a fault: the reply. Want of memory changes nothing.
+pub fn try_given(
+    alloc: Global,
+    entries: &mut Entries,
+    database: &mut Database,
+    head: Head,
+    given: Result<Edit, GridFault>,
+) -> Result<Reply, Memory>
+    ensures ok { IfOk result (λ reply. (reply, entries.new, database.new) ≡
+        given_tried head given entries.old database.old) }
+    ensures history { OnErr result (entries.new ≡ entries.old) }
+    ensures present { OnErr result (database.new ≡ database.old) }
+{
+    match given {
+        Ok(edit) => try_edit(alloc, entries, database, head, edit),
+        Err(fault) => {
+            let n = entries.len() as u64;
+            Ok(refuse_grid(head, n, fault))
+        }
+    }
+}
+
+/// A query that holds the present state, which it shares.
+fn hold(alloc: Global, database: &Database, n: u64, head: Head, ask: Ask) -> Result<Held, Memory>
+    ensures { IfOk result (λ held. held ≡ held_at head ask n database.now) }
+{
+    let database = database.copy(alloc)?;
     Ok(Held {
         line: head.line,
         n,
         ask,
-        bundles,
+        database,
     })
 }
 
@@ -113,7 +144,7 @@ fn hold(alloc: Global, bundles: &BundleSet, n: u64, head: Head, ask: Ask) -> Res
 /// memory changes nothing.
 pub fn open_look(
     alloc: Global,
-    bundles: &BundleSet,
+    database: &Database,
     n: u64,
     looks: &mut Slots,
     head: Head,
@@ -121,14 +152,14 @@ pub fn open_look(
 ) -> Result<Reply, Memory>
     requires { head.session.0 < length looks.old }
     ensures ok { IfOk result (λ reply. (reply, looks.new) ≡
-        looked head ask n bundles.now looks.old (slot looks.old head.session.0)) }
+        looked head ask n database.now looks.old (slot looks.old head.session.0)) }
     ensures err { OnErr result (looks.new ≡ looks.old) }
 {
     let place = head.session.0 as usize;
     match looks.get(place) {
         Some(_) => Ok(head.reply(None, Answer::Refused(Refusal::LookOpen))),
         None => {
-            let held = hold(alloc, bundles, n, head, ask)?;
+            let held = hold(alloc, database, n, head, ask)?;
             looks.put(place, Some(held));
             Ok(head.reply(Some(n), Answer::Done(head.command)))
         }
@@ -138,7 +169,7 @@ pub fn open_look(
 /// Puts a query under way, which holds the present state. Want of memory changes nothing.
 pub fn begin_query(
     alloc: Global,
-    bundles: &BundleSet,
+    database: &Database,
     n: u64,
     queries: &mut Slots,
     head: Head,
@@ -146,32 +177,31 @@ pub fn begin_query(
 ) -> Result<(), Memory>
     requires { head.session.0 < length queries.old }
     ensures ok { OnOk result (queries.new ≡
-        put_slot queries.old head.session.0 (Some (held_at head ask n bundles.now))) }
+        put_slot queries.old head.session.0 (Some (held_at head ask n database.now))) }
     ensures err { OnErr result (queries.new ≡ queries.old) }
 {
-    let held = hold(alloc, bundles, n, head, ask)?;
+    let held = hold(alloc, database, n, head, ask)?;
     queries.put(head.session.0 as usize, Some(held));
     Ok(())
 }
 
 /// The answer to a query over the state that it holds.
-fn answer_held(alloc: Global, config: &Config, held: &Held) -> Result<Answer, Memory>
-    ensures { IfOk result (λ given. given ≡ held_answer config.now held.now) }
+fn answer_held(alloc: Global, held: &Held) -> Result<Answer, Memory>
+    ensures { IfOk result (λ given. given ≡ held_answer held.now) }
 {
-    answer(alloc, config, held.bundles.as_ref(), &held.ask)
+    answer(alloc, &held.database, &held.ask)
 }
 
 /// Answers the session's open look and closes it: the reply. Want of memory leaves it open.
 pub fn close_look(
     alloc: Global,
-    config: &Config,
     looks: &mut Slots,
     line: u32,
     session: SessionNo,
 ) -> Result<Reply, Memory>
     requires { session.0 < length looks.old }
     ensures ok { IfOk result (λ reply. (reply, looks.new) ≡
-        look_closed config.now line session looks.old (slot looks.old session.0)) }
+        look_closed line session looks.old (slot looks.old session.0)) }
     ensures err { OnErr result (looks.new ≡ looks.old) }
 {
     let place = session.0 as usize;
@@ -183,7 +213,7 @@ pub fn close_look(
             answer: Answer::Refused(Refusal::NoLook),
         }),
         Some(held) => {
-            let answer = answer_held(alloc, config, held)?;
+            let answer = answer_held(alloc, held)?;
             let n = Some(held.n);
             looks.put(place, None);
             Ok(Reply {
@@ -200,21 +230,20 @@ pub fn close_look(
 /// closes it too.
 pub fn close_query(
     alloc: Global,
-    config: &Config,
     queries: &mut Slots,
     line: u32,
     session: SessionNo,
 ) -> Result<Option<Reply>, Memory>
     requires { session.0 < length queries.old }
     ensures ok { IfOk result (λ reply. (reply, queries.new) ≡
-        query_closed config.now line session queries.old (slot queries.old session.0)) }
+        query_closed line session queries.old (slot queries.old session.0)) }
     ensures err { OnErr result (queries.new ≡
         query_dropped session queries.old (slot queries.old session.0)) }
 {
     match queries.take(session.0 as usize) {
         None => Ok(None),
         Some(held) => {
-            let answer = answer_held(alloc, config, &held)?;
+            let answer = answer_held(alloc, &held)?;
             Ok(Some(Reply {
                 line,
                 session,

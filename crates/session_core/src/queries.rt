@@ -1,100 +1,103 @@
-//! The answer to a query over the bundles of a state.
-ghost use Rattle.session_core.specs.Answers.{answer_over};
-ghost use Rattle.session_core.specs.Queries.{attribute_from, attribute_place, level_place, name_place};
-ghost use Rattle.std.specs.Prelude.{◌≡◌, IfOk, MatchOption};
+//! The answer to a query over a database.
+ghost use Rattle.std.specs.Prelude.{◌≡◌, ◌<◌, IfOk, IsSome, Some, length};
+ghost use Rattle.std.specs.List.{enumerate_from, list_any};
+ghost use Rattle.db_config.specs.Lookups.{attribute_at};
+ghost use Rattle.session_core.specs.Answers.{answer_over, query_answer, rows_over};
+ghost use Rattle.session_core.specs.Queries.{asked_at, is_item, is_segment, is_segment_below, names_group, takes_times};
 
-use crate::bundle::Bundles;
-use crate::config::{AttributeDefs, Config, LevelDefs};
 use crate::line::{Answer, Ask, AskFault, Refusal};
 use crate::rows::{Wanted, segment_list};
-use emu_names::{Memory, Text};
+use db_config::{AttributePlace, Config};
+use edit_rules::Database;
+use emu_names::{LevelKind, Memory, Text};
 use std::alloc::Global;
 
-/// A level and one of its attributes, by their places.
-#[derive(Clone, Copy)]
-struct Place {
-    level: usize,
-    attribute: usize,
+fn is_item(kind: LevelKind) -> bool
+    ensures { result ≡ is_item kind }
+{
+    match kind {
+        LevelKind::Item => true,
+        LevelKind::Segment => false,
+        LevelKind::Event => false,
+    }
 }
 
-fn attribute_from(defs: &AttributeDefs, name: &Text) -> Option<usize>
-    ensures { result ≡ attribute_from 0 defs.now name.now }
+fn is_segment(kind: LevelKind) -> bool
+    ensures { result ≡ is_segment kind }
 {
-    let defs = defs.as_slice();
-    for place in 0..defs.len() {
-        if defs[place].name.as_str() == name.as_str() {
-            return Some(place);
+    match kind {
+        LevelKind::Item => false,
+        LevelKind::Segment => true,
+        LevelKind::Event => false,
+    }
+}
+
+/// Whether a SEGMENT level is below this one.
+fn has_segments_below(config: &Config, level: usize) -> bool
+    requires { level < length config.now.levels }
+    ensures { result ≡
+        list_any (is_segment_below config.now.links level) (enumerate_from 0 config.now.levels) }
+{
+    let defs = config.parts().levels.as_slice();
+    for lower in 0..defs.len() {
+        if is_segment(defs[lower].kind) && config.is_above(level, lower) {
+            return true;
         }
     }
-    None
+    false
 }
 
-/// The first level with an attribute of this name, and the attribute.
-fn attribute_place(defs: &LevelDefs, name: &Text) -> Option<Place>
-    ensures { MatchOption result (attribute_place 0 defs.now name.now ≡ None)
-        (λ p. attribute_place 0 defs.now name.now ≡
-        Some (record { level = p.level; attribute = p.attribute })) }
+/// Whether this is an ITEM level above a SEGMENT level, from which its items have their times.
+fn takes_times(config: &Config, level: usize) -> bool
+    requires { level < length config.now.levels }
+    ensures { result ≡ takes_times config.now level }
 {
-    let defs = defs.as_slice();
-    for level in 0..defs.len() {
-        if let Some(attribute) = attribute_from(&defs[level].attributes, name) {
-            return Some(Place { level, attribute });
-        }
-    }
-    None
+    is_item(config.kind(level)) && has_segments_below(config, level)
 }
 
-/// The level of this name, with its first attribute.
-fn level_place(defs: &LevelDefs, name: &Text) -> Option<Place>
-    ensures { MatchOption result (level_place 0 defs.now name.now ≡ None)
-        (λ p. level_place 0 defs.now name.now ≡
-        Some (record { level = p.level; attribute = p.attribute })) }
+/// Whether a label names a label group of the attribute or of the database.
+fn names_group(config: &Config, place: AttributePlace, label: &Text) -> bool
+    requires { IsSome (attribute_at place config.now.levels) }
+    ensures { result ≡ names_group config.now place label.now }
 {
-    let defs = defs.as_slice();
-    for level in 0..defs.len() {
-        if defs[level].name.as_str() == name.as_str() {
-            return Some(Place {
-                level,
-                attribute: 0,
-            });
-        }
-    }
-    None
+    config.group(place, label.as_str()).is_some()
 }
 
-/// What a name stands for: an attribute, else a level, which stands for its first attribute.
-fn name_place(config: &Config, name: &Text) -> Option<Place>
-    ensures { MatchOption result (name_place config.now name.now ≡ None)
-        (λ p. name_place config.now name.now ≡
-        Some (record { level = p.level; attribute = p.attribute })) }
-{
-    match attribute_place(&config.levels, name) {
-        Some(place) => Some(place),
-        None => level_place(&config.levels, name),
-    }
-}
-
-/// The answer to a query over these bundles: its segment list, or a refusal where it has no meaning
-/// under the configuration. The only failure is want of memory.
-pub fn answer(
+/// The answer to a query at a place of the configuration, over the bundles of a database.
+fn answer_for(
     alloc: Global,
-    config: &Config,
-    bundles: &Bundles,
+    database: &Database,
+    place: AttributePlace,
     ask: &Ask,
 ) -> Result<Answer, Memory>
-    ensures { IfOk result (λ given. given ≡ answer_over config.now bundles.now ask.now) }
+    requires { IsSome (attribute_at place database.now.config.levels) }
+    ensures { IfOk result (λ given. given ≡
+        query_answer (rows_over database.now (asked_at database.now.config ask.now (Some place)))) }
 {
-    match name_place(config, &ask.name) {
-        Some(place) => {
-            let wanted = Wanted {
-                config,
-                level: place.level,
-                attribute: place.attribute,
-                label: &ask.label,
-            };
-            let rows = segment_list(alloc, &wanted, bundles)?;
-            Ok(Answer::Segments(rows))
-        }
+    let config = database.config();
+    if takes_times(config, place.level) {
+        return Ok(Answer::Refused(Refusal::NotBuilt));
+    }
+    if names_group(config, place, &ask.label) {
+        return Ok(Answer::Refused(Refusal::NotBuilt));
+    }
+    let wanted = Wanted {
+        config: config.parts(),
+        place,
+        label: &ask.label,
+    };
+    let rows = segment_list(alloc, &wanted, database)?;
+    Ok(Answer::Segments(rows))
+}
+
+/// The answer to a query over a database: its segment list; or a refusal where no attribute and no level has
+/// its name (`UnknownName`), or where it asks for times from a SEGMENT level below an ITEM level or for a
+/// label group (`NotBuilt`). The only failure is want of memory.
+pub fn answer(alloc: Global, database: &Database, ask: &Ask) -> Result<Answer, Memory>
+    ensures { IfOk result (λ given. given ≡ answer_over database.now ask.now) }
+{
+    match database.config().name_place(ask.name.as_str()) {
+        Some(place) => answer_for(alloc, database, place, ask),
         None => {
             let name = ask.name.copy(alloc)?;
             Ok(Answer::Refused(Refusal::Resolve(AskFault::UnknownName(name))))

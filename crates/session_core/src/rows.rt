@@ -1,16 +1,18 @@
-//! The rows that the bundles of a state give to a query.
-ghost use Rattle.std.specs.Prelude.{◌≡◌, ◌++◌, ◌≤◌, ◌<◌, ◌^◌, IsTrue, true, map, filter, length, IfOk, OnOk};
-ghost use Rattle.std.specs.List.{list_all, enumerate_from};
+//! The rows that the bundles of a database give to a query.
+ghost use Rattle.std.specs.Prelude.{◌≡◌, ◌++◌, ◌≤◌, ◌<◌, IsTrue, length, IfOk, OnOk};
+ghost use Rattle.std.specs.List.{list_all};
 ghost use Rattle.emu_names.specs.declared.limits.TheConstants.{BUNDLE_ITEMS};
-ghost use Rattle.session_core.specs.Queries.{level_name, attribute_name, label_at, times_of, row_of, asked_by, is_asked, rows_in, segment_list};
-ghost use Rattle.session_core.specs.Times.{is_in_time, is_rate, is_item_in_time};
+ghost use Rattle.level_items.specs.Times.{ends_in_time};
+ghost use Rattle.bundle_state.specs.Faults.{is_rate};
+ghost use Rattle.session_core.specs.Queries.{asked_by, attribute_name, label_at, level_name, row_of, rows_among, rows_in, segment_list, times_of};
 
-use crate::annot::Time;
-use crate::bundle::{Bundle, BundleParts, Bundles, Item};
-use crate::config::Config;
 use crate::row::{Row, SegmentList};
+use bundle_state::Bundle;
+use db_config::{AttributePlace, ConfigParts};
+use edit_rules::Database;
 use emu_lists::Series;
 use emu_names::{Memory, Text};
+use level_items::{Item, Time};
 use sample_time::{micros_of_end, micros_of_point, micros_of_start};
 use std::alloc::Global;
 
@@ -18,11 +20,9 @@ use std::alloc::Global;
 #[derive(Clone, Copy)]
 pub(crate) struct Wanted<'a> {
     /// The configuration.
-    pub(crate) config: &'a Config,
-    /// The level's place in the configuration.
-    pub(crate) level: usize,
-    /// The attribute's place on its level.
-    pub(crate) attribute: usize,
+    pub(crate) config: &'a ConfigParts,
+    /// The place of the level and its attribute in the configuration.
+    pub(crate) place: AttributePlace,
     /// The label.
     pub(crate) label: &'a Text,
 }
@@ -36,7 +36,7 @@ struct RowTimes {
     sample_end: Option<u64>,
 }
 
-fn level_name(config: &Config, level: usize) -> &str
+fn level_name(config: &ConfigParts, level: usize) -> &str
     ensures { result.now ≡ level_name config.now level }
 {
     match config.levels.as_slice().get(level) {
@@ -45,12 +45,11 @@ fn level_name(config: &Config, level: usize) -> &str
     }
 }
 
-fn attribute_name(config: &Config, level: usize, attribute: usize) -> &str
-    ensures { result.now ≡
-        attribute_name config.now (record { level = level; attribute = attribute }) }
+fn attribute_name(config: &ConfigParts, place: AttributePlace) -> &str
+    ensures { result.now ≡ attribute_name config.now place }
 {
-    match config.levels.as_slice().get(level) {
-        Some(def) => match def.attributes.as_slice().get(attribute) {
+    match config.levels.as_slice().get(place.level) {
+        Some(def) => match def.attributes.as_slice().get(place.attribute) {
             Some(def) => def.name.as_str(),
             None => "",
         },
@@ -69,7 +68,7 @@ fn label_at(item: &Item, attribute: usize) -> &str
 
 fn times_of(rate: u32, time: Time) -> RowTimes
     requires rate { IsTrue (is_rate rate) }
-    requires in_time { IsTrue (is_in_time time) }
+    requires in_time { IsTrue (ends_in_time time) }
     ensures start { result.start ≡ (times_of rate time).start }
     ensures end { result.end ≡ (times_of rate time).end }
     ensures sample_start { result.sample_start ≡ (times_of rate time).sample_start }
@@ -101,27 +100,24 @@ fn times_of(rate: u32, time: Time) -> RowTimes
 fn row(
     alloc: Global,
     wanted: &Wanted,
-    parts: &BundleParts,
+    bundle: &Bundle,
     position: u32,
     item: &Item,
 ) -> Result<Row, Memory>
-    requires rate { IsTrue (is_rate parts.now.rate) }
-    requires in_time { IsTrue (is_in_time item.now.time) }
-    ensures { IfOk result (λ made. made ≡ row_of wanted.now.config.now
-        (record { level = wanted.now.level; attribute = wanted.now.attribute }) parts.now (position, item.now)) }
+    requires rate { IsTrue (is_rate bundle.now.rate) }
+    requires in_time { IsTrue (ends_in_time item.now.time) }
+    ensures { IfOk result (λ made. made ≡
+        row_of wanted.now.config.now wanted.now.place bundle.now (position, item.now)) }
 {
-    let times = times_of(parts.rate, item.time);
-    let session = Text::new(alloc, parts.key.session.as_str())?;
-    let bundle = Text::new(alloc, parts.key.bundle.as_str())?;
-    let level = Text::new(alloc, level_name(wanted.config, wanted.level))?;
-    let attribute = Text::new(
-        alloc,
-        attribute_name(wanted.config, wanted.level, wanted.attribute),
-    )?;
-    let labels = Text::new(alloc, label_at(item, wanted.attribute))?;
+    let times = times_of(bundle.rate(), item.time);
+    let session = Text::new(alloc, bundle.key().session.as_str())?;
+    let name = Text::new(alloc, bundle.key().bundle.as_str())?;
+    let level = Text::new(alloc, level_name(wanted.config, wanted.place.level))?;
+    let attribute = Text::new(alloc, attribute_name(wanted.config, wanted.place))?;
+    let labels = Text::new(alloc, label_at(item, wanted.place.attribute))?;
     Ok(Row {
         session,
-        bundle,
+        bundle: name,
         level,
         attribute,
         labels,
@@ -129,7 +125,7 @@ fn row(
         end: times.end,
         sample_start: times.sample_start,
         sample_end: times.sample_end,
-        rate: parts.rate,
+        rate: bundle.rate(),
         start_item: item.id,
         end_item: item.id,
         start_pos: position,
@@ -137,26 +133,24 @@ fn row(
     })
 }
 
-/// Adds the rows of the items of a bundle's level. The only refusal is want of memory.
+/// Adds the rows of these items of a bundle's level. The only refusal is want of memory.
 fn add_rows(
     alloc: Global,
     rows: &mut SegmentList,
     wanted: &Wanted,
-    parts: &BundleParts,
+    bundle: &Bundle,
     items: &[Item],
 ) -> Result<(), Memory>
-    requires rate { IsTrue (is_rate parts.now.rate) }
-    requires in_time { list_all is_item_in_time items.now ≡ true }
+    requires rate { IsTrue (is_rate bundle.now.rate) }
+    requires in_time { IsTrue (list_all (λ i. ends_in_time i.time) items.now) }
     requires few { length items.now ≤ BUNDLE_ITEMS }
-    ensures { OnOk result (rows.new ≡ rows.old
-        ++ map (row_of wanted.now.config.now
-        (record { level = wanted.now.level; attribute = wanted.now.attribute }) parts.now)
-        (filter (is_asked wanted.now.attribute wanted.now.label.now) (enumerate_from 0 items.now))) }
+    ensures { OnOk result (rows.new ≡ rows.old ++ rows_among wanted.now.config.now
+        (asked_by wanted.now.place wanted.now.label.now) bundle.now items.now) }
 {
     for position in 0..items.len() {
         let item = &items[position];
-        if label_at(item, wanted.attribute) == wanted.label.as_str() {
-            rows.push(row(alloc, wanted, parts, position as u32, item)?)?;
+        if label_at(item, wanted.place.attribute) == wanted.label.as_str() {
+            rows.push(row(alloc, wanted, bundle, position as u32, item)?)?;
         }
     }
     Ok(())
@@ -170,27 +164,28 @@ fn add_bundle_rows(
     bundle: &Bundle,
 ) -> Result<(), Memory>
     ensures { OnOk result (rows.new ≡ rows.old ++ rows_in wanted.now.config.now
-        (asked_by wanted.now.level wanted.now.attribute wanted.now.label.now) bundle.now) }
+        (asked_by wanted.now.place wanted.now.label.now) bundle.now) }
 {
-    let parts = bundle.parts();
-    match parts.levels.as_slice().get(wanted.level) {
-        Some(items) => add_rows(alloc, rows, wanted, parts, items.as_slice()),
-        None => Ok(()),
+    if bundle.level_count() <= wanted.place.level {
+        return Ok(());
     }
+    let _items = bundle.item_count();
+    let items = bundle.level(wanted.place.level).as_slice();
+    add_rows(alloc, rows, wanted, bundle, items)
 }
 
-/// The rows of these bundles, one bundle after another. The only refusal is want of memory.
+/// The rows of the bundles of a database, one bundle after another. The only refusal is want of memory.
 pub(crate) fn segment_list(
     alloc: Global,
     wanted: &Wanted,
-    bundles: &Bundles,
+    database: &Database,
 ) -> Result<SegmentList, Memory>
     ensures { IfOk result (λ made. made ≡ segment_list wanted.now.config.now
-        (asked_by wanted.now.level wanted.now.attribute wanted.now.label.now) bundles.now) }
+        (asked_by wanted.now.place wanted.now.label.now) database.now.bundles) }
 {
     let mut rows = Series::new(alloc);
-    for bundle in bundles.as_slice() {
-        add_bundle_rows(alloc, &mut rows, wanted, bundle.as_ref())?;
+    for place in 0..database.len() {
+        add_bundle_rows(alloc, &mut rows, wanted, database.at(place))?;
     }
     Ok(rows)
 }

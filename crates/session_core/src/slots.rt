@@ -2,9 +2,8 @@
 ghost use Rattle.session_core.specs.Steps.{put_slot, session_places, slot};
 ghost use Rattle.std.specs.Prelude.{◌≡◌, ◌<◌, None, IfOk, length, replicate};
 
-use crate::bundle::Bundles;
 use crate::line::Ask;
-use emu_lists::Shared;
+use edit_rules::Database;
 use emu_names::Memory;
 use emu_names::limits::SESSIONS;
 use std::alloc::Global;
@@ -19,8 +18,8 @@ pub struct Held {
     pub n: u64,
     /// The query.
     pub ask: Ask,
-    /// The bundles of the state.
-    pub bundles: Shared<Bundles>,
+    /// The database of the state.
+    pub database: Database,
 }
 
 /// A place for each session of a script, and one for the program itself, which is 0.

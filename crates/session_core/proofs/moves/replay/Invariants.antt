@@ -3,4 +3,4 @@ use Rattle.edit_rules.specs.Effects.{after, replayed}
 use Rattle.session_core.proofs.moves.replay.Given as goal
 
 abbrev pub invariant-loop-entry : goal.invariant-loop-entry
-invariant-loop-entry l = replayed l.config l.bundles (drop l.entry-index l.entry-items) ≡ after l.config l.fn.history
+invariant-loop-entry l = replayed l.database (drop l.entry-index l.entry-items) ≡ after l.fn.config l.fn.history
