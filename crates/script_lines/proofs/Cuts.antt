@@ -6,7 +6,7 @@ use Rattle.std.specs.Str.{IsUtf8, IsCharBoundary}
 use Rattle.std.proofs.lemmas.Bool.Decides.{nat_tests}
 use Rattle.std.proofs.lemmas.Str.{IsUtf8-drop, IsCharBoundary-start, IsCharBoundary-after_ascii, IsCharBoundary-from_rest}
 use Rattle.session_core.specs.declared.line.Ask.{Ask}
-use Rattle.script_lines.specs.Thin.{is_white, is_mark, word_len, white_len, nothing_left}
+use Rattle.script_lines.specs.Queries.{is_white, is_mark, word_len, white_len, nothing_left}
 
 or_either : {P : Type 0} (x y : Bool) → (x || y) ≡ true → (x ≡ true → P) → (y ≡ true → P) → P
 or_either true y h p q = p refl

@@ -11,29 +11,36 @@ use Rattle.json_view.specs.Paths.{root_path}
 use Rattle.json_view.specs.Parts.{shape, member_of, whole_at, whole_in, at_most}
 use Rattle.json_view.specs.Steps.{◌>>=◌}
 use Rattle.emu_names.specs.declared.kinds.SessionNo.{SessionNo}
+use Rattle.emu_names.specs.declared.names.BundleKey.{BundleKey}
+use Rattle.level_items.specs.declared.annot.Annot.{Annot}
+use Rattle.db_config.specs.declared.parts.ConfigParts.{ConfigParts}
+use Rattle.db_config.specs.declared.faults.ConfigFault.{ConfigFault}
+use Rattle.db_config.specs.Forms.{or_shape, text_member}
+use Rattle.db_config.specs.Names.{same_text}
+use Rattle.db_config.specs.Read.{config_of}
+use Rattle.db_config.specs.Valid.{is_valid}
+use Rattle.annot_json.specs.Forms.{whole_member}
+use Rattle.annot_json.specs.Read.{annot_of, labels_in}
+use Rattle.edit_rules.specs.declared.edit.Edit.TheVariants as edits
+use Rattle.textgrid.specs.declared.fault.GridFault.{GridFault}
 use Rattle.session_core.specs.declared.line.Command.{Command}
 use Rattle.session_core.specs.declared.line.Command.TheVariants as commands
 use Rattle.session_core.specs.declared.line.Request.{Request}
 use Rattle.session_core.specs.declared.line.Request.TheVariants as requests
 use Rattle.session_core.specs.declared.line.Line.{Line}
-use Rattle.session_core.specs.declared.annot.Annot.{Annot}
-use Rattle.session_core.specs.declared.config.Config.{Config}
-use Rattle.session_core.specs.declared.edit.Edit.TheVariants as edits
-use Rattle.session_core.specs.declared.line.Ask.{Ask}
-use Rattle.emu_names.specs.declared.names.BundleKey.{BundleKey}
-use Rattle.session_core.specs.Configs.{same_text, is_valid_config}
 use Rattle.session_core.specs.Steps.{session_places}
-use Rattle.session_core.specs.Worlds.{is_command_of}
+use Rattle.session_core.specs.Commands.{is_command_of}
 use Rattle.script_lines.specs.declared.faults.LineFault.{LineFault}
 use Rattle.script_lines.specs.declared.faults.LineFault.TheVariants as faults
 use Rattle.script_lines.specs.declared.faults.ReadLine.{ReadLine}
 use Rattle.script_lines.specs.declared.faults.ReadLine.TheVariants as reads
-use Rattle.script_lines.specs.Faults.{form}
-use Rattle.script_lines.specs.Forms.{or_shape, name_at, whole_member, id_limit}
-use Rattle.script_lines.specs.Thin.{thin_config, thin_annot}
-use Rattle.script_lines.specs.Lines.{request_of, blank_line, json_line, value_line, placed_line, config_line, line_in, if_command, command_named, session_at, session_in, if_session, members_of, bundle_request, query_request, look_request, after_request, if_earlier, ask_in, is_blank, json_of, word_of_line}
+use Rattle.script_lines.specs.Faults.{form, config_form}
+use Rattle.script_lines.specs.Forms.{id_limit, sample_limit, session_at, session_in, if_session, key_at, id_at, position_at, rate_at, time_at}
+use Rattle.script_lines.specs.Edits.{asks, grid_edit, grid_annot, bundle_request, textgrid_request, drop_request, item_request, remove_request, label_request, segment_request, boundary_request, point_request, split_request, merge_request, link_request, unlink_request}
+use Rattle.script_lines.specs.Lines.{request_of, blank_line, json_line, value_line, placed_line, config_line, line_in, if_command, command_named, members_of, query_request, look_request, after_request, if_earlier, ask_in, is_blank, json_of, word_of_line}
 use Rattle.script_lines.specs.Known.{Known, NamesOneOf}
-use Rattle.script_lines.proofs.ValidConfigs.{thin_valid}
+use Rattle.script_lines.proofs.Taken.{Taken, taken}
+use Rattle.script_lines.proofs.ValidConfigs.{config_valid}
 
 abbrev ok_shape : Request → Result Request Shape
 ok_shape x = Ok x
@@ -92,7 +99,7 @@ session_same s false n session h = absurd (cc)
 
 -- the session of a member that was read
 
-within_place : (at : Seen) (whole : Result ℕ Shape) (session : SessionNo) → ((n : ℕ) → whole ≡ Ok n → n ≤ 16) → (whole >>= λ n. if_session at (Some n)) ≡ Ok session → session.0 < session_places
+within_place : (at : Seen) (whole : Result ℕ Shape) (session : SessionNo) → ((n : ℕ) → whole ≡ Ok n → n ≤ 16) → (whole >>= λ n. if_session at n) ≡ Ok session → session.0 < session_places
 within_place at (Ok n) session most h =
     let low : n ≤ 16 = most n refl in
     let same : n ≡ session.0 = session_same at (nat_le 1 n) n session h in
@@ -101,7 +108,7 @@ within_place at (Err e) session most h = absurd (cc)
 
 member_place : (member : Result Seen Shape) (session : SessionNo) → (member >>= session_in) ≡ Ok session → session.0 < session_places
 unfolding session_in
-member_place (Ok at) session h = within_place at (whole_at 16 at) session (whole_most 16 at) (or_shape_ok (shape at.path wanted.Session) (whole_at 16 at >>= λ n. if_session at (Some n)) session h)
+member_place (Ok at) session h = within_place at (whole_at 16 at) session (whole_most 16 at) (or_shape_ok (shape at.path wanted.Session) (whole_at 16 at >>= λ n. if_session at n) session h)
 member_place (Err e) session h = absurd (cc)
 
 session_place : (s : Seen) (session : SessionNo) → session_at s ≡ Ok session → session.0 < session_places
@@ -114,47 +121,139 @@ record IsMade (word : Command) (earlier : List ℕ) (r : Request) : Type 0 where
   command : is_command_of word r ≡ true
   names : NamesOneOf earlier r
 
-made_of : (word : Command) (earlier : List ℕ) (x y : Request) → ok_shape x ≡ ok_shape y → IsMade word earlier x → IsMade word earlier y
-made_of word earlier x y h made = let same : x ≡ y = ok_is h in subst (λ q. IsMade word earlier q) same made
+-- each request that a reading gives is one of the command
+abbrev Makes : Command → List ℕ → Result Request Shape → Type 0
+Makes word earlier r = (q : Request) → r ≡ Ok q → IsMade word earlier q
 
-annot_made : (earlier : List ℕ) (key : BundleKey) (annot : Result Annot Shape) (r : Request) → (annot >>= λ a. Ok (requests.Edit (edits.AddBundle key a))) ≡ Ok r → IsMade commands.AddBundle earlier r
-annot_made earlier key (Ok a) r h = made_of commands.AddBundle earlier (requests.Edit (edits.AddBundle key a)) r h (record { command = refl; names = tt })
-annot_made earlier key (Err e) r h = absurd (cc)
+goes_on : {A : Type 0} (word : Command) (earlier : List ℕ) (first : Result A Shape) (rest : A → Result Request Shape)
+    → ((x : A) → Makes word earlier (rest x)) → Makes word earlier (first >>= rest)
+goes_on word earlier (Ok x) rest each = each x
+goes_on word earlier (Err e) rest each = λ q h. absurd (cc)
 
-member_made : (earlier : List ℕ) (key : BundleKey) (member : Result Seen Shape) (r : Request) → (member >>= λ m. thin_annot m >>= λ a. Ok (requests.Edit (edits.AddBundle key a))) ≡ Ok r → IsMade commands.AddBundle earlier r
-member_made earlier key (Ok m) r h = annot_made earlier key (thin_annot m) r h
-member_made earlier key (Err e) r h = absurd (cc)
+ends : (word : Command) (earlier : List ℕ) (x : Request) → IsMade word earlier x → Makes word earlier (Ok x)
+ends word earlier x made = λ q h. let same : x ≡ q = ok_is h in subst (λ r. IsMade word earlier r) same made
 
-abbrev key_of : List ℕ → List ℕ → BundleKey
-key_of session bundle = record { session = session; bundle = bundle }
-
-bundle_name_made : (earlier session : List ℕ) (s : Seen) (bundle : Result (List ℕ) Shape) (r : Request) → (bundle >>= λ b. member_of (codes "annot") wanted.Object s >>= λ m. thin_annot m >>= λ a. Ok (requests.Edit (edits.AddBundle (key_of session b) a))) ≡ Ok r → IsMade commands.AddBundle earlier r
-bundle_name_made earlier session s (Ok b) r h = member_made earlier (key_of session b) (member_of (codes "annot") wanted.Object s) r h
-bundle_name_made earlier session s (Err e) r h = absurd (cc)
-
-session_name_made : (earlier : List ℕ) (s : Seen) (session : Result (List ℕ) Shape) (r : Request) → (session >>= λ n. name_at (codes "bundle") s >>= λ b. member_of (codes "annot") wanted.Object s >>= λ m. thin_annot m >>= λ a. Ok (requests.Edit (edits.AddBundle (key_of n b) a))) ≡ Ok r → IsMade commands.AddBundle earlier r
-session_name_made earlier s (Ok n) r h = bundle_name_made earlier n s (name_at (codes "bundle") s) r h
-session_name_made earlier s (Err e) r h = absurd (cc)
-
-bundle_made : (earlier : List ℕ) (s : Seen) (r : Request) → bundle_request s ≡ Ok r → IsMade commands.AddBundle earlier r
+bundle_made : (earlier : List ℕ) (s : Seen) → Makes commands.AddBundle earlier (bundle_request s)
 unfolding bundle_request
-bundle_made earlier s r h = session_name_made earlier s (name_at (codes "session") s) r h
+bundle_made earlier s =
+    goes_on commands.AddBundle earlier (key_at s) _ (λ key.
+    goes_on commands.AddBundle earlier (member_of (codes "annot") wanted.Object s) _ (λ member.
+    goes_on commands.AddBundle earlier (annot_of member) _ (λ annot.
+    ends commands.AddBundle earlier (asks (edits.AddBundle key annot)) (record { command = refl; names = tt }))))
 
-asked_made : (earlier : List ℕ) (ask : Result Ask Shape) (r : Request) → (ask >>= λ a. Ok (requests.Query a)) ≡ Ok r → IsMade commands.Query earlier r
-asked_made earlier (Ok a) r h = made_of commands.Query earlier (requests.Query a) r h (record { command = refl; names = tt })
-asked_made earlier (Err e) r h = absurd (cc)
+grid_made : (earlier : List ℕ) (key : BundleKey) (annot : Result Annot GridFault) → IsMade commands.AddTextgrid earlier (requests.Edit (grid_edit key annot))
+grid_made earlier key (Ok annot) = record { command = refl; names = tt }
+grid_made earlier key (Err fault) = record { command = refl; names = tt }
 
-query_made : (earlier : List ℕ) (s : Seen) (r : Request) → query_request s ≡ Ok r → IsMade commands.Query earlier r
+textgrid_made : (earlier : List ℕ) (s : Seen) → Makes commands.AddTextgrid earlier (textgrid_request s)
+unfolding textgrid_request
+textgrid_made earlier s =
+    goes_on commands.AddTextgrid earlier (key_at s) _ (λ key.
+    goes_on commands.AddTextgrid earlier (rate_at s) _ (λ rate.
+    goes_on commands.AddTextgrid earlier (text_member (codes "text") s) _ (λ text.
+    ends commands.AddTextgrid earlier (requests.Edit (grid_edit key (grid_annot rate text))) (grid_made earlier key (grid_annot rate text)))))
+
+drop_made : (earlier : List ℕ) (s : Seen) → Makes commands.DropBundle earlier (drop_request s)
+unfolding drop_request
+drop_made earlier s =
+    goes_on commands.DropBundle earlier (key_at s) _ (λ key.
+    ends commands.DropBundle earlier (asks (edits.DropBundle key)) (record { command = refl; names = tt }))
+
+item_made : (earlier : List ℕ) (s : Seen) → Makes commands.AddItem earlier (item_request s)
+unfolding item_request
+item_made earlier s =
+    goes_on commands.AddItem earlier (key_at s) _ (λ key.
+    goes_on commands.AddItem earlier (text_member (codes "level") s) _ (λ level.
+    goes_on commands.AddItem earlier (position_at s) _ (λ position.
+    goes_on commands.AddItem earlier (id_at (codes "id") s) _ (λ id.
+    goes_on commands.AddItem earlier (time_at s) _ (λ time.
+    goes_on commands.AddItem earlier (labels_in s) _ (λ labels.
+    ends commands.AddItem earlier (asks (edits.AddItem key level position (record { id = id; time = time; labels = labels }))) (record { command = refl; names = tt })))))))
+
+remove_made : (earlier : List ℕ) (s : Seen) → Makes commands.RemoveItem earlier (remove_request s)
+unfolding remove_request
+remove_made earlier s =
+    goes_on commands.RemoveItem earlier (key_at s) _ (λ key.
+    goes_on commands.RemoveItem earlier (id_at (codes "id") s) _ (λ id.
+    ends commands.RemoveItem earlier (asks (edits.RemoveItem key id)) (record { command = refl; names = tt })))
+
+label_made : (earlier : List ℕ) (s : Seen) → Makes commands.SetLabel earlier (label_request s)
+unfolding label_request
+label_made earlier s =
+    goes_on commands.SetLabel earlier (key_at s) _ (λ key.
+    goes_on commands.SetLabel earlier (id_at (codes "id") s) _ (λ id.
+    goes_on commands.SetLabel earlier (text_member (codes "attribute") s) _ (λ attribute.
+    goes_on commands.SetLabel earlier (text_member (codes "value") s) _ (λ label.
+    ends commands.SetLabel earlier (asks (edits.SetLabel key id attribute label)) (record { command = refl; names = tt })))))
+
+segment_made : (earlier : List ℕ) (s : Seen) → Makes commands.SetSegment earlier (segment_request s)
+unfolding segment_request
+segment_made earlier s =
+    goes_on commands.SetSegment earlier (key_at s) _ (λ key.
+    goes_on commands.SetSegment earlier (id_at (codes "id") s) _ (λ id.
+    goes_on commands.SetSegment earlier (whole_member (codes "sampleStart") sample_limit s) _ (λ start.
+    goes_on commands.SetSegment earlier (whole_member (codes "sampleDur") sample_limit s) _ (λ dur.
+    ends commands.SetSegment earlier (asks (edits.SetSegment key id start dur)) (record { command = refl; names = tt })))))
+
+boundary_made : (earlier : List ℕ) (s : Seen) → Makes commands.MoveBoundary earlier (boundary_request s)
+unfolding boundary_request
+boundary_made earlier s =
+    goes_on commands.MoveBoundary earlier (key_at s) _ (λ key.
+    goes_on commands.MoveBoundary earlier (id_at (codes "id") s) _ (λ id.
+    goes_on commands.MoveBoundary earlier (whole_member (codes "sampleStart") sample_limit s) _ (λ start.
+    ends commands.MoveBoundary earlier (asks (edits.MoveBoundary key id start)) (record { command = refl; names = tt }))))
+
+point_made : (earlier : List ℕ) (s : Seen) → Makes commands.SetPoint earlier (point_request s)
+unfolding point_request
+point_made earlier s =
+    goes_on commands.SetPoint earlier (key_at s) _ (λ key.
+    goes_on commands.SetPoint earlier (id_at (codes "id") s) _ (λ id.
+    goes_on commands.SetPoint earlier (whole_member (codes "samplePoint") sample_limit s) _ (λ at.
+    ends commands.SetPoint earlier (asks (edits.SetPoint key id at)) (record { command = refl; names = tt }))))
+
+split_made : (earlier : List ℕ) (s : Seen) → Makes commands.Split earlier (split_request s)
+unfolding split_request
+split_made earlier s =
+    goes_on commands.Split earlier (key_at s) _ (λ key.
+    goes_on commands.Split earlier (id_at (codes "id") s) _ (λ id.
+    goes_on commands.Split earlier (id_at (codes "newId") s) _ (λ new_id.
+    goes_on commands.Split earlier (whole_member (codes "sampleStart") sample_limit s) _ (λ start.
+    ends commands.Split earlier (asks (edits.Split key id new_id start)) (record { command = refl; names = tt })))))
+
+merge_made : (earlier : List ℕ) (s : Seen) → Makes commands.Merge earlier (merge_request s)
+unfolding merge_request
+merge_made earlier s =
+    goes_on commands.Merge earlier (key_at s) _ (λ key.
+    goes_on commands.Merge earlier (id_at (codes "id") s) _ (λ id.
+    ends commands.Merge earlier (asks (edits.Merge key id)) (record { command = refl; names = tt })))
+
+link_made : (earlier : List ℕ) (s : Seen) → Makes commands.AddLink earlier (link_request s)
+unfolding link_request
+link_made earlier s =
+    goes_on commands.AddLink earlier (key_at s) _ (λ key.
+    goes_on commands.AddLink earlier (id_at (codes "fromID") s) _ (λ from.
+    goes_on commands.AddLink earlier (id_at (codes "toID") s) _ (λ to.
+    ends commands.AddLink earlier (asks (edits.AddLink key from to)) (record { command = refl; names = tt }))))
+
+unlink_made : (earlier : List ℕ) (s : Seen) → Makes commands.RemoveLink earlier (unlink_request s)
+unfolding unlink_request
+unlink_made earlier s =
+    goes_on commands.RemoveLink earlier (key_at s) _ (λ key.
+    goes_on commands.RemoveLink earlier (id_at (codes "fromID") s) _ (λ from.
+    goes_on commands.RemoveLink earlier (id_at (codes "toID") s) _ (λ to.
+    ends commands.RemoveLink earlier (asks (edits.RemoveLink key from to)) (record { command = refl; names = tt }))))
+
+query_made : (earlier : List ℕ) (s : Seen) → Makes commands.Query earlier (query_request s)
 unfolding query_request
-query_made earlier s r h = asked_made earlier (ask_in s) r h
+query_made earlier s =
+    goes_on commands.Query earlier (ask_in s) _ (λ ask.
+    ends commands.Query earlier (requests.Query ask) (record { command = refl; names = tt }))
 
-looked_made : (earlier : List ℕ) (ask : Result Ask Shape) (r : Request) → (ask >>= λ a. Ok (requests.Look a)) ≡ Ok r → IsMade commands.Look earlier r
-looked_made earlier (Ok a) r h = made_of commands.Look earlier (requests.Look a) r h (record { command = refl; names = tt })
-looked_made earlier (Err e) r h = absurd (cc)
-
-look_made : (earlier : List ℕ) (s : Seen) (r : Request) → look_request s ≡ Ok r → IsMade commands.Look earlier r
+look_made : (earlier : List ℕ) (s : Seen) → Makes commands.Look earlier (look_request s)
 unfolding look_request
-look_made earlier s r h = looked_made earlier (ask_in s) r h
+look_made earlier s =
+    goes_on commands.Look earlier (ask_in s) _ (λ ask.
+    ends commands.Look earlier (requests.Look ask) (record { command = refl; names = tt }))
 
 earlier_made : (earlier : List ℕ) (line : ℕ) (b : Bool) (r : Request) → list_any (nat_eq line) earlier ≡ b → cond b (Ok (requests.After line)) (Err faults.BadAfter) ≡ ok_line r → IsMade commands.After earlier r
 earlier_made earlier line true r any h = let same : requests.After line ≡ r = line_ok_is h in subst (λ q. IsMade commands.After earlier q) same (record { command = refl; names = any })
@@ -170,6 +269,18 @@ after_made earlier s r h = line_made earlier (form (whole_member (codes "line") 
 
 members_made : (command : Command) (earlier : List ℕ) (s : Seen) (r : Request) → members_of command earlier s ≡ Ok r → IsMade command earlier r
 members_made commands.AddBundle earlier s r h = bundle_made earlier s r (form_ok (bundle_request s) r h)
+members_made commands.AddTextgrid earlier s r h = textgrid_made earlier s r (form_ok (textgrid_request s) r h)
+members_made commands.DropBundle earlier s r h = drop_made earlier s r (form_ok (drop_request s) r h)
+members_made commands.AddItem earlier s r h = item_made earlier s r (form_ok (item_request s) r h)
+members_made commands.RemoveItem earlier s r h = remove_made earlier s r (form_ok (remove_request s) r h)
+members_made commands.SetLabel earlier s r h = label_made earlier s r (form_ok (label_request s) r h)
+members_made commands.SetSegment earlier s r h = segment_made earlier s r (form_ok (segment_request s) r h)
+members_made commands.MoveBoundary earlier s r h = boundary_made earlier s r (form_ok (boundary_request s) r h)
+members_made commands.SetPoint earlier s r h = point_made earlier s r (form_ok (point_request s) r h)
+members_made commands.Split earlier s r h = split_made earlier s r (form_ok (split_request s) r h)
+members_made commands.Merge earlier s r h = merge_made earlier s r (form_ok (merge_request s) r h)
+members_made commands.AddLink earlier s r h = link_made earlier s r (form_ok (link_request s) r h)
+members_made commands.RemoveLink earlier s r h = unlink_made earlier s r (form_ok (unlink_request s) r h)
 members_made commands.Query earlier s r h = query_made earlier s r (form_ok (query_request s) r h)
 members_made commands.Look earlier s r h = look_made earlier s r (form_ok (look_request s) r h)
 members_made commands.Finish earlier s r h = let same : requests.Finish ≡ r = line_ok_is h in subst (λ q. IsMade commands.Finish earlier q) same (record { command = refl; names = tt })
@@ -200,20 +311,17 @@ request_known : (number : ℕ) (earlier word : List ℕ) (s : Seen) (read : Read
 unfolding line_in
 request_known number earlier word s read h = commanded number earlier s (if_command (command_named word)) read h
 
-configured : (number : ℕ) (earlier : List ℕ) (config : Result Config LineFault) (read : ReadLine) → ((c : Config) → config ≡ Ok c → is_valid_config c ≡ true)
-    → (config >>= λ c. Ok (reads.Config c)) ≡ Ok read → Known number true earlier read
-configured number earlier (Ok c) read valid h = let same : reads.Config c ≡ read = read_is h in subst (λ q. Known number true earlier q) same (valid c refl)
-configured number earlier (Err e) read valid h = absurd (cc)
-
-member_valid : (member : Result Seen Shape) (c : Config) → (member >>= thin_config) ≡ Ok c → is_valid_config c ≡ true
-member_valid (Ok s) c h = thin_valid s c h
-member_valid (Err e) c h = absurd (cc)
+config_form_ok : {A : Type 0} (r : Result A ConfigFault) (x : A) → config_form r ≡ Ok x → r ≡ Ok x
+config_form_ok (Ok y) x h = cc
+config_form_ok (Err e) x h = absurd (cc)
 
 config_known : (number : ℕ) (earlier : List ℕ) (s : Seen) (read : ReadLine) → config_line s ≡ Ok read → Known number true earlier read
 unfolding config_line
 config_known number earlier s read h =
-    configured number earlier (form (member_of (codes "config") wanted.Object s >>= thin_config)) read
-    (λ c told. member_valid (member_of (codes "config") wanted.Object s) c (form_ok (member_of (codes "config") wanted.Object s >>= thin_config) c told)) h
+    let member : _ = taken (form (member_of (codes "config") wanted.Object s)) _ read h in
+    let config : _ = taken (config_form (config_of member.value)) _ read member.rest_is in
+    subst (λ q. Known number true earlier q) (read_is config.rest_is)
+    (config_valid member.value config.value (config_form_ok (config_of member.value) config.value config.first_is))
 
 placed_known : (wants is_config : Bool) (number : ℕ) (earlier word : List ℕ) (s : Seen) (read : ReadLine) → placed_line wants is_config number earlier word s ≡ Ok read → Known number wants earlier read
 placed_known true true number earlier word s read h = config_known number earlier s read h

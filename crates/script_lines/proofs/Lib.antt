@@ -1,9 +1,8 @@
-pub mod Few
 pub mod Cuts
 pub mod Json
 pub mod Rising
-pub mod Ids
 pub mod Stops
+pub mod Taken
 pub mod Printed
-pub mod KnownLines
 pub mod ValidConfigs
+pub mod KnownLines

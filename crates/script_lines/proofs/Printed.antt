@@ -12,9 +12,13 @@ use Rattle.session_core.specs.declared.line.Refusal.TheVariants as refusals
 use Rattle.session_core.specs.declared.line.Answer.{Answer}
 use Rattle.session_core.specs.declared.line.Answer.TheVariants.{Done, Segments, Refused}
 use Rattle.session_core.specs.declared.line.Reply.{Reply}
+use Rattle.textgrid.specs.declared.fault.GridFault.{GridFault}
+use Rattle.textgrid.specs.declared.fault.GridFault.TheVariants as grid_faults
+use Rattle.db_config.specs.declared.faults.ConfigFault.{ConfigFault}
+use Rattle.db_config.specs.declared.faults.ConfigFault.TheVariants as config_faults
 use Rattle.script_lines.specs.declared.faults.LineFault.{LineFault}
 use Rattle.script_lines.specs.declared.faults.LineFault.TheVariants as faults
-use Rattle.script_lines.specs.Texts.{whole, whole_or_null, line_text, row_data, rows_items, rule_data, refusal_data, answer_members, numbered_members, reply_data, reply_text, fault_data, fault_text}
+use Rattle.script_lines.specs.Texts.{whole, whole_or_null, line_text, row_data, rows_items, rule_data, grid_fault_data, refusal_data, answer_members, numbered_members, reply_data, reply_text, config_fault_data, fault_data, fault_text}
 use Rattle.script_lines.specs.LastLines.{last_data, last_text}
 
 -- the last member of a reply
@@ -57,8 +61,13 @@ rule_plain : (b : Broken) → has_float (rule_data b) ≡ false
 rule_plain rules.BundleTaken = refl
 rule_plain _ = refl
 
+grid_plain : (f : GridFault) → has_float (grid_fault_data f) ≡ false
+grid_plain (grid_faults.BadText at) = refl
+grid_plain _ = refl
+
 refusal_plain : (r : Refusal) → has_float (refusal_data r) ≡ false
 refusal_plain (refusals.Rule b) = rule_plain b
+refusal_plain (refusals.Grid f) = grid_plain f
 refusal_plain (refusals.Resolve (UnknownName name)) = refl
 refusal_plain _ = refl
 
@@ -74,8 +83,13 @@ numbered_plain (Some n) ms = refl
 reply_plain : (r : Reply) → has_float (reply_data r) ≡ false
 reply_plain r = numbered_plain r.n (answer_members r.answer) ∙ answer_plain r.answer
 
+config_plain : (line : ℕ) (fault : ConfigFault) → has_float (config_fault_data line fault) ≡ false
+config_plain line config_faults.DoubleLink = refl
+config_plain line _ = refl
+
 fault_plain : (line : ℕ) (fault : LineFault) → has_float (fault_data line fault) ≡ false
 fault_plain line faults.NotJson = refl
+fault_plain line (faults.Config fault) = config_plain line fault
 fault_plain line _ = refl
 
 -- the line of a value

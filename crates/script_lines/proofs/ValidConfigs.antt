@@ -1,94 +1,207 @@
 -- A configuration that was read keeps the rules of configurations.
-use Rattle.std.proofs.Common.{◌≡◌, Bool, true, List, [], ◌∷◌, ◌&&◌, length, Result, Ok, Err, nat_le, codes, refl, sym, ◌∙◌, ap, subst}
-use Rattle.std.specs.List.{list_all}
+use Rattle.std.proofs.Common.{◌≡◌, ◌+◌, ◌<◌, ◌≤◌, ℕ, suc, Bool, true, false, cond, List, [], ◌∷◌, length, drop, Option, Some, None, Result, Ok, Err, nat_lt, codes, refl, sym, ◌∙◌, ap, subst, arith}
+use Rattle.std.specs.Prelude.{is_some, ok_or, ◌&&◌, not}
+use Rattle.std.specs.List.{list_all, position}
+use Rattle.std.proofs.lemmas.Bool.{and_from}
+use Rattle.std.proofs.lemmas.Bool.Decides.{nat_tests}
+use Rattle.std.proofs.lemmas.List.Quantifiers.{position-Some}
+use Rattle.serde_json.specs.Data.{Data}
+use Rattle.serde_json.specs.Find.{as_array}
 use Rattle.json_view.specs.declared.faults.Shape.{Shape}
 use Rattle.json_view.specs.declared.wants.Wanted.TheVariants as wanted
-use Rattle.json_view.specs.Seen.{Seen}
-use Rattle.json_view.specs.Parts.{member_of}
-use Rattle.json_view.specs.Steps.{◌>>=◌}
-use Rattle.session_core.specs.declared.config.AttributeDef.{AttributeDef}
-use Rattle.session_core.specs.declared.config.LevelDef.{LevelDef}
-use Rattle.session_core.specs.declared.config.Config.{Config}
-use Rattle.session_core.specs.Configs.{is_valid_level, is_valid_config, levels_differ}
-use Rattle.script_lines.specs.Forms.{or_shape, name_at, optional_text, only_element, word_member}
-use Rattle.script_lines.specs.Thin.{attribute_in, attributes_in, level_def_in, level_defs_in, config_parts, nothing_more, config_in, thin_config}
+use Rattle.json_view.specs.Seen.{Seen, seen}
+use Rattle.json_view.specs.Paths.{element_path}
+use Rattle.json_view.specs.Parts.{shape, member_of, optional_of, elements_at, list_in}
+use Rattle.json_view.specs.Lists.{readings, each_from}
+use Rattle.json_view.specs.Steps.{◌>>=◌, with_front}
+use Rattle.emu_names.specs.declared.limits.TheConstants.{LEVELS, LINK_DEFINITIONS, TRACKS}
+use Rattle.db_config.specs.declared.faults.ConfigFault.{ConfigFault}
+use Rattle.db_config.specs.declared.faults.ConfigFault.TheVariants.{TooMany, UnknownLevel, DoubleLink, LevelCycle}
+use Rattle.db_config.specs.declared.faults.ConfigWhat.{ConfigWhat}
+use Rattle.db_config.specs.declared.faults.ConfigWhat.TheVariants as whats
+use Rattle.db_config.specs.declared.parts.LevelDef.{LevelDef}
+use Rattle.db_config.specs.declared.parts.LinkDef.{LinkDef}
+use Rattle.db_config.specs.declared.parts.ConfigParts.{ConfigParts}
+use Rattle.db_config.specs.Faults.{form}
+use Rattle.db_config.specs.Forms.{object_of, name_at, optional_text}
+use Rattle.db_config.specs.Names.{all_names, are_distinct, first_double, same_text}
+use Rattle.db_config.specs.Lookups.{level_named}
+use Rattle.db_config.specs.Above.{leads_round}
+use Rattle.db_config.specs.Valid.{is_in_range, are_apart, keeps_rules, is_valid}
+use Rattle.db_config.specs.Read.{limited, track_in, level_in, link_in, tracks_member, listed_tracks, tracks_or_none, levels_member, listed_levels, links_member, listed_links, links_or_none, groups_member, named_parts, AreBounded, unless_double, level_of_name, placed, all_placed, parts_with, unless_cycle, sound_links, linked_parts, sound_parts, config_of}
+use Rattle.db_config.proofs.Doubles.{no_double}
+use Rattle.db_config.proofs.Sound.{kept_rules}
+use Rattle.script_lines.proofs.Taken.{Taken, taken, config_form_ok, config_same, ok_config}
 
--- a reading that goes on to the end was taken at its first step
-record Taken {A B : Type 0} (first : Result A Shape) (rest : A → Result B Shape) (end : B) : Type 0 where
-  value : A
-  first_is : first ≡ Ok value
-  rest_is : rest value ≡ Ok end
+-- ---- limits
 
-taken : {A B : Type 0} (first : Result A Shape) (rest : A → Result B Shape) (end : B) → (first >>= rest) ≡ Ok end → Taken first rest end
-taken (Ok value) rest end told = record { value = value; first_is = refl; rest_is = told }
-taken (Err e) rest end told = absurd (cc)
+front_length : {A : Type 0} (x : A) (rest : Result (List A) ConfigFault) (n : ℕ) (xs : List A) → ((ys : List A) → rest ≡ Ok ys → length ys ≡ n)
+    → with_front (x ∷ []) rest ≡ Ok xs → length xs ≡ suc n
+front_length x (Ok ys) n xs known told = ap length (sym (config_same (x ∷ ys) xs told)) ∙ ap suc (known ys refl)
+front_length x (Err e) n xs known told = absurd (cc)
 
-shape_taken : {A : Type 0} (s : Shape) (r : Result A Shape) (a : A) → or_shape s r ≡ Ok a → r ≡ Ok a
-shape_taken s (Ok x) a told = told
-shape_taken s (Err e) a told = absurd (cc)
+readings_length : {A : Type 0} (read : Seen → Result A ConfigFault) (path : List ℕ) (place : ℕ) (ds : List Data) (xs : List A)
+    → readings read path place ds ≡ Ok xs → length xs ≡ length ds
+readings_length read path place [] xs told = ap length (sym (config_same [] xs told))
+readings_length read path place (d ∷ ds) xs told =
+    let first : _ = taken (read (seen d (element_path path place))) (λ x. with_front (x ∷ []) (readings read path (place + 1) ds)) xs told in
+    front_length first.value (readings read path (place + 1) ds) (length ds) xs (readings_length read path (place + 1) ds) first.rest_is
 
-abbrev ok_of : {A : Type 0} → A → Result A Shape
-ok_of x = Ok x
+each_length : {A : Type 0} (read : Seen → Result A ConfigFault) (s : Seen) (xs : List A) → each_from read 0 s ≡ Ok xs → length xs ≡ length (list_in s.value)
+unfolding each_from
+each_length read s xs told = readings_length read s.path 0 (list_in s.value) xs told
 
-ok_same : {A : Type 0} (x y : A) → ok_of x ≡ ok_of y → x ≡ y
-ok_same x y told = cc
+elements_are : (s : Seen) (b : Bool) (ds : List Data) → cond b (Ok (list_in s.value)) (Err (shape s.path wanted.List)) ≡ Ok ds → list_in s.value ≡ ds
+elements_are s true ds told = cc
+elements_are s false ds told = absurd (cc)
 
--- one attribute
-record IsOne {A : Type 0} (xs : List A) : Type 0 where
-  only : A
-  is : xs ≡ only ∷ []
+listed : (s : Seen) (ds : List Data) → elements_at s ≡ Ok ds → list_in s.value ≡ ds
+unfolding elements_at
+listed s ds told = elements_are s (is_some (as_array s.value)) ds told
 
-attributes_one : (s : Seen) (defs : List AttributeDef) → attributes_in s ≡ Ok defs → IsOne defs
-unfolding attributes_in
-attributes_one s defs told =
-    let list : _ = taken (member_of (codes "attributeDefinitions") wanted.FilledList s) _ defs told in
-    let only : _ = taken (only_element list.value) _ defs list.rest_is in
-    let def : _ = taken (attribute_in only.value) _ defs only.rest_is in
-    record { only = def.value; is = sym (ok_same _ _ def.rest_is) }
+within : {A : Type 0} (what : ConfigWhat) (most n : ℕ) (b : Bool) (r : Result (List A) ConfigFault) (xs : List A) → nat_lt most n ≡ b
+    → ((ys : List A) → r ≡ Ok ys → length ys ≡ n) → cond b (Err (TooMany what)) r ≡ Ok xs → length xs ≤ most
+within what most n true r xs is counted told = absurd (cc)
+within what most n false r xs is counted told =
+    let same : length xs ≡ n = counted xs told in
+    grind (arith, nat_tests)
 
-level_one : (s : Seen) (def : LevelDef) → level_def_in s ≡ Ok def → IsOne def.attributes
-unfolding level_def_in
-level_one s def told =
-    let name : _ = taken (name_at (codes "name") s) _ def told in
-    let kind : _ = taken (word_member (codes "type") (codes "SEGMENT") s) _ def name.rest_is in
-    let attributes : _ = taken (attributes_in s) _ def kind.rest_is in
-    let one : IsOne attributes.value = attributes_one s attributes.value attributes.first_is in
-    record { only = one.only; is = sym (ap (λ (d : LevelDef). d.attributes) (ok_same _ _ attributes.rest_is)) ∙ one.is }
+limited_most : {A : Type 0} (what : ConfigWhat) (most : ℕ) (read : Seen → Result A ConfigFault) (s : Seen) (ds : List Data) (xs : List A)
+    → list_in s.value ≡ ds → limited what most read s ds ≡ Ok xs → length xs ≤ most
+limited_most what most read s ds xs same told =
+    within what most (length ds) (nat_lt most (length ds)) (each_from read 0 s) xs refl
+    (λ ys is. each_length read s ys is ∙ ap length same) told
 
--- a level with one attribute keeps the rules
-level_valid : (def : LevelDef) → IsOne def.attributes → is_valid_level def ≡ true
-level_valid def one = rw (one.is) refl
+listed_most : {A : Type 0} (what : ConfigWhat) (most : ℕ) (read : Seen → Result A ConfigFault) (s : Seen) (xs : List A)
+    → (form (elements_at s) >>= limited what most read s) ≡ Ok xs → length xs ≤ most
+listed_most what most read s xs told =
+    let list : _ = taken (form (elements_at s)) (limited what most read s) xs told in
+    limited_most what most read s list.value xs (listed s list.value (config_form_ok (elements_at s) list.value list.first_is)) list.rest_is
 
--- these levels may be those of a configuration
-abbrev are_valid : List LevelDef → Bool
-are_valid levels = nat_le (length levels) 64 && list_all is_valid_level levels && levels_differ levels
+levels_most : (s : Seen) (xs : List LevelDef) → levels_member s ≡ Ok xs → length xs ≤ LEVELS
+unfolding levels_member listed_levels
+levels_most s xs told =
+    let member : _ = taken (form (member_of (codes "levelDefinitions") wanted.List s)) listed_levels xs told in
+    listed_most whats.Levels LEVELS level_in member.value xs member.rest_is
 
-one_valid : (def : LevelDef) → is_valid_level def ≡ true → are_valid (def ∷ []) ≡ true
-one_valid def valid = rw valid refl
+some_links_most : (m : Option Seen) (xs : List _) → links_or_none m ≡ Ok xs → length xs ≤ LINK_DEFINITIONS
+unfolding listed_links
+some_links_most None xs told = let none : length xs ≡ 0 = ap length (sym (config_same [] xs told)) in omega arith
+some_links_most (Some m) xs told = listed_most whats.Links LINK_DEFINITIONS link_in m xs told
 
-levels_valid : (s : Seen) (levels : List LevelDef) → level_defs_in s ≡ Ok levels → are_valid levels ≡ true
-unfolding level_defs_in
-levels_valid s levels told =
-    let list : _ = taken (member_of (codes "levelDefinitions") wanted.List s) _ levels told in
-    let only : _ = taken (only_element list.value) _ levels list.rest_is in
-    let def : _ = taken (level_def_in only.value) _ levels only.rest_is in
-    subst (λ (ls : List LevelDef). are_valid ls ≡ true) (ok_same _ _ def.rest_is)
-    (one_valid def.value (level_valid def.value (level_one only.value def.value def.first_is)))
+links_most : (s : Seen) (xs : List _) → links_member s ≡ Ok xs → length xs ≤ LINK_DEFINITIONS
+unfolding links_member
+links_most s xs told =
+    let member : _ = taken (form (optional_of (codes "linkDefinitions") s)) links_or_none xs told in
+    some_links_most member.value xs member.rest_is
 
-parts_valid : (s : Seen) (c : Config) → config_parts s ≡ Ok c → is_valid_config c ≡ true
-unfolding config_parts
-parts_valid s c told =
-    let name : _ = taken (name_at (codes "name") s) _ c told in
-    let uuid : _ = taken (optional_text (codes "UUID") s) _ c name.rest_is in
-    let extension : _ = taken (optional_text (codes "mediafileExtension") s) _ c uuid.rest_is in
-    let levels : _ = taken (level_defs_in s) _ c extension.rest_is in
-    subst (λ (ls : List LevelDef). are_valid ls ≡ true) (ap (λ (d : Config). d.levels) (ok_same _ _ levels.rest_is))
-    (levels_valid s levels.value levels.first_is)
+some_tracks_most : (m : Option Seen) (xs : List (List ℕ)) → tracks_or_none m ≡ Ok xs → length xs ≤ TRACKS
+unfolding listed_tracks
+some_tracks_most None xs told = let none : length xs ≡ 0 = ap length (sym (config_same [] xs told)) in omega arith
+some_tracks_most (Some m) xs told = listed_most whats.Tracks TRACKS track_in m xs told
 
--- a configuration of the narrow form is valid
-pub thin_valid : (s : Seen) (c : Config) → thin_config s ≡ Ok c → is_valid_config c ≡ true
-unfolding thin_config config_in
-thin_valid s c told =
-    let whole : _ = taken (config_parts s) _ c (shape_taken _ _ c told) in
-    let rest : _ = taken (nothing_more s) _ c whole.rest_is in
-    subst (λ (d : Config). is_valid_config d ≡ true) (ok_same _ _ rest.rest_is) (parts_valid s whole.value whole.first_is)
+tracks_most : (s : Seen) (xs : List (List ℕ)) → tracks_member s ≡ Ok xs → length xs ≤ TRACKS
+unfolding tracks_member
+tracks_most s xs told =
+    let member : _ = taken (form (optional_of (codes "ssffTrackDefinitions") s)) tracks_or_none xs told in
+    some_tracks_most member.value xs member.rest_is
+
+parts_bounded : (s : Seen) (n : _) → named_parts s ≡ Ok n → AreBounded n
+unfolding named_parts
+parts_bounded s n told =
+    let whole : _ = taken (form (object_of s)) _ n told in
+    let name : _ = taken (form (name_at (codes "name") s)) _ n whole.rest_is in
+    let uuid : _ = taken (form (optional_text (codes "UUID") s)) _ n name.rest_is in
+    let extension : _ = taken (form (optional_text (codes "mediafileExtension") s)) _ n uuid.rest_is in
+    let tracks : _ = taken (tracks_member s) _ n extension.rest_is in
+    let levels : _ = taken (levels_member s) _ n tracks.rest_is in
+    let links : _ = taken (links_member s) _ n levels.rest_is in
+    let groups : _ = taken (groups_member s) _ n links.rest_is in
+    subst (λ m. AreBounded m) (config_same _ n groups.rest_is)
+    (record {
+      levels = levels_most s levels.value levels.first_is;
+      links = links_most s links.value links.first_is;
+      tracks = tracks_most s tracks.value tracks.first_is;
+    })
+
+-- ---- link definitions by numbers
+
+some_there : (found : Option ℕ) (e : ConfigFault) (k : ℕ) → ok_or found e ≡ Ok k → found ≡ Some k
+some_there (Some n) e k told = cc
+some_there None e k told = absurd (cc)
+
+level_there : (levels : List LevelDef) (name : List ℕ) (k : ℕ) → level_of_name levels name ≡ Ok k → k < length levels
+level_there [] name k told = absurd (cc)
+level_there (l ∷ levels) name k told =
+    (position-Some (λ (d : LevelDef). same_text d.name name) (l ∷ levels) k l (some_there (level_named name (l ∷ levels)) (UnknownLevel name) k told)).0
+
+below_both : (upper lower count : ℕ) → upper < count → lower < count → (nat_lt upper count && nat_lt lower count) ≡ true
+below_both upper lower count high low = grind (arith, nat_tests)
+
+link_there : (levels : List LevelDef) (link : _) (def : LinkDef) → placed levels link ≡ Ok def → is_in_range (length levels) def ≡ true
+link_there levels link def told =
+    let upper : _ = taken (level_of_name levels link.upper) _ def told in
+    let lower : _ = taken (level_of_name levels link.lower) _ def upper.rest_is in
+    subst (λ d. is_in_range (length levels) d ≡ true) (config_same _ def lower.rest_is)
+    (below_both upper.value lower.value (length levels) (level_there levels link.upper upper.value upper.first_is) (level_there levels link.lower lower.value lower.first_is))
+
+-- the definitions name levels that are there, and are so many
+record AreThere (levels : List LevelDef) (count : ℕ) (defs : List LinkDef) : Type 0 where
+  range : list_all (is_in_range (length levels)) defs ≡ true
+  counted : length defs ≡ count
+
+one_there : (levels : List LevelDef) (count : ℕ) (def : LinkDef) (rest : Result (List LinkDef) ConfigFault) (defs : List LinkDef)
+    → is_in_range (length levels) def ≡ true → ((ds : List LinkDef) → rest ≡ Ok ds → AreThere levels count ds)
+    → with_front (def ∷ []) rest ≡ Ok defs → AreThere levels (suc count) defs
+one_there levels count def (Ok ds) defs first others told =
+    let before : AreThere levels count ds = others ds refl in
+    subst (λ xs. AreThere levels (suc count) xs) (config_same (def ∷ ds) defs told)
+    (record { range = and_from _ _ first before.range; counted = ap suc before.counted })
+one_there levels count def (Err e) defs first others told = absurd (cc)
+
+all_there : (levels : List LevelDef) (links : List _) (defs : List LinkDef) → all_placed levels links ≡ Ok defs → AreThere levels (length links) defs
+all_there levels [] defs told = subst (λ xs. AreThere levels 0 xs) (config_same [] defs told) (record { range = refl; counted = refl })
+all_there levels (link ∷ links) defs told =
+    let first : _ = taken (placed levels link) (λ def. with_front (def ∷ []) (all_placed levels links)) defs told in
+    one_there levels (length links) first.value (all_placed levels links) defs (link_there levels link first.value first.first_is) (all_there levels links) first.rest_is
+
+-- ---- rules
+
+-- nothing stands twice, and the rest is the answer
+record Passed (found : Option (List ℕ)) (rest : Result ConfigParts ConfigFault) (p : ConfigParts) : Type 0 where
+  none : found ≡ None
+  goes_on : rest ≡ Ok p
+
+passed : (found : Option (List ℕ)) (rest : Result ConfigParts ConfigFault) (p : ConfigParts) → unless_double found rest ≡ Ok p → Passed found rest p
+passed None rest p told = record { none = refl; goes_on = told }
+passed (Some name) rest p told = absurd (cc)
+
+not_round : (parts p : ConfigParts) (round : Bool) → leads_round parts.links ≡ round → keeps_rules parts ≡ true
+    → cond round (Err LevelCycle) (ok_config parts) ≡ Ok p → is_valid p ≡ true
+not_round parts p true is kept told = absurd (cc)
+not_round parts p false is kept told =
+    subst (λ q. is_valid q ≡ true) (config_same parts p told) (and_from _ _ kept (ap not is))
+
+apart_valid : (n : _) (links : List LinkDef) (p : ConfigParts) (apart : Bool) → are_apart links ≡ apart
+    → AreBounded n → are_distinct (all_names n.levels) ≡ true → AreThere n.levels (length n.links) links
+    → cond apart (unless_cycle (parts_with n links)) (Err DoubleLink) ≡ Ok p → is_valid p ≡ true
+apart_valid n links p false is bounds distinct there told = absurd (cc)
+apart_valid n links p true is bounds distinct there told =
+    not_round (parts_with n links) p (leads_round links) refl
+    (kept_rules n links bounds distinct there.range there.counted is) told
+
+sound_valid : (n : _) (p : ConfigParts) → AreBounded n → sound_parts n ≡ Ok p → is_valid p ≡ true
+unfolding sound_parts
+sound_valid n p bounds told =
+    let names : _ = passed (first_double [] (all_names n.levels)) (linked_parts n) p told in
+    let links : _ = taken (all_placed n.levels n.links) (sound_links n) p names.goes_on in
+    apart_valid n links.value p (are_apart links.value) refl bounds
+    (no_double (all_names n.levels) (first_double [] (all_names n.levels)) refl names.none)
+    (all_there n.levels n.links links.value links.first_is) links.rest_is
+
+-- a configuration that was read is valid
+pub config_valid : (s : Seen) (p : ConfigParts) → config_of s ≡ Ok p → is_valid p ≡ true
+unfolding config_of
+config_valid s p told =
+    let parts : _ = taken (named_parts s) sound_parts p told in
+    sound_valid parts.value p (parts_bounded s parts.value parts.first_is) parts.rest_is

@@ -1,103 +1,96 @@
--- Members of the forms that a script's lines have (RFC 8259), each read as what it has to be, or the
--- fault that says at which path which form was wanted.
-use Rattle.std.specs.Prelude.{ℕ, ◌-◌, ◌^◌, Bool, true, List, [], ◌∷◌, Option, Some, None, Result, Ok, Err, if◌then◌else◌}
-use Rattle.serde_json.specs.Data.{Data}
+-- Members that the lines of a script have (RFC 8259), each read as what it has to be, or the fault that
+-- says at which path which form was wanted.
+use Rattle.std.specs.Prelude.{ℕ, ◌-◌, ◌^◌, Bool, true, List, Option, Some, None, Result, Ok, Err, if◌then◌else◌, nat_le, codes}
 use Rattle.json_view.specs.declared.wants.Wanted.{Wanted}
 use Rattle.json_view.specs.declared.wants.Wanted.TheVariants as wanted
 use Rattle.json_view.specs.declared.faults.Shape.{Shape}
-use Rattle.json_view.specs.Paths.{element_path}
-use Rattle.json_view.specs.Seen.{Seen, seen}
-use Rattle.json_view.specs.Parts.{shape, member_of, optional_of, elements_at, text_at, whole_at}
-use Rattle.json_view.specs.Lists.{each_of}
+use Rattle.json_view.specs.Seen.{Seen}
+use Rattle.json_view.specs.Parts.{shape, member_of, optional_of, whole_at}
 use Rattle.json_view.specs.Steps.{◌>>=◌}
-use Rattle.emu_names.specs.Name.{is_name}
-use Rattle.session_core.specs.Configs.{same_text}
+use Rattle.emu_names.specs.declared.kinds.ItemId.{ItemId}
+use Rattle.emu_names.specs.declared.kinds.SessionNo.{SessionNo}
+use Rattle.emu_names.specs.declared.limits.TheConstants.{SESSIONS, TOP_RATE}
+use Rattle.emu_names.specs.declared.names.BundleKey.{BundleKey}
+use Rattle.level_items.specs.declared.times.Time.{Time}
+use Rattle.level_items.specs.declared.times.Time.TheVariants.{NoTime}
+use Rattle.db_config.specs.Forms.{or_shape, name_at}
+use Rattle.annot_json.specs.Forms.{whole_member}
+use Rattle.annot_json.specs.Read.{span_in, point_in}
 
--- ids and line numbers are below 2^32, samples and rates below 2^63
+-- ids, positions and numbers of lines are below 2^32
 abbrev pub id_limit : ℕ
 id_limit = 2 ^ 32 - 1
 
+-- samples and durations are below 2^63
 abbrev pub sample_limit : ℕ
 sample_limit = 2 ^ 63 - 1
 
--- every fault as this one
-abbrev pub or_shape : {A : Type 0} → Shape → Result A Shape → Result A Shape
-or_shape s (Ok x) = Ok x
-or_shape s (Err other) = Err s
+-- a number that has to be a session's, from 1 on
+abbrev pub if_session : Seen → ℕ → Result SessionNo Shape
+if_session s n = if nat_le 1 n then Ok (record { 0 = n }) else Err (shape s.path wanted.Session)
 
--- a name; a value that is no text is no name either
-abbrev pub if_name : List ℕ → Seen → Result (List ℕ) Shape
-if_name text s = if is_name text then Ok text else Err (shape s.path wanted.Name)
+-- a session: a whole number from 1 to the last session's
+unfoldable pub session_in : Seen → Result SessionNo Shape
+session_in s = or_shape (shape s.path wanted.Session) (whole_at SESSIONS s >>= if_session s)
 
-unfoldable pub name_in : Seen → Result (List ℕ) Shape
-name_in s = or_shape (shape s.path wanted.Name) (text_at s >>= λ text. if_name text s)
+-- the session of a request
+unfoldable pub session_at : Seen → Result SessionNo Shape
+session_at s = member_of (codes "s") wanted.Session s >>= session_in
 
-unfoldable pub name_at : List ℕ → Seen → Result (List ℕ) Shape
-name_at name s = member_of name wanted.Name s >>= name_in
+-- the names of a bundle's session and of the bundle
+unfoldable pub key_at : Seen → Result BundleKey Shape
+key_at s = do
+  session ← name_at (codes "session") s
+  bundle ← name_at (codes "bundle") s
+  Ok (record { session = session; bundle = bundle })
 
--- a member that has to be a text
-unfoldable pub text_member : List ℕ → Seen → Result (List ℕ) Shape
-text_member name s = member_of name wanted.Text s >>= text_at
+-- the id of an item
+unfoldable pub id_at : List ℕ → Seen → Result ItemId Shape
+id_at name s = do
+  id ← whole_member name id_limit s
+  Ok (record { 0 = id })
 
--- a member that is a text, or missing and then the empty text
-abbrev pub text_or_empty : Option Seen → Result (List ℕ) Shape
-text_or_empty None = Ok []
-text_or_empty (Some m) = text_at m
+-- a position, or none
+abbrev pub position_there : Option Seen → Result (Option ℕ) Shape
+position_there None = Ok None
+position_there (Some m) = whole_at id_limit m >>= λ n. Ok (Some n)
 
-unfoldable pub optional_text : List ℕ → Seen → Result (List ℕ) Shape
-optional_text name s = optional_of name s >>= text_or_empty
+-- the position of an item, which may be missing
+unfoldable pub position_at : Seen → Result (Option ℕ) Shape
+position_at s = optional_of (codes "position") s >>= position_there
 
--- a member that has to be a whole number up to a limit
-unfoldable pub whole_member : List ℕ → ℕ → Seen → Result ℕ Shape
-whole_member name most s = member_of name wanted.Whole s >>= whole_at most
+-- a number that has to be 1 or more
+abbrev pub if_rate : Seen → ℕ → Result ℕ Shape
+if_rate s n = if nat_le 1 n then Ok n else Err (shape s.path wanted.Whole)
+
+-- a sample rate: a whole number from 1 to the highest one
+unfoldable pub rate_in : Seen → Result ℕ Shape
+rate_in s = whole_at TOP_RATE s >>= if_rate s
+
+-- the sample rate of a TextGrid
+unfoldable pub rate_at : Seen → Result ℕ Shape
+rate_at s = member_of (codes "sampleRate") wanted.Whole s >>= rate_in
+
+-- the time of an item that has no first sample: its point, or none
+abbrev pub point_or_none : Seen → Option Seen → Result Time Shape
+point_or_none s None = Ok NoTime
+point_or_none s (Some m) = point_in s
+
+-- the time of an item by its first sample, where it has one
+abbrev pub span_or_point : Seen → Option Seen → Result Time Shape
+span_or_point s None = optional_of (codes "samplePoint") s >>= point_or_none s
+span_or_point s (Some m) = span_in s
+
+-- the time of an item: a span where `sampleStart` is there, else a point where `samplePoint` is there,
+-- else none
+unfoldable pub time_at : Seen → Result Time Shape
+time_at s = optional_of (codes "sampleStart") s >>= span_or_point s
 
 -- a member that may not be there, and the form that it is refused as
 abbrev pub none_there : Wanted → Option Seen → Result Bool Shape
 none_there wanted None = Ok true
 none_there wanted (Some m) = Err (shape m.path wanted)
 
+-- no member of this name
 unfoldable pub no_member : List ℕ → Wanted → Seen → Result Bool Shape
 no_member name wanted s = optional_of name s >>= none_there wanted
-
--- a list that is missing or has no element
-abbrev pub if_empty : Seen → List Data → Result Bool Shape
-if_empty m [] = Ok true
-if_empty m (d ∷ ds) = Err (shape m.path wanted.List)
-
-abbrev pub empty_there : Option Seen → Result Bool Shape
-empty_there None = Ok true
-empty_there (Some m) = elements_at m >>= if_empty m
-
-unfoldable pub no_elements : List ℕ → Seen → Result Bool Shape
-no_elements name s = optional_of name s >>= empty_there
-
--- the one element of a list of one
-abbrev pub if_only : Seen → List Data → Result Seen Shape
-if_only s [] = Err (shape s.path wanted.FilledList)
-if_only s (d ∷ []) = Ok (seen d (element_path s.path 0))
-if_only s (d ∷ e ∷ ds) = Err (shape s.path wanted.List)
-
-unfoldable pub only_element : Seen → Result Seen Shape
-only_element s = elements_at s >>= if_only s
-
--- a list that may be missing and is then empty
-abbrev pub each_or_none : {A : Type 0} → (Seen → Result A Shape) → Option Seen → Result (List A) Shape
-each_or_none read None = Ok []
-each_or_none read (Some m) = each_of read m
-
--- a text that has to be this word
-abbrev pub if_word : List ℕ → Seen → List ℕ → Result Bool Shape
-if_word word s text = if same_text text word then Ok true else Err (shape s.path wanted.Kind)
-
-unfoldable pub word_in : List ℕ → Seen → Result Bool Shape
-word_in word s = or_shape (shape s.path wanted.Kind) (text_at s >>= if_word word s)
-
-unfoldable pub word_member : List ℕ → List ℕ → Seen → Result Bool Shape
-word_member name word s = member_of name wanted.Kind s >>= word_in word
-
-abbrev pub word_or_none : List ℕ → Option Seen → Result Bool Shape
-word_or_none word None = Ok true
-word_or_none word (Some m) = word_in word m
-
-unfoldable pub optional_word : List ℕ → List ℕ → Seen → Result Bool Shape
-optional_word name word s = optional_of name s >>= word_or_none word

@@ -5,9 +5,9 @@ use Rattle.std.specs.List.{list_any}
 use Rattle.session_core.specs.declared.line.Line.{Line}
 use Rattle.session_core.specs.declared.line.Request.{Request}
 use Rattle.session_core.specs.declared.line.Request.TheVariants as requests
-use Rattle.session_core.specs.Configs.{is_valid_config}
+use Rattle.db_config.specs.Valid.{is_valid}
 use Rattle.session_core.specs.Steps.{session_places}
-use Rattle.session_core.specs.Worlds.{is_command_of}
+use Rattle.session_core.specs.Commands.{is_command_of}
 use Rattle.script_lines.specs.declared.faults.ReadLine.{ReadLine}
 use Rattle.script_lines.specs.declared.faults.ReadLine.TheVariants as reads
 use Rattle.script_lines.specs.Lines.{request_of}
@@ -30,7 +30,7 @@ pub record IsRequestLine (n : ℕ) (earlier : List ℕ) (l : Line) : Type 0 wher
 
 -- where the configuration is wanted, a line is a configuration that keeps its rules, and nowhere else
 abbrev pub Known : ℕ → Bool → List ℕ → ReadLine → Type 0
-Known number true earlier (reads.Config config) = is_valid_config config ≡ true
+Known number true earlier (reads.Config config) = is_valid config ≡ true
 Known number true earlier reads.Blank = ⊥
 Known number true earlier (reads.Request l) = ⊥
 Known number false earlier (reads.Config config) = ⊥

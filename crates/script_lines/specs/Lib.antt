@@ -1,6 +1,7 @@
 pub mod Faults
 pub mod Forms
-pub mod Thin
+pub mod Edits
+pub mod Queries
 pub mod Lines
 pub mod Texts
 pub mod LastLines

@@ -1,5 +1,5 @@
 -- The lines of a script, and the request that a line stands for, or its first fault.
-use Rattle.std.specs.Prelude.{ℕ, Bool, true, false, ◌||◌, List, Option, Some, None, Result, Ok, Err, nat_eq, nat_le, ◌==◌, if◌then◌else◌, codes}
+use Rattle.std.specs.Prelude.{ℕ, Bool, true, false, ◌||◌, List, Option, Some, None, Result, Ok, Err, nat_eq, ◌==◌, if◌then◌else◌, codes}
 use Rattle.std.specs.List.{list_all, list_any}
 use Rattle.std.specs.Str.{is_utf8}
 use Rattle.serde_json.specs.Data.{Data}
@@ -8,29 +8,31 @@ use Rattle.json_view.specs.declared.wants.Wanted.TheVariants as wanted
 use Rattle.json_view.specs.declared.faults.Shape.{Shape}
 use Rattle.json_view.specs.Paths.{root_path}
 use Rattle.json_view.specs.Seen.{Seen, seen}
-use Rattle.json_view.specs.Parts.{shape, member_of, optional_of, text_at, whole_at}
+use Rattle.json_view.specs.Parts.{shape, member_of, optional_of, text_at}
 use Rattle.json_view.specs.Steps.{◌>>=◌}
-use Rattle.emu_names.specs.declared.kinds.SessionNo.{SessionNo}
-use Rattle.emu_names.specs.declared.limits.TheConstants.{SESSIONS}
-use Rattle.session_core.specs.declared.edit.Edit.TheVariants as edits
 use Rattle.session_core.specs.declared.line.Ask.{Ask}
 use Rattle.session_core.specs.declared.line.Command.{Command}
 use Rattle.session_core.specs.declared.line.Command.TheVariants as commands
 use Rattle.session_core.specs.declared.line.Request.{Request}
 use Rattle.session_core.specs.declared.line.Request.TheVariants as requests
-use Rattle.session_core.specs.Configs.{same_text}
+use Rattle.db_config.specs.Forms.{text_member}
+use Rattle.db_config.specs.Names.{same_text}
+use Rattle.db_config.specs.Read.{config_of}
+use Rattle.annot_json.specs.Forms.{whole_member}
 use Rattle.script_lines.specs.declared.faults.LineFault.{LineFault}
 use Rattle.script_lines.specs.declared.faults.LineFault.TheVariants as faults
 use Rattle.script_lines.specs.declared.faults.ReadLine.{ReadLine}
 use Rattle.script_lines.specs.declared.faults.ReadLine.TheVariants as reads
-use Rattle.script_lines.specs.Faults.{form}
-use Rattle.script_lines.specs.Forms.{id_limit, or_shape, name_at, text_member, whole_member, no_member}
-use Rattle.script_lines.specs.Thin.{thin_config, thin_annot, thin_query}
+use Rattle.script_lines.specs.Faults.{form, config_form}
+use Rattle.script_lines.specs.Forms.{id_limit, session_at, no_member}
+use Rattle.script_lines.specs.Edits.{bundle_request, textgrid_request, drop_request, item_request, remove_request, label_request, segment_request, boundary_request, point_request, split_request, merge_request, link_request, unlink_request}
+use Rattle.script_lines.specs.Queries.{thin_query}
 
--- white space alone (RFC 8259, section 2)
+-- white space (RFC 8259, section 2)
 abbrev pub is_space : ℕ → Bool
 is_space b = (b == 32) || (b == 9) || (b == 10) || (b == 13)
 
+-- a line of white space alone
 abbrev pub is_blank : List ℕ → Bool
 is_blank line = list_all is_space line
 
@@ -38,47 +40,41 @@ is_blank line = list_all is_space line
 unfoldable pub json_of : List ℕ → Option Data
 json_of line = if is_utf8 line then read line else None
 
--- The members of a request.
+-- The commands and their members.
 
--- a session: a whole number from 1 to the last session's
-abbrev pub if_session : Seen → Option ℕ → Result SessionNo Shape
-if_session s None = Err (shape s.path wanted.Session)
-if_session s (Some n) = if nat_le 1 n then Ok (record { 0 = n }) else Err (shape s.path wanted.Session)
-
-unfoldable pub session_in : Seen → Result SessionNo Shape
-session_in s = or_shape (shape s.path wanted.Session) (whole_at SESSIONS s >>= λ n. if_session s (Some n))
-
-unfoldable pub session_at : Seen → Result SessionNo Shape
-session_at s = member_of (codes "s") wanted.Session s >>= session_in
-
--- a command's word
+-- the command of a word, but for the configuration's
 abbrev pub command_named : List ℕ → Option Command
 command_named word =
     if same_text word (codes "add_bundle") then Some commands.AddBundle
+    else if same_text word (codes "add_textgrid") then Some commands.AddTextgrid
+    else if same_text word (codes "drop_bundle") then Some commands.DropBundle
+    else if same_text word (codes "add_item") then Some commands.AddItem
+    else if same_text word (codes "remove_item") then Some commands.RemoveItem
+    else if same_text word (codes "set_label") then Some commands.SetLabel
+    else if same_text word (codes "set_segment") then Some commands.SetSegment
+    else if same_text word (codes "move_boundary") then Some commands.MoveBoundary
+    else if same_text word (codes "set_point") then Some commands.SetPoint
+    else if same_text word (codes "split") then Some commands.Split
+    else if same_text word (codes "merge") then Some commands.Merge
+    else if same_text word (codes "add_link") then Some commands.AddLink
+    else if same_text word (codes "remove_link") then Some commands.RemoveLink
     else if same_text word (codes "query") then Some commands.Query
     else if same_text word (codes "look") then Some commands.Look
     else if same_text word (codes "finish") then Some commands.Finish
     else if same_text word (codes "after") then Some commands.After
     else None
 
+-- a word that is no command's is at fault
 abbrev pub if_command : Option Command → Result Command LineFault
 if_command None = Err faults.NoSuchCommand
 if_command (Some command) = Ok command
-
--- `add_bundle`: names of the session and the bundle, and an annotation
-unfoldable pub bundle_request : Seen → Result Request Shape
-bundle_request s = do
-  session ← name_at (codes "session") s
-  bundle ← name_at (codes "bundle") s
-  member ← member_of (codes "annot") wanted.Object s
-  annot ← thin_annot member
-  Ok (requests.Edit (edits.AddBundle (record { session = session; bundle = bundle }) annot))
 
 -- the text of a query
 abbrev pub if_query : Seen → Option Ask → Result Ask Shape
 if_query s None = Err (shape s.path wanted.Text)
 if_query s (Some ask) = Ok ask
 
+-- a query, in the place of its text
 unfoldable pub query_in : Seen → Result Ask Shape
 query_in s = text_at s >>= λ text. if_query s (thin_query text)
 
@@ -90,9 +86,11 @@ ask_in s = do
   _ ← no_member (codes "time") wanted.Text s
   Ok ask
 
+-- `query`
 unfoldable pub query_request : Seen → Result Request Shape
 query_request s = ask_in s >>= λ ask. Ok (requests.Query ask)
 
+-- `look`
 unfoldable pub look_request : Seen → Result Request Shape
 look_request s = ask_in s >>= λ ask. Ok (requests.Look ask)
 
@@ -100,11 +98,25 @@ look_request s = ask_in s >>= λ ask. Ok (requests.Look ask)
 abbrev pub if_earlier : List ℕ → ℕ → Result Request LineFault
 if_earlier earlier line = if list_any (nat_eq line) earlier then Ok (requests.After line) else Err faults.BadAfter
 
+-- the member `line` of an `after`
 unfoldable pub after_request : List ℕ → Seen → Result Request LineFault
 after_request earlier s = form (whole_member (codes "line") id_limit s) >>= if_earlier earlier
 
+-- the members of a request, by its command
 abbrev pub members_of : Command → List ℕ → Seen → Result Request LineFault
 members_of commands.AddBundle earlier s = form (bundle_request s)
+members_of commands.AddTextgrid earlier s = form (textgrid_request s)
+members_of commands.DropBundle earlier s = form (drop_request s)
+members_of commands.AddItem earlier s = form (item_request s)
+members_of commands.RemoveItem earlier s = form (remove_request s)
+members_of commands.SetLabel earlier s = form (label_request s)
+members_of commands.SetSegment earlier s = form (segment_request s)
+members_of commands.MoveBoundary earlier s = form (boundary_request s)
+members_of commands.SetPoint earlier s = form (point_request s)
+members_of commands.Split earlier s = form (split_request s)
+members_of commands.Merge earlier s = form (merge_request s)
+members_of commands.AddLink earlier s = form (link_request s)
+members_of commands.RemoveLink earlier s = form (unlink_request s)
 members_of commands.Query earlier s = form (query_request s)
 members_of commands.Look earlier s = form (look_request s)
 members_of commands.Finish earlier s = Ok requests.Finish
@@ -121,7 +133,10 @@ line_in number earlier word s = do
 
 -- the line of the configuration
 unfoldable pub config_line : Seen → Result ReadLine LineFault
-config_line s = form (member_of (codes "config") wanted.Object s >>= thin_config) >>= λ config. Ok (reads.Config config)
+config_line s = do
+  member ← form (member_of (codes "config") wanted.Object s)
+  config ← config_form (config_of member)
+  Ok (reads.Config config)
 
 -- the configuration stands where it is wanted, and nowhere else
 abbrev pub placed_line : Bool → Bool → ℕ → List ℕ → List ℕ → Seen → Result ReadLine LineFault
@@ -136,10 +151,12 @@ word_of_line s = do
   _ ← optional_of (codes "do") s
   text_member (codes "do") s
 
+-- the request of a JSON value
 unfoldable pub value_line : ℕ → Bool → List ℕ → Seen → Result ReadLine LineFault
 value_line number wants earlier s =
     form (word_of_line s) >>= λ word. placed_line wants (same_text word (codes "config")) number earlier word s
 
+-- the request of a line that is JSON, or none
 abbrev pub json_line : ℕ → Bool → List ℕ → Option Data → Result ReadLine LineFault
 json_line number wants earlier None = Err faults.NotJson
 json_line number wants earlier (Some d) = value_line number wants earlier (seen d root_path)

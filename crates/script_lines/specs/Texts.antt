@@ -20,6 +20,14 @@ use Rattle.session_core.specs.declared.line.Refusal.TheVariants as refusals
 use Rattle.session_core.specs.declared.line.Answer.{Answer}
 use Rattle.session_core.specs.declared.line.Answer.TheVariants.{Done, Segments, Refused}
 use Rattle.session_core.specs.declared.line.Reply.{Reply}
+use Rattle.db_config.specs.Faults.{what_word}
+use Rattle.db_config.specs.declared.faults.ConfigFault.{ConfigFault}
+use Rattle.db_config.specs.declared.faults.ConfigFault.TheVariants as config_faults
+use Rattle.db_config.specs.declared.faults.ConfigWhat.{ConfigWhat}
+use Rattle.textgrid.specs.Words as grid_words
+use Rattle.textgrid.specs.declared.fault.GridWhat.{GridWhat}
+use Rattle.textgrid.specs.declared.fault.GridFault.{GridFault}
+use Rattle.textgrid.specs.declared.fault.GridFault.TheVariants as grid_faults
 use Rattle.script_lines.specs.declared.faults.LineFault.{LineFault}
 use Rattle.script_lines.specs.declared.faults.LineFault.TheVariants as faults
 
@@ -38,6 +46,18 @@ line_text d = compact_text d ++ 10 ∷ []
 abbrev pub command_word : Command → List ℕ
 command_word commands.Config = codes "config"
 command_word commands.AddBundle = codes "add_bundle"
+command_word commands.AddTextgrid = codes "add_textgrid"
+command_word commands.DropBundle = codes "drop_bundle"
+command_word commands.AddItem = codes "add_item"
+command_word commands.RemoveItem = codes "remove_item"
+command_word commands.SetLabel = codes "set_label"
+command_word commands.SetSegment = codes "set_segment"
+command_word commands.MoveBoundary = codes "move_boundary"
+command_word commands.SetPoint = codes "set_point"
+command_word commands.Split = codes "split"
+command_word commands.Merge = codes "merge"
+command_word commands.AddLink = codes "add_link"
+command_word commands.RemoveLink = codes "remove_link"
 command_word commands.Query = codes "query"
 command_word commands.Look = codes "look"
 command_word commands.Finish = codes "finish"
@@ -83,6 +103,7 @@ rule_with_name name word = object (member (codes "name") (string name) (member (
 abbrev pub rule_with_what : What → List ℕ → Data
 rule_with_what what word = object (member (codes "rule") (string word) (member (codes "what") (string (counted_of what)) no_members))
 
+-- a rule that an edit breaks
 abbrev pub rule_data : Broken → Data
 rule_data rules.BundleTaken = plain_rule (word_of rules.BundleTaken)
 rule_data rules.NoBundle = plain_rule (word_of rules.NoBundle)
@@ -110,12 +131,47 @@ rule_data rules.NoLink = plain_rule (word_of rules.NoLink)
 rule_data (rules.OneParent id) = rule_with_id id (word_of (rules.OneParent id))
 rule_data (rules.OneChild id) = rule_with_id id (word_of (rules.OneChild id))
 
+-- the fault of a query under a configuration
 abbrev pub ask_fault_data : AskFault → Data
 ask_fault_data (UnknownName name) = rule_with_name name (codes "UnknownName")
 
+-- a refusal that names a place of a TextGrid's text
+abbrev pub rule_at : ℕ → List ℕ → Data
+rule_at at word = object (member (codes "at") (whole at) (member (codes "rule") (string word) no_members))
+
+-- a refusal that names a place of a TextGrid's text and what a TextGrid has there
+abbrev pub expected_at : ℕ → GridWhat → Data
+expected_at at what = object
+    (member (codes "at") (whole at)
+    (member (codes "rule") (string (codes "Expected"))
+    (member (codes "what") (string (grid_words.word_of what))
+    no_members)))
+
+-- a refusal that names a tier of a TextGrid and an entry of it, both counted from 1
+abbrev pub rule_in_tier : ℕ → ℕ → List ℕ → Data
+rule_in_tier tier entry word = object
+    (member (codes "entry") (whole entry)
+    (member (codes "rule") (string word)
+    (member (codes "tier") (whole tier)
+    no_members)))
+
+-- the fault of a TextGrid
+abbrev pub grid_fault_data : GridFault → Data
+grid_fault_data (grid_faults.BadEncoding at) = rule_at at (codes "BadEncoding")
+grid_fault_data (grid_faults.BadText at) = rule_at at (codes "BadText")
+grid_fault_data (grid_faults.TooManyDigits at) = rule_at at (codes "TooManyDigits")
+grid_fault_data (grid_faults.Expected at what) = expected_at at what
+grid_fault_data (grid_faults.NegativeTime tier entry) = rule_in_tier tier entry (codes "NegativeTime")
+grid_fault_data (grid_faults.TimeTooLarge tier entry) = rule_in_tier tier entry (codes "TimeTooLarge")
+grid_fault_data (grid_faults.EmptyInterval tier entry) = rule_in_tier tier entry (codes "EmptyInterval")
+grid_fault_data grid_faults.Memory = plain_rule (codes "Memory")
+
+-- a refusal
 abbrev pub refusal_data : Refusal → Data
 refusal_data (refusals.Rule rule) = rule_data rule
+refusal_data (refusals.Grid fault) = grid_fault_data fault
 refusal_data (refusals.Resolve fault) = ask_fault_data fault
+refusal_data refusals.NotBuilt = plain_rule (codes "NotBuilt")
 refusal_data refusals.NoLook = plain_rule (codes "NoLook")
 refusal_data refusals.LookOpen = plain_rule (codes "LookOpen")
 refusal_data refusals.HistoryFull = plain_rule (codes "HistoryFull")
@@ -155,14 +211,44 @@ shape_of_line shape line = object
     (member (codes "wanted") (string (wanted_words.word_of shape.wanted))
     no_members)))))
 
--- want of memory is no fault of a line, and has no last line
+-- a name that a configuration has at fault
+abbrev pub name_of_line : List ℕ → List ℕ → ℕ → Data
+name_of_line cause name line = object
+    (member (codes "cause") (string cause)
+    (member (codes "line") (whole line)
+    (member (codes "name") (string name)
+    (member (codes "status") (whole 3)
+    no_members))))
+
+-- what a configuration has too many of
+abbrev pub too_many_of_line : ConfigWhat → ℕ → Data
+too_many_of_line what line = object
+    (member (codes "cause") (string (codes "TooMany"))
+    (member (codes "line") (whole line)
+    (member (codes "status") (whole 3)
+    (member (codes "what") (string (what_word what))
+    no_members))))
+
+-- the fault of a configuration
+abbrev pub config_fault_data : ℕ → ConfigFault → Data
+config_fault_data line (config_faults.Shape shape) = shape_of_line shape line
+config_fault_data line (config_faults.TooMany what) = too_many_of_line what line
+config_fault_data line (config_faults.DoubleName name) = name_of_line (codes "DoubleName") name line
+config_fault_data line (config_faults.UnknownLevel name) = name_of_line (codes "UnknownLevel") name line
+config_fault_data line config_faults.DoubleLink = fault_of_line (codes "DoubleLink") line
+config_fault_data line config_faults.LevelCycle = fault_of_line (codes "LevelCycle") line
+config_fault_data line config_faults.Memory = null
+
+-- the fault of a line; want of memory is none, and has no last line
 abbrev pub fault_data : ℕ → LineFault → Data
 fault_data line faults.NotJson = fault_of_line (codes "NotJson") line
 fault_data line (faults.Shape shape) = shape_of_line shape line
+fault_data line (faults.Config fault) = config_fault_data line fault
 fault_data line faults.NoSuchCommand = fault_of_line (codes "NoSuchCommand") line
 fault_data line faults.ConfigPlace = fault_of_line (codes "ConfigPlace") line
 fault_data line faults.BadAfter = fault_of_line (codes "BadAfter") line
 fault_data line faults.Memory = null
 
+-- the text of the last line of a run that a line at fault ends
 unfoldable pub fault_text : ℕ → LineFault → List ℕ
 fault_text line fault = line_text (fault_data line fault)

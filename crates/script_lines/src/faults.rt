@@ -1,6 +1,7 @@
 //! What a line of a script may be, and why it may be none.
+use db_config::{Config, ConfigFault};
 use json_view::{Shape, ViewFault};
-use session_core::{Config, Line};
+use session_core::Line;
 use std::alloc::{AllocError, AllocFailed};
 
 /// What a line is.
@@ -25,6 +26,9 @@ pub enum LineFault {
     NoSuchCommand,
     /// A configuration stands where none may stand, or something else where it should.
     ConfigPlace,
+    /// The configuration passes a limit or breaks a rule of configurations. A part of it that has another
+    /// form is a `Shape` of the line, as everywhere.
+    Config(ConfigFault),
     /// An `after` names no earlier request.
     BadAfter,
     /// Memory ran out.
@@ -41,6 +45,25 @@ impl From<ViewFault> for LineFault {
         match fault {
             ViewFault::Shape(shape) => LineFault::Shape(shape),
             ViewFault::Memory => LineFault::Memory,
+        }
+    }
+}
+
+impl From<ConfigFault> for LineFault {
+    ghost use Rattle.std.specs.Prelude.{◌≡◌};
+    ghost use Rattle.script_lines.specs.Faults.{config_line_fault};
+
+    ghost from_gives = { λ v e. e ≡ config_line_fault v };
+
+    fn from(fault: ConfigFault) -> LineFault {
+        match fault {
+            ConfigFault::Shape(shape) => LineFault::Shape(shape),
+            ConfigFault::Memory => LineFault::Memory,
+            ConfigFault::TooMany(what) => LineFault::Config(ConfigFault::TooMany(what)),
+            ConfigFault::DoubleName(name) => LineFault::Config(ConfigFault::DoubleName(name)),
+            ConfigFault::UnknownLevel(name) => LineFault::Config(ConfigFault::UnknownLevel(name)),
+            ConfigFault::DoubleLink => LineFault::Config(ConfigFault::DoubleLink),
+            ConfigFault::LevelCycle => LineFault::Config(ConfigFault::LevelCycle),
         }
     }
 }

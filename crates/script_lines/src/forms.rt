@@ -1,19 +1,26 @@
 //! The members that a script's lines have, each read as what it has to be.
-ghost use Rattle.std.specs.Prelude.{◌≡◌, ◌≤◌, ◌++◌, ◌∷◌, [], ℕ, true, IfOk, IfErr, OnOk, length};
+ghost use Rattle.std.specs.Prelude.{◌≡◌, ◌≤◌, ◌++◌, ◌∷◌, [], true, IfOk, IfErr, OnOk};
 ghost use Rattle.json_view.specs.Gives.{Gives};
 ghost use Rattle.json_view.specs.Seen.{seen_at};
-ghost use Rattle.script_lines.specs.Forms.{name_in, name_at, if_name, text_member, optional_text, whole_member, no_member, no_elements, empty_there, only_element, word_in, word_member, optional_word};
+ghost use Rattle.emu_names.specs.declared.limits.TheConstants.{TOP_RATE as MOST};
+ghost use Rattle.db_config.specs.Forms.{name_in, name_at, if_name, text_member};
+ghost use Rattle.annot_json.specs.Forms.{whole_member};
+ghost use Rattle.script_lines.specs.Forms.{session_in, session_at, key_at, id_at, position_at, rate_in, rate_at, no_member};
 
 use emu_lists::Series;
-use emu_names::{Name, NameFault, Text};
+use emu_names::limits::{SESSIONS, TOP_RATE};
+use emu_names::{BundleKey, ItemId, Name, NameFault, SessionNo, Text};
 use json_view::{View, ViewFault, Wanted};
 use std::alloc::Global;
 
-/// Ids of items and numbers of lines are at most this.
+/// Ids of items, positions and numbers of lines are at most this.
 pub(crate) const ID_LIMIT: u64 = 4_294_967_295;
 
-/// Samples and sample rates are at most this when they are read.
+/// Samples and durations are at most this when they are read.
 pub(crate) const SAMPLE_LIMIT: u64 = 9_223_372_036_854_775_807;
+
+/// Sessions are numbered from 1 to this.
+const LAST_SESSION: u64 = SESSIONS as u64;
 
 /// A text of one's own. It fails only for want of memory.
 fn owned(alloc: Global, text: &str) -> Result<Text, ViewFault>
@@ -37,16 +44,6 @@ pub(crate) fn put_last<T: Drop>(list: &mut Series<T>, item: T) -> Result<(), Vie
     }
 }
 
-/// A list of one element. It fails only for want of memory.
-pub(crate) fn list_of_one<T: Drop>(alloc: Global, item: T) -> Result<Series<T>, ViewFault>
-    ensures one { IfOk result (λ made. made ≡ item ∷ []) }
-    ensures memory { IfErr result (λ e. e ≡ ViewFault.Memory) }
-{
-    let mut list = Series::new(alloc);
-    put_last(&mut list, item)?;
-    Ok(list)
-}
-
 // A text as a name.
 fn name_of(alloc: Global, text: &str, view: &View) -> Result<Name, ViewFault>
     ensures { Gives (λ n. n) result (if_name text.now (seen_at view.now)) }
@@ -59,7 +56,7 @@ fn name_of(alloc: Global, text: &str, view: &View) -> Result<Name, ViewFault>
 }
 
 // A name; a value that is no text is no name either.
-#[tactic(auto, unfolding(crate::specs::Forms::name_in))]
+#[tactic(auto, unfolding(db_config::specs::Forms::name_in))]
 fn name_in(alloc: Global, view: &View) -> Result<Name, ViewFault>
     ensures { Gives (λ n. n) result (name_in (seen_at view.now)) }
 {
@@ -70,17 +67,27 @@ fn name_in(alloc: Global, view: &View) -> Result<Name, ViewFault>
     }
 }
 
-/// The member of this name, which has to be a name.
-#[tactic(auto, unfolding(crate::specs::Forms::name_at))]
-pub(crate) fn name_at(alloc: Global, view: &View, name: &str) -> Result<Name, ViewFault>
+// The member of this name, which has to be a name.
+#[tactic(auto, unfolding(db_config::specs::Forms::name_at))]
+fn name_at(alloc: Global, view: &View, name: &str) -> Result<Name, ViewFault>
     ensures { Gives (λ n. n) result (name_at name.now (seen_at view.now)) }
 {
     let part = view.member(name, Wanted::Name)?;
     name_in(alloc, &part)
 }
 
+/// The members `session` and `bundle`, which have to be names.
+#[tactic(auto, unfolding(crate::specs::Forms::key_at))]
+pub(crate) fn key_at(alloc: Global, view: &View) -> Result<BundleKey, ViewFault>
+    ensures { Gives (λ k. k) result (key_at (seen_at view.now)) }
+{
+    let session = name_at(alloc, view, "session")?;
+    let bundle = name_at(alloc, view, "bundle")?;
+    Ok(BundleKey { session, bundle })
+}
+
 /// The member of this name, which has to be a text.
-#[tactic(auto, unfolding(crate::specs::Forms::text_member))]
+#[tactic(auto, unfolding(db_config::specs::Forms::text_member))]
 pub(crate) fn text_member(alloc: Global, view: &View, name: &str) -> Result<Text, ViewFault>
     ensures { Gives (λ t. t) result (text_member name.now (seen_at view.now)) }
 {
@@ -89,24 +96,79 @@ pub(crate) fn text_member(alloc: Global, view: &View, name: &str) -> Result<Text
     owned(alloc, text)
 }
 
-/// The member of this name, which has to be a text where it is there, else the empty text.
-#[tactic(auto, unfolding(crate::specs::Forms::optional_text))]
-pub(crate) fn optional_text(alloc: Global, view: &View, name: &str) -> Result<Text, ViewFault>
-    ensures { Gives (λ t. t) result (optional_text name.now (seen_at view.now)) }
-{
-    match view.optional(name)? {
-        Some(part) => owned(alloc, part.text()?),
-        None => owned(alloc, ""),
-    }
-}
-
 /// The member of this name, which has to be a whole number from 0 to `most`.
-#[tactic(auto, unfolding(crate::specs::Forms::whole_member))]
+#[tactic(auto, unfolding(annot_json::specs::Forms::whole_member))]
 pub(crate) fn whole_member(view: &View, name: &str, most: u64) -> Result<u64, ViewFault>
     ensures number { Gives (λ n. n) result (whole_member name.now most (seen_at view.now)) }
     ensures bound { IfOk result (λ n. n ≤ most) }
 {
     view.member(name, Wanted::Whole)?.whole(most)
+}
+
+/// The member of this name, which has to be the id of an item.
+#[tactic(auto, unfolding(crate::specs::Forms::id_at))]
+pub(crate) fn id_at(view: &View, name: &str) -> Result<ItemId, ViewFault>
+    ensures { Gives (λ i. i) result (id_at name.now (seen_at view.now)) }
+{
+    Ok(ItemId(whole_member(view, name, ID_LIMIT)? as u32))
+}
+
+/// The member `position`, which has to be a whole number below 2^32 where it is there.
+#[tactic(auto, unfolding(crate::specs::Forms::position_at))]
+pub(crate) fn position_at(view: &View) -> Result<Option<u32>, ViewFault>
+    ensures { Gives (λ p. p) result (position_at (seen_at view.now)) }
+{
+    match view.optional("position")? {
+        Some(part) => Ok(Some(part.whole(ID_LIMIT)? as u32)),
+        None => Ok(None),
+    }
+}
+
+// A sample rate.
+#[tactic(auto, unfolding(crate::specs::Forms::rate_in))]
+fn rate_in(view: &View) -> Result<u32, ViewFault>
+    ensures rate { Gives (λ r. r) result (rate_in (seen_at view.now)) }
+    ensures least { IfOk result (λ r. 1 ≤ r) }
+    ensures most { IfOk result (λ r. r ≤ MOST) }
+{
+    let rate = view.whole(TOP_RATE)?;
+    if rate < 1 {
+        return Err(view.refuse(Wanted::Whole));
+    }
+    Ok(rate as u32)
+}
+
+/// The member `sampleRate`, which has to be a whole number from 1 to the highest rate.
+#[tactic(auto, unfolding(crate::specs::Forms::rate_at))]
+pub(crate) fn rate_at(view: &View) -> Result<u32, ViewFault>
+    ensures rate { Gives (λ r. r) result (rate_at (seen_at view.now)) }
+    ensures least { IfOk result (λ r. 1 ≤ r) }
+    ensures most { IfOk result (λ r. r ≤ MOST) }
+{
+    let part = view.member("sampleRate", Wanted::Whole)?;
+    rate_in(&part)
+}
+
+// The number of a session.
+#[tactic(auto, unfolding(crate::specs::Forms::session_in))]
+fn session_in(view: &View) -> Result<SessionNo, ViewFault>
+    ensures { Gives (λ n. n) result (session_in (seen_at view.now)) }
+{
+    match view.whole(LAST_SESSION) {
+        Ok(number) if number >= 1 => Ok(SessionNo(number as u32)),
+        Ok(_) => Err(view.refuse(Wanted::Session)),
+        Err(ViewFault::Shape(_)) => Err(view.refuse(Wanted::Session)),
+        Err(ViewFault::Memory) => Err(ViewFault::Memory),
+    }
+}
+
+/// The session of a request: the member `s`, a whole number from 1 to 16.
+#[tactic(auto, unfolding(crate::specs::Forms::session_at))]
+pub(crate) fn session_at(view: &View) -> Result<SessionNo, ViewFault>
+    ensures { Gives (λ n. n) result (session_at (seen_at view.now)) }
+{
+    let part = view.member("s", Wanted::Session)?;
+    session_in(&part)
 }
 
 /// Refuses a member of this name, as if it should have been `wanted`.
@@ -116,74 +178,6 @@ pub(crate) fn no_member(view: &View, name: &str, wanted: Wanted) -> Result<(), V
 {
     match view.optional(name)? {
         Some(part) => Err(part.refuse(wanted)),
-        None => Ok(()),
-    }
-}
-
-// Refuses all but a list of no element.
-#[tactic(auto, using(crate::proofs::Few::empty_list, crate::proofs::Few::filled_list))]
-fn empty_list(view: &View) -> Result<(), ViewFault>
-    ensures { Gives (λ _. true) result (empty_there (Some (seen_at view.now))) }
-{
-    if view.list_len()? == 0 {
-        return Ok(());
-    }
-    Err(view.refuse(Wanted::List))
-}
-
-/// Refuses a member of this name that is no list, or a list with an element.
-#[tactic(auto, unfolding(crate::specs::Forms::no_elements))]
-pub(crate) fn no_elements(view: &View, name: &str) -> Result<(), ViewFault>
-    ensures { Gives (λ _. true) result (no_elements name.now (seen_at view.now)) }
-{
-    match view.optional(name)? {
-        Some(part) => empty_list(&part),
-        None => Ok(()),
-    }
-}
-
-/// The element of a list of one. An empty list is refused as one that should have an element, a list
-/// of more elements as no list.
-#[tactic(auto, using(crate::proofs::Few::only_of_none, crate::proofs::Few::only_of_many, crate::proofs::Few::only_of_one), unfolding(crate::specs::Forms::only_element))]
-pub(crate) fn only_element<'a>(view: &View<'a>) -> Result<View<'a>, ViewFault>
-    ensures { Gives seen_at result (only_element (seen_at view.now)) }
-{
-    match view.list_len()? {
-        0 => Err(view.refuse(Wanted::FilledList)),
-        1 => view.at(0),
-        _ => Err(view.refuse(Wanted::List)),
-    }
-}
-
-// Refuses all but this text.
-#[tactic(auto, unfolding(crate::specs::Forms::word_in))]
-fn word_in(view: &View, word: &str) -> Result<(), ViewFault>
-    ensures { Gives (λ _. true) result (word_in word.now (seen_at view.now)) }
-{
-    match view.text() {
-        Ok(text) if text == word => Ok(()),
-        Ok(_) => Err(view.refuse(Wanted::Kind)),
-        Err(ViewFault::Shape(_)) => Err(view.refuse(Wanted::Kind)),
-        Err(ViewFault::Memory) => Err(ViewFault::Memory),
-    }
-}
-
-/// Refuses a member of this name that is missing or not this text.
-#[tactic(auto, unfolding(crate::specs::Forms::word_member))]
-pub(crate) fn word_member(view: &View, name: &str, word: &str) -> Result<(), ViewFault>
-    ensures { Gives (λ _. true) result (word_member name.now word.now (seen_at view.now)) }
-{
-    let part = view.member(name, Wanted::Kind)?;
-    word_in(&part, word)
-}
-
-/// Refuses a member of this name that is there and not this text.
-#[tactic(auto, unfolding(crate::specs::Forms::optional_word))]
-pub(crate) fn optional_word(view: &View, name: &str, word: &str) -> Result<(), ViewFault>
-    ensures { Gives (λ _. true) result (optional_word name.now word.now (seen_at view.now)) }
-{
-    match view.optional(name)? {
-        Some(part) => word_in(&part, word),
         None => Ok(()),
     }
 }

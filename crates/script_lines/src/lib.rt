@@ -1,16 +1,19 @@
 //! The lines of a script: the request that a line of JSON stands for, and the text of its reply.
 #![tactic(auto)]
 
-mod annot_forms;
-mod annot_rules;
-mod config_forms;
+mod edits;
 mod faults;
 mod forms;
+mod grids;
+mod items;
+mod labels;
+mod last_lines;
 mod law;
 mod line_set;
 mod print;
 mod query;
 mod read;
+mod refusals;
 mod requests;
 mod rows;
 mod values;

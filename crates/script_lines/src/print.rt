@@ -6,7 +6,8 @@ ghost use Rattle.script_lines.specs.LastLines.{last_text};
 ghost use Rattle.script_lines.specs.Texts.{line_text, reply_text, fault_text};
 
 use crate::faults::LineFault;
-use crate::values::{fault_value, last_value, reply_value};
+use crate::last_lines::{fault_value, last_value};
+use crate::values::reply_value;
 use emu_names::{Memory, Text};
 use serde_json::Value;
 use session_core::Reply;

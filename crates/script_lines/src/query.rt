@@ -2,7 +2,7 @@
 //! bare word, with white space between or none.
 ghost use Rattle.std.specs.Prelude.{◌≡◌, ◌≤◌, ◌∷◌, ◌||◌, IfOk, length, codes, nat_eq, option_map};
 ghost use Rattle.std.specs.List.{starts_with};
-ghost use Rattle.script_lines.specs.Thin.{is_white, is_mark, word_len, white_len, after_white, word_at, equal_at, label_test, thin_query};
+ghost use Rattle.script_lines.specs.Queries.{is_white, is_mark, word_len, white_len, after_white, word_at, equal_at, label_test, thin_query};
 
 use emu_names::limits::QUERY_BYTES;
 use emu_names::{Memory, Text};
@@ -88,7 +88,7 @@ fn after_white(text: &str) -> &str
 }
 
 // The bare word at the front, behind white space, and what follows it.
-#[tactic(auto, unfolding(crate::specs::Thin::word_at))]
+#[tactic(auto, unfolding(crate::specs::Queries::word_at))]
 fn word_at(text: &str) -> Option<Cut>
     ensures { option_map (λ c. (c.front.now, c.rest.now)) result ≡ word_at text.now }
 {
@@ -103,7 +103,7 @@ fn word_at(text: &str) -> Option<Cut>
 }
 
 // What follows `==`, behind white space.
-#[tactic(auto, unfolding(crate::specs::Thin::equal_at))]
+#[tactic(auto, unfolding(crate::specs::Queries::equal_at))]
 fn equal_at(text: &str) -> Option<&str>
     ensures { option_map (λ t. t.now) result ≡ equal_at text.now }
 {
@@ -114,7 +114,7 @@ fn equal_at(text: &str) -> Option<&str>
     None
 }
 
-#[tactic(auto, using(crate::proofs::Cuts::something_left), unfolding(crate::specs::Thin::label_test))]
+#[tactic(auto, using(crate::proofs::Cuts::something_left), unfolding(crate::specs::Queries::label_test))]
 fn label_test(text: &str) -> Option<LabelTest>
     ensures { option_map (λ t. record { name = t.name.now; label = t.label.now }) result ≡
         label_test text.now }
@@ -133,7 +133,7 @@ fn label_test(text: &str) -> Option<LabelTest>
 
 /// The query of this text: `word == word`, of at most 4,096 bytes, or `None` for every other text. The
 /// only refusal is want of memory.
-#[tactic(auto, unfolding(crate::specs::Thin::thin_query))]
+#[tactic(auto, unfolding(crate::specs::Queries::thin_query))]
 pub(crate) fn thin_query(alloc: Global, text: &str) -> Result<Option<Ask>, Memory>
     ensures { IfOk result (λ ask. ask ≡ thin_query text.now) }
 {

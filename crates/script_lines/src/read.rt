@@ -7,10 +7,11 @@ ghost use Rattle.json_view.specs.Seen.{seen, seen_at};
 ghost use Rattle.script_lines.specs.Faults.{Reads};
 ghost use Rattle.script_lines.specs.Lines.{is_space, is_blank, json_of, json_line, line_in, config_line, placed_line, word_of_line, value_line, request_of};
 
-use crate::config_forms::thin_config;
 use crate::faults::{LineFault, ReadLine};
+use crate::forms::session_at;
 use crate::line_set::LineSet;
-use crate::requests::{command_named, members_of, session_at};
+use crate::requests::{command_named, members_of};
+use db_config::read_config;
 use json_view::{View, ViewFault, Wanted};
 use serde_json::Value;
 use session_core::Line;
@@ -86,7 +87,7 @@ fn config_line(alloc: Global, view: &View) -> Result<ReadLine, LineFault>
     ensures { Reads result (config_line (seen_at view.now)) }
 {
     let member = view.member("config", Wanted::Object)?;
-    let config = thin_config(alloc, &member)?;
+    let config = read_config(alloc, &member)?;
     Ok(ReadLine::Config(config))
 }
 
@@ -109,7 +110,7 @@ fn placed_line(
 }
 
 // What a line does: an object whose `do` is a text.
-#[tactic(auto, unfolding(crate::specs::Lines::word_of_line, crate::specs::Forms::text_member))]
+#[tactic(auto, unfolding(crate::specs::Lines::word_of_line, db_config::specs::Forms::text_member))]
 fn word_of_line<'a>(view: &View<'a>) -> Result<&'a str, ViewFault>
     ensures { Gives (λ t. t.now) result (word_of_line (seen_at view.now)) }
 {

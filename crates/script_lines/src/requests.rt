@@ -3,42 +3,21 @@ ghost use Rattle.std.specs.Prelude.{◌≡◌, true};
 ghost use Rattle.json_view.specs.Gives.{Gives};
 ghost use Rattle.json_view.specs.Seen.{seen_at};
 ghost use Rattle.script_lines.specs.Faults.{Reads};
-ghost use Rattle.script_lines.specs.Lines.{session_in, session_at, command_named, bundle_request, query_in, ask_in, query_request, look_request, after_request, members_of};
+ghost use Rattle.script_lines.specs.Lines.{command_named, query_in, ask_in, query_request, look_request, after_request, members_of};
 
-use crate::annot_forms::thin_annot;
+use crate::edits::{bundle_request, drop_request, link_request, unlink_request};
 use crate::faults::LineFault;
-use crate::forms::{ID_LIMIT, name_at, no_member, whole_member};
+use crate::forms::{ID_LIMIT, no_member, whole_member};
+use crate::grids::textgrid_request;
+use crate::items::{
+    boundary_request, item_request, label_request, merge_request, point_request, remove_request,
+    segment_request, split_request,
+};
 use crate::line_set::LineSet;
 use crate::query::thin_query;
-use emu_names::limits::SESSIONS;
-use emu_names::{BundleKey, SessionNo};
 use json_view::{View, ViewFault, Wanted};
-use session_core::{Ask, Command, Edit, Request};
+use session_core::{Ask, Command, Request};
 use std::alloc::Global;
-
-/// Sessions are numbered from 1 to this.
-const LAST_SESSION: u64 = SESSIONS as u64;
-
-#[tactic(auto, unfolding(crate::specs::Lines::session_in))]
-fn session_in(view: &View) -> Result<SessionNo, ViewFault>
-    ensures { Gives (λ n. n) result (session_in (seen_at view.now)) }
-{
-    match view.whole(LAST_SESSION) {
-        Ok(number) if number >= 1 => Ok(SessionNo(number as u32)),
-        Ok(_) => Err(view.refuse(Wanted::Session)),
-        Err(ViewFault::Shape(_)) => Err(view.refuse(Wanted::Session)),
-        Err(ViewFault::Memory) => Err(ViewFault::Memory),
-    }
-}
-
-/// The session of a request: the member `s`, a whole number from 1 to 16.
-#[tactic(auto, unfolding(crate::specs::Lines::session_at))]
-pub(crate) fn session_at(view: &View) -> Result<SessionNo, ViewFault>
-    ensures { Gives (λ n. n) result (session_at (seen_at view.now)) }
-{
-    let part = view.member("s", Wanted::Session)?;
-    session_in(&part)
-}
 
 /// The command of a request's word, but for the configuration's.
 pub(crate) fn command_named(word: &str) -> Option<Command>
@@ -46,6 +25,18 @@ pub(crate) fn command_named(word: &str) -> Option<Command>
 {
     match word {
         "add_bundle" => Some(Command::AddBundle),
+        "add_textgrid" => Some(Command::AddTextgrid),
+        "drop_bundle" => Some(Command::DropBundle),
+        "add_item" => Some(Command::AddItem),
+        "remove_item" => Some(Command::RemoveItem),
+        "set_label" => Some(Command::SetLabel),
+        "set_segment" => Some(Command::SetSegment),
+        "move_boundary" => Some(Command::MoveBoundary),
+        "set_point" => Some(Command::SetPoint),
+        "split" => Some(Command::Split),
+        "merge" => Some(Command::Merge),
+        "add_link" => Some(Command::AddLink),
+        "remove_link" => Some(Command::RemoveLink),
         "query" => Some(Command::Query),
         "look" => Some(Command::Look),
         "finish" => Some(Command::Finish),
@@ -54,19 +45,7 @@ pub(crate) fn command_named(word: &str) -> Option<Command>
     }
 }
 
-// `add_bundle`: names of the session and the bundle, and an annotation.
-#[tactic(auto, unfolding(crate::specs::Lines::bundle_request))]
-fn bundle_request(alloc: Global, view: &View) -> Result<Request, ViewFault>
-    ensures { Gives (λ r. r) result (bundle_request (seen_at view.now)) }
-{
-    let session = name_at(alloc, view, "session")?;
-    let bundle = name_at(alloc, view, "bundle")?;
-    let member = view.member("annot", Wanted::Object)?;
-    let annot = thin_annot(alloc, &member)?;
-    let key = BundleKey { session, bundle };
-    Ok(Request::Edit(Edit::AddBundle { key, annot }))
-}
-
+// A query, in the place of its text.
 #[tactic(auto, unfolding(crate::specs::Lines::query_in))]
 fn query_in(alloc: Global, view: &View) -> Result<Ask, ViewFault>
     ensures { Gives (λ a. a) result (query_in (seen_at view.now)) }
@@ -90,6 +69,7 @@ fn ask_in(alloc: Global, view: &View) -> Result<Ask, ViewFault>
     Ok(ask)
 }
 
+// `query`.
 #[tactic(auto, unfolding(crate::specs::Lines::query_request))]
 fn query_request(alloc: Global, view: &View) -> Result<Request, ViewFault>
     ensures { Gives (λ r. r) result (query_request (seen_at view.now)) }
@@ -97,6 +77,7 @@ fn query_request(alloc: Global, view: &View) -> Result<Request, ViewFault>
     Ok(Request::Query(ask_in(alloc, view)?))
 }
 
+// `look`.
 #[tactic(auto, unfolding(crate::specs::Lines::look_request))]
 fn look_request(alloc: Global, view: &View) -> Result<Request, ViewFault>
     ensures { Gives (λ r. r) result (look_request (seen_at view.now)) }
@@ -127,6 +108,18 @@ pub(crate) fn members_of(
 {
     match command {
         Command::AddBundle => Ok(bundle_request(alloc, view)?),
+        Command::AddTextgrid => Ok(textgrid_request(alloc, view)?),
+        Command::DropBundle => Ok(drop_request(alloc, view)?),
+        Command::AddItem => Ok(item_request(alloc, view)?),
+        Command::RemoveItem => Ok(remove_request(alloc, view)?),
+        Command::SetLabel => Ok(label_request(alloc, view)?),
+        Command::SetSegment => Ok(segment_request(alloc, view)?),
+        Command::MoveBoundary => Ok(boundary_request(alloc, view)?),
+        Command::SetPoint => Ok(point_request(alloc, view)?),
+        Command::Split => Ok(split_request(alloc, view)?),
+        Command::Merge => Ok(merge_request(alloc, view)?),
+        Command::AddLink => Ok(link_request(alloc, view)?),
+        Command::RemoveLink => Ok(unlink_request(alloc, view)?),
         Command::Query => Ok(query_request(alloc, view)?),
         Command::Look => Ok(look_request(alloc, view)?),
         Command::Finish => Ok(Request::Finish),

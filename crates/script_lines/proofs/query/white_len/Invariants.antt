@@ -1,5 +1,5 @@
 use Rattle.std.proofs.Common.{◌≡◌, ◌+◌, length}
-use Rattle.script_lines.specs.Thin.{white_len}
+use Rattle.script_lines.specs.Queries.{white_len}
 use Rattle.script_lines.proofs.query.white_len.Given as goal
 
 abbrev pub invariant-loop-rest : goal.invariant-loop-rest

@@ -1,5 +1,5 @@
 use Rattle.std.proofs.Common.{◌≡◌, ◌+◌, length}
-use Rattle.script_lines.specs.Thin.{word_len}
+use Rattle.script_lines.specs.Queries.{word_len}
 use Rattle.script_lines.proofs.query.word_len.Given as goal
 
 abbrev pub invariant-loop-rest : goal.invariant-loop-rest

@@ -1,0 +1,133 @@
+//! Refusals as JSON values, with the members in the order of their names.
+ghost use Rattle.std.specs.Prelude.{◌≡◌, IfOk};
+ghost use Rattle.serde_json.specs.View.{view};
+ghost use Rattle.script_lines.specs.Texts.{rule_data, plain_rule, rule_with_id, rule_with_name, rule_with_what, rule_at, expected_at, rule_in_tier, grid_fault_data, refusal_data};
+
+use emu_names::{Broken, ItemId, Memory, Text, What};
+use serde_json::{Value, json};
+use session_core::{AskFault, Refusal};
+use std::alloc::Global;
+use textgrid::{GridFault, GridWhat};
+
+/// A refusal that says its rule alone.
+fn plain_value(alloc: Global, word: &str) -> Result<Value, Memory>
+    ensures { IfOk result (λ v. view v ≡ plain_rule word.now) }
+{
+    Ok(json!(in alloc; {"rule": word})?)
+}
+
+/// A refusal that says an id.
+fn id_value(alloc: Global, id: ItemId, word: &str) -> Result<Value, Memory>
+    ensures { IfOk result (λ v. view v ≡ rule_with_id id word.now) }
+{
+    Ok(json!(in alloc; {"id": id.0, "rule": word})?)
+}
+
+/// A refusal that says a name.
+fn name_value(alloc: Global, name: &Text, word: &str) -> Result<Value, Memory>
+    ensures { IfOk result (λ v. view v ≡ rule_with_name name.now word.now) }
+{
+    Ok(json!(in alloc; {"name": name.as_str(), "rule": word})?)
+}
+
+/// A refusal that says what there are too many of.
+fn what_value(alloc: Global, what: What, word: &str) -> Result<Value, Memory>
+    ensures { IfOk result (λ v. view v ≡ rule_with_what what word.now) }
+{
+    Ok(json!(in alloc; {"rule": word, "what": what.word()})?)
+}
+
+/// A broken rule.
+fn rule_value(alloc: Global, broken: &Broken) -> Result<Value, Memory>
+    ensures { IfOk result (λ v. view v ≡ rule_data broken.now) }
+{
+    let word = broken.word();
+    match broken {
+        Broken::TooMany(what) => what_value(alloc, *what, word),
+        Broken::NoLevel(name)
+        | Broken::TwoLevels(name)
+        | Broken::LevelKind(name)
+        | Broken::NoAttribute(name)
+        | Broken::TwoLabels(name) => name_value(alloc, name, word),
+        Broken::IdTaken(id)
+        | Broken::NoItem(id)
+        | Broken::Overlap(id)
+        | Broken::NotRising(id)
+        | Broken::NoNeighbour(id)
+        | Broken::OneParent(id)
+        | Broken::OneChild(id) => id_value(alloc, *id, word),
+        Broken::BundleTaken
+        | Broken::NoBundle
+        | Broken::RateOut
+        | Broken::LabelTooLong
+        | Broken::IllegalLabel
+        | Broken::PositionOut
+        | Broken::TimeKind
+        | Broken::TimeOut
+        | Broken::CutOut
+        | Broken::NoLinkDefinition
+        | Broken::LinkExists
+        | Broken::NoLink => plain_value(alloc, word),
+    }
+}
+
+/// A refusal that names a place of a TextGrid's text.
+fn place_value(alloc: Global, at: u64, word: &str) -> Result<Value, Memory>
+    ensures { IfOk result (λ v. view v ≡ rule_at at word.now) }
+{
+    Ok(json!(in alloc; {"at": at, "rule": word})?)
+}
+
+/// A refusal that names a place of a TextGrid's text and what a TextGrid has there.
+fn expected_value(alloc: Global, at: u64, what: GridWhat) -> Result<Value, Memory>
+    ensures { IfOk result (λ v. view v ≡ expected_at at what) }
+{
+    Ok(json!(in alloc; {"at": at, "rule": "Expected", "what": what.word()})?)
+}
+
+/// A refusal that names a tier of a TextGrid and an entry of it.
+fn entry_value(alloc: Global, tier: u32, entry: u32, word: &str) -> Result<Value, Memory>
+    ensures { IfOk result (λ v. view v ≡ rule_in_tier tier entry word.now) }
+{
+    Ok(json!(in alloc; {"entry": entry, "rule": word, "tier": tier})?)
+}
+
+/// The fault of a TextGrid.
+fn grid_fault_value(alloc: Global, fault: GridFault) -> Result<Value, Memory>
+    ensures { IfOk result (λ v. view v ≡ grid_fault_data fault) }
+{
+    match fault {
+        GridFault::BadEncoding(at) => place_value(alloc, at, "BadEncoding"),
+        GridFault::BadText(at) => place_value(alloc, at, "BadText"),
+        GridFault::TooManyDigits(at) => place_value(alloc, at, "TooManyDigits"),
+        GridFault::Expected { at, what } => expected_value(alloc, at, what),
+        GridFault::NegativeTime { tier, entry } => {
+            entry_value(alloc, tier, entry, "NegativeTime")
+        }
+        GridFault::TimeTooLarge { tier, entry } => {
+            entry_value(alloc, tier, entry, "TimeTooLarge")
+        }
+        GridFault::EmptyInterval { tier, entry } => {
+            entry_value(alloc, tier, entry, "EmptyInterval")
+        }
+        GridFault::Memory => plain_value(alloc, "Memory"),
+    }
+}
+
+/// A refusal.
+pub(crate) fn refusal_value(alloc: Global, refusal: &Refusal) -> Result<Value, Memory>
+    ensures { IfOk result (λ v. view v ≡ refusal_data refusal.now) }
+{
+    match refusal {
+        Refusal::Rule(broken) => rule_value(alloc, broken),
+        Refusal::Grid(fault) => grid_fault_value(alloc, *fault),
+        Refusal::Resolve(AskFault::UnknownName(name)) => name_value(alloc, name, "UnknownName"),
+        Refusal::NotBuilt => plain_value(alloc, "NotBuilt"),
+        Refusal::NoLook => plain_value(alloc, "NoLook"),
+        Refusal::LookOpen => plain_value(alloc, "LookOpen"),
+        Refusal::HistoryFull => plain_value(alloc, "HistoryFull"),
+        Refusal::StoreFull => plain_value(alloc, "StoreFull"),
+        Refusal::Disk => plain_value(alloc, "Disk"),
+        Refusal::Memory => plain_value(alloc, "Memory"),
+    }
+}
