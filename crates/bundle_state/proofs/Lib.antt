@@ -8,6 +8,7 @@ pub mod IdLevels
 pub mod LevelsKept
 pub mod LinkRefusals
 pub mod LinksKept
+pub mod NamedLinks
 pub mod Refusals
 pub mod Tests
 pub mod Walks

@@ -1,6 +1,6 @@
 //! Changes of levels, links and places that go together: all of them, or none.
 ghost use Rattle.std.specs.Prelude.{◌≡◌, ◌<◌, ℕ, length, nat_eq, not, None, Some, IfSome, IsTrue, OnErr, OnOk, if◌then◌else◌};
-ghost use Rattle.std.specs.List.{filter, slice_get};
+ghost use Rattle.std.specs.List.{filter, list_any, slice_get};
 ghost use Rattle.std.specs.Option.{option_and_then};
 ghost use Rattle.emu_names.specs.Gives.{FindsFault};
 ghost use Rattle.level_items.specs.Levels.{are_labels_for};
@@ -75,9 +75,16 @@ fn take_item(
     Ok(())
 }
 
+/// Whether a link names an item.
+fn has_links(links: &Links, id: ItemId) -> bool
+    ensures { result ≡ list_any (names_item id) links.now }
+{
+    links.parents(id).next().is_some() || links.children(id).next().is_some()
+}
+
 /// Takes an item from its level, and all links that name it. The only refusal is want of memory, which
 /// changes nothing.
-pub(crate) fn take_linked(
+fn take_linked(
     levels: &mut SharedLevels,
     places: &mut Handle<Places>,
     links: &mut Handle<Links>,
@@ -100,4 +107,31 @@ pub(crate) fn take_linked(
     take_item(levels, places, id, level, position)?;
     own.remove_item(id);
     Ok(())
+}
+
+/// Takes an item from its level, and all links that name it; where there are none the links stay shared.
+/// The only refusal is want of memory, which changes nothing.
+pub(crate) fn take_out(
+    levels: &mut SharedLevels,
+    places: &mut Handle<Places>,
+    links: &mut Handle<Links>,
+    id: ItemId,
+    level: usize,
+    position: usize,
+) -> Result<(), Memory>
+    requires level { level < length levels.old }
+    requires position { IfSome (slice_get levels.old level) (λ l. position < length l.items) }
+    ensures removed { OnOk result
+        (levels.new ≡ change_level (without_item position) level levels.old) }
+    ensures forgotten { OnOk result ((q : ℕ) → level_in places.new q
+        ≡ (if nat_eq q id.0 then None else level_in places.old q)) }
+    ensures unlinked { OnOk result (links.new ≡ filter (λ link. not (names_item id link)) links.old) }
+    ensures kept { OnErr result (levels.new ≡ levels.old) }
+    ensures places { OnErr result ((q : ℕ) → level_in places.new q ≡ level_in places.old q) }
+    ensures linked { OnErr result (links.new ≡ links.old) }
+{
+    if has_links(links.as_ref(), id) {
+        return take_linked(levels, places, links, id, level, position);
+    }
+    take_item(levels, places, id, level, position)
 }
