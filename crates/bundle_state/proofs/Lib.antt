@@ -1,5 +1,6 @@
 pub mod BuiltKept
 pub mod BuiltRefusals
+pub mod Calling
 pub mod ChangedKept
 pub mod ChangedLevels
 pub mod ChangedLinks

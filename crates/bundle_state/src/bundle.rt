@@ -317,8 +317,7 @@ impl Bundle {
         ensures kept { OnErr result (self.new ≡ self.old) }
     {
         let number = definition_for(config, self.places.as_ref(), &AnnotLink { from, to })?;
-        self.links
-            .add(number, config.link_kind(number), from, to)
+        self.links.add(number, config.link_kind(number), from, to)
     }
 
     /// Takes the link of a pair out; the links behind it move up. `NoLink` comes exactly where the pair is not
