@@ -1,5 +1,5 @@
 -- How callers meet the conditions of the calls that change a bundle, where it fits a configuration.
-use Rattle.std.proofs.Common.{◌≡◌, ℕ, ◌<◌, length, map, Bool, true, List, Option, Some, None, IfSome, IsTrue, refl, sym, ◌∙◌, ap, subst, option_map}
+use Rattle.std.proofs.Common.{◌≡◌, ℕ, ◌<◌, length, true, List, Option, Some, None, IfSome, IsTrue, refl, sym, ◌∙◌, ap, subst, option_map}
 use Rattle.std.specs.List.{slice_get}
 use Rattle.std.specs.Option.{option_and_then}
 use Rattle.std.proofs.lemmas.Option.{slice_get-map, slice_get_within}

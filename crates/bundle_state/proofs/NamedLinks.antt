@@ -1,5 +1,5 @@
 -- Whether a link names an item, by the first of its parents and of its children.
-use Rattle.std.proofs.Common.{◌≡◌, ℕ, Bool, true, false, cond, not, ◌||◌, ◌==◌, List, [], ◌∷◌, map, Option, Some, None, is_some, MatchOption, Result, Ok, Err, OnOk, refl, sym, ◌∙◌, ap, subst}
+use Rattle.std.proofs.Common.{◌≡◌, Bool, true, false, cond, not, ◌||◌, ◌==◌, List, [], ◌∷◌, map, Option, Some, None, is_some, MatchOption, Result, Ok, Err, OnOk, refl, sym, ◌∙◌, ap, subst}
 use Rattle.std.specs.List.{list_any, filter}
 use Rattle.emu_names.specs.declared.kinds.ItemId.{ItemId}
 use Rattle.link_graph.specs.declared.link.Link.{Link}

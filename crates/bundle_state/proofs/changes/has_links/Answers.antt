@@ -1,4 +1,4 @@
-use Rattle.std.proofs.Common.{◌∙◌, sym}
+use Rattle.std.proofs.Common.{◌∙◌}
 use Rattle.bundle_state.proofs.NamedLinks.{has_parent, has_child, named_above, named_below}
 use Rattle.bundle_state.proofs.changes.has_links.Goals as goal
 

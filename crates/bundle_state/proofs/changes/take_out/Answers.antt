@@ -1,4 +1,4 @@
-use Rattle.std.proofs.Common.{◌≡◌, false, sym, ◌∙◌, rules}
+use Rattle.std.proofs.Common.{◌≡◌, false, rules}
 use Rattle.std.specs.List.{list_any}
 use Rattle.link_graph.specs.Link.{names_item}
 use Rattle.bundle_state.proofs.NamedLinks.{none_taken}
