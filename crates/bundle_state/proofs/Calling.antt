@@ -1,15 +1,22 @@
 -- How callers meet the conditions of the calls that change a bundle, where it fits a configuration.
-use Rattle.std.proofs.Common.{◌≡◌, ℕ, ◌<◌, length, true, List, Option, Some, None, IfSome, IsTrue, refl, sym, ◌∙◌, ap, subst, option_map}
+use Rattle.std.proofs.Common.{◌≡◌, ℕ, ◌<◌, length, true, List, Option, Some, None, Result, Ok, Err, IfOk, IfSome, IsTrue, OnErr, OnOk, refl, sym, ◌∙◌, ap, subst, option_map}
 use Rattle.std.specs.List.{slice_get}
 use Rattle.std.specs.Option.{option_and_then}
 use Rattle.std.proofs.lemmas.Option.{slice_get-map, slice_get_within}
 use Rattle.emu_names.specs.declared.kinds.LevelKind.{LevelKind}
+use Rattle.emu_names.specs.declared.names.BundleKey.{BundleKey}
+use Rattle.emu_names.specs.declared.rules.Broken.{Broken}
+use Rattle.emu_names.specs.declared.rules.Fault.{Fault}
+use Rattle.emu_names.specs.Gives.{GivesOrBroken}
+use Rattle.level_items.specs.declared.annot.Annot.{Annot}
 use Rattle.level_items.specs.Levels.{Level, are_labels_for}
 use Rattle.db_config.specs.declared.parts.LevelDef.{LevelDef}
 use Rattle.db_config.specs.declared.parts.ConfigParts.{ConfigParts}
 use Rattle.bundle_state.specs.Bundle.{BundleParts, place_of}
-use Rattle.bundle_state.specs.Built.{form_of, form_asked, FitsConfig}
+use Rattle.bundle_state.specs.Built.{built, form_of, form_asked, FitsConfig}
 use Rattle.bundle_state.specs.Changed.{attributes_with}
+use Rattle.bundle_state.specs.ChangedLaws.{KeepsForm}
+use Rattle.bundle_state.proofs.BuiltKept.{built_fits}
 
 -- the level of a bundle that a level of the configuration stands for
 pub record IsLevelOf (bundle : BundleParts) (number : ℕ) (def : LevelDef) : Type 0 where
@@ -61,3 +68,14 @@ attribute_within config bundle id level at attribute def fits placed there low =
 pub attribute_of_none : (id attribute : ℕ) (levels : List Level) → place_of levels id ≡ None → IfSome (attributes_with id levels) (λ count. attribute < count)
 attribute_of_none id attribute levels none =
     subst (λ (o : Option (ℕ × ℕ)). IfSome (option_map (λ (l : Level). l.attributes) (option_and_then (λ place. slice_get levels place.0) o)) (λ count. attribute < count)) (sym none) tt
+
+-- a bundle behind a call that changes it
+pub fits_after : {T : Type 0} (change : BundleParts → Result BundleParts Broken) → KeepsForm change → (config : ConfigParts) (before after : BundleParts) (r : Result T Fault) →
+    FitsConfig config before → OnOk r (change before ≡ Ok after) → OnErr r (after ≡ before) → FitsConfig config after
+fits_after change keeps config before after (Ok x) fits ok same = keeps config before after fits ok
+fits_after change keeps config before after (Err e) fits ok same = subst (FitsConfig config) (sym same) fits
+
+-- a bundle that is built
+pub fits_built : (config : ConfigParts) (key : BundleKey) (annot : Annot) (made : Result BundleParts Fault) → GivesOrBroken made (built config key annot) → IfOk made (FitsConfig config)
+fits_built config key annot (Ok bundle) gives = built_fits config key annot bundle gives
+fits_built config key annot (Err e) gives = tt
