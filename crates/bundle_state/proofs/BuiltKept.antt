@@ -1,5 +1,5 @@
 -- A bundle that is built keeps the rules of bundles, and has the levels of its configuration.
-use Rattle.std.proofs.Common.{◌≡◌, ℕ, ◌≤◌, Bool, true, List, [], ◌∷◌, length, map, Option, Some, None, Result, Ok, Err, refl, sym, ◌∙◌, ap, subst}
+use Rattle.std.proofs.Common.{◌≡◌, ℕ, true, List, [], ◌∷◌, map, Option, Some, None, Result, Ok, Err, refl, sym, ◌∙◌, ap, subst}
 use Rattle.emu_names.specs.declared.kinds.LevelKind.{LevelKind}
 use Rattle.emu_names.specs.declared.names.BundleKey.{BundleKey}
 use Rattle.std.specs.Result.{IsErrAnd}
@@ -17,7 +17,7 @@ use Rattle.db_config.specs.declared.parts.ConfigParts.{ConfigParts}
 use Rattle.db_config.specs.Valid.{is_valid}
 use Rattle.bundle_state.specs.Bundle.{BundleParts, level_of_id}
 use Rattle.bundle_state.specs.Faults.{annot_fault}
-use Rattle.bundle_state.specs.Made.{made_level, made_levels}
+use Rattle.bundle_state.specs.Made.{made_levels}
 use Rattle.bundle_state.specs.Linked.{unless_broken, put_links}
 use Rattle.bundle_state.specs.Built.{bundle_of, linked, built, form_of, form_asked, FitsConfig}
 use Rattle.bundle_state.specs.Valid.{KeepsBundleRules}

@@ -1,17 +1,16 @@
 -- An annotation is refused exactly where it breaks a rule.
-use Rattle.std.proofs.Common.{◌≡◌, ℕ, Bool, true, List, [], Option, Some, None, Result, Ok, Err, refl, sym, ◌∙◌, ap, IsOk, ◌↔◌}
+use Rattle.std.proofs.Common.{◌≡◌, true, Option, Some, None, Result, Ok, Err, refl, sym, ◌∙◌, ap, IsOk, ◌↔◌}
 use Rattle.std.specs.Option.{is_none}
 use Rattle.emu_names.specs.declared.names.BundleKey.{BundleKey}
 use Rattle.emu_names.specs.declared.rules.Broken.{Broken}
 use Rattle.level_items.specs.declared.annot.Annot.{Annot}
-use Rattle.link_graph.specs.declared.link.Link.{Link}
 use Rattle.db_config.specs.declared.parts.ConfigParts.{ConfigParts}
 use Rattle.bundle_state.specs.Bundle.{BundleParts, level_of_id}
 use Rattle.bundle_state.specs.Faults.{annot_fault}
 use Rattle.bundle_state.specs.Made.{made_levels}
 use Rattle.bundle_state.specs.Linked.{unless_broken}
 use Rattle.bundle_state.specs.Built.{bundle_of, built}
-use Rattle.bundle_state.specs.Rules.{keeps_rules, KeepsAllRules}
+use Rattle.bundle_state.specs.Rules.{KeepsAllRules}
 use Rattle.bundle_state.proofs.Refusals.{refuses_exactly}
 use Rattle.bundle_state.proofs.LinkRefusals.{links_keep, ArePut, links_put}
 use Rattle.bundle_state.proofs.BuiltKept.{IsBuilt, built_parts, build_gives}

@@ -1,11 +1,10 @@
 -- A bundle that is changed keeps the rules of bundles, with the kept levels, and the form of its levels.
-use Rattle.std.proofs.Common.{◌≡◌, ℕ, zero, suc, ◌+◌, ◌<◌, ◌≤◌, Bool, true, false, cond, not, List, [], ◌∷◌, ◌++◌, length, map, get_or, Option, Some, None, is_some, IfSome, IsTrue, Result, Ok, Err, OnOk, OnErr, nat_eq, refl, sym, ◌∙◌, ap, subst, arith, All, ok_or, option_map}
+use Rattle.std.proofs.Common.{◌≡◌, ℕ, zero, suc, ◌+◌, ◌<◌, Bool, true, false, cond, not, List, [], ◌∷◌, ◌++◌, length, map, get_or, Option, Some, None, is_some, IfSome, IsTrue, Result, Ok, Err, OnOk, OnErr, nat_eq, refl, sym, ◌∙◌, ap, subst, arith, ok_or, option_map}
 use Rattle.std.specs.List.{list_any, filter, position, slice_get}
 use Rattle.std.specs.Option.{option_and_then, option_map_or, option_or}
 use Rattle.std.proofs.lemmas.Bool.{eqb-true}
 use Rattle.std.proofs.lemmas.List.Quantifiers.{position-Some}
 use Rattle.std.proofs.lemmas.Option.{slice_get-get_or, slice_get_within}
-use Rattle.emu_names.specs.declared.kinds.LevelKind.{LevelKind}
 use Rattle.emu_names.specs.declared.kinds.LinkKind.{LinkKind}
 use Rattle.emu_names.specs.declared.kinds.LinkKind.TheVariants.{ManyToMany}
 use Rattle.emu_names.specs.declared.kinds.ItemId.{ItemId}
@@ -27,16 +26,16 @@ use Rattle.db_config.specs.declared.parts.ConfigParts.{ConfigParts}
 use Rattle.db_config.specs.declared.parts.LinkDef.{LinkDef}
 use Rattle.bundle_state.specs.declared.places.Places.{Places}
 use Rattle.bundle_state.specs.Bundle.{BundleParts, all_ids, item_count, level_of_id, position_on, place_from, place_of}
-use Rattle.bundle_state.specs.Built.{form_of, form_asked, FitsConfig}
-use Rattle.bundle_state.specs.Linked.{unless_broken, onward, kind_of, definition_for}
+use Rattle.bundle_state.specs.Built.{form_of, FitsConfig}
+use Rattle.bundle_state.specs.Linked.{unless_broken, kind_of, definition_for}
 use Rattle.bundle_state.specs.Placed.{level_in}
 use Rattle.bundle_state.specs.Valid.{KeepsBundleRules}
-use Rattle.bundle_state.specs.Kept.{ArePlacesOf, IsKept}
+use Rattle.bundle_state.specs.Kept.{IsKept}
 use Rattle.bundle_state.specs.Changed.{with_levels, with_links, change_level, with_item, without_item, with_changed, with_change, without, place_for, new_item_fault, new_time_fault, item_added, item_removed, label_set, item_retimed, link_put, link_added, missing_fault, link_removed}
 use Rattle.bundle_state.specs.ChangedLaws.{KeepsForm, KeepsRules, HasRoomFor}
 use Rattle.bundle_state.proofs.Tests.{cond_none}
 use Rattle.bundle_state.proofs.LevelsKept.{AreFine}
-use Rattle.bundle_state.proofs.LinksKept.{AreFineLinks, GoesOn, goes_on, ok_same, fine_value, level_parts, grown}
+use Rattle.bundle_state.proofs.LinksKept.{AreFineLinks, goes_on, ok_same, fine_value, level_parts, grown}
 use Rattle.bundle_state.proofs.BuiltKept.{unbroken}
 use Rattle.bundle_state.proofs.ChangedLevels.{rule_at, has_level, no_level, inserted_level, inserted_fine, removed_level, removed_fine, changed_level, changed_fine, label_rule}
 use Rattle.bundle_state.proofs.ChangedLinks.{fewer_fine, same_fine, between_more, between_less, between_alike}

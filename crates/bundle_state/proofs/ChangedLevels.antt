@@ -1,5 +1,5 @@
 -- What a change of one level makes of all levels: their ids, the level of an id, the rules.
-use Rattle.std.proofs.Common.{◌≡◌, ℕ, zero, suc, ◌+◌, ◌<◌, ◌≤◌, Bool, true, false, cond, not, ◌&&◌, ◌||◌, ◌==◌, List, [], ◌∷◌, ◌++◌, length, map, take, drop, get_or, sum_by, Option, Some, None, Result, Ok, Err, OnOk, is_some, nat_eq, refl, sym, ◌∙◌, ap, subst, arith, All, append_assoc, length-append, eqb-true, eq-eqb, slice_set, zero-add}
+use Rattle.std.proofs.Common.{◌≡◌, ℕ, zero, suc, ◌+◌, ◌<◌, Bool, true, false, cond, ◌&&◌, ◌||◌, ◌==◌, List, [], ◌∷◌, ◌++◌, length, take, drop, get_or, Option, Some, None, Result, Ok, Err, OnOk, is_some, nat_eq, refl, sym, ◌∙◌, ap, subst, arith, All, append_assoc, length-append, eqb-true, eq-eqb, slice_set, zero-add}
 use Rattle.std.specs.List.{list_any, list_all, slice_get, insert, remove}
 use Rattle.std.proofs.lemmas.Bool.{true≢false, and_parts, and_from}
 use Rattle.std.proofs.lemmas.List.{length-map, length-set, take-append-drop}
@@ -9,14 +9,13 @@ use Rattle.std.proofs.lemmas.Option.{slice_get-get_or}
 use Rattle.std.proofs.lemmas.List.Elements.{All-cons, All-head, All-tail}
 use Rattle.emu_names.specs.declared.limits.TheConstants.{BUNDLE_ITEMS}
 use Rattle.emu_names.specs.declared.kinds.LevelKind.{LevelKind}
-use Rattle.level_items.specs.declared.times.Time.{Time}
 use Rattle.level_items.specs.declared.items.Item.{Item}
 use Rattle.level_items.specs.Times.{fits_kind, ends_in_time}
-use Rattle.level_items.specs.Levels.{Level, level_of, KeepsLevelRule, ids_of, are_different, is_short, are_labels_for, fits_level, new_place, change_at, retimed, relabelled}
-use Rattle.level_items.specs.Faults.{insert_fault, retime_fault}
+use Rattle.level_items.specs.Levels.{Level, level_of, KeepsLevelRule, ids_of, are_different, is_short, are_labels_for, fits_level, new_place, change_at, relabelled}
+use Rattle.level_items.specs.Faults.{insert_fault}
 use Rattle.level_items.proofs.Lists.{any_parts, different_with, different_without, around}
 use Rattle.level_items.proofs.Rules.{ids_parts, ids_joined, rule_with, rule_without, order_same}
-use Rattle.level_items.proofs.Changes.{change_around, parts_of_fit, insert_rule, retime_rule}
+use Rattle.level_items.proofs.Changes.{change_around, parts_of_fit, insert_rule}
 use Rattle.bundle_state.specs.Bundle.{all_ids, item_count, has_id, level_from, level_of_id}
 use Rattle.bundle_state.specs.Changed.{change_level, with_item, without_item, with_changed}
 use Rattle.bundle_state.proofs.Tests.{any_append}

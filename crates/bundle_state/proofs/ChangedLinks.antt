@@ -1,16 +1,15 @@
 -- Links keep the link rule where items come and go, and where links do.
-use Rattle.std.proofs.Common.{◌≡◌, ℕ, ◌+◌, ◌≤◌, Bool, true, false, cond, not, ◌||◌, List, [], ◌∷◌, ◌++◌, length, Option, Some, None, nat_eq, ◌==◌, refl, sym, ◌∙◌, ap, subst, arith, All, eqb-true}
-use Rattle.std.specs.List.{list_any, filter}
+use Rattle.std.proofs.Common.{◌≡◌, ℕ, Bool, true, false, cond, not, List, [], ◌∷◌, Option, Some, None, nat_eq, ◌==◌, refl, sym, ◌∙◌, ap, arith, All, eqb-true}
+use Rattle.std.specs.List.{filter}
 use Rattle.std.proofs.lemmas.Bool.{not-true, or_parts}
 use Rattle.std.proofs.lemmas.List.Elements.{All-nil, All-cons, All-head, All-tail, All-weaker}
 use Rattle.std.proofs.lemmas.List.Filters.{length-filter_both}
-use Rattle.emu_names.specs.declared.limits.TheConstants.{BUNDLE_LINKS}
 use Rattle.emu_names.specs.declared.kinds.ItemId.{ItemId}
 use Rattle.link_graph.specs.declared.link.Link.{Link}
-use Rattle.link_graph.specs.Link.{names_item, joins, link_of, add_fault}
+use Rattle.link_graph.specs.Link.{names_item, joins}
 use Rattle.link_graph.proofs.Kept.{distinct_filter, keep_filter}
 use Rattle.db_config.specs.declared.parts.LinkDef.{LinkDef}
-use Rattle.bundle_state.specs.Linked.{kind_of, IsBetween, KeepLinkRule}
+use Rattle.bundle_state.specs.Linked.{kind_of, IsBetween}
 use Rattle.bundle_state.proofs.LinksKept.{AreFineLinks}
 
 all_filter : {X : Type 0} (P Q : X → Type 0) (test : X → Bool) → ((x : X) → test x ≡ true → P x → Q x) → (xs : List X) → All P xs → All Q (filter test xs)

@@ -1,8 +1,8 @@
 -- The level and the position of an id, and what a map from ids to levels holds while it grows.
-use Rattle.std.proofs.Common.{◌≡◌, ℕ, zero, suc, ◌+◌, ◌<◌, ◌≤◌, Bool, true, false, cond, not, ◌||◌, List, [], ◌∷◌, ◌++◌, length, map, take, drop, get_or, Option, Some, None, nat_eq, nat_lt, refl, sym, ◌∙◌, ap, arith, if◌then◌else◌, option_map}
-use Rattle.std.specs.List.{list_any, position, position_or_len, slice_get}
+use Rattle.std.proofs.Common.{◌≡◌, ℕ, suc, ◌+◌, ◌<◌, ◌≤◌, Bool, true, false, cond, ◌||◌, List, [], ◌∷◌, ◌++◌, length, take, get_or, Option, Some, None, nat_eq, nat_lt, refl, sym, ◌∙◌, ap, arith, if◌then◌else◌, option_map}
+use Rattle.std.specs.List.{list_any, position_or_len, slice_get}
 use Rattle.std.specs.Option.{option_or, IfSome}
-use Rattle.std.proofs.lemmas.Bool.{or_parts, cond-true, cond-false, lt-ltb}
+use Rattle.std.proofs.lemmas.Bool.{cond-true, lt-ltb}
 use Rattle.std.proofs.lemmas.Bool.Decides.{nat_tests}
 use Rattle.std.proofs.lemmas.List.{map-append}
 use Rattle.std.proofs.lemmas.List.Folds.{list_any-append}

@@ -1,5 +1,5 @@
 -- The levels of an annotation that breaks no rule keep the level rule, and their ids differ.
-use Rattle.std.proofs.Common.{◌≡◌, ℕ, ◌+◌, ◌≤◌, Bool, true, false, cond, not, ◌&&◌, List, [], ◌∷◌, ◌++◌, length, map, sum_by, Option, Some, None, nat_eq, nat_lt, nat_le, ◌==◌, refl, sym, ◌∙◌, ap, subst, arith, eq-eqb, if◌then◌else◌, All}
+use Rattle.std.proofs.Common.{◌≡◌, ℕ, ◌+◌, ◌≤◌, Bool, true, false, cond, not, ◌&&◌, List, [], ◌∷◌, ◌++◌, length, map, Option, Some, None, nat_eq, nat_lt, ◌==◌, refl, sym, ◌∙◌, ap, subst, arith, eq-eqb, if◌then◌else◌, All}
 use Rattle.std.specs.List.{list_any, list_all}
 use Rattle.std.proofs.lemmas.Bool.{false≢true, true≢false, not-true, not-false, and_parts, and_from, or_parts, ltb-false, le-leb}
 use Rattle.std.proofs.lemmas.List.{length-map}
@@ -19,7 +19,7 @@ use Rattle.level_items.specs.declared.annot.AnnotItem.{AnnotItem}
 use Rattle.level_items.specs.declared.annot.AnnotLevel.{AnnotLevel}
 use Rattle.level_items.specs.declared.annot.Annot.{Annot}
 use Rattle.level_items.specs.Times.{fits_kind, ends_in_time, is_before}
-use Rattle.level_items.specs.Levels.{Level, level_of, ids_of, are_different, is_short, are_labels_for, fits_level, is_before_first, are_apart, are_in_order, KeepsLevelRule}
+use Rattle.level_items.specs.Levels.{Level, level_of, ids_of, are_different, is_short, are_labels_for, fits_level, are_apart, are_in_order, KeepsLevelRule}
 use Rattle.level_items.specs.Faults.{or_else, time_fault, order_rule, order_fault}
 use Rattle.db_config.specs.declared.attributes.AttributeDef.{AttributeDef}
 use Rattle.db_config.specs.declared.parts.LevelDef.{LevelDef}

@@ -1,5 +1,6 @@
 pub mod BuiltKept
 pub mod BuiltRefusals
+pub mod Calling
 pub mod ChangedKept
 pub mod ChangedLevels
 pub mod ChangedLinks
@@ -8,6 +9,7 @@ pub mod IdLevels
 pub mod LevelsKept
 pub mod LinkRefusals
 pub mod LinksKept
+pub mod NamedLinks
 pub mod Refusals
 pub mod Tests
 pub mod Walks

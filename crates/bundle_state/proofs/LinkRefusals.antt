@@ -1,10 +1,9 @@
 -- Links are refused exactly where they break a rule.
-use Rattle.std.proofs.Common.{◌≡◌, ℕ, ◌+◌, ◌<◌, ◌≤◌, Bool, true, false, not, List, [], ◌∷◌, ◌++◌, length, map, Option, Some, None, Result, Ok, Err, refl, sym, ◌∙◌, ap, subst, arith, All, append_assoc, ok_or, unwrap_or, option_and_then, IsSome, ◌==◌, if◌then◌else◌}
+use Rattle.std.proofs.Common.{◌≡◌, ℕ, ◌<◌, ◌≤◌, Bool, true, false, List, [], ◌∷◌, ◌++◌, length, map, Option, Some, None, Ok, refl, sym, ◌∙◌, ap, subst, arith, All, append_assoc, ok_or, unwrap_or, option_and_then, IsSome, ◌==◌, if◌then◌else◌}
 use Rattle.std.specs.List.{list_any, filter, position, IsDistinct, AllByRecursion}
-use Rattle.std.proofs.lemmas.List.{map-append, length-append, length-map, append-nil}
+use Rattle.std.proofs.lemmas.List.{map-append, length-append, length-map}
 use Rattle.std.proofs.lemmas.List.Elements.{All-nil, All-cons, All-head, All-tail, filter-append}
 use Rattle.emu_names.specs.declared.limits.TheConstants.{BUNDLE_LINKS}
-use Rattle.emu_names.specs.declared.names.BundleKey.{BundleKey}
 use Rattle.emu_names.specs.declared.kinds.LinkKind.{LinkKind}
 use Rattle.emu_names.specs.declared.kinds.LinkKind.TheVariants.{OneToOne, OneToMany, ManyToMany}
 use Rattle.emu_names.specs.declared.rules.Broken.{Broken}
@@ -16,7 +15,7 @@ use Rattle.link_graph.specs.Kind.{KeepKind, of_definition}
 use Rattle.link_graph.proofs.Kept.{free_added}
 use Rattle.db_config.specs.declared.parts.LinkDef.{LinkDef}
 use Rattle.db_config.specs.Lookups.{leads}
-use Rattle.bundle_state.specs.Linked.{unless_broken, kind_of, definition_for, put_by, put_link, put_links, KeepLinkRule, same_pair, first_places, pair_of}
+use Rattle.bundle_state.specs.Linked.{unless_broken, kind_of, definition_for, put_by, put_link, put_links, first_places, pair_of}
 use Rattle.bundle_state.specs.Rules.{definition_of, link_for, KeepLinkRules}
 use Rattle.bundle_state.proofs.LinksKept.{AreFineLinks, fine_none, links_fine, ok_same, fine_value, goes_on, onward_goes, Put, Passed, Added, put_one, IsNew, filter_every, all_given, passed_tail, added_tail}
 

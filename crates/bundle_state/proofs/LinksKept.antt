@@ -1,5 +1,5 @@
 -- Links that are put one after another keep the link rule, and are the pairs that are given.
-use Rattle.std.proofs.Common.{◌≡◌, ◌≢◌, ℕ, suc, ◌+◌, ◌<◌, ◌≤◌, Bool, true, false, cond, not, ◌&&◌, ◌||◌, List, [], ◌∷◌, ◌++◌, length, map, take, drop, get_or, Option, Some, None, Result, Ok, Err, nat_eq, nat_lt, nat_le, ◌==◌, refl, sym, ◌∙◌, ap, subst, arith, All, if◌then◌else◌, ok_or, eqb-true}
+use Rattle.std.proofs.Common.{◌≡◌, ℕ, ◌<◌, ◌≤◌, Bool, true, false, cond, not, ◌&&◌, ◌||◌, List, [], ◌∷◌, ◌++◌, length, map, get_or, Option, Some, None, Result, Ok, Err, nat_eq, nat_le, ◌==◌, refl, sym, ◌∙◌, ap, subst, arith, if◌then◌else◌, ok_or, eqb-true}
 use Rattle.std.specs.List.{list_any, filter, position, slice_get, IsDistinct}
 use Rattle.std.proofs.Common.{append_assoc}
 use Rattle.std.proofs.lemmas.List.{append-nil}
@@ -15,9 +15,7 @@ use Rattle.std.proofs.lemmas.List.Elements.{All-nil, All-push}
 use Rattle.std.proofs.lemmas.Map.Keys.{IsDistinct-push}
 use Rattle.std.specs.Cmp.{IsEquivalence}
 use Rattle.emu_names.specs.declared.limits.TheConstants.{BUNDLE_LINKS}
-use Rattle.emu_names.specs.declared.kinds.LinkKind.{LinkKind}
 use Rattle.emu_names.specs.declared.kinds.LinkKind.TheVariants.{ManyToMany}
-use Rattle.emu_names.specs.declared.kinds.ItemId.{ItemId}
 use Rattle.emu_names.specs.declared.rules.Fault.{Fault}
 use Rattle.emu_names.specs.declared.rules.Fault.TheVariants as faults
 use Rattle.emu_names.specs.Gives.{GivesOrBroken}

@@ -1,11 +1,11 @@
 -- Tests of texts and lists, and lists of numbers of which none is in the other.
-use Rattle.std.proofs.Common.{◌≡◌, ℕ, Bool, true, false, cond, not, ◌&&◌, List, [], ◌∷◌, ◌++◌, Option, Some, None, nat_eq, refl, sym, ◌∙◌, ap, eq-eqb, eqb-true}
+use Rattle.std.proofs.Common.{◌≡◌, ℕ, Bool, true, false, cond, not, List, [], ◌∷◌, ◌++◌, Option, Some, None, nat_eq, refl, sym, ◌∙◌, ap, eq-eqb, eqb-true}
 use Rattle.std.specs.List.{list_any, list_all}
-use Rattle.std.proofs.lemmas.Bool.{false≢true, true≢false, not-true, not_from_false, and_parts, and_from, or_parts, or_from, ne_eqb, eqb-false, false_from_ne_true}
+use Rattle.std.proofs.lemmas.Bool.{false≢true, not-true, not_from_false, and_parts, and_from, or_parts, or_from, ne_eqb, eqb-false}
 use Rattle.emu_names.specs.declared.rules.Broken.{Broken}
 use Rattle.level_items.specs.Levels.{are_different}
 use Rattle.level_items.specs.Faults.{or_else}
-use Rattle.db_config.specs.Names.{same_text, are_distinct}
+use Rattle.db_config.specs.Names.{same_text}
 
 -- P holds of each element
 abbrev pub Each : {A : Type 0} → (A → Type 0) → List A → Type 0

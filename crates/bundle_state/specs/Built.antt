@@ -1,6 +1,6 @@
 -- The bundle that an annotation makes, or the rule that it breaks first (EMU-SDMS Manual, "The emuDB
 -- format": `_annot.json`; that gaps between segments are allowed is this project's choice).
-use Rattle.std.specs.Prelude.{◌≡◌, ℕ, List, [], length, map, None, Result, Ok}
+use Rattle.std.specs.Prelude.{◌≡◌, ℕ, List, [], length, map, Result, Ok}
 use Rattle.emu_names.specs.declared.kinds.LevelKind.{LevelKind}
 use Rattle.emu_names.specs.declared.names.BundleKey.{BundleKey}
 use Rattle.emu_names.specs.declared.rules.Broken.{Broken}

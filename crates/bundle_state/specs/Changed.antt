@@ -55,12 +55,17 @@ level_with id levels = option_and_then (λ place. slice_get levels place.0) (pla
 abbrev pub attributes_with : ℕ → List Level → Option ℕ
 attributes_with id levels = option_map (λ level. level.attributes) (level_with id levels)
 
--- the rule that a new item breaks first: its id is on any level, or a rule of the level of this number
+-- the rule that a new item breaks first on the level of this number
+abbrev pub put_fault : ℕ → Option ℕ → Item → List Level → Option Broken
+put_fault number position item levels =
+    option_and_then (λ level. insert_fault level.kind level.items position item)
+    (slice_get levels number)
+
+-- the rule that a new item breaks first: its id is on any level, or a rule of its own level
 abbrev pub new_item_fault : ℕ → Option ℕ → Item → List Level → Option Broken
 new_item_fault number position item levels =
     if list_any (nat_eq item.id.0) (all_ids levels) then Some (rules.IdTaken item.id)
-    else option_and_then (λ level. insert_fault level.kind level.items position item)
-    (slice_get levels number)
+    else put_fault number position item levels
 
 -- the rule that another time breaks for the item at this place
 abbrev pub new_time_fault : ℕ × ℕ → Time → List Level → Option Broken
@@ -74,11 +79,19 @@ item_added number position item b =
     unless_broken (new_item_fault number position item b.levels)
     (with_levels b (change_level (with_item position item) number b.levels))
 
+-- the links that do not name an item
+abbrev pub links_without : ItemId → List Link → List Link
+links_without id links = filter (λ link. not (names_item id link)) links
+
+-- the links but that of a pair of items
+abbrev pub links_but : ItemId → ItemId → List Link → List Link
+links_but from to links = filter (λ link. not (joins from to link)) links
+
 -- the bundle without the item at this place, and without the links that name it
 abbrev pub without : ItemId → ℕ × ℕ → BundleParts → BundleParts
 without id place b =
     with_links (with_levels b (change_level (without_item place.1) place.0 b.levels))
-    (filter (λ link. not (names_item id link)) b.links)
+    (links_without id b.links)
 
 -- the item taken from its level, with the links that name it
 abbrev pub item_removed : ItemId → BundleParts → Result BundleParts Broken
@@ -98,7 +111,8 @@ label_set id attribute label b =
 abbrev pub item_retimed : ItemId → Time → BundleParts → Result BundleParts Broken
 item_retimed id time b =
     onward (place_for id b.levels)
-    (λ place. unless_broken (new_time_fault place time b.levels) (with_change (retimed time) place b))
+    (λ place. unless_broken (new_time_fault place time b.levels)
+    (with_change (retimed time) place b))
 
 -- a new link of the definition of this number, put last
 abbrev pub link_put : ItemId → ItemId → BundleParts → ℕ → Result BundleParts Broken
@@ -120,5 +134,4 @@ missing_fault from to links = if list_any (joins from to) links then None else S
 -- the link of a pair of items taken out
 abbrev pub link_removed : ItemId → ItemId → BundleParts → Result BundleParts Broken
 link_removed from to b =
-    unless_broken (missing_fault from to b.links)
-    (with_links b (filter (λ link. not (joins from to link)) b.links))
+    unless_broken (missing_fault from to b.links) (with_links b (links_but from to b.links))

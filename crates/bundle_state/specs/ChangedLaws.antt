@@ -1,5 +1,5 @@
 -- What a change of a bundle keeps.
-use Rattle.std.specs.Prelude.{◌≡◌, ◌<◌, ℕ, List, Option, Some, Result, Ok, IsTrue}
+use Rattle.std.specs.Prelude.{◌≡◌, ◌<◌, ℕ, Some, Result, Ok, IsTrue}
 use Rattle.std.specs.List.{slice_get}
 use Rattle.emu_names.specs.declared.limits.TheConstants.{BUNDLE_ITEMS}
 use Rattle.emu_names.specs.declared.rules.Broken.{Broken}

@@ -1,7 +1,7 @@
 -- The links that an annotation makes, or the rule that they break first, and the rule that links keep
 -- (EMU-SDMS Manual, "The emuDB format": `linkDefinitions` and `links`). What level the item of an id
 -- stands on is handed in as a function.
-use Rattle.std.specs.Prelude.{◌≡◌, ℕ, Bool, List, [], ◌∷◌, ◌++◌, map, not, All, Option, Some, None, Result, Ok, Err, ◌&&◌, ◌==◌, if◌then◌else◌, ok_or}
+use Rattle.std.specs.Prelude.{◌≡◌, ℕ, Bool, List, [], ◌∷◌, ◌++◌, not, All, Option, Some, None, Result, Ok, Err, ◌&&◌, ◌==◌, if◌then◌else◌, ok_or}
 use Rattle.std.specs.List.{list_any, filter, position, slice_get}
 use Rattle.std.specs.Option.{option_map_or}
 use Rattle.emu_names.specs.declared.kinds.LinkKind.{LinkKind}

@@ -4,8 +4,6 @@ use Rattle.std.specs.Prelude.{ℕ, ◌≤◌, Bool, false, ◌&&◌, List, lengt
 use Rattle.std.specs.List.{list_all, position, flat_map}
 use Rattle.std.specs.Option.{option_and_then}
 use Rattle.emu_names.specs.declared.limits.TheConstants.{BUNDLE_ITEMS, BUNDLE_LINKS}
-use Rattle.emu_names.specs.declared.kinds.LevelKind.{LevelKind}
-use Rattle.level_items.specs.declared.times.Time.{Time}
 use Rattle.level_items.specs.declared.annot.AnnotLabel.{AnnotLabel}
 use Rattle.level_items.specs.declared.annot.AnnotItem.{AnnotItem}
 use Rattle.level_items.specs.declared.annot.AnnotLevel.{AnnotLevel}

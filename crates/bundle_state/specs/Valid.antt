@@ -1,5 +1,5 @@
 -- What every bundle keeps (EMU-SDMS Manual, "The emuDB format").
-use Rattle.std.specs.Prelude.{◌≤◌, List, length, All, IsTrue}
+use Rattle.std.specs.Prelude.{◌≤◌, length, All, IsTrue}
 use Rattle.emu_names.specs.declared.limits.TheConstants.{BUNDLE_ITEMS, BUNDLE_LINKS}
 use Rattle.level_items.specs.Levels.{KeepsLevelRule, are_different}
 use Rattle.link_graph.specs.Link.{ArePairsApart}

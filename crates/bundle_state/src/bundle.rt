@@ -15,7 +15,7 @@ ghost use Rattle.bundle_state.specs.Changed.{attributes_with, item_added, item_r
 ghost use Rattle.bundle_state.specs.Kept.{ArePlacesOf};
 ghost use Rattle.bundle_state.specs.Valid.{KeepsBundleRules};
 
-use crate::changes::{put_item, take_linked};
+use crate::changes::{put_item, take_out};
 use crate::given_levels::levels_for;
 use crate::given_links::{definition_for, made_links};
 use crate::handle::Handle;
@@ -256,7 +256,7 @@ impl Bundle {
         let Some((level, position)) = self.place(id) else {
             return Err(Fault::Broken(Broken::NoItem(id)));
         };
-        take_linked(
+        take_out(
             &mut self.levels,
             &mut self.places,
             &mut self.links,
@@ -317,8 +317,7 @@ impl Bundle {
         ensures kept { OnErr result (self.new ≡ self.old) }
     {
         let number = definition_for(config, self.places.as_ref(), &AnnotLink { from, to })?;
-        self.links
-            .add(number, config.link_kind(number), from, to)
+        self.links.add(number, config.link_kind(number), from, to)
     }
 
     /// Takes the link of a pair out; the links behind it move up. `NoLink` comes exactly where the pair is not

@@ -13,7 +13,11 @@ use link_graph::Links;
 use std::alloc::Global;
 
 /// The definition of a link, by the levels of its two items.
-pub(crate) fn definition_for(config: &Config, places: &Places, given: &AnnotLink) -> Result<u32, Fault>
+pub(crate) fn definition_for(
+    config: &Config,
+    places: &Places,
+    given: &AnnotLink,
+) -> Result<u32, Fault>
     ensures definition { GivesOrBroken result (definition_for config.now.links given.now
         (level_in places.now given.now.from.0) (level_in places.now given.now.to.0)) }
     ensures within { IfOk result (λ number. number < length config.now.links) }

@@ -1,11 +1,10 @@
 //! Changes of what handles share: where another owner has the value too, this one takes a copy of it first.
-ghost use Rattle.std.specs.Prelude.{◌≡◌, ◌<◌, ◌++◌, ◌∷◌, [], length, not, IsTrue, OnErr, OnOk};
-ghost use Rattle.std.specs.List.{filter};
+ghost use Rattle.std.specs.Prelude.{◌≡◌, ◌<◌, ◌++◌, ◌∷◌, [], length, IsTrue, OnErr, OnOk};
 ghost use Rattle.emu_names.specs.Gives.{FindsFault};
 ghost use Rattle.level_items.specs.Levels.{are_labels_for, is_short, relabelled, retimed};
 ghost use Rattle.level_items.specs.Faults.{insert_fault, retime_fault};
-ghost use Rattle.link_graph.specs.Link.{add_fault, joins, link_of};
-ghost use Rattle.bundle_state.specs.Changed.{missing_fault, with_item, without_item, with_changed};
+ghost use Rattle.link_graph.specs.Link.{add_fault, link_of};
+ghost use Rattle.bundle_state.specs.Changed.{links_but, missing_fault, with_changed, with_item, without_item};
 
 use crate::handle::Handle;
 use emu_names::{Broken, Fault, ItemId, LinkKind, Memory, Text};
@@ -17,7 +16,8 @@ impl Handle<LevelList> {
     /// Puts an item in, as the level's list does.
     pub(crate) fn insert(&mut self, position: Option<u32>, item: Item) -> Result<(), Fault>
         requires { IsTrue (are_labels_for self.old.attributes item.labels) }
-        ensures fault { FindsFault result (insert_fault self.old.kind self.old.items position item) }
+        ensures fault { FindsFault result
+            (insert_fault self.old.kind self.old.items position item) }
         ensures inserted { OnOk result (self.new ≡ with_item position item self.old) }
         ensures kept { OnErr result (self.new ≡ self.old) }
     {
@@ -61,7 +61,8 @@ impl Handle<LevelList> {
     /// Sets the time of the item at a position, as the level's list does.
     pub(crate) fn retime(&mut self, position: usize, time: Time) -> Result<(), Fault>
         requires { position < length self.old.items }
-        ensures fault { FindsFault result (retime_fault self.old.kind self.old.items position time) }
+        ensures fault { FindsFault result
+            (retime_fault self.old.kind self.old.items position time) }
         ensures retimed { OnOk result (self.new ≡ with_changed (retimed time) position self.old) }
         ensures kept { OnErr result (self.new ≡ self.old) }
     {
@@ -90,7 +91,7 @@ impl Handle<Links> {
     /// Takes the link of a pair out. `NoLink` comes exactly where the pair is not there.
     pub(crate) fn remove(&mut self, from: ItemId, to: ItemId) -> Result<(), Fault>
         ensures fault { FindsFault result (missing_fault from to self.old) }
-        ensures removed { OnOk result (self.new ≡ filter (λ link. not (joins from to link)) self.old) }
+        ensures removed { OnOk result (self.new ≡ links_but from to self.old) }
         ensures kept { OnErr result (self.new ≡ self.old) }
     {
         if !self.as_ref().has(from, to) {

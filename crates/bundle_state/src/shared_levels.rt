@@ -1,15 +1,13 @@
 //! The level lists of a bundle, which its copies share until one of them changes a list.
 ghost use Rattle.std.specs.Prelude.{◌≡◌, ◌<◌, ◌++◌, ◌∷◌, [], length, IfOk, IfSome, IsTrue, OnErr, OnOk, Some};
 ghost use Rattle.std.specs.List.{slice_get};
-ghost use Rattle.std.specs.Option.{option_and_then};
 ghost use Rattle.emu_names.specs.Gives.{FindsFault};
 ghost use Rattle.level_items.specs.Levels.{are_labels_for, is_short, relabelled, retimed};
-ghost use Rattle.level_items.specs.Faults.{insert_fault, retime_fault};
-ghost use Rattle.bundle_state.specs.Changed.{change_level, with_item, without_item, with_changed};
+ghost use Rattle.bundle_state.specs.Changed.{change_level, new_time_fault, put_fault, with_changed, with_item, without_item};
 
 use crate::handle::Handle;
 use emu_lists::PlainData;
-use emu_names::{Fault, ItemId, Memory, Text};
+use emu_names::{Fault, Memory, Text};
 use level_items::{Item, LevelList, Time};
 use std::alloc::Global;
 use std::marker::Model;
@@ -93,9 +91,9 @@ impl SharedLevels {
         requires level { level < length self.old }
         requires labels { IfSome (slice_get self.old level)
             (λ l. IsTrue (are_labels_for l.attributes item.labels)) }
-        ensures fault { FindsFault result
-            (option_and_then (λ l. insert_fault l.kind l.items position item) (slice_get self.old level)) }
-        ensures inserted { OnOk result (self.new ≡ change_level (with_item position item) level self.old) }
+        ensures fault { FindsFault result (put_fault level position item self.old) }
+        ensures inserted { OnOk result
+            (self.new ≡ change_level (with_item position item) level self.old) }
         ensures kept { OnErr result (self.new ≡ self.old) }
     {
         self.lists[level].insert(position, item)
@@ -106,7 +104,8 @@ impl SharedLevels {
     pub(crate) fn remove(&mut self, level: usize, position: usize) -> Result<(), Memory>
         requires level { level < length self.old }
         requires position { IfSome (slice_get self.old level) (λ l. position < length l.items) }
-        ensures removed { OnOk result (self.new ≡ change_level (without_item position) level self.old) }
+        ensures removed { OnOk result
+            (self.new ≡ change_level (without_item position) level self.old) }
         ensures kept { OnErr result (self.new ≡ self.old) }
     {
         self.lists[level].remove(position)
@@ -137,8 +136,7 @@ impl SharedLevels {
     pub(crate) fn retime(&mut self, level: usize, position: usize, time: Time) -> Result<(), Fault>
         requires level { level < length self.old }
         requires position { IfSome (slice_get self.old level) (λ l. position < length l.items) }
-        ensures fault { FindsFault result
-            (option_and_then (λ l. retime_fault l.kind l.items position time) (slice_get self.old level)) }
+        ensures fault { FindsFault result (new_time_fault (level, position) time self.old) }
         ensures retimed { OnOk result
             (self.new ≡ change_level (with_changed (retimed time) position) level self.old) }
         ensures kept { OnErr result (self.new ≡ self.old) }

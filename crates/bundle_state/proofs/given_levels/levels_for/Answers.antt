@@ -1,10 +1,5 @@
-use Rattle.std.proofs.Common.{◌≡◌, ◌∙◌, List, subst, sym, ap, All}
-use Rattle.level_items.specs.declared.annot.AnnotLevel.{AnnotLevel}
-use Rattle.level_items.specs.Levels.{KeepsLevelRule}
-use Rattle.db_config.specs.declared.parts.LevelDef.{LevelDef}
+use Rattle.std.proofs.Common.{◌≡◌, ◌∙◌, ap}
 use Rattle.db_config.specs.declared.parts.ConfigParts.{ConfigParts}
-use Rattle.bundle_state.specs.Faults.{annot_fault}
-use Rattle.bundle_state.specs.Made.{made_levels}
 use Rattle.bundle_state.proofs.LevelsKept.{made_fine}
 use Rattle.bundle_state.proofs.given_levels.levels_for.Goals as goal
 

@@ -1,7 +1,7 @@
-use Rattle.std.proofs.Common.{◌∙◌, subst, sym, ap, arith, map, length, get_or}
+use Rattle.std.proofs.Common.{◌∙◌, subst, sym, ap, arith}
 use Rattle.std.proofs.lemmas.List.{get_or-map, length-map}
 use Rattle.level_items.specs.Levels.{Level, KeepsLevelRule}
-use Rattle.bundle_state.specs.Made.{made_level, made_levels}
+use Rattle.bundle_state.specs.Made.{made_level}
 use Rattle.bundle_state.proofs.given_levels.made_levels.Goals as goal
 
 pub made_level-requires : goal.made_level-requires

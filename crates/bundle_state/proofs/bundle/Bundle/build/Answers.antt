@@ -1,11 +1,11 @@
-use Rattle.std.proofs.Common.{◌≡◌, ◌∙◌, sym, ap, [], Ok}
+use Rattle.std.proofs.Common.{◌∙◌, sym, ap, []}
 use Rattle.bundle_state.specs.Built.{built}
 use Rattle.bundle_state.specs.Faults.{annot_fault}
 use Rattle.bundle_state.specs.Made.{made_levels}
 use Rattle.bundle_state.specs.Linked.{put_links}
 use Rattle.bundle_state.specs.Placed.{level_in}
 use Rattle.bundle_state.proofs.LinksKept.{fine_value}
-use Rattle.bundle_state.proofs.BuiltKept.{unbroken, linked_by, links_of, build_rules, build_gives, build_breaks, build_stops}
+use Rattle.bundle_state.proofs.BuiltKept.{unbroken, linked_by, build_rules, build_gives, build_breaks, build_stops}
 use Rattle.bundle_state.proofs.bundle.Bundle.build.Goals as goal
 
 pub returns-in_err-links : goal.returns-in_err-links

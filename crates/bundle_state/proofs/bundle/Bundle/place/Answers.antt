@@ -1,4 +1,4 @@
-use Rattle.std.proofs.Common.{◌≡◌, ◌∙◌, sym, ap, Some, None}
+use Rattle.std.proofs.Common.{◌≡◌, ◌∙◌, sym, Some, None}
 use Rattle.bundle_state.proofs.IdLevels.{IsPlaced, placed, place_none}
 use Rattle.bundle_state.proofs.bundle.Bundle.place.Goals as goal
 

@@ -1,5 +1,4 @@
-use Rattle.std.proofs.Common.{◌≡◌, ◌<◌, length, Some, sym, ap, rules, IfSome}
-use Rattle.std.specs.List.{slice_get}
+use Rattle.std.proofs.Common.{◌≡◌, Some, rules}
 use Rattle.bundle_state.specs.Bundle.{place_of}
 use Rattle.bundle_state.proofs.ChangedKept.{place_within, time_kept}
 use Rattle.bundle_state.proofs.bundle.Bundle.retime.Goals as goal

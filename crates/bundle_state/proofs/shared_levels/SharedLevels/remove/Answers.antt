@@ -1,4 +1,4 @@
-use Rattle.std.proofs.Common.{◌≡◌, ◌<◌, ◌∙◌, length, get_or, arith, ap, rules}
+use Rattle.std.proofs.Common.{◌<◌, length}
 use Rattle.bundle_state.specs.Changed.{without_item}
 use Rattle.bundle_state.proofs.ChangedLevels.{written_level}
 use Rattle.bundle_state.proofs.shared_levels.SharedLevels.remove.Goals as goal

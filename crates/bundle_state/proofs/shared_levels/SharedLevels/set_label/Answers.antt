@@ -1,4 +1,4 @@
-use Rattle.std.proofs.Common.{◌≡◌, ◌<◌, ◌∙◌, length, get_or, arith, ap, rules}
+use Rattle.std.proofs.Common.{◌<◌, length}
 use Rattle.level_items.specs.Levels.{relabelled}
 use Rattle.bundle_state.specs.Changed.{with_changed}
 use Rattle.bundle_state.proofs.ChangedLevels.{written_level}
