@@ -5,6 +5,9 @@ mod bundle_change;
 mod database;
 mod edit;
 mod effects;
+mod item_changes;
+mod labels;
+mod segments;
 
 pub use bundle_change::{Counts, change};
 pub use database::Database;
