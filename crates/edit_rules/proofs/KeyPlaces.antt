@@ -91,7 +91,7 @@ pub above_own : (b : BundleParts) (bs : List BundleParts) → are_keys_rising (b
 above_own b [] up = tt
 above_own b (a ∷ bs) up = rising_head b a bs up
 
-above_next : (key : BundleKey) (b : BundleParts) (bs : List BundleParts) → is_before key b.key ≡ true → are_keys_rising (b ∷ bs) ≡ true → Above key bs
+pub above_next : (key : BundleKey) (b : BundleParts) (bs : List BundleParts) → is_before key b.key ≡ true → are_keys_rising (b ∷ bs) ≡ true → Above key bs
 above_next key b [] is up = tt
 above_next key b (a ∷ bs) is up = before_trans key b.key a.key is (rising_head b a bs up)
 

@@ -1,7 +1,11 @@
+pub mod Cuts
 pub mod KeyPlaces
 pub mod LabelSteps
+pub mod Lookups
 pub mod Next
 pub mod Places
-pub mod Segments
+pub mod Replay
 pub mod Spans
+pub mod Stays
+pub mod Steps
 pub mod Stored

@@ -1,5 +1,5 @@
 -- What an edit makes of a bundle: it keeps its key, the rules and the form, and has at most so many items more.
-use Rattle.std.proofs.Common.{◌≡◌, ℕ, zero, suc, ◌+◌, ◌-◌, ◌<◌, ◌≤◌, min, Bool, true, false, cond, not, ◌&&◌, ◌||◌, ◌==◌, List, [], ◌∷◌, ◌++◌, length, map, take, drop, remove, insert, Option, Some, None, ok_or, Result, Ok, Err, nat_eq, nat_lt, nat_le, IsTrue, refl, sym, ◌∙◌, ap, subst, arith, length-append, length-drop, eq-eqb}
+use Rattle.std.proofs.Common.{◌≡◌, ℕ, zero, suc, ◌+◌, ◌-◌, ◌<◌, ◌≤◌, min, Bool, true, false, cond, not, ◌&&◌, ◌||◌, ◌==◌, List, [], ◌∷◌, ◌++◌, length, map, take, drop, remove, insert, Option, Some, None, ok_or, Result, Ok, Err, nat_eq, nat_lt, nat_le, IsTrue, IfSome, refl, sym, ◌∙◌, ap, subst, arith, length-append, length-drop, eq-eqb}
 use Rattle.std.specs.Prelude.{replicate}
 use Rattle.std.specs.List.{list_any, list_all, find, slice_get}
 use Rattle.std.proofs.lemmas.Bool.{true≢false, and_parts, and_from, leb-true, leb-false, ltb-false, le-leb}
@@ -42,7 +42,7 @@ use Rattle.edit_rules.specs.declared.segments.Segment.{Segment}
 use Rattle.edit_rules.specs.Changes.{level_from, NumberedLevel, room_fault, id_fault, label_fault, given_label_fault, new_labels_fault, given_item_fault, put_on, item_put, NumberedAttribute, attribute_of, labelled, label_given, segment_of, next_of, cut_fault, last_of, moved, second_part, cut_at, boundary_moved, split_in, segment_split, joined, segments_merged, bundle_changed}
 use Rattle.edit_rules.proofs.Spans.{some_same}
 use Rattle.edit_rules.proofs.Places.{level_here}
-use Rattle.edit_rules.proofs.Segments.{IsSegmentOf, ArePair, IsCut, segment_found, pair_found, cut_parts, moved_back, moved_on, merged, cut_short, part_added}
+use Rattle.edit_rules.proofs.Cuts.{IsSegmentOf, ArePair, IsCut, segment_found, pair_found, cut_parts, moved_back, moved_on, merged, cut_short, part_added}
 
 pub record IsNext (config : ConfigParts) (n : ℕ) (b next : BundleParts) : Type 0 where
   pub key : next.key ≡ b.key
@@ -166,6 +166,12 @@ module _ (config : ConfigParts) (b next : BundleParts) (keeps : KeepsBundleRules
         few = subst (λ (c : BundleParts). item_count c.levels ≤ item_count b.levels + 0) same (omega arith);
       }
 
+pub retimed_few : (b next : BundleParts) (id : ItemId) (time : Time) → item_retimed id time b ≡ Ok next → item_count next.levels ≤ item_count b.levels + 0
+retimed_few b next id time is =
+    let on = goes_on (place_for id b.levels) (λ place. unless_broken (new_time_fault place time b.levels) (with_change (retimed time) place b)) next is in
+    let same = (unbroken (new_time_fault on.middle time b.levels) (with_change (retimed time) on.middle b) next on.second).1 in
+    subst (λ (c : BundleParts). item_count c.levels ≤ item_count b.levels + 0) same (changed_within (retimed time) on.middle.1 on.middle.0 b.levels)
+
 -- Labels.
 
 pub short_of : (def : AttributeDef) (label : List ℕ) → label_fault def label ≡ None → is_short label ≡ true
@@ -185,11 +191,11 @@ labels_short defs named (l ∷ ls) is =
 
 named_short : (name : List ℕ) (ls : List AnnotLabel) → Each (λ l. is_short l.value ≡ true) ls → is_short (label_named name ls) ≡ true
 named_short name [] each = refl
-named_short name (l ∷ ls) each = by (same_text l.name name)
+named_short name (l ∷ ls) each = by (same_text l.name name) (named_short name ls each.1)
   where
-    by : (b : Bool) → is_short (cond b l.value (label_named name ls)) ≡ true
-    by true = each.0
-    by false = named_short name ls each.1
+    by : (b : Bool) → is_short (label_named name ls) ≡ true → is_short (cond b l.value (label_named name ls)) ≡ true
+    by true rest = each.0
+    by false rest = rest
 
 all_short : (defs : List AttributeDef) (ls : List AnnotLabel) → Each (λ l. is_short l.value ≡ true) ls → list_all is_short (made_labels defs ls) ≡ true
 all_short [] ls each = refl
@@ -231,7 +237,8 @@ level_fitting (d ∷ defs) (l ∷ levels) zero def same at =
     let own : (l.kind, l.attributes) ≡ (d.kind, length d.attributes) = cc in
     record { level = l; there = refl; attributes = ap (λ (p : LevelKind × ℕ). p.1) own ∙ ap (λ (e : LevelDef). length e.attributes) (some_same d def at) }
 level_fitting (d ∷ defs) (l ∷ levels) (suc number) def same at =
-    let rest : IsLevelFor def levels number = level_fitting defs levels number def cc at in
+    let tail : map form_of levels ≡ map form_asked defs = cc in
+    let rest : IsLevelFor def levels number = level_fitting defs levels number def tail at in
     record { level = rest.level; there = rest.there; attributes = rest.attributes }
 
 pub record IsNumbered (n : ℕ) (defs : List LevelDef) (m : NumberedLevel) : Type 0 where
@@ -241,17 +248,53 @@ pub record IsNumbered (n : ℕ) (defs : List LevelDef) (m : NumberedLevel) : Typ
 
 pub numbered_level : (n : ℕ) (name : List ℕ) (defs : List LevelDef) (m : NumberedLevel) → level_from n name defs ≡ Ok m → IsNumbered n defs m
 numbered_level n name [] m is = absurd cc
-numbered_level n name (d ∷ defs) m is = by (same_text d.name name) is
+numbered_level n name (d ∷ defs) m is = by (same_text d.name name) (λ h. numbered_level (suc n) name defs m h) is
   where
-    by : (b : Bool) → cond b (Ok (n, d)) (level_from (suc n) name defs) ≡ Ok m → IsNumbered n (d ∷ defs) m
-    by true h =
+    by : (b : Bool) → (level_from (suc n) name defs ≡ Ok m → IsNumbered (suc n) defs m) → cond b (Ok (n, d)) (level_from (suc n) name defs) ≡ Ok m → IsNumbered n (d ∷ defs) m
+    by true more h =
         let same : (n, d) ≡ m = ok_same (n, d) m h in
         let number : m.0 ≡ n = ap (λ (p : NumberedLevel). p.0) (sym same) in
         record { offset = 0; is = omega (arith, number); there = ap (λ (p : NumberedLevel). Some p.1) same }
-    by false h =
-        let rest : IsNumbered (suc n) defs m = numbered_level (suc n) name defs m h in
+    by false more h =
+        let rest : IsNumbered (suc n) defs m = more h in
         let number = rest.is in
         record { offset = suc rest.offset; is = omega arith; there = rest.there }
+
+-- as many levels as the configuration has
+pub level_count : (config : ConfigParts) (b : BundleParts) → FitsConfig config b → length b.levels ≡ length config.levels
+level_count config b fits =
+    let one : length (map form_of b.levels) ≡ length b.levels = length-map b.levels form_of in
+    let two : length (map form_asked config.levels) ≡ length config.levels = length-map config.levels form_asked in
+    let same : length (map form_of b.levels) ≡ length (map form_asked config.levels) = ap length fits.levels in
+    omega arith
+
+-- labels for the levels of one bundle are labels for those of another of the same form
+labels_alike : (xs ys : List Level) (k : ℕ) (labels : List (List ℕ)) → map form_of xs ≡ map form_of ys → IfSome (slice_get xs k) (λ l. IsTrue (are_labels_for l.attributes labels)) →
+    IfSome (slice_get ys k) (λ l. IsTrue (are_labels_for l.attributes labels))
+labels_alike xs [] k labels same fit = tt
+labels_alike [] (y ∷ ys) k labels same fit = absurd cc
+labels_alike (x ∷ xs) (y ∷ ys) zero labels same fit =
+    let own : (x.kind, x.attributes) ≡ (y.kind, y.attributes) = cc in
+    subst (λ (n : ℕ). IsTrue (are_labels_for n labels)) (ap (λ (p : LevelKind × ℕ). p.1) own) fit
+labels_alike (x ∷ xs) (y ∷ ys) (suc k) labels same fit =
+    let tail : map form_of xs ≡ map form_of ys = cc in
+    labels_alike xs ys k labels tail fit
+
+pub labels_still : (config : ConfigParts) (b next : BundleParts) (k : ℕ) (labels : List (List ℕ)) → FitsConfig config b → FitsConfig config next →
+    IfSome (slice_get b.levels k) (λ l. IsTrue (are_labels_for l.attributes labels)) → IfSome (slice_get next.levels k) (λ l. IsTrue (are_labels_for l.attributes labels))
+labels_still config b next k labels fits still = labels_alike b.levels next.levels k labels (fits.levels ∙ sym still.levels)
+
+-- a level has no more items than the bundle
+pub on_level : (levels : List Level) (k : ℕ) (l : Level) → slice_get levels k ≡ Some l → length l.items ≤ item_count levels
+on_level [] k l at = absurd cc
+on_level (x ∷ levels) zero l at =
+    let whole : item_count (x ∷ levels) ≡ length x.items + item_count levels = sum_by-cons (λ (z : Level). length z.items) x levels in
+    let same : length x.items ≡ length l.items = ap (λ (z : Level). length z.items) (some_same x l at) in
+    omega (arith, whole, same)
+on_level (x ∷ levels) (suc k) l at =
+    let whole : item_count (x ∷ levels) ≡ length x.items + item_count levels = sum_by-cons (λ (z : Level). length z.items) x levels in
+    let rest = on_level levels k l at in
+    omega (arith, whole, rest)
 
 -- Room.
 
@@ -403,6 +446,18 @@ module _ (config : ConfigParts) (counts : Counts) (b next : BundleParts) (keeps 
             labels = empty_fit p.level.attributes;
             room = omega (arith, few, room);
           }
+
+-- the labels that an item is made with are right for its level
+pub has_room_on : (config : ConfigParts) (counts : Counts) (b : BundleParts) (number : ℕ) (def : LevelDef) (item : AnnotItem) (labels : List (List ℕ)) → FitsConfig config b →
+    slice_get config.levels number ≡ Some def → given_item_fault counts b.levels def item ≡ None → labels ≡ made_labels def.attributes item.labels →
+    IfSome (slice_get b.levels number) (λ l. IsTrue (are_labels_for l.attributes labels))
+has_room_on config counts b number def item labels fits there free same =
+    let one = or_none (room_fault counts b.levels) _ free in
+    let two = or_none (id_fault item.id b.levels) _ one.1 in
+    let three = or_none (time_fault def.kind item.time) (new_labels_fault def.attributes [] item.labels) two.1 in
+    let own : IsLevelFor def b.levels number = level_fitting config.levels b.levels number def fits.levels there in
+    subst (λ (o : Option Level). IfSome o (λ l. IsTrue (are_labels_for l.attributes labels))) (sym own.there)
+    (subst (λ (ls : List (List ℕ)). are_labels_for own.level.attributes ls ≡ true) (sym same) (labels_fit def.attributes item.labels own.level.attributes own.attributes three.1))
 
 pub bundle_next : (config : ConfigParts) (counts : Counts) (edit : Edit) (b next : BundleParts) → KeepsBundleRules b → FitsConfig config b →
     bundle_changed config counts edit b ≡ Ok next → HasNext config counts b next

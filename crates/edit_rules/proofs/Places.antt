@@ -1,5 +1,5 @@
 -- The place of an item on the levels of a bundle, and what a change of one level makes of it.
-use Rattle.std.proofs.Common.{◌≡◌, ℕ, zero, suc, ◌+◌, Bool, true, false, ◌||◌, not, List, [], ◌∷◌, ◌++◌, length, Option, Some, None, ok_or, option_map, Result, Ok, Err, nat_eq, refl, sym, ◌∙◌, ap, arith, zero-add, eqb-true}
+use Rattle.std.proofs.Common.{◌≡◌, ℕ, zero, suc, ◌+◌, Bool, true, false, ◌||◌, not, List, [], ◌∷◌, ◌++◌, length, Option, Some, None, ok_or, option_map, Result, Ok, Err, nat_eq, refl, sym, ◌∙◌, ap, arith, zero-add, eqb-true, eq-eqb}
 use Rattle.std.specs.List.{list_any, slice_get}
 use Rattle.std.specs.Option.{option_or, option_and_then}
 use Rattle.std.proofs.lemmas.Bool.{true≢false, and_parts, and_from, or_parts, not-true, not_from_false}
@@ -47,8 +47,7 @@ or_first true b is = refl
 or_first false b is = absurd (true≢false (sym is))
 
 same_number : (n : ℕ) → nat_eq n n ≡ true
-same_number zero = refl
-same_number (suc n) = same_number n
+same_number n = eq-eqb n n refl
 
 id_there : (items : List Item) (i : ℕ) (x : Item) → slice_get items i ≡ Some x → list_any (nat_eq x.id.0) (ids_of items) ≡ true
 id_there [] i x at = absurd cc

@@ -194,7 +194,7 @@ all_from (y ∷ z ∷ ys) start dur apart ahead (suc k) d from to =
 starts_behind_it : (items : List Item) (i start dur : ℕ) → are_apart items ≡ true → is_before_first (Span start dur) (drop i items) ≡ true →
     AllWithin (λ (y : Item). starts_before y.time (Span start dur) ≡ false) items i (length items)
 starts_behind_it [] i start dur apart ahead k d from to = absurd (omega (arith, to))
-starts_behind_it (y ∷ ys) zero start dur apart ahead = all_from (y ∷ ys) start dur apart ahead
+starts_behind_it (y ∷ ys) zero start dur apart ahead k d from to = all_from (y ∷ ys) start dur apart ahead k d (omega arith) to
 starts_behind_it (y ∷ ys) (suc i) start dur apart ahead zero d from to = absurd (omega (arith, from))
 starts_behind_it (y ∷ ys) (suc i) start dur apart ahead (suc k) d from to =
     starts_behind_it ys i start dur (and_parts (is_before_first y.time ys) (are_apart ys) apart).1 ahead k d (omega (arith, from)) (omega (arith, to))

@@ -5,3 +5,4 @@ pub mod Effects
 pub mod Given
 pub mod KeyPlaces
 pub mod Kept
+pub mod Laws

@@ -15,6 +15,7 @@ use std::alloc::Global;
 use std::marker::Model;
 
 /// Where the bundle of a key stands in the order of keys.
+#[derive(Clone, Copy, Debug, PartialEq, Eq)]
 pub(crate) enum KeyPlace {
     /// At this place.
     At(usize),

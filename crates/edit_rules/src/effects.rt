@@ -24,6 +24,7 @@ pub fn apply(alloc: Global, database: &mut Database, edit: &Edit) -> Result<(), 
     ensures broken { IfErr result (λ fault. IsFirstFault fault (effect database.old edit.now)) }
     ensures err { OnErr result (database.new ≡ database.old) }
 {
+    let _count = database.len();
     let place = database.place_of(edit.key());
     let old = database.bundle_at(&place);
     let next = change(alloc, database.config(), database.counts(), old, edit)?;

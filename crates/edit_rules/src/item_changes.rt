@@ -1,18 +1,15 @@
 //! Edits of one item or link of a bundle.
-ghost use Rattle.std.specs.Prelude.{◌≡◌, ◌<◌, length, option_map, Some};
+ghost use Rattle.std.specs.Prelude.{◌≡◌, ◌<◌, IfSome, Some};
 ghost use Rattle.std.specs.List.{slice_get};
 ghost use Rattle.emu_names.specs.Gives.{GivesOrBroken, FindsFault};
-ghost use Rattle.db_config.specs.declared.attributes.AttributeDef.{AttributeDef as Attribute};
-ghost use Rattle.db_config.specs.declared.parts.LevelDef.{LevelDef as Def};
-ghost use Rattle.bundle_state.specs.Bundle.{place_of};
 ghost use Rattle.bundle_state.specs.Built.{FitsConfig};
-ghost use Rattle.bundle_state.specs.Changed.{item_removed, item_retimed, link_added, link_removed};
+ghost use Rattle.bundle_state.specs.Changed.{attributes_with, item_removed, item_retimed, link_added, link_removed};
 ghost use Rattle.edit_rules.specs.Changes.{room_fault, id_fault, given_item_fault, put_on, item_put, labelled, label_given};
 
 use crate::bundle_change::Counts;
 use crate::labels::{label_passes, made_item, new_labels_pass};
 use bundle_state::Bundle;
-use db_config::{Config, LevelDef};
+use db_config::{AttributeDef, Config, LevelDef};
 use emu_names::limits::{ALL_ITEMS, BUNDLE_ITEMS};
 use emu_names::{Broken, Fault, ItemId, Text, What};
 use level_items::{AnnotItem, Time, time_passes};
@@ -57,22 +54,22 @@ fn given_item_passes(
     new_labels_pass(alloc, def.attributes.as_slice(), item.labels.as_slice())
 }
 
-/// The bundle with a new item on the level of this number.
+/// The bundle with a new item on the level of this number, which has this definition.
 fn put_on(
     alloc: Global,
     config: &Config,
     counts: Counts,
     bundle: &Bundle,
     number: usize,
+    def: &LevelDef,
     position: Option<u32>,
     item: &AnnotItem,
 ) -> Result<Bundle, Fault>
     requires fits { FitsConfig config.now bundle.now }
-    requires level { number < length config.now.levels }
-    ensures { (def : Def) → slice_get config.now.levels number ≡ Some def
-        → GivesOrBroken result (put_on counts position item.now bundle.now (number, def)) }
+    requires level { slice_get config.now.levels number ≡ Some def.now }
+    ensures { GivesOrBroken result
+        (put_on counts position item.now bundle.now (number, def.now)) }
 {
-    let def = config.parts().levels.get(number);
     given_item_passes(alloc, counts, bundle, def, item)?;
     let made = made_item(alloc, def.attributes.as_slice(), item)?;
     let mut next = bundle.copy(alloc)?;
@@ -94,7 +91,10 @@ pub(crate) fn put_item(
     ensures { GivesOrBroken result (item_put config.now counts level.now position item.now bundle.now) }
 {
     match config.level_named(level.as_str()) {
-        Some(number) => put_on(alloc, config, counts, bundle, number, position, item),
+        Some(number) => {
+            let def = config.parts().levels.get(number);
+            put_on(alloc, config, counts, bundle, number, def, position, item)
+        }
         None => Err(Fault::Broken(Broken::NoLevel(level.copy(alloc)?))),
     }
 }
@@ -108,26 +108,19 @@ pub(crate) fn take_item(alloc: Global, bundle: &Bundle, id: ItemId) -> Result<Bu
     Ok(next)
 }
 
-/// The bundle with another label of an item, for an attribute of its level.
+/// The bundle with another label of an item, for the attribute of this number on its level, which has
+/// this definition.
 fn label_item(
     alloc: Global,
-    config: &Config,
     bundle: &Bundle,
     id: ItemId,
-    level: usize,
     number: usize,
+    def: &AttributeDef,
     label: &Text,
 ) -> Result<Bundle, Fault>
-    requires fits { FitsConfig config.now bundle.now }
-    requires level { level < length config.now.levels }
-    requires place { (def : Def) → slice_get config.now.levels level ≡ Some def
-        → number < length def.attributes }
-    requires there { option_map (λ p. p.0) (place_of bundle.now.levels id.0) ≡ Some level }
-    ensures { (def : Def) → (attribute : Attribute) → slice_get config.now.levels level ≡ Some def
-        → slice_get def.attributes number ≡ Some attribute
-        → GivesOrBroken result (labelled id label.now bundle.now (number, attribute)) }
+    requires { IfSome (attributes_with id.0 bundle.now.levels) (λ count. number < count) }
+    ensures { GivesOrBroken result (labelled id label.now bundle.now (number, def.now)) }
 {
-    let def = config.parts().levels.get(level).attributes.get(number);
     label_passes(def, label)?;
     let label = label.copy(alloc)?;
     let mut next = bundle.copy(alloc)?;
@@ -147,11 +140,15 @@ pub(crate) fn give_label(
     requires { FitsConfig config.now bundle.now }
     ensures { GivesOrBroken result (label_given config.now id attribute.now label.now bundle.now) }
 {
-    let Some((level, _)) = bundle.place(id) else {
+    let Some((level, _position)) = bundle.place(id) else {
         return Err(Fault::Broken(Broken::NoItem(id)));
     };
+    let def = config.parts().levels.get(level);
     match config.attribute_in(level, attribute.as_str()) {
-        Some(number) => label_item(alloc, config, bundle, id, level, number, label),
+        Some(number) => {
+            let own = def.attributes.get(number);
+            label_item(alloc, bundle, id, number, own, label)
+        }
         None => Err(Fault::Broken(Broken::NoAttribute(attribute.copy(alloc)?))),
     }
 }

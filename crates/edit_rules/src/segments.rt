@@ -1,5 +1,5 @@
 //! Edits of segments that touch: their common boundary, a segment in two, two segments in one.
-ghost use Rattle.std.specs.Prelude.{◌≡◌, ◌+◌, ◌<◌, suc, length, replicate, [], true, IfOk, IfSome, IsTrue, Some, Ok, None};
+ghost use Rattle.std.specs.Prelude.{◌≡◌, ◌==◌, ◌+◌, ◌<◌, suc, length, replicate, [], true, IfOk, IfSome, IsTrue, Some, Ok, None};
 ghost use Rattle.std.specs.List.{slice_get};
 ghost use Rattle.emu_names.specs.Gives.{GivesOrBroken, FindsFault};
 ghost use Rattle.emu_names.specs.declared.limits.TheConstants.{BUNDLE_ITEMS, SAMPLES};
@@ -71,7 +71,9 @@ fn segment_at(bundle: &Bundle, level: usize, position: usize) -> Option<Segment>
 fn segment_of(bundle: &Bundle, id: ItemId) -> Result<Segment, Fault>
     ensures segment { GivesOrBroken result (segment_of id bundle.now.levels) }
     ensures ends { IfOk result (λ s. last_of s < SAMPLES) }
+    ensures place { IfOk result (λ s. s.position < BUNDLE_ITEMS) }
 {
+    let _count = bundle.item_count();
     let Some((level, position)) = bundle.place(id) else {
         return Err(Fault::Broken(Broken::NoItem(id)));
     };
@@ -91,14 +93,12 @@ fn touch(s: Segment, next: Segment) -> bool
 
 /// The segment that follows this one at once, and touches it.
 fn next_of(bundle: &Bundle, s: Segment) -> Result<Segment, Fault>
-    requires { last_of s < SAMPLES }
+    requires ends { last_of s < SAMPLES }
+    requires place { s.position < BUNDLE_ITEMS }
     ensures segment { GivesOrBroken result (next_of bundle.now.levels s) }
     ensures ends { IfOk result (λ next. last_of next < SAMPLES) }
 {
-    let Some(behind) = s.position.checked_add(1) else {
-        return Err(Fault::Broken(Broken::NoNeighbour(s.id)));
-    };
-    match segment_at(bundle, s.level, behind) {
+    match segment_at(bundle, s.level, s.position + 1) {
         Some(next) => {
             if touch(s, next) {
                 Ok(next)

@@ -3,4 +3,4 @@ use Rattle.std.specs.Prelude.{replicate}
 use Rattle.edit_rules.proofs.labels.empty_labels.Given as goal
 
 abbrev pub invariant-loop-place : goal.invariant-loop-place
-invariant-loop-place l = l.made ≡ replicate l.place []
+invariant-loop-place l = l.made ≡ replicate l._place []

@@ -237,7 +237,7 @@ module _ (b : BundleParts) (s next : Segment) (p : ArePair b.levels s next) (apa
       earlier_end p.second.time t2 (drop (suc (suc i)) items) (omega (arith, last, high)) behind_split.ahead
 
   -- the same bundle, whichever of the two is changed first
-  both : BundleParts
+  abbrev both : BundleParts
   both = with_change (retimed t2) (s.level, suc i) (with_change (retimed t1) (s.level, i) b)
 
   either_order : with_change (retimed t1) (s.level, i) (with_change (retimed t2) (s.level, suc i) b) ≡ both

@@ -1,0 +1,22 @@
+//! Laws with nothing to run: what edits keep, and what histories have in common.
+ghost use Rattle.edit_rules.specs.Laws.{EditsKeepRules, ReplayGoesOn, PrefixesAreLegal, StatesKeepRules};
+
+/// A database that keeps the rules keeps them also behind an edit that breaks none.
+pub fn edits_keep_rules()
+    ensures { EditsKeepRules }
+{}
+
+/// One more entry of a history changes the database as its edit does.
+pub fn replay_goes_on()
+    ensures { ReplayGoesOn }
+{}
+
+/// Each beginning of a legal history is legal.
+pub fn prefixes_are_legal()
+    ensures { PrefixesAreLegal }
+{}
+
+/// Under a valid configuration the database after each beginning of a legal history keeps the rules.
+pub fn states_keep_rules()
+    ensures { StatesKeepRules }
+{}
