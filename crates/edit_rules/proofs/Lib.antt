@@ -9,3 +9,4 @@ pub mod Spans
 pub mod Stays
 pub mod Steps
 pub mod Stored
+pub mod Traces

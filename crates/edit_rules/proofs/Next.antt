@@ -329,13 +329,15 @@ module _ (config : ConfigParts) (counts : Counts) (b next : BundleParts) (keeps 
       let two = or_none (id_fault item.id b.levels) _ one.1 in
       let three = or_none (time_fault def.kind item.time) (new_labels_fault def.attributes [] item.labels) two.1 in
       let room = room_parts counts b.levels one.0 in
-      let own : IsLevelFor def b.levels number = level_fitting config.levels b.levels number def fits.levels there in
-      (record {
-        level = own.level;
-        there = own.there;
-        labels = labels_fit def.attributes item.labels own.level.attributes own.attributes three.1;
-        room = room.0;
-      }, room.1)
+      let own : IsLevelFor def b.levels number = level_fitting config.levels b.levels number def fits.levels there in (
+        record {
+          level = own.level;
+          there = own.there;
+          labels = labels_fit def.attributes item.labels own.level.attributes own.attributes three.1;
+          room = room.0;
+        },
+        room.1,
+      )
 
   put_next : (position : Option ℕ) (item : AnnotItem) (m : NumberedLevel) → slice_get config.levels m.0 ≡ Some m.1 → put_on counts position item b m ≡ Ok next → HasNext config counts b next
   put_next position item (number, def) there is =

@@ -7,7 +7,6 @@ use Rattle.bundle_state.specs.Bundle.{BundleParts}
 use Rattle.std.proofs.lemmas.List.Elements.{All-head, All-tail}
 use Rattle.edit_rules.specs.Database.{DatabaseParts, IsBundleOf, KeepsDatabaseRules}
 
-
 some_same : {A : Type 0} (x y : A) → Some x ≡ Some y → x ≡ y
 some_same x y e = cc
 

@@ -118,7 +118,10 @@ fn change_bundle(
             kept(retime(alloc, bundle, *id, Time::Point { at: *at }))
         }
         Edit::Split {
-            id, new_id, start, ..
+            id,
+            new_id,
+            start,
+            ..
         } => kept(split(alloc, config, counts, bundle, *id, *new_id, *start)),
         Edit::Merge { id, .. } => kept(merge(alloc, bundle, *id)),
         Edit::AddLink { from, to, .. } => kept(link(alloc, config, bundle, *from, *to)),

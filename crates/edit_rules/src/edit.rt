@@ -213,7 +213,10 @@ impl Edit {
                 at: *at,
             }),
             Edit::Split {
-                id, new_id, start, ..
+                id,
+                new_id,
+                start,
+                ..
             } => Ok(Edit::Split {
                 key,
                 id: *id,

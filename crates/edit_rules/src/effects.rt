@@ -13,7 +13,13 @@ use std::alloc::Global;
 pub fn check(alloc: Global, database: &Database, edit: &Edit) -> Result<(), Fault>
     ensures { FindsFault result (rule_of (effect database.now edit.now)) }
 {
-    change(alloc, database.config(), database.counts(), database.bundle(edit.key()), edit)?;
+    change(
+        alloc,
+        database.config(),
+        database.counts(),
+        database.bundle(edit.key()),
+        edit,
+    )?;
     Ok(())
 }
 

@@ -14,4 +14,7 @@ pub use bundle_change::{Counts, change};
 pub use database::Database;
 pub use edit::{Edit, Entries, Entry};
 pub use effects::{apply, check};
-pub use laws::{edits_keep_rules, prefixes_are_legal, replay_goes_on, states_keep_rules};
+pub use laws::{
+    edits_keep_ids, edits_keep_links, edits_keep_rules, prefixes_are_legal, replay_goes_on,
+    states_keep_rules,
+};
