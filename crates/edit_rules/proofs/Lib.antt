@@ -3,6 +3,7 @@ pub mod KeyPlaces
 pub mod LabelSteps
 pub mod Lookups
 pub mod Next
+pub mod Orders
 pub mod Places
 pub mod Replay
 pub mod Spans

@@ -57,7 +57,7 @@ rising_without key (b ∷ bs) up = by (same_key b.key key) (rising_without key b
     by true rest = rest
     by false rest = rising_cons b (without key bs) (above_without b.key key bs (rising_tail b bs up) (above_own b bs up)) rest
 
-apart_left : (key : BundleKey) (bs : List BundleParts) → Apart key (without key bs)
+pub apart_left : (key : BundleKey) (bs : List BundleParts) → Apart key (without key bs)
 apart_left key [] = tt
 apart_left key (b ∷ bs) = by (same_key b.key key) refl (apart_left key bs)
   where
@@ -217,11 +217,11 @@ pub record IsStored (config : ConfigParts) (counts : Counts) (key : BundleKey) (
   pub room : counts.items ≤ ALL_ITEMS → counts.items + item_count new.levels ≤ ALL_ITEMS + items_of old
   pub few : old ≡ None → counts.bundles < BUNDLES
 
-limit_passed : (t : Bool) (rule : Broken) (new next : Option BundleParts) → cond t (Err rule) (Ok new) ≡ Ok next → (t ≡ false) × (new ≡ next)
+pub limit_passed : (t : Bool) (rule : Broken) (new next : Option BundleParts) → cond t (Err rule) (Ok new) ≡ Ok next → (t ≡ false) × (new ≡ next)
 limit_passed true rule new next is = absurd cc
 limit_passed false rule new next is = (refl, ok_same new next is)
 
-limit_before : (t : Bool) (rule : Broken) (r : Result (Option BundleParts) Broken) (next : Option BundleParts) → cond t (Err rule) r ≡ Ok next → (t ≡ false) × (r ≡ Ok next)
+pub limit_before : (t : Bool) (rule : Broken) (r : Result (Option BundleParts) Broken) (next : Option BundleParts) → cond t (Err rule) r ≡ Ok next → (t ≡ false) × (r ≡ Ok next)
 limit_before true rule r next is = absurd cc
 limit_before false rule r next is = (refl, is)
 

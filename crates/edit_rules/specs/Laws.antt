@@ -1,5 +1,5 @@
 -- Laws over the definitions: what edits keep, and what histories have in common.
-use Rattle.std.specs.Prelude.{◌≡◌, ℕ, not, List, [], ◌∷◌, ◌++◌, take, Ok, IsTrue}
+use Rattle.std.specs.Prelude.{◌≡◌, ℕ, false, not, List, [], ◌∷◌, ◌++◌, take, Ok, IsTrue}
 use Rattle.std.specs.List.{filter}
 use Rattle.emu_names.specs.declared.kinds.ItemId.{ItemId}
 use Rattle.link_graph.specs.declared.link.Link.{Link}
@@ -14,7 +14,8 @@ use Rattle.edit_rules.specs.declared.edit.Edit.{Edit}
 use Rattle.edit_rules.specs.declared.edit.Edit.TheVariants as edits
 use Rattle.edit_rules.specs.declared.edit.Entry.{Entry}
 use Rattle.edit_rules.specs.Changes.{bundle_changed}
-use Rattle.edit_rules.specs.Database.{DatabaseParts, KeepsDatabaseRules}
+use Rattle.edit_rules.specs.Edits.{key_of}
+use Rattle.edit_rules.specs.Database.{DatabaseParts, same_key, KeepsDatabaseRules}
 use Rattle.edit_rules.specs.Effects.{effect, after, edited, IsLegal, database_after}
 
 -- a database that keeps the rules keeps them also behind an edit that breaks none
@@ -81,3 +82,11 @@ EditsKeepIds =
     (config : ConfigParts) (counts : Counts) (edit : Edit) (bundle next : BundleParts) →
     KeepsBundleRules bundle → FitsConfig config bundle → bundle_changed config counts edit bundle ≡ Ok next →
     NewIds edit (all_ids bundle.levels) (all_ids next.levels)
+
+-- two edits of different bundles leave the same database in either order, where both orders break no rule
+abbrev pub OrderDoesNotMatter : Type 0
+OrderDoesNotMatter =
+    (database one other both same : DatabaseParts) (first second : Edit) →
+    KeepsDatabaseRules database → same_key (key_of first) (key_of second) ≡ false →
+    effect database first ≡ Ok one → effect one second ≡ Ok both →
+    effect database second ≡ Ok other → effect other first ≡ Ok same → both ≡ same

@@ -15,6 +15,6 @@ pub use database::Database;
 pub use edit::{Edit, Entries, Entry};
 pub use effects::{apply, check};
 pub use laws::{
-    edits_keep_ids, edits_keep_links, edits_keep_rules, prefixes_are_legal, replay_goes_on,
-    states_keep_rules,
+    edits_keep_ids, edits_keep_links, edits_keep_rules, order_does_not_matter, prefixes_are_legal,
+    replay_goes_on, states_keep_rules,
 };
