@@ -1,9 +1,8 @@
 -- Segments that touch: the changes by which the boundary moves, a segment is cut in two, and two are joined.
-use Rattle.std.proofs.Common.{◌≡◌, ℕ, zero, suc, ◌+◌, ◌-◌, ◌<◌, ◌≤◌, Bool, true, false, cond, ◌&&◌, ◌||◌, ◌==◌, List, [], ◌∷◌, ◌++◌, length, take, drop, remove, insert, Option, Some, None, ok_or, Result, Ok, Err, nat_eq, nat_lt, nat_le, refl, sym, ◌∙◌, ap, subst, arith, eqb-true}
-use Rattle.std.specs.Prelude.{replicate}
-use Rattle.std.specs.List.{list_any, list_all, slice_get}
+use Rattle.std.proofs.Common.{◌≡◌, ℕ, zero, suc, ◌+◌, ◌-◌, ◌<◌, ◌≤◌, Bool, true, false, cond, ◌&&◌, ◌==◌, List, [], ◌∷◌, take, drop, insert, Option, Some, None, ok_or, Ok, Err, nat_eq, nat_lt, nat_le, refl, sym, ◌∙◌, ap, arith, eqb-true}
+use Rattle.std.specs.List.{list_any, slice_get}
 use Rattle.std.specs.Option.{option_and_then}
-use Rattle.std.proofs.lemmas.Bool.{true≢false, and_parts, and_from, or_parts, ltb-true, lt-ltb, leb-true}
+use Rattle.std.proofs.lemmas.Bool.{true≢false, and_parts, or_parts, ltb-true, leb-true}
 use Rattle.std.proofs.lemmas.List.Folds.{list_any-append}
 use Rattle.emu_names.specs.declared.limits.TheConstants.{SAMPLES}
 use Rattle.emu_names.specs.declared.kinds.LevelKind.{LevelKind}
@@ -14,22 +13,21 @@ use Rattle.emu_names.specs.declared.rules.Broken.TheVariants as rules
 use Rattle.level_items.specs.declared.times.Time.{Time}
 use Rattle.level_items.specs.declared.times.Time.TheVariants.{NoTime, Span, Point}
 use Rattle.level_items.specs.declared.items.Item.{Item}
-use Rattle.level_items.specs.Times.{first_sample, last_sample, ends_in_time, fits_kind, is_before}
-use Rattle.level_items.specs.Levels.{Level, KeepsLevelRule, are_apart, are_in_order, are_different, ids_of, is_before_first, first_of, last_of, retimed, change_at, new_place}
+use Rattle.level_items.specs.Times.{first_sample, last_sample, fits_kind}
+use Rattle.level_items.specs.Levels.{Level, KeepsLevelRule, are_apart, are_in_order, are_different, ids_of, is_before_first, first_of, last_of, retimed, new_place}
 use Rattle.level_items.specs.Faults.{retime_fault, insert_fault}
-use Rattle.level_items.specs.Laws.{put_at_place}
 use Rattle.level_items.proofs.Apart.{ends_before, IsSplit}
 use Rattle.level_items.proofs.Changes.{fit_at}
-use Rattle.bundle_state.specs.Bundle.{BundleParts, all_ids, item_count, place_of}
+use Rattle.bundle_state.specs.Bundle.{BundleParts, all_ids, place_of}
 use Rattle.bundle_state.specs.Linked.{unless_broken, onward}
 use Rattle.bundle_state.specs.Valid.{KeepsBundleRules}
-use Rattle.bundle_state.specs.Changed.{change_level, with_levels, with_item, with_changed, with_change, without, without_item, place_for, new_item_fault, item_retimed, item_added, item_removed}
-use Rattle.bundle_state.proofs.LinksKept.{GoesOn, goes_on, ok_same, fine_value, onward_goes}
+use Rattle.bundle_state.specs.Changed.{change_level, with_levels, with_item, with_changed, with_change, without, without_item, place_for, item_retimed, item_added, item_removed}
+use Rattle.bundle_state.proofs.LinksKept.{goes_on, ok_same, fine_value, onward_goes}
 use Rattle.bundle_state.proofs.ChangedLevels.{rule_at, changed_ids}
-use Rattle.bundle_state.proofs.ChangedKept.{place_there, place_parts, taken_rules, time_keeps_id}
+use Rattle.bundle_state.proofs.ChangedKept.{taken_rules, time_keeps_id}
 use Rattle.edit_rules.specs.declared.segments.Segment.{Segment}
-use Rattle.edit_rules.specs.Changes.{last_of as last_sample_of, timed_segment, item_segment, item_at, segment_at, segment_of, if_touching, next_of, cut_fault, with_time, moved, second_part, cut_at, joined}
-use Rattle.edit_rules.proofs.Spans.{some_same, drop_here, last_taken, changed_here, changed_before, changed_behind, take_unchanged, take_earlier, drop_unchanged, drop_later, swapped, removed_before, take_removed, drop_removed, free_retime, same_start, earlier_end, before_next, behind_last, split_at, place_behind, free_insert}
+use Rattle.edit_rules.specs.Changes.{last_of as last_sample_of, timed_segment, item_segment, segment_at, segment_of, if_touching, next_of, cut_fault, moved, second_part, cut_at, joined}
+use Rattle.edit_rules.proofs.Spans.{some_same, drop_here, last_taken, changed_here, changed_before, changed_behind, take_earlier, drop_unchanged, drop_later, swapped, removed_before, take_removed, drop_removed, free_retime, same_start, earlier_end, before_next, behind_last, split_at, place_behind, free_insert}
 use Rattle.edit_rules.proofs.Places.{level_here, level_twice, level_alike, placed_at, retime_goes, remove_goes}
 
 -- What a segment is.

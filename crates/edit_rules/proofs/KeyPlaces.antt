@@ -1,8 +1,8 @@
 -- A key's place in a list of bundles whose keys rise.
-use Rattle.std.proofs.Common.{◌≡◌, ℕ, zero, suc, ◌+◌, ◌<◌, ◌≤◌, Bool, true, false, cond, not, List, [], ◌∷◌, length, insert, remove, slice_set, Option, Some, None, refl, sym, ◌∙◌, ap, subst, arith, is_lt, Ordering}
+use Rattle.std.proofs.Common.{◌≡◌, ℕ, zero, suc, ◌<◌, ◌≤◌, Bool, true, false, cond, not, List, [], ◌∷◌, length, Some, None, refl, sym, ◌∙◌, ap, subst, arith, is_lt, Ordering}
 use Rattle.std.specs.Prelude.{slice_index_or}
 use Rattle.std.specs.declared.cmp.Ordering.TheVariants.{Less, Equal, Greater}
-use Rattle.std.specs.List.{AllWithin, filter, find, slice_get}
+use Rattle.std.specs.List.{AllWithin}
 use Rattle.std.specs.List.Sorted.{IsPartitionPoint, IsPartitionedBy}
 use Rattle.std.specs.Ordering.{ordering_reverse}
 use Rattle.std.proofs.lemmas.Bool.{true≢false, and_parts, and_from}
@@ -12,7 +12,7 @@ use Rattle.emu_names.proofs.KeyOrder.{exact_keys, keys_total}
 use Rattle.db_config.specs.Names.{same_text}
 use Rattle.bundle_state.specs.Bundle.{BundleParts}
 use Rattle.bundle_state.proofs.Tests.{Each, text_true, text_same}
-use Rattle.edit_rules.specs.Database.{same_key, is_before, bundle_with, without, put_in_order, put_for, are_keys_rising}
+use Rattle.edit_rules.specs.Database.{same_key, is_before, bundle_with, without, put_in_order, are_keys_rising}
 use Rattle.edit_rules.specs.KeyPlaces.{IsAt, IsFree, has_key_at}
 
 -- The order of keys.

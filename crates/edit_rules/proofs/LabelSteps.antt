@@ -1,10 +1,9 @@
 -- The rule that the labels of a new item break first, a label at a time.
-use Rattle.std.proofs.Common.{◌≡◌, ℕ, ◌+◌, ◌<◌, List, [], ◌∷◌, ◌++◌, length, get_or, take, drop, refl, sym, ap, ◌∙◌, Option, Some, None}
+use Rattle.std.proofs.Common.{◌≡◌, ℕ, ◌+◌, ◌<◌, List, [], ◌∷◌, ◌++◌, length, get_or, take, drop, sym, ap, ◌∙◌, Option, Some, None}
 use Rattle.std.specs.List.{find}
 use Rattle.std.proofs.lemmas.List.{map-append}
 use Rattle.emu_names.specs.declared.rules.Broken.{Broken}
 use Rattle.level_items.specs.declared.annot.AnnotLabel.{AnnotLabel}
-use Rattle.level_items.specs.Faults.{or_else}
 use Rattle.db_config.specs.declared.attributes.AttributeDef.{AttributeDef}
 use Rattle.db_config.specs.Names.{same_text}
 use Rattle.bundle_state.proofs.Walks.{drop_at, take_at}

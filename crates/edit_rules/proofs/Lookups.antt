@@ -2,11 +2,10 @@
 use Rattle.std.proofs.Common.{◌≡◌, ℕ, zero, suc, ◌+◌, ◌<◌, Bool, true, false, cond, List, [], ◌∷◌, length, map, get_or, Option, Some, None, is_some, IfSome, ok_or, option_map, Result, Ok, Err, nat_eq, refl, sym, ◌∙◌, ap, subst, arith}
 use Rattle.std.specs.List.{list_any, position, position_from, slice_get}
 use Rattle.std.specs.Option.{option_and_then}
-use Rattle.std.proofs.lemmas.Bool.{true≢false}
 use Rattle.std.proofs.lemmas.List.{length-map}
 use Rattle.std.proofs.lemmas.List.Quantifiers.{position-Some}
 use Rattle.std.proofs.lemmas.Iterator.Adapters.{position_from-zero}
-use Rattle.std.proofs.lemmas.Option.{slice_get-get_or, slice_get_within}
+use Rattle.std.proofs.lemmas.Option.{slice_get-get_or}
 use Rattle.emu_names.specs.declared.kinds.ItemId.{ItemId}
 use Rattle.emu_names.specs.declared.rules.Broken.{Broken}
 use Rattle.emu_names.specs.declared.rules.Broken.TheVariants as rules
@@ -20,7 +19,7 @@ use Rattle.db_config.specs.Names.{same_text}
 use Rattle.bundle_state.specs.Bundle.{BundleParts, all_ids, level_of_id, place_of}
 use Rattle.bundle_state.specs.Built.{form_of, form_asked, FitsConfig}
 use Rattle.bundle_state.specs.Linked.{onward}
-use Rattle.bundle_state.specs.Changed.{level_with, attributes_with, place_for}
+use Rattle.bundle_state.specs.Changed.{attributes_with}
 use Rattle.bundle_state.proofs.ChangedLevels.{has_level}
 use Rattle.bundle_state.proofs.ChangedKept.{place_within}
 use Rattle.bundle_state.proofs.IdLevels.{IsAt, place_found, place_none}

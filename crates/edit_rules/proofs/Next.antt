@@ -1,14 +1,13 @@
 -- What an edit makes of a bundle: it keeps its key, the rules and the form, and has at most so many items more.
-use Rattle.std.proofs.Common.{◌≡◌, ℕ, zero, suc, ◌+◌, ◌-◌, ◌<◌, ◌≤◌, min, Bool, true, false, cond, not, ◌&&◌, ◌||◌, ◌==◌, List, [], ◌∷◌, ◌++◌, length, map, take, drop, remove, insert, Option, Some, None, ok_or, Result, Ok, Err, nat_eq, nat_lt, nat_le, IsTrue, IfSome, refl, sym, ◌∙◌, ap, subst, arith, length-append, length-drop, eq-eqb}
+use Rattle.std.proofs.Common.{◌≡◌, ℕ, zero, suc, ◌+◌, ◌-◌, ◌<◌, ◌≤◌, Bool, true, false, cond, ◌==◌, List, [], ◌∷◌, ◌++◌, length, map, take, drop, remove, insert, Option, Some, None, Ok, nat_eq, nat_lt, nat_le, IsTrue, IfSome, refl, sym, ◌∙◌, ap, subst, arith, length-append, eq-eqb}
 use Rattle.std.specs.Prelude.{replicate}
 use Rattle.std.specs.List.{list_any, list_all, find, slice_get}
-use Rattle.std.proofs.lemmas.Bool.{true≢false, and_parts, and_from, leb-true, leb-false, ltb-false, le-leb}
-use Rattle.std.proofs.lemmas.List.{length-map, length-replicate, take-append-drop}
+use Rattle.std.proofs.lemmas.Bool.{and_from, leb-true, leb-false, ltb-false, le-leb}
+use Rattle.std.proofs.lemmas.List.{length-map, take-append-drop}
 use Rattle.std.proofs.lemmas.List.Sums.{sum_by-cons}
 use Rattle.emu_names.specs.declared.limits.TheConstants.{ALL_ITEMS, BUNDLE_ITEMS, LABEL_BYTES}
 use Rattle.emu_names.specs.declared.kinds.LevelKind.{LevelKind}
 use Rattle.emu_names.specs.declared.kinds.ItemId.{ItemId}
-use Rattle.emu_names.specs.declared.rules.Broken.{Broken}
 use Rattle.emu_names.specs.declared.rules.Broken.TheVariants as rules
 use Rattle.emu_names.specs.declared.rules.What.TheVariants as counted
 use Rattle.level_items.specs.declared.annot.AnnotItem.{AnnotItem}
@@ -16,20 +15,19 @@ use Rattle.level_items.specs.declared.annot.AnnotLabel.{AnnotLabel}
 use Rattle.level_items.specs.declared.items.Item.{Item}
 use Rattle.level_items.specs.declared.times.Time.{Time}
 use Rattle.level_items.specs.declared.times.Time.TheVariants.{Span, Point}
-use Rattle.level_items.specs.Levels.{Level, are_labels_for, is_short, retimed, relabelled, change_at, new_place, are_different}
+use Rattle.level_items.specs.Levels.{Level, are_labels_for, is_short, retimed, relabelled, change_at, new_place}
 use Rattle.level_items.specs.Faults.{or_else, time_fault}
 use Rattle.level_items.proofs.Changes.{length-change_at}
 use Rattle.db_config.specs.declared.attributes.AttributeDef.{AttributeDef}
 use Rattle.db_config.specs.declared.parts.ConfigParts.{ConfigParts}
 use Rattle.db_config.specs.declared.parts.LevelDef.{LevelDef}
 use Rattle.db_config.specs.Names.{same_text}
-use Rattle.link_graph.specs.declared.link.Link.{Link}
 use Rattle.bundle_state.specs.Bundle.{BundleParts, all_ids, item_count, level_of_id}
 use Rattle.bundle_state.specs.Built.{form_of, form_asked, FitsConfig}
-use Rattle.bundle_state.specs.Linked.{unless_broken, onward, kind_of, definition_for}
+use Rattle.bundle_state.specs.Linked.{unless_broken, onward, definition_for}
 use Rattle.bundle_state.specs.Made.{label_named, made_labels, made_item}
 use Rattle.bundle_state.specs.Valid.{KeepsBundleRules}
-use Rattle.bundle_state.specs.Changed.{with_levels, with_links, change_level, with_item, without_item, with_changed, with_change, without, place_for, new_item_fault, new_time_fault, item_added, item_removed, label_set, item_retimed, link_put, link_added, missing_fault, link_removed}
+use Rattle.bundle_state.specs.Changed.{with_levels, change_level, with_item, without_item, with_changed, with_change, without, place_for, new_item_fault, new_time_fault, item_added, item_removed, label_set, item_retimed, link_put, link_added, missing_fault, link_removed}
 use Rattle.bundle_state.specs.ChangedLaws.{HasRoomFor}
 use Rattle.bundle_state.proofs.Tests.{Each, or_none, cond_none}
 use Rattle.bundle_state.proofs.LinksKept.{goes_on, ok_same, fine_value}

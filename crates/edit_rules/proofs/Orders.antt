@@ -1,5 +1,5 @@
 -- Edits of different bundles, in either order.
-use Rattle.std.proofs.Common.{◌≡◌, ℕ, Bool, true, false, cond, not, List, [], ◌∷◌, Option, Some, None, Result, Ok, Err, nat_le, nat_lt, ◌+◌, refl, sym, ◌∙◌, ap, subst}
+use Rattle.std.proofs.Common.{◌≡◌, ℕ, Bool, true, false, cond, not, List, [], ◌∷◌, Option, Some, None, Result, Ok, nat_le, nat_lt, ◌+◌, refl, sym, ◌∙◌, ap, subst}
 use Rattle.std.proofs.lemmas.Bool.{true≢false}
 use Rattle.emu_names.specs.declared.limits.TheConstants.{ALL_ITEMS, BUNDLES}
 use Rattle.emu_names.specs.declared.names.BundleKey.{BundleKey}
@@ -23,11 +23,11 @@ use Rattle.edit_rules.specs.declared.edit.Edit.{Edit}
 use Rattle.edit_rules.specs.declared.edit.Edit.TheVariants as edits
 use Rattle.edit_rules.specs.declared.segments.Segment.{Segment}
 use Rattle.edit_rules.specs.Edits.{key_of}
-use Rattle.edit_rules.specs.Changes.{unless_too_many, bundle_added, level_from, NumberedLevel, room_fault, id_fault, given_item_fault, put_on, item_put, segment_of, last_of, cut_fault, cut_at, split_in, segment_split, bundle_changed, if_kept, missing_changed, changed}
+use Rattle.edit_rules.specs.Changes.{unless_too_many, bundle_added, level_from, NumberedLevel, room_fault, id_fault, given_item_fault, put_on, item_put, segment_of, last_of, cut_fault, cut_at, split_in, segment_split, bundle_changed, if_kept, changed}
 use Rattle.edit_rules.specs.Database.{DatabaseParts, with_bundles, same_key, is_before, bundle_with, without, put_in_order, put_for, counts_of, are_keys_rising, KeepsDatabaseRules}
 use Rattle.edit_rules.specs.Effects.{put_back, effect}
 use Rattle.edit_rules.specs.Laws.{OrderDoesNotMatter}
-use Rattle.edit_rules.proofs.KeyPlaces.{Above, Apart, above_own, apart_all, apart_find, key_same, same_itself, before_or, rising_tail}
+use Rattle.edit_rules.proofs.KeyPlaces.{Apart, above_own, apart_all, apart_find, key_same, same_itself, before_or, rising_tail}
 use Rattle.edit_rules.proofs.Stays.{apart_left, limit_passed, limit_before, changed_stored, old_is, edits_keep_rules}
 use Rattle.edit_rules.proofs.Spans.{some_same}
 

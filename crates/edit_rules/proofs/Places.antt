@@ -1,5 +1,5 @@
 -- The place of an item on the levels of a bundle, and what a change of one level makes of it.
-use Rattle.std.proofs.Common.{◌≡◌, ℕ, zero, suc, ◌+◌, Bool, true, false, ◌||◌, not, List, [], ◌∷◌, ◌++◌, length, Option, Some, None, ok_or, option_map, Result, Ok, Err, nat_eq, refl, sym, ◌∙◌, ap, arith, zero-add, eqb-true, eq-eqb}
+use Rattle.std.proofs.Common.{◌≡◌, ℕ, zero, suc, ◌+◌, Bool, true, false, ◌||◌, not, List, [], ◌∷◌, ◌++◌, Option, Some, None, ok_or, option_map, Result, Ok, nat_eq, refl, sym, ◌∙◌, ap, arith, zero-add, eqb-true, eq-eqb}
 use Rattle.std.specs.List.{list_any, slice_get}
 use Rattle.std.specs.Option.{option_or, option_and_then}
 use Rattle.std.proofs.lemmas.Bool.{true≢false, and_parts, and_from, or_parts, not-true, not_from_false}
@@ -12,9 +12,9 @@ use Rattle.level_items.specs.declared.items.Item.{Item}
 use Rattle.level_items.specs.Levels.{Level, ids_of, are_different, retimed}
 use Rattle.level_items.specs.Faults.{retime_fault}
 use Rattle.level_items.proofs.Found.{found, absent}
-use Rattle.bundle_state.specs.Bundle.{BundleParts, all_ids, position_on, place_from, place_of}
+use Rattle.bundle_state.specs.Bundle.{BundleParts, all_ids, place_from, place_of}
 use Rattle.bundle_state.specs.Linked.{unless_broken, onward}
-use Rattle.bundle_state.specs.Changed.{change_level, with_changed, with_change, place_for, new_time_fault, item_retimed, without, item_removed}
+use Rattle.bundle_state.specs.Changed.{change_level, with_change, new_time_fault, item_retimed, without, item_removed}
 use Rattle.edit_rules.proofs.Spans.{some_same}
 
 -- One level of several.

@@ -1,5 +1,5 @@
 -- How the database after a history follows from that after its beginning.
-use Rattle.std.proofs.Common.{◌≡◌, ℕ, Bool, true, List, [], ◌∷◌, ◌++◌, take, drop, Result, Ok, Err, refl, sym, ◌∙◌, ap, subst, arith}
+use Rattle.std.proofs.Common.{◌≡◌, true, List, [], ◌∷◌, ◌++◌, take, drop, Result, Ok, Err, refl, sym, ◌∙◌, ap, subst, arith}
 use Rattle.std.proofs.lemmas.List.{take-append-drop}
 use Rattle.emu_names.specs.declared.rules.Broken.{Broken}
 use Rattle.db_config.specs.declared.parts.ConfigParts.{ConfigParts}
@@ -8,7 +8,7 @@ use Rattle.bundle_state.specs.Linked.{onward}
 use Rattle.bundle_state.proofs.LinksKept.{goes_on, ok_same, fine_value}
 use Rattle.edit_rules.specs.declared.edit.Entry.{Entry}
 use Rattle.edit_rules.specs.Database.{DatabaseParts, empty_database, KeepsDatabaseRules, all_items}
-use Rattle.edit_rules.specs.Effects.{effect, replayed, after, edited, IsLegal, found_or, database_after}
+use Rattle.edit_rules.specs.Effects.{effect, replayed, after, IsLegal, found_or, database_after}
 use Rattle.edit_rules.specs.Laws.{ReplayGoesOn, PrefixesAreLegal, StatesKeepRules}
 use Rattle.edit_rules.proofs.Stays.{edits_keep_rules}
 

@@ -1,8 +1,8 @@
 -- An edit of a database that keeps the rules leaves one that keeps them.
-use Rattle.std.proofs.Common.{◌≡◌, ℕ, zero, suc, ◌+◌, ◌<◌, ◌≤◌, Bool, true, false, cond, not, ◌&&◌, List, [], ◌∷◌, length, sum_by, Option, Some, None, Result, Ok, Err, nat_le, nat_lt, IsTrue, All, refl, sym, ◌∙◌, ap, subst, arith}
-use Rattle.std.specs.Prelude.{slice_set, insert, remove}
-use Rattle.std.specs.List.{slice_get, find, filter}
-use Rattle.std.proofs.lemmas.Bool.{true≢false, and_parts, and_from, leb-false, ltb-false}
+use Rattle.std.proofs.Common.{◌≡◌, ℕ, zero, suc, ◌+◌, ◌<◌, ◌≤◌, Bool, true, false, cond, not, List, [], ◌∷◌, length, Option, Some, None, Result, Ok, Err, nat_le, nat_lt, All, refl, sym, ◌∙◌, ap, subst, arith}
+use Rattle.std.specs.Prelude.{slice_set, remove}
+use Rattle.std.specs.List.{slice_get}
+use Rattle.std.proofs.lemmas.Bool.{and_from, leb-false, ltb-false}
 use Rattle.std.proofs.lemmas.List.Sums.{sum_by-cons}
 use Rattle.std.proofs.lemmas.List.Elements.{All-cons, All-head, All-tail}
 use Rattle.emu_names.specs.declared.limits.TheConstants.{ALL_ITEMS, BUNDLES}
@@ -14,9 +14,8 @@ use Rattle.level_items.specs.declared.annot.Annot.{Annot}
 use Rattle.db_config.specs.declared.parts.ConfigParts.{ConfigParts}
 use Rattle.db_config.specs.Valid.{is_valid}
 use Rattle.bundle_state.specs.Bundle.{BundleParts, item_count}
-use Rattle.bundle_state.specs.Built.{built, FitsConfig}
+use Rattle.bundle_state.specs.Built.{built}
 use Rattle.bundle_state.specs.Linked.{onward}
-use Rattle.bundle_state.specs.Valid.{KeepsBundleRules}
 use Rattle.bundle_state.proofs.LinksKept.{goes_on, ok_same, fine_value}
 use Rattle.bundle_state.proofs.BuiltKept.{IsBuilt, built_parts, built_keeps, built_fits}
 use Rattle.edit_rules.specs.declared.bundle_change.Counts.{Counts}
@@ -29,8 +28,8 @@ use Rattle.edit_rules.specs.Changes.{unless_too_many, bundle_added, bundle_chang
 use Rattle.edit_rules.specs.Database.{DatabaseParts, with_bundles, same_key, is_before, bundle_with, without, put_in_order, put_for, all_items, counts_of, are_keys_rising, IsBundleOf, KeepsDatabaseRules}
 use Rattle.edit_rules.specs.Effects.{put_back, effect}
 use Rattle.edit_rules.specs.Kept.{IsKept}
-use Rattle.edit_rules.specs.KeyPlaces.{IsAt, IsFree, IsKeyPlace, found_at, put_at}
-use Rattle.edit_rules.proofs.KeyPlaces.{Above, Apart, above_own, above_next, apart_find, key_same, before_or, before_trans, rising_tail}
+use Rattle.edit_rules.specs.KeyPlaces.{IsKeyPlace, found_at, put_at}
+use Rattle.edit_rules.proofs.KeyPlaces.{Above, Apart, above_own, above_next, key_same, before_or, rising_tail}
 use Rattle.edit_rules.proofs.Next.{HasNext, bundle_next}
 use Rattle.edit_rules.proofs.Spans.{some_same}
 

@@ -1,7 +1,6 @@
 -- The bundles of a database that keeps the rules.
 use Rattle.std.proofs.Common.{◌≡◌, ℕ, zero, suc, List, [], ◌∷◌, Some, All, subst}
 use Rattle.std.specs.List.{slice_get}
-use Rattle.level_items.specs.Levels.{Level}
 use Rattle.db_config.specs.declared.parts.ConfigParts.{ConfigParts}
 use Rattle.bundle_state.specs.Bundle.{BundleParts}
 use Rattle.std.proofs.lemmas.List.Elements.{All-head, All-tail}

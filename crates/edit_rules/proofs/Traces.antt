@@ -1,10 +1,8 @@
 -- What an edit leaves of the ids and of the links of a bundle.
-use Rattle.std.proofs.Common.{◌≡◌, ℕ, zero, suc, ◌+◌, ◌-◌, ◌<◌, ◌≤◌, Bool, true, false, not, List, [], ◌∷◌, ◌++◌, take, drop, Option, Some, None, Result, Ok, Err, nat_le, IsTrue, refl, sym, ◌∙◌, ap, subst, arith, eq-eqb}
-use Rattle.std.specs.Prelude.{insert, remove}
+use Rattle.std.proofs.Common.{◌≡◌, ℕ, suc, ◌-◌, true, not, List, [], ◌∷◌, ◌++◌, take, drop, Option, Some, Ok, refl, sym, ◌∙◌, ap, subst, arith, eq-eqb}
 use Rattle.std.specs.List.{filter, slice_get}
 use Rattle.std.proofs.lemmas.Bool.{and_from}
 use Rattle.emu_names.specs.declared.kinds.ItemId.{ItemId}
-use Rattle.emu_names.specs.declared.rules.Broken.{Broken}
 use Rattle.level_items.specs.declared.annot.AnnotItem.{AnnotItem}
 use Rattle.level_items.specs.declared.items.Item.{Item}
 use Rattle.level_items.specs.declared.times.Time.{Time}
@@ -12,25 +10,22 @@ use Rattle.level_items.specs.declared.times.Time.TheVariants.{Span, Point}
 use Rattle.level_items.specs.Faults.{or_else}
 use Rattle.level_items.specs.Levels.{Level, ids_of, retimed, relabelled, new_place}
 use Rattle.level_items.proofs.Lists.{around}
-use Rattle.link_graph.specs.declared.link.Link.{Link}
-use Rattle.link_graph.specs.Link.{names_item, joins, link_of}
+use Rattle.link_graph.specs.Link.{joins, link_of}
 use Rattle.db_config.specs.declared.parts.ConfigParts.{ConfigParts}
 use Rattle.bundle_state.specs.Bundle.{BundleParts, all_ids, level_of_id}
 use Rattle.bundle_state.specs.Built.{FitsConfig}
 use Rattle.bundle_state.specs.Linked.{unless_broken, onward, definition_for}
 use Rattle.bundle_state.specs.Made.{made_item}
-use Rattle.bundle_state.specs.Valid.{KeepsBundleRules}
-use Rattle.bundle_state.specs.Changed.{with_levels, with_links, change_level, with_item, without_item, with_changed, with_change, without, place_for, new_item_fault, new_time_fault, item_added, item_removed, label_set, item_retimed, link_put, link_added, missing_fault, link_removed}
+use Rattle.bundle_state.specs.Changed.{with_levels, with_links, change_level, with_item, without_item, with_changed, with_change, without, place_for, new_item_fault, new_time_fault, item_added, label_set, item_retimed, link_put, missing_fault}
 use Rattle.bundle_state.proofs.LinksKept.{goes_on, ok_same, fine_value}
 use Rattle.bundle_state.proofs.BuiltKept.{unbroken}
 use Rattle.bundle_state.proofs.ChangedLevels.{IsSpliced, ids_inserted, ids_removed, splice_levels, level_around, changed_ids}
 use Rattle.bundle_state.proofs.ChangedKept.{IsPlace, place_parts, place_there, time_keeps_id, label_keeps_id}
 use Rattle.edit_rules.specs.declared.bundle_change.Counts.{Counts}
-use Rattle.edit_rules.specs.declared.edit.Edit.{Edit}
 use Rattle.edit_rules.specs.declared.edit.Edit.TheVariants as edits
 use Rattle.edit_rules.specs.declared.segments.Segment.{Segment}
-use Rattle.edit_rules.specs.Changes.{level_from, NumberedLevel, room_fault, id_fault, label_fault, given_item_fault, put_on, item_put, NumberedAttribute, attribute_of, labelled, label_given, segment_of, next_of, cut_fault, last_of, moved, second_part, cut_at, boundary_moved, split_in, segment_split, joined, segments_merged, bundle_changed}
-use Rattle.edit_rules.specs.Laws.{HasOneMore, NewIds, NewLinks, EditsKeepIds, EditsKeepLinks}
+use Rattle.edit_rules.specs.Changes.{level_from, NumberedLevel, room_fault, id_fault, label_fault, given_item_fault, put_on, NumberedAttribute, attribute_of, labelled, segment_of, next_of, cut_fault, last_of, moved, second_part, cut_at, split_in, joined}
+use Rattle.edit_rules.specs.Laws.{HasOneMore, EditsKeepIds, EditsKeepLinks}
 use Rattle.edit_rules.proofs.Cuts.{IsSegmentOf, ArePair, segment_found, pair_found}
 use Rattle.edit_rules.proofs.Next.{IsLevelFor, level_fitting, IsNumbered, numbered_level}
 

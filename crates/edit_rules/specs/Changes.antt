@@ -4,7 +4,6 @@ use Rattle.std.specs.Prelude.{ℕ, suc, ◌+◌, ◌-◌, Bool, true, false, ◌
 use Rattle.std.specs.List.{list_any, find, slice_get}
 use Rattle.emu_names.specs.declared.limits.TheConstants.{ALL_ITEMS, BUNDLES, BUNDLE_ITEMS, LABEL_BYTES}
 use Rattle.emu_names.specs.declared.kinds.ItemId.{ItemId}
-use Rattle.emu_names.specs.declared.kinds.LevelKind.TheVariants as kinds
 use Rattle.emu_names.specs.declared.names.BundleKey.{BundleKey}
 use Rattle.emu_names.specs.declared.rules.Broken.{Broken}
 use Rattle.emu_names.specs.declared.rules.Broken.TheVariants as rules

@@ -88,7 +88,8 @@ pub(crate) fn put_item(
     item: &AnnotItem,
 ) -> Result<Bundle, Fault>
     requires { FitsConfig config.now bundle.now }
-    ensures { GivesOrBroken result (item_put config.now counts level.now position item.now bundle.now) }
+    ensures { GivesOrBroken result
+        (item_put config.now counts level.now position item.now bundle.now) }
 {
     match config.level_named(level.as_str()) {
         Some(number) => {

@@ -1,4 +1,4 @@
-use Rattle.std.proofs.Common.{◌≡◌, Ok, Option, sym, ◌∙◌, ap, subst, option_copied}
+use Rattle.std.proofs.Common.{◌≡◌, Ok, sym, ◌∙◌, ap, subst, option_copied}
 use Rattle.emu_names.specs.declared.names.BundleKey.{BundleKey}
 use Rattle.bundle_state.proofs.LinksKept.{fine_value}
 use Rattle.edit_rules.specs.Edits.{key_of}

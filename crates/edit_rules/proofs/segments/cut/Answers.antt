@@ -1,9 +1,8 @@
-use Rattle.std.proofs.Common.{◌≡◌, ◌<◌, ◌≤◌, ◌+◌, length, Ok, IfSome, IsTrue, sym, ◌∙◌, ap, subst, arith}
+use Rattle.std.proofs.Common.{◌≡◌, length, IfSome, IsTrue, sym, ap, subst, arith}
 use Rattle.std.specs.List.{slice_get}
 use Rattle.level_items.specs.Levels.{are_labels_for}
 use Rattle.bundle_state.specs.Bundle.{BundleParts, item_count}
 use Rattle.bundle_state.specs.Built.{FitsConfig}
-use Rattle.bundle_state.specs.Changed.{item_retimed}
 use Rattle.bundle_state.proofs.ChangedKept.{time_fits}
 use Rattle.edit_rules.proofs.Next.{level_count, labels_still, retimed_few}
 use Rattle.edit_rules.proofs.segments.cut.Goals as goal

@@ -1,9 +1,8 @@
-use Rattle.std.proofs.Common.{◌≡◌, Result, sym, subst}
+use Rattle.std.proofs.Common.{Result, sym, subst}
 use Rattle.emu_names.specs.Gives.{GivesOrBroken}
 use Rattle.emu_names.specs.declared.rules.Broken.{Broken}
 use Rattle.bundle_state.specs.Bundle.{BundleParts}
-use Rattle.edit_rules.proofs.Next.{level_count}
-use Rattle.edit_rules.proofs.Steps.{segment_low, empties_fit, split_is}
+use Rattle.edit_rules.proofs.Steps.{empties_fit, split_is}
 use Rattle.edit_rules.proofs.segments.split.Goals as goal
 
 pub cut-requires-clause-labels : goal.cut-requires-clause-labels

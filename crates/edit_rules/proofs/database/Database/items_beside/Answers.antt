@@ -1,5 +1,5 @@
-use Rattle.std.proofs.Common.{◌≡◌, ◌+◌, sym, ◌∙◌, ap, arith}
-use Rattle.std.specs.List.{slice_get, remove}
+use Rattle.std.proofs.Common.{◌≡◌, ◌+◌, ap, arith}
+use Rattle.std.specs.List.{remove}
 use Rattle.bundle_state.specs.Bundle.{item_count}
 use Rattle.edit_rules.specs.Database.{DatabaseParts, all_items}
 use Rattle.edit_rules.proofs.Stays.{removed_items}

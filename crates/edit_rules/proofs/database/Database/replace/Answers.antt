@@ -1,8 +1,7 @@
-use Rattle.std.proofs.Common.{◌≡◌, ◌+◌, sym, ◌∙◌, ap, arith}
+use Rattle.std.proofs.Common.{◌+◌, ◌∙◌, ap, arith}
 use Rattle.std.specs.Prelude.{slice_set}
-use Rattle.std.specs.List.{remove}
-use Rattle.bundle_state.specs.Bundle.{BundleParts, item_count}
-use Rattle.edit_rules.specs.Database.{DatabaseParts, all_items}
+use Rattle.bundle_state.specs.Bundle.{BundleParts}
+use Rattle.edit_rules.specs.Database.{DatabaseParts}
 use Rattle.edit_rules.proofs.Stays.{set_items, kept_as}
 use Rattle.edit_rules.proofs.database.Database.replace.Goals as goal
 
