@@ -1,10 +1,9 @@
 -- What an edit makes of the bundle that it names, or the rule that it breaks first (EMU-SDMS Manual, "The
 -- emuDB format": `_annot.json` and `legalLabels`).
-use Rattle.std.specs.Prelude.{ℕ, suc, ◌+◌, ◌-◌, Bool, true, false, ◌&&◌, List, [], ◌∷◌, ◌++◌, length, insert, Option, Some, None, Result, Ok, Err, nat_eq, nat_le, nat_lt, if◌then◌else◌, ok_or, replicate, ◌==◌}
-use Rattle.std.specs.List.{list_any, find, position, slice_get}
+use Rattle.std.specs.Prelude.{ℕ, suc, ◌+◌, ◌-◌, Bool, true, false, ◌&&◌, List, [], ◌∷◌, ◌++◌, length, insert, Option, Some, None, option_and_then, Result, Ok, Err, nat_eq, nat_le, nat_lt, if◌then◌else◌, ok_or, replicate, ◌==◌}
+use Rattle.std.specs.List.{list_any, find, slice_get}
 use Rattle.emu_names.specs.declared.limits.TheConstants.{ALL_ITEMS, BUNDLES, BUNDLE_ITEMS, LABEL_BYTES}
 use Rattle.emu_names.specs.declared.kinds.ItemId.{ItemId}
-use Rattle.emu_names.specs.declared.kinds.LevelKind.TheVariants as kinds
 use Rattle.emu_names.specs.declared.names.BundleKey.{BundleKey}
 use Rattle.emu_names.specs.declared.rules.Broken.{Broken}
 use Rattle.emu_names.specs.declared.rules.Broken.TheVariants as rules
@@ -29,6 +28,7 @@ use Rattle.bundle_state.specs.Made.{made_item}
 use Rattle.bundle_state.specs.Changed.{change_level, with_levels, with_change, without, place_for, item_added, item_removed, label_set, item_retimed, link_added, link_removed}
 use Rattle.edit_rules.specs.declared.bundle_change.Counts.{Counts}
 use Rattle.edit_rules.specs.declared.edit.Edit.{Edit}
+use Rattle.edit_rules.specs.declared.segments.Segment.{Segment}
 use Rattle.edit_rules.specs.declared.edit.Edit.TheVariants as edits
 
 -- A new bundle.
@@ -137,23 +137,14 @@ label_given config id attribute label b =
 
 -- Segments that touch.
 
--- a segment: the number of its level, its position there, its id, its first sample, and how many samples
--- follow the first one
-pub record Segment : Type 0 where
-  pub level : ℕ
-  pub position : ℕ
-  pub id : ItemId
-  pub start : ℕ
-  pub dur : ℕ
-
--- its last sample
+-- the last sample of a segment
 abbrev pub last_of : Segment → ℕ
 last_of s = s.start + s.dur
 
 -- the item at a place, as a segment; an item with another time is none
 abbrev pub timed_segment : ℕ × ℕ → ItemId → Time → Option Segment
-timed_segment (level, position) id (Span start dur) =
-    Some (record { level = level; position = position; id = id; start = start; dur = dur })
+timed_segment place id (Span start dur) =
+    Some (record { level = place.0; position = place.1; id = id; start = start; dur = dur })
 timed_segment place id NoTime = None
 timed_segment place id (Point at) = None
 
@@ -162,14 +153,13 @@ abbrev pub item_segment : ℕ × ℕ → Option Item → Option Segment
 item_segment place None = None
 item_segment place (Some item) = timed_segment place item.id item.time
 
+-- the item at a place, if there is one
+abbrev pub item_at : List Level → ℕ × ℕ → Option Item
+item_at levels place = option_and_then (λ level. slice_get level.items place.1) (slice_get levels place.0)
+
 -- the segment at a place, if there is one
 abbrev pub segment_at : List Level → ℕ × ℕ → Option Segment
-segment_at levels (number, position) =
-    item_segment (number, position) (item_at (slice_get levels number) position)
-  where
-  item_at : Option Level → ℕ → Option Item
-  item_at None position = None
-  item_at (Some level) position = slice_get level.items position
+segment_at levels place = item_segment place (item_at levels place)
 
 -- the segment with an id; the item of that id has to be there, on a SEGMENT level
 abbrev pub segment_of : ItemId → List Level → Result Segment Broken

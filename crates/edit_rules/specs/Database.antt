@@ -1,6 +1,6 @@
 -- A database as plain data: its configuration, and its bundles in the order of their keys.
-use Rattle.std.specs.Prelude.{◌≡◌, ◌≤◌, ℕ, Bool, true, ◌&&◌, not, List, [], ◌∷◌, length, sum_by, IsTrue, Option, Some, None, All, if◌then◌else◌}
-use Rattle.std.specs.List.{list_any, filter, find}
+use Rattle.std.specs.Prelude.{◌≤◌, ℕ, Bool, true, ◌&&◌, not, List, [], ◌∷◌, length, sum_by, IsTrue, Option, Some, None, All, if◌then◌else◌}
+use Rattle.std.specs.List.{filter, find}
 use Rattle.std.specs.Ordering.{is_lt}
 use Rattle.emu_names.specs.declared.limits.TheConstants.{ALL_ITEMS, BUNDLES}
 use Rattle.emu_names.specs.declared.names.BundleKey.{BundleKey}

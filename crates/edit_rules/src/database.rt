@@ -1,14 +1,39 @@
 //! A database, valid by its type.
-ghost use Rattle.std.specs.Prelude.{◌≡◌, ◌<◌, length, IfOk, Some, MatchOption, None};
+ghost use Rattle.std.specs.Prelude.{◌≡◌, ◌<◌, ◌≤◌, true, false, ◌+◌, length, insert, remove, slice_set, IfOk, IfSome, OnErr, OnOk, Some, option_copied};
 ghost use Rattle.std.specs.List.{slice_get};
-ghost use Rattle.edit_rules.specs.Database.{empty_database, bundle_with, KeepsDatabaseRules};
+ghost use Rattle.std.specs.List.Sorted.{IsPartitionPoint};
+ghost use Rattle.bundle_state.specs.Built.{FitsConfig};
+ghost use Rattle.edit_rules.specs.Database.{empty_database, with_bundles, is_before, same_key, bundle_with, all_items, counts_of, KeepsDatabaseRules};
+ghost use Rattle.edit_rules.specs.KeyPlaces.{IsKeyPlace, IsPlaceIn, has_key_at, found_at, put_at};
 
+use crate::bundle_change::Counts;
 use bundle_state::Bundle;
 use db_config::Config;
 use emu_lists::{PlainData, Series, Shared};
 use emu_names::{BundleKey, Memory};
 use std::alloc::Global;
 use std::marker::Model;
+
+/// Where the bundle of a key stands in the order of keys.
+#[derive(Clone, Copy, Debug, PartialEq, Eq)]
+pub(crate) enum KeyPlace {
+    /// At this place.
+    At(usize),
+    /// Nowhere; a bundle of this key would go to this place.
+    Free(usize),
+}
+
+fn same_key(a: &BundleKey, b: &BundleKey) -> bool
+    ensures { result ≡ same_key a.now b.now }
+{
+    a.session.as_str() == b.session.as_str() && a.bundle.as_str() == b.bundle.as_str()
+}
+
+fn is_before(a: &BundleKey, b: &BundleKey) -> bool
+    ensures { result ≡ is_before a.now b.now }
+{
+    a.cmp(b).is_lt()
+}
 
 /// A database: its configuration, and its bundles in the order of their keys.
 ///
@@ -40,7 +65,14 @@ impl Database {
     pub fn new(alloc: Global, config: Config) -> Result<Database, Memory>
         ensures { IfOk result (λ made. made ≡ empty_database config) }
     {
-        Err(Memory)
+        let _parts = config.parts();
+        let config = Shared::new(alloc, config)?;
+        let list = Shared::new(alloc, Series::new(alloc))?;
+        Ok(Database {
+            config,
+            list,
+            items: 0,
+        })
     }
 
     /// The configuration.
@@ -64,6 +96,152 @@ impl Database {
         ensures { slice_get self.now.bundles place ≡ Some result.now }
     {
         self.list.as_ref().get(place).as_ref()
+    }
+
+    /// How many bundles have a key before this one.
+    fn bundles_before(&self, key: &BundleKey) -> usize
+        ensures within { result ≤ length self.now.bundles }
+        ensures splits { IsPartitionPoint (λ b. is_before b.key key.now ≡ true)
+            (λ b. is_before b.key key.now ≡ false) self.now.bundles result }
+    {
+        let bundles = self.list.as_ref().as_slice();
+        bundles.partition_point(|bundle| is_before(bundle.as_ref().key(), key))
+    }
+
+    /// Whether the bundle at a place has this key.
+    fn has_key_at(&self, place: usize, key: &BundleKey) -> bool
+        ensures { result ≡ has_key_at key.now self.now.bundles place }
+    {
+        match self.list.as_ref().as_slice().get(place) {
+            Some(bundle) => same_key(bundle.as_ref().key(), key),
+            None => false,
+        }
+    }
+
+    /// Where the bundle of this key stands, or would stand, found by halving.
+    pub(crate) fn place_of(&self, key: &BundleKey) -> KeyPlace
+        ensures place { IsKeyPlace key.now self.now.bundles result }
+        ensures within { IsPlaceIn self.now.bundles result }
+    {
+        let _count = self.len();
+        let place = self.bundles_before(key);
+        if self.has_key_at(place, key) {
+            return KeyPlace::At(place);
+        }
+        KeyPlace::Free(place)
+    }
+
+    /// The bundle of this key.
+    pub fn bundle(&self, key: &BundleKey) -> Option<&Bundle>
+        ensures bundle { option_copied result ≡ bundle_with key.now self.now.bundles }
+        ensures fits { IfSome (option_copied result) (λ b. FitsConfig self.now.config b) }
+    {
+        let _count = self.len();
+        match self.place_of(key) {
+            KeyPlace::At(place) => Some(self.at(place)),
+            KeyPlace::Free(_) => None,
+        }
+    }
+
+    /// The bundle at the place of a key.
+    pub(crate) fn bundle_at(&self, place: &KeyPlace) -> Option<&Bundle>
+        requires { IsPlaceIn self.now.bundles place.now }
+        ensures bundle { option_copied result ≡ found_at self.now.bundles place.now }
+        ensures fits { IfSome (option_copied result) (λ b. FitsConfig self.now.config b) }
+    {
+        let _count = self.len();
+        match place {
+            KeyPlace::At(place) => Some(self.at(*place)),
+            KeyPlace::Free(_) => None,
+        }
+    }
+
+    /// How many bundles there are, and how many items together.
+    pub(crate) fn counts(&self) -> Counts
+        ensures { result ≡ counts_of self.now.bundles }
+    {
+        Counts {
+            bundles: self.list.as_ref().len() as u32,
+            items: self.items as u32,
+        }
+    }
+
+    /// Puts a bundle in the place of one that stands there.
+    fn replace(&mut self, alloc: Global, place: usize, new: Bundle) -> Result<(), Memory>
+        requires within { place < length self.old.bundles }
+        requires rules { KeepsDatabaseRules (with_bundles self.old
+            (slice_set self.old.bundles place new)) }
+        ensures ok { OnOk result (self.new ≡ with_bundles self.old
+            (slice_set self.old.bundles place new)) }
+        ensures err { OnErr result (self.new ≡ self.old) }
+    {
+        let others = self.items_beside(place);
+        let items = others + new.item_count();
+        let new = Shared::new(alloc, new)?;
+        self.list.set(place, new)?;
+        self.items = items;
+        Ok(())
+    }
+
+    /// Takes the bundle at a place out.
+    fn take_out(&mut self, place: usize) -> Result<(), Memory>
+        requires within { place < length self.old.bundles }
+        requires rules { KeepsDatabaseRules (with_bundles self.old
+            (remove self.old.bundles place)) }
+        ensures ok { OnOk result (self.new ≡ with_bundles self.old
+            (remove self.old.bundles place)) }
+        ensures err { OnErr result (self.new ≡ self.old) }
+    {
+        let others = self.items_beside(place);
+        self.list.remove(place)?;
+        self.items = others;
+        Ok(())
+    }
+
+    /// Puts a new bundle at a place.
+    fn put_in(&mut self, alloc: Global, place: usize, new: Bundle) -> Result<(), Memory>
+        requires within { place ≤ length self.old.bundles }
+        requires rules { KeepsDatabaseRules (with_bundles self.old
+            (insert self.old.bundles place new)) }
+        ensures ok { OnOk result (self.new ≡ with_bundles self.old
+            (insert self.old.bundles place new)) }
+        ensures err { OnErr result (self.new ≡ self.old) }
+    {
+        let items = self.items + new.item_count();
+        let new = Shared::new(alloc, new)?;
+        self.list.insert(place, new)?;
+        self.items = items;
+        Ok(())
+    }
+
+    /// How many items all bundles but the one at a place have.
+    fn items_beside(&self, place: usize) -> usize
+        requires { place < length self.now.bundles }
+        ensures { result ≡ all_items (remove self.now.bundles place) }
+    {
+        self.items - self.at(place).item_count()
+    }
+
+    /// Puts a bundle, or none, at a place that was found for its key.
+    pub(crate) fn put(
+        &mut self,
+        alloc: Global,
+        place: KeyPlace,
+        next: Option<Bundle>,
+    ) -> Result<(), Memory>
+        requires within { IsPlaceIn self.old.bundles place }
+        requires rules { KeepsDatabaseRules (with_bundles self.old
+            (put_at self.old.bundles place next)) }
+        ensures ok { OnOk result (self.new ≡ with_bundles self.old
+            (put_at self.old.bundles place next)) }
+        ensures err { OnErr result (self.new ≡ self.old) }
+    {
+        match (place, next) {
+            (KeyPlace::At(place), Some(new)) => self.replace(alloc, place, new),
+            (KeyPlace::At(place), None) => self.take_out(place),
+            (KeyPlace::Free(place), Some(new)) => self.put_in(alloc, place, new),
+            (KeyPlace::Free(_), None) => Ok(()),
+        }
     }
 
     /// The same database again, which shares its bundles. The only refusal is want of memory.

@@ -8,9 +8,13 @@ use level_items::{Annot, AnnotItem};
 use std::alloc::Global;
 
 /// A change of the database. Samples and durations count in samples of the bundle's rate, from 0.
+///
+/// Each is refused by the first rule that it breaks, in the order given. All but `AddBundle` are refused
+/// first where no bundle has the key (`NoBundle`).
 #[derive(Drop)]
 pub enum Edit {
-    /// Adds the bundle that an annotation makes.
+    /// Adds the bundle that an annotation makes. Refused are a key that is there (`BundleTaken`), over 10,000
+    /// bundles (`TooMany`), what `Bundle::build` refuses, and over 2,000,000 items of all bundles (`TooMany`).
     AddBundle {
         /// The bundle's session and name.
         key: BundleKey,
@@ -22,7 +26,12 @@ pub enum Edit {
         /// The bundle's session and name.
         key: BundleKey,
     },
-    /// Puts an item on a level.
+    /// Puts an item on a level. Refused are a level that is not there (`NoLevel`), over 65,536 items of the
+    /// bundle or 2,000,000 of all (`TooMany`), an id that is taken (`IdTaken`), a time of another form than
+    /// the level's (`TimeKind`) or past sample 2^40 - 1 (`TimeOut`); for each label an unknown attribute
+    /// (`NoAttribute`), one that is named twice (`TwoLabels`), a label of over 4,096 bytes (`LabelTooLong`) or
+    /// one that is not legal (`IllegalLabel`); and a position out of range (`PositionOut`) or a time that does
+    /// not lie between its neighbours (`Overlap`, `NotRising`, of the previous one first).
     AddItem {
         /// The bundle's session and name.
         key: BundleKey,
@@ -34,14 +43,16 @@ pub enum Edit {
         /// The item, with the labels that are not empty.
         item: AnnotItem,
     },
-    /// Takes an item out, with all its links.
+    /// Takes an item out, with all its links. Refused is an id that no item has (`NoItem`).
     RemoveItem {
         /// The bundle's session and name.
         key: BundleKey,
         /// The item's id.
         id: ItemId,
     },
-    /// Gives an item another label.
+    /// Gives an item another label. Refused are an id that no item has (`NoItem`), an attribute that its level
+    /// has not (`NoAttribute`), a label of over 4,096 bytes (`LabelTooLong`) or one that is not legal
+    /// (`IllegalLabel`).
     SetLabel {
         /// The bundle's session and name.
         key: BundleKey,
@@ -52,7 +63,9 @@ pub enum Edit {
         /// The label.
         label: Text,
     },
-    /// Gives a segment another time.
+    /// Gives a segment another time. Refused are an id that no item has (`NoItem`), an item on another kind of
+    /// level (`TimeKind`), a time past sample 2^40 - 1 (`TimeOut`) and one that does not lie between its
+    /// neighbours (`Overlap`, of the previous one first).
     SetSegment {
         /// The bundle's session and name.
         key: BundleKey,
@@ -63,7 +76,9 @@ pub enum Edit {
         /// How many samples follow the first one.
         dur: u64,
     },
-    /// Moves the boundary between a segment and the one that follows it at once.
+    /// Moves the boundary between a segment and the one that follows it at once. Refused are an id that no
+    /// item has (`NoItem`), an item on another kind of level (`TimeKind`), a segment that none follows at once
+    /// (`NoNeighbour`, with its id) and a place that would leave one of the two without a sample (`CutOut`).
     MoveBoundary {
         /// The bundle's session and name.
         key: BundleKey,
@@ -72,7 +87,9 @@ pub enum Edit {
         /// The first sample of the segment behind it.
         start: u64,
     },
-    /// Gives a point another time.
+    /// Gives a point another time. Refused are an id that no item has (`NoItem`), an item on another kind of
+    /// level (`TimeKind`), a time past sample 2^40 - 1 (`TimeOut`) and one that does not lie between its
+    /// neighbours (`NotRising`, of the previous one first).
     SetPoint {
         /// The bundle's session and name.
         key: BundleKey,
@@ -81,7 +98,9 @@ pub enum Edit {
         /// The sample.
         at: u64,
     },
-    /// Cuts a segment in two.
+    /// Cuts a segment in two. Refused are an id that no item has (`NoItem`), an item on another kind of level
+    /// (`TimeKind`), over 65,536 items of the bundle or 2,000,000 of all (`TooMany`), a new id that is taken
+    /// (`IdTaken`) and a place that would leave one of the two without a sample (`CutOut`).
     Split {
         /// The bundle's session and name.
         key: BundleKey,
@@ -92,14 +111,19 @@ pub enum Edit {
         /// The first sample of the second part.
         start: u64,
     },
-    /// Joins a segment with the one that follows it at once, which goes with its links.
+    /// Joins a segment with the one that follows it at once, which goes with its links. Refused are an id that
+    /// no item has (`NoItem`), an item on another kind of level (`TimeKind`) and a segment that none follows at
+    /// once (`NoNeighbour`, with its id).
     Merge {
         /// The bundle's session and name.
         key: BundleKey,
         /// The id of the first segment, which stays.
         id: ItemId,
     },
-    /// Links an item to one of a level below.
+    /// Links an item to one of a level below. Refused are an id that no item has (`NoItem`, of the upper one
+    /// first), levels between which no definition leads (`NoLinkDefinition`), a pair that is there
+    /// (`LinkExists`), over 262,144 links (`TooMany`), and a second parent (`OneParent`) or a second child
+    /// (`OneChild`) against the definition's kind.
     AddLink {
         /// The bundle's session and name.
         key: BundleKey,
@@ -108,7 +132,7 @@ pub enum Edit {
         /// The id of the lower item.
         to: ItemId,
     },
-    /// Takes a link out.
+    /// Takes a link out. Refused is a pair that is not there (`NoLink`).
     RemoveLink {
         /// The bundle's session and name.
         key: BundleKey,
@@ -213,7 +237,10 @@ impl Edit {
                 at: *at,
             }),
             Edit::Split {
-                id, new_id, start, ..
+                id,
+                new_id,
+                start,
+                ..
             } => Ok(Edit::Split {
                 key,
                 id: *id,

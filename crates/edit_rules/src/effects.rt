@@ -3,6 +3,7 @@ ghost use Rattle.std.specs.Prelude.{◌≡◌, Ok, IfErr, OnErr, OnOk, IfOk};
 ghost use Rattle.emu_names.specs.Gives.{FindsFault};
 ghost use Rattle.edit_rules.specs.Effects.{effect, rule_of, IsFirstFault};
 
+use crate::bundle_change::change;
 use crate::database::Database;
 use crate::edit::Edit;
 use emu_names::Fault;
@@ -12,7 +13,14 @@ use std::alloc::Global;
 pub fn check(alloc: Global, database: &Database, edit: &Edit) -> Result<(), Fault>
     ensures { FindsFault result (rule_of (effect database.now edit.now)) }
 {
-    Err(Fault::Memory)
+    change(
+        alloc,
+        database.config(),
+        database.counts(),
+        database.bundle(edit.key()),
+        edit,
+    )?;
+    Ok(())
 }
 
 /// Changes a database as an edit does, or names the rule that it breaks first. After a refusal, and
@@ -22,5 +30,10 @@ pub fn apply(alloc: Global, database: &mut Database, edit: &Edit) -> Result<(), 
     ensures broken { IfErr result (λ fault. IsFirstFault fault (effect database.old edit.now)) }
     ensures err { OnErr result (database.new ≡ database.old) }
 {
-    Err(Fault::Memory)
+    let _count = database.len();
+    let place = database.place_of(edit.key());
+    let old = database.bundle_at(&place);
+    let next = change(alloc, database.config(), database.counts(), old, edit)?;
+    database.put(alloc, place, next)?;
+    Ok(())
 }

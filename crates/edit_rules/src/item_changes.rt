@@ -1,0 +1,199 @@
+//! Edits of one item or link of a bundle.
+ghost use Rattle.std.specs.Prelude.{◌≡◌, ◌<◌, IfSome, Some};
+ghost use Rattle.std.specs.List.{slice_get};
+ghost use Rattle.emu_names.specs.Gives.{GivesOrBroken, FindsFault};
+ghost use Rattle.bundle_state.specs.Built.{FitsConfig};
+ghost use Rattle.bundle_state.specs.Changed.{attributes_with, item_removed, item_retimed, link_added, link_removed};
+ghost use Rattle.edit_rules.specs.Changes.{room_fault, id_fault, given_item_fault, put_on, item_put, labelled, label_given};
+
+use crate::bundle_change::Counts;
+use crate::labels::{label_passes, made_item, new_labels_pass};
+use bundle_state::Bundle;
+use db_config::{AttributeDef, Config, LevelDef};
+use emu_names::limits::{ALL_ITEMS, BUNDLE_ITEMS};
+use emu_names::{Broken, Fault, ItemId, Text, What};
+use level_items::{AnnotItem, Time, time_passes};
+use std::alloc::Global;
+
+/// Tests whether there is room for one item more, in the bundle and in the whole database.
+pub(crate) fn room_passes(counts: Counts, bundle: &Bundle) -> Result<(), Fault>
+    ensures { FindsFault result (room_fault counts bundle.now.levels) }
+{
+    if bundle.item_count() >= BUNDLE_ITEMS {
+        return Err(Fault::Broken(Broken::TooMany(What::BundleItems)));
+    }
+    if counts.items as usize >= ALL_ITEMS {
+        return Err(Fault::Broken(Broken::TooMany(What::AllItems)));
+    }
+    Ok(())
+}
+
+/// Tests whether no item of the bundle has this id.
+pub(crate) fn id_passes(bundle: &Bundle, id: ItemId) -> Result<(), Fault>
+    ensures { FindsFault result (id_fault id bundle.now.levels) }
+{
+    match bundle.place(id) {
+        Some(_) => Err(Fault::Broken(Broken::IdTaken(id))),
+        None => Ok(()),
+    }
+}
+
+/// Tests a new item of a level, its position and its neighbours aside.
+fn given_item_passes(
+    alloc: Global,
+    counts: Counts,
+    bundle: &Bundle,
+    def: &LevelDef,
+    item: &AnnotItem,
+) -> Result<(), Fault>
+    ensures { FindsFault result (given_item_fault counts bundle.now.levels def.now item.now) }
+{
+    room_passes(counts, bundle)?;
+    id_passes(bundle, item.id)?;
+    time_passes(def.kind, item.time)?;
+    new_labels_pass(alloc, def.attributes.as_slice(), item.labels.as_slice())
+}
+
+/// The bundle with a new item on the level of this number, which has this definition.
+fn put_on(
+    alloc: Global,
+    config: &Config,
+    counts: Counts,
+    bundle: &Bundle,
+    number: usize,
+    def: &LevelDef,
+    position: Option<u32>,
+    item: &AnnotItem,
+) -> Result<Bundle, Fault>
+    requires fits { FitsConfig config.now bundle.now }
+    requires level { slice_get config.now.levels number ≡ Some def.now }
+    ensures { GivesOrBroken result
+        (put_on counts position item.now bundle.now (number, def.now)) }
+{
+    given_item_passes(alloc, counts, bundle, def, item)?;
+    let made = made_item(alloc, def.attributes.as_slice(), item)?;
+    let mut next = bundle.copy(alloc)?;
+    next.add_item(config, number, position, made)?;
+    Ok(next)
+}
+
+/// The bundle with a new item on the level of this name.
+pub(crate) fn put_item(
+    alloc: Global,
+    config: &Config,
+    counts: Counts,
+    bundle: &Bundle,
+    level: &Text,
+    position: Option<u32>,
+    item: &AnnotItem,
+) -> Result<Bundle, Fault>
+    requires { FitsConfig config.now bundle.now }
+    ensures { GivesOrBroken result
+        (item_put config.now counts level.now position item.now bundle.now) }
+{
+    match config.level_named(level.as_str()) {
+        Some(number) => {
+            let def = config.parts().levels.get(number);
+            put_on(alloc, config, counts, bundle, number, def, position, item)
+        }
+        None => Err(Fault::Broken(Broken::NoLevel(level.copy(alloc)?))),
+    }
+}
+
+/// The bundle without an item, and without the links that name it.
+pub(crate) fn take_item(alloc: Global, bundle: &Bundle, id: ItemId) -> Result<Bundle, Fault>
+    ensures { GivesOrBroken result (item_removed id bundle.now) }
+{
+    let mut next = bundle.copy(alloc)?;
+    next.remove_item(id)?;
+    Ok(next)
+}
+
+/// The bundle with another label of an item, for the attribute of this number on its level, which has
+/// this definition.
+fn label_item(
+    alloc: Global,
+    bundle: &Bundle,
+    id: ItemId,
+    number: usize,
+    def: &AttributeDef,
+    label: &Text,
+) -> Result<Bundle, Fault>
+    requires { IfSome (attributes_with id.0 bundle.now.levels) (λ count. number < count) }
+    ensures { GivesOrBroken result (labelled id label.now bundle.now (number, def.now)) }
+{
+    label_passes(def, label)?;
+    let label = label.copy(alloc)?;
+    let mut next = bundle.copy(alloc)?;
+    next.set_label(id, number, label)?;
+    Ok(next)
+}
+
+/// The bundle with another label of an item for the attribute of a name.
+pub(crate) fn give_label(
+    alloc: Global,
+    config: &Config,
+    bundle: &Bundle,
+    id: ItemId,
+    attribute: &Text,
+    label: &Text,
+) -> Result<Bundle, Fault>
+    requires { FitsConfig config.now bundle.now }
+    ensures { GivesOrBroken result (label_given config.now id attribute.now label.now bundle.now) }
+{
+    let Some((level, _position)) = bundle.place(id) else {
+        return Err(Fault::Broken(Broken::NoItem(id)));
+    };
+    let def = config.parts().levels.get(level);
+    match config.attribute_in(level, attribute.as_str()) {
+        Some(number) => {
+            let own = def.attributes.get(number);
+            label_item(alloc, bundle, id, number, own, label)
+        }
+        None => Err(Fault::Broken(Broken::NoAttribute(attribute.copy(alloc)?))),
+    }
+}
+
+/// The bundle with another time of an item, which keeps its place.
+pub(crate) fn retime(
+    alloc: Global,
+    bundle: &Bundle,
+    id: ItemId,
+    time: Time,
+) -> Result<Bundle, Fault>
+    ensures { GivesOrBroken result (item_retimed id time bundle.now) }
+{
+    let mut next = bundle.copy(alloc)?;
+    next.retime(id, time)?;
+    Ok(next)
+}
+
+/// The bundle with a link more, put last.
+pub(crate) fn link(
+    alloc: Global,
+    config: &Config,
+    bundle: &Bundle,
+    from: ItemId,
+    to: ItemId,
+) -> Result<Bundle, Fault>
+    requires { FitsConfig config.now bundle.now }
+    ensures { GivesOrBroken result (link_added from to bundle.now) }
+{
+    let mut next = bundle.copy(alloc)?;
+    next.add_link(config, from, to)?;
+    Ok(next)
+}
+
+/// The bundle without a link.
+pub(crate) fn unlink(
+    alloc: Global,
+    bundle: &Bundle,
+    from: ItemId,
+    to: ItemId,
+) -> Result<Bundle, Fault>
+    ensures { GivesOrBroken result (link_removed from to bundle.now) }
+{
+    let mut next = bundle.copy(alloc)?;
+    next.remove_link(from, to)?;
+    Ok(next)
+}
