@@ -3,9 +3,14 @@
 #![tactic(auto)]
 
 mod asked;
+mod compile;
+mod counts;
 mod faults;
 mod prepared;
+mod queries;
 mod resolution;
+mod terms;
+mod times;
 
 pub use asked::{Asked, AskedQuery, AskedTerm, Wanted};
 pub use faults::{AskFault, PrepareFault};
