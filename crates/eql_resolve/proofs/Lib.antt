@@ -5,3 +5,4 @@ pub mod Loops
 pub mod Marks
 pub mod Steps
 pub mod TimeLevel
+pub mod Threads
