@@ -12,7 +12,7 @@ use Rattle.eql_resolve.specs.declared.faults.AskFault.{AskFault}
 use Rattle.eql_resolve.specs.declared.faults.AskFault.TheVariants.{BadTimeLevel}
 use Rattle.eql_resolve.specs.Asked.{AskedQuery, result_level}
 use Rattle.eql_resolve.specs.Resolve.{is_item_level, is_segment_kind, is_segment_level, gives_times, segments_below, one_alone, time_level, timed}
-use Rattle.eql_resolve.specs.Sound.{IsSound, IsTimeOf, IsResolvedBy}
+use Rattle.eql_resolve.specs.Sound.{IsSound, IsTimeLevel, IsTimeOf, IsResolvedBy}
 use Rattle.eql_resolve.proofs.Binds.{ok_if}
 
 both_of : (a b : Bool) → (a && b) ≡ true → (a ≡ true) × (b ≡ true)
@@ -28,7 +28,7 @@ time_of : (c : ConfigParts) (level time : ℕ) → is_item_level c level ≡ tru
 time_of c level time item gives = record {
   within = within_if c.levels time is_segment_kind (slice_get c.levels time) refl (both_of (is_segment_level c time) (is_above c.links level time) gives).0;
   item = item;
-  segment = gives;
+  below = gives;
 }
 
 named_if : (c : ConfigParts) (level : ℕ) (o t : Option ℕ) → (is_item_level c level ≡ true) × (option_map_or (gives_times c level) o false ≡ true) → o ≡ t → IfSome t (IsTimeOf c level)
@@ -74,9 +74,20 @@ timed_ok c q time level t is found = rw (sym is, found) refl
 pub timed_err : (c : ConfigParts) (q : AskedQuery) (time : Option (List ℕ)) (level : ℕ) (e : AskFault) → level ≡ result_level q → time_level c level time ≡ Err e → timed c q time ≡ Err e
 timed_err c q time level e is fails = rw (sym is, fails) refl
 
-pub timed_sound : (c : ConfigParts) (q : AskedQuery) (time : Option (List ℕ)) (level : ℕ) (t : Option ℕ) → IsSound c q → level ≡ result_level q → time_level c level time ≡ Ok t → IsResolvedBy c (record { query = q; time = t })
-timed_sound c q time level t sound is found = record {
+time_level_if : (c : ConfigParts) (level : ℕ) (t : Option ℕ) → IfSome t (IsTimeOf c level) → IfSome t (IsTimeLevel c)
+time_level_if c level None is = tt
+time_level_if c level (Some time) is = record {
+  within = is.within;
+  segment = (both_of (is_segment_level c time) (is_above c.links level time) is.below).0;
+}
+
+pub timed_sound : (c : ConfigParts) (q : AskedQuery) (time : Option (List ℕ)) (level : ℕ) (t : Option ℕ) → IsSound c q → time_level c level time ≡ Ok t → IsResolvedBy c (record { query = q; time = t })
+timed_sound c q time level t sound found = record {
   within = sound.within;
   one_level = sound.one_level;
-  time = subst (λ (l : ℕ). IfSome t (IsTimeOf c l)) is (time_sound c level time t found);
+  time = time_level_if c level t (time_sound c level time t found);
 }
+
+pub timed_below : (c : ConfigParts) (q : AskedQuery) (time : Option (List ℕ)) (level : ℕ) (t : Option ℕ) → level ≡ result_level q → time_level c level time ≡ Ok t → IfSome t (IsTimeOf c (result_level q))
+timed_below c q time level t is found =
+    subst (λ (l : ℕ). IfSome t (IsTimeOf c l)) is (time_sound c level time t found)

@@ -1,8 +1,9 @@
 //! The names of a query, looked up in a configuration.
-ghost use Rattle.std.specs.Prelude.{IfOk};
+ghost use Rattle.std.specs.Prelude.{IfOk, IfSome};
 ghost use Rattle.std.specs.Option.{option_copied};
+ghost use Rattle.eql_resolve.specs.Asked.{result_level};
 ghost use Rattle.eql_resolve.specs.Resolve.{timed, asked};
-ghost use Rattle.eql_resolve.specs.Sound.{IsSound, IsResolvedBy};
+ghost use Rattle.eql_resolve.specs.Sound.{IsSound, IsResolvedBy, IsTimeOf};
 ghost use Rattle.eql_resolve.specs.View.{Gives, query_in};
 
 use crate::asked::{Asked, AskedQuery};
@@ -24,6 +25,8 @@ fn timed<'a>(
     ensures asked { Gives (λ a. a) result
         (timed config.now (query_in query.entry) (option_copied time.entry)) }
     ensures sound { IfOk result (IsResolvedBy config.now) }
+    ensures times { IfOk result
+        (λ a. IfSome a.time (IsTimeOf config.now (result_level a.query))) }
 {
     match time_level(config, query.result_level(), time) {
         Ok(time) => Ok(Asked::of(query, time)),
@@ -50,6 +53,8 @@ pub fn resolve<'a>(
     ensures asked { Gives (λ a. a) result
         (asked config.now prepared.now.query (option_copied time.entry)) }
     ensures sound { IfOk result (IsResolvedBy config.now) }
+    ensures times { IfOk result
+        (λ a. IfSome a.time (IsTimeOf config.now (result_level a.query))) }
 {
     match asked_query(alloc, config, prepared.query(), prepared.patterns()) {
         Ok(query) => timed(config, query, time),
