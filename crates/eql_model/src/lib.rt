@@ -3,8 +3,10 @@
 #![tactic(auto)]
 
 mod faults;
+mod flags;
 mod gathered;
 mod joins;
+mod labels;
 mod tuple;
 
 pub use faults::MatchFault;
