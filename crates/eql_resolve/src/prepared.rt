@@ -1,0 +1,77 @@
+//! A query whose patterns are compiled.
+ghost use Rattle.std.specs.Prelude.{◌≡◌, ◌≤◌, true, IfOk, IfErr};
+ghost use Rattle.std.specs.List.{list_all};
+ghost use Rattle.label_match.specs.Pattern.{are_patterns};
+ghost use Rattle.eql_syntax.specs.declared.query.QueryFault.{QueryFault};
+ghost use Rattle.eql_syntax.specs.Tree.{Tree, tree_of};
+ghost use Rattle.eql_syntax.specs.Answer.{IsQuery, IsFault};
+ghost use Rattle.eql_resolve.specs.Prepared.{patterns_of};
+ghost use Rattle.eql_resolve.specs.Prepare.{IsPrepareFault, PreparesQuery, PreparesFault};
+
+use crate::faults::PrepareFault;
+use eql_syntax::Query;
+use label_match::{Pattern, PatternMaker};
+use std::alloc::Global;
+use std::marker::Model;
+
+/// A query and its compiled patterns, which are the labels of its tests by `=~` and `!~` in the order of
+/// the text. Contracts see the query and the texts of the patterns.
+#[derive(Drop)]
+pub struct Prepared {
+    query: Query,
+    patterns: Vec<Pattern>,
+}
+
+impl Model for Prepared {
+    ghost use Rattle.std.specs.Prelude.{◌≡◌};
+    ghost use Rattle.eql_syntax.specs.Tree.{tree_of};
+    ghost use Rattle.eql_resolve.specs.Prepared.{PreparedParts, patterns_of};
+    ghost use Rattle.eql_resolve.specs.Codes.{prepared_code};
+
+    ghost Value = { PreparedParts };
+
+    ghost coded = { prepared_code };
+
+    ghost view = { λ p. record { query = tree_of p.query; patterns = p.patterns.items } };
+
+    ghost invariant = { λ p. p.patterns.items ≡ patterns_of (tree_of p.query) };
+}
+
+impl Prepared {
+    /// The query.
+    pub fn query(&self) -> &Query
+        ensures { tree_of result.now ≡ self.now.query }
+    {
+        &self.query
+    }
+
+    /// The compiled patterns, in the order of the text.
+    pub fn patterns(&self) -> &[Pattern]
+        ensures texts { result.now ≡ self.now.patterns }
+        ensures labels { self.now.patterns ≡ patterns_of self.now.query }
+    {
+        self.patterns.as_slice()
+    }
+}
+
+/// The query of a text with its patterns compiled, each once and in the order of the text.
+///
+/// The fault of the text comes first, else that of the first pattern which the maker refuses:
+/// `BadPattern` is the first that is no pattern of labels, `PatternTooLarge` comes only where the
+/// maker's refusals rose in this call.
+pub fn prepare<P: PatternMaker>(
+    alloc: Global,
+    maker: &mut P,
+    text: &str,
+) -> Result<Prepared, PrepareFault>
+    ensures query { IfOk result (λ prepared. IsQuery text.now prepared.query) }
+    ensures read { IfOk result (λ prepared. list_all are_patterns prepared.patterns ≡ true) }
+    ensures fault { IfErr result
+        (IsPrepareFault text.now (P.refusals maker.old) (P.refusals maker.new)) }
+    ensures only { (q : Tree) → IsQuery text.now q
+        → PreparesQuery q (P.refusals maker.old) (P.refusals maker.new) result }
+    ensures told { (fault : QueryFault) → IsFault text.now fault → PreparesFault fault result }
+    ensures later { P.refusals maker.old ≤ P.refusals maker.new }
+{
+    Err(PrepareFault::Memory)
+}
