@@ -1,3 +1,4 @@
 pub mod Gathers
 pub mod MadeRows
+pub mod Places
 pub mod Ranges

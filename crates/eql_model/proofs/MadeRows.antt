@@ -1,9 +1,17 @@
 -- Rows of flags that are made by tests.
-use Rattle.std.proofs.Common.{◌≡◌, ℕ, ◌<◌, Bool, true, false, ◌||◌, ◌&&◌, List, [], ◌∷◌, length, map, get_or, refl, ◌∙◌}
+use Rattle.std.proofs.Common.{◌≡◌, ℕ, ◌+◌, ◌<◌, Bool, true, false, ◌||◌, ◌&&◌, List, [], ◌∷◌, ◌++◌, length, map, take, get_or, refl, sym, ap, ◌∙◌}
 use Rattle.std.specs.List.{list_all, list_any}
-use Rattle.std.proofs.lemmas.List.{get_or-map}
+use Rattle.std.proofs.lemmas.List.{get_or-map, map_more}
 use Rattle.std.proofs.lemmas.Option.{unwrap_or-slice_get}
+use Rattle.level_items.specs.declared.items.Item.{Item}
+use Rattle.level_items.specs.declared.times.Time.TheVariants.{NoTime}
+use Rattle.label_match.specs.Pattern.{matches_label}
 use Rattle.eql_model.specs.Flags.{flag_at}
+use Rattle.eql_model.specs.Labels.{label_of, is_as, is_matched, matched_row}
+
+-- an item to take where there is none
+abbrev pub no_item : Item
+no_item = record { id = record { 0 = 0 }; time = NoTime; labels = [] }
 
 pub flag_of_map : {X : Type 0} (p : X → Bool) (xs : List X) (at : ℕ) (d : X) → at < length xs →
     flag_at at (map p xs) ≡ p (get_or xs at d)
@@ -22,3 +30,20 @@ pub all_of_maps : {X Y : Type 0} (p : Y → X → Bool) (xs : List X) (at : ℕ)
 all_of_maps p xs at d [] h = refl
 all_of_maps p xs at d (y ∷ ys) h =
     λ i. flag_of_map (p y) xs at d h i && all_of_maps p xs at d ys h i
+
+-- one flag more, where some row has it or none has
+pub match_step : (found : Bool) (attribute : ℕ) (patterns : List (List ℕ)) (items : List Item) (rows : List (List Bool))
+    (flags more : List Bool) (at : ℕ) (flag : Bool) → at < length items →
+    flags ≡ map (λ item. is_as found (is_matched patterns (label_of attribute item))) (take at items) →
+    rows ≡ map (matched_row attribute items) patterns → flag ≡ is_as found (list_any (flag_at at) rows) →
+    more ≡ flags ++ flag ∷ [] →
+    more ≡ map (λ item. is_as found (is_matched patterns (label_of attribute item))) (take (at + 1) items)
+match_step found attribute patterns items rows flags more at flag h so_far made is put =
+    put
+    ∙ (λ i. so_far i ++ flag_is i ∷ [])
+    ∙ sym (map_more (λ item. is_as found (is_matched patterns (label_of attribute item))) items at no_item h)
+  where
+    flag_is : flag ≡ is_as found (is_matched patterns (label_of attribute (get_or items at no_item)))
+    flag_is =
+        is ∙ ap (λ rs. is_as found (list_any (flag_at at) rs)) made
+        ∙ ap (is_as found) (any_of_maps (λ pattern item. matches_label pattern (label_of attribute item)) items at no_item patterns h)

@@ -1,6 +1,10 @@
+pub mod Bits
 pub mod Flags
 pub mod Joins
 pub mod Labels
+pub mod Meaning
 pub mod Positions
+pub mod Results
+pub mod Rows
 pub mod Sets
 pub mod Tuples

@@ -8,9 +8,13 @@ use Rattle.hier_closure.specs.Dominance.{dominates}
 use Rattle.eql_model.specs.declared.tuple.Tuple.{Tuple}
 use Rattle.eql_model.specs.Sets.{each_once}
 
--- the stretch of a tuple: what stands on a level from its first position to its last one
+-- what stands on a level from one position to another
+abbrev pub from_to : {A : Type 0} → List A → ℕ → ℕ → List A
+from_to items first last = take (last + 1 - first) (drop first items)
+
+-- the stretch of a tuple
 abbrev pub stretch : {A : Type 0} → List A → Tuple → List A
-stretch items t = take (t.last + 1 - t.first) (drop t.first items)
+stretch items t = from_to items t.first t.last
 
 -- the stretch lies on a level of so many items, and has one item at least
 abbrev pub fits_in : ℕ → Tuple → Bool

@@ -59,6 +59,13 @@ fn is_wanted(config: &Config, place: AttributePlace, written: &[Text], label: &s
     false
 }
 
+/// What a test finds, or its opposite.
+fn is_as(found: bool, is: bool) -> bool
+    ensures { result ≡ is_as found is }
+{
+    if found { is } else { !is }
+}
+
 /// For each item whether its label is wanted, or whether it is not. The only refusal is want of memory.
 pub(crate) fn label_flags(
     alloc: Global,
@@ -75,7 +82,7 @@ pub(crate) fn label_flags(
     let mut flags = Series::new(alloc);
     for item in items {
         let is = is_wanted(config, place, written, label_of(item, place.attribute));
-        flags.push(is == found)?;
+        flags.push(is_as(found, is))?;
     }
     Ok(flags)
 }
@@ -147,7 +154,8 @@ pub(crate) fn match_flags(
     let rows = all_flags(alloc, patterns, attribute, items)?;
     let mut flags = Series::new(alloc);
     for at in 0..items.len() {
-        flags.push(any_at(rows.as_slice(), at) == found)?;
+        let is = any_at(rows.as_slice(), at);
+        flags.push(is_as(found, is))?;
     }
     Ok(flags)
 }

@@ -2,12 +2,17 @@
 //! bundle, worked out plainly, and the rows that show it.
 #![tactic(auto)]
 
+mod answer;
 mod faults;
 mod flags;
 mod gathered;
 mod joins;
 mod labels;
+mod positions;
+mod row;
 mod tuple;
 
+pub use answer::answer_plain;
 pub use faults::MatchFault;
-pub use tuple::Tuple;
+pub use row::{Row, SegmentList};
+pub use tuple::{Span, Spans, Tuple, Tuples};
