@@ -1,10 +1,12 @@
 -- The first and the last of the items with a bit, and how many there are.
-use Rattle.std.proofs.Common.{◌≡◌, ℕ, zero, suc, ◌+◌, ◌<◌, ◌≤◌, Bool, true, false, cond, ◌||◌, List, [], ◌∷◌, length, drop, map, get_or, Option, None, Some, refl, sym, ap, ◌∙◌, arith, rules}
-use Rattle.std.specs.Prelude.{◌==◌, count_by}
-use Rattle.std.specs.List.{slice_get, items_where_true, filter, list_any}
-use Rattle.std.proofs.lemmas.List.{drop_more, map_more}
+use Rattle.std.proofs.Common.{◌≡◌, ℕ, zero, suc, ◌+◌, ◌<◌, ◌≤◌, Bool, true, false, ◌||◌, List, [], ◌∷◌, ◌++◌, length, take, drop, map, get_or, Option, None, Some, refl, sym, ap, ◌∙◌, arith}
+use Rattle.std.specs.Prelude.{◌==◌, nat_eq}
+use Rattle.std.specs.List.{slice_get, items_where_true, list_any}
+use Rattle.std.proofs.lemmas.List.{drop_more, map_more, get_or-map, length-map}
 use Rattle.std.proofs.lemmas.Option.{slice_get_within, get_or_from_slice_get}
 use Rattle.lane_bits.specs.Row.{NoneWhere, IsFirst, IsLast}
+use Rattle.level_items.specs.declared.items.Item.{Item}
+use Rattle.level_items.specs.Levels.{ids_of}
 use Rattle.eql_model.specs.Positions.{is_first, is_last}
 
 true_false : {A : Type 0} (o : Option Bool) → o ≡ Some true → o ≡ Some false → A
@@ -85,3 +87,39 @@ pub rest_found : {X : Type 0} (p : X → Bool) (xs : List X) (i : ℕ) (x : X) (
     slice_get xs i ≡ Some x → p x ≡ true → true ≡ whole
 rest_found p xs i x whole so_far here e =
     sym (ap (λ b. b || list_any p (drop (i + 1) xs)) e) ∙ sym (ap (list_any p) (drop_get xs i x here)) ∙ so_far
+
+-- ---- answers by the items themselves
+
+id_is : (items : List Item) (i : ℕ) (d : Item) → i < length items → (get_or items i d).id.0 ≡ get_or (ids_of items) i 0
+id_is items i d h = sym (get_or-map (λ (item : Item). item.id.0) items i d 0 h)
+
+same_ids : (items : List Item) (p at : ℕ) (d e : Item) → p < length items → at < length items →
+    nat_eq (get_or items p d).id.0 (get_or items at e).id.0 ≡ nat_eq (get_or (ids_of items) p 0) (get_or (ids_of items) at 0)
+same_ids items p at d e there here = λ i. nat_eq (id_is items p d there i) (id_is items at e here i)
+
+as_wide : (row : List Bool) (items : List Item) → length row ≡ length items → length row ≡ length (ids_of items)
+as_wide row items same = same ∙ sym (length-map items (λ (item : Item). item.id.0))
+
+within_row : (row : List Bool) (items : List Item) (p : ℕ) → length row ≡ length items → slice_get row p ≡ Some true → p < length items
+within_row row items p same here = let h : p < length row = slice_get_within row p true here in omega arith
+
+pub first_answer : (row : List Bool) (items : List Item) (p at : ℕ) (d e : Item) → length row ≡ length items → at < length items →
+    IsFirst row (Some p) →
+    nat_eq (get_or items p d).id.0 (get_or items at e).id.0 ≡ is_first (items_where_true row (ids_of items)) (get_or (ids_of items) at 0)
+first_answer row items p at d e same here first =
+    same_ids items p at d e (within_row row items p same first.0) here
+    ∙ sym (first_is row (ids_of items) (get_or (ids_of items) at 0) p (as_wide row items same) first)
+
+pub last_answer : (row : List Bool) (items : List Item) (p at : ℕ) (d e : Item) → length row ≡ length items → at < length items →
+    IsLast row (Some p) →
+    nat_eq (get_or items p d).id.0 (get_or items at e).id.0 ≡ is_last (items_where_true row (ids_of items)) (get_or (ids_of items) at 0)
+last_answer row items p at d e same here last =
+    same_ids items p at d e (within_row row items p same last.0) here
+    ∙ sym (last_is row (ids_of items) (get_or (ids_of items) at 0) p (as_wide row items same) last)
+
+-- one flag more
+pub flags_step : {X : Type 0} (f : X → Bool) (xs : List X) (i : ℕ) (x : X) (flags more : List Bool) (flag : Bool) →
+    slice_get xs i ≡ Some x → flags ≡ map f (take i xs) → flag ≡ f x → more ≡ flags ++ flag ∷ [] → more ≡ map f (take (i + 1) xs)
+flags_step f xs i x flags more flag here so_far is put =
+    put ∙ (λ k. so_far k ++ (is ∙ ap f (sym (get_or_from_slice_get xs i x x here))) k ∷ [])
+    ∙ sym (map_more f xs i x (slice_get_within xs i x here))
