@@ -1,3 +1,4 @@
+pub mod Between
 pub mod Gathers
 pub mod MadeRows
 pub mod Places

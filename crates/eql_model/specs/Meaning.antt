@@ -1,6 +1,6 @@
 -- What a query means in one bundle: a set of tuples (EMU-SDMS Manual, "The EMU Query Language (EQL)":
 -- simple queries, conjunction, sequence, dominance, functions).
-use Rattle.std.specs.Prelude.{ℕ, Bool, ◌||◌, List, [], map, Option, Some, None, if◌then◌else◌}
+use Rattle.std.specs.Prelude.{◌≡◌, ℕ, Bool, true, false, ◌||◌, List, [], map, Some, None, Result, Ok, Err, if◌then◌else◌}
 use Rattle.std.specs.List.{enumerate_from, filter, list_all, list_any, slice_get}
 use Rattle.std.specs.Option.{option_map_or}
 use Rattle.level_items.specs.declared.items.Item.{Item}
@@ -10,6 +10,8 @@ use Rattle.bundle_state.specs.Bundle.{BundleParts}
 use Rattle.hier_closure.specs.Dominance.{ids_at}
 use Rattle.eql_resolve.specs.Asked.{AskedTerm, test, position, number, AskedQuery, terms, sequence, dominance, is_marked_term, level_of}
 use Rattle.eql_model.specs.declared.tuple.Tuple.{Tuple}
+use Rattle.eql_model.specs.declared.faults.MatchFault.{MatchFault}
+use Rattle.eql_model.specs.declared.faults.MatchFault.TheVariants.{TooManyTuples, Memory}
 use Rattle.eql_model.specs.Sets.{is_over}
 use Rattle.eql_model.specs.Tuples.{follows, both, left_with, one_covers, joined}
 use Rattle.eql_model.specs.Labels.{label_of, passes}
@@ -32,14 +34,13 @@ abbrev pub meets_all : ConfigParts → BundleParts → List AskedTerm → Item �
 meets_all c b ts item = list_all (λ t. meets c b t item) ts
 
 -- the tuple of the item at a position, which is marked or is not
-abbrev pub single : Bool → ℕ × Item → Tuple
-single marked at =
-    record { first = at.0; last = at.0; mark = if marked then Some at.0 else None }
+abbrev pub single : Bool → ℕ → Tuple
+single marked at = record { first = at; last = at; mark = if marked then Some at else None }
 
 -- the tuples of these items, of which the first has this position, that meet all conditions
 abbrev pub singles : ConfigParts → BundleParts → List AskedTerm → ℕ → List Item → List Tuple
 singles c b ts first items =
-    map (single (list_any is_marked_term ts))
+    map (λ at. single (list_any is_marked_term ts) at.0)
     (filter (λ at. meets_all c b ts at.1) (enumerate_from first items))
 
 -- The tuples of a query in a bundle, in order, each once. A conjunction has one for each item that
@@ -59,3 +60,9 @@ has_too_many c b (sequence p q) =
     has_too_many c b p || has_too_many c b q || is_over (tuples c b (sequence p q))
 has_too_many c b (dominance p q) =
     has_too_many c b p || has_too_many c b q || is_over (tuples c b (dominance p q))
+
+-- an answer is the set of the tuples, and no part of the query has too many; or it is that some part has
+abbrev pub Finds : Result (List Tuple) MatchFault → ConfigParts → BundleParts → AskedQuery → Type 0
+Finds (Ok found) c b q = (found ≡ tuples c b q) × (has_too_many c b q ≡ false)
+Finds (Err TooManyTuples) c b q = has_too_many c b q ≡ true
+Finds (Err Memory) c b q = Unit {0}

@@ -10,6 +10,7 @@ mod joins;
 mod labels;
 mod positions;
 mod row;
+mod terms;
 mod tuple;
 
 pub use answer::answer_plain;
