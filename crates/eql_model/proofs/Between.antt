@@ -1,12 +1,13 @@
 -- The rows of a closure in terms of the items of its two levels.
-use Rattle.std.proofs.Common.{◌≡◌, ℕ, zero, suc, ◌+◌, ◌<◌, Bool, true, false, cond, ◌||◌, ◌&&◌, List, [], ◌∷◌, length, map, get_or, Option, None, Some, refl, sym, ap, ◌∙◌, arith}
-use Rattle.std.specs.Prelude.{All, not, count_by}
+use Rattle.std.proofs.Common.{◌≡◌, ℕ, zero, suc, ◌+◌, ◌<◌, Bool, true, false, cond, ◌||◌, ◌&&◌, List, [], ◌∷◌, length, map, get_or, Option, None, Some, Result, Ok, Err, refl, sym, ap, subst, ◌∙◌, arith}
+use Rattle.std.specs.Prelude.{All, IfOk, not, count_by}
 use Rattle.std.specs.List.{slice_get, items_where_true, filter, list_any, range_with_len}
 use Rattle.std.specs.Option.{option_map_or}
 use Rattle.std.proofs.lemmas.List.{length-map, get_or-map}
 use Rattle.std.proofs.lemmas.List.Elements.{All-map, All-nil, All-cons}
 use Rattle.std.proofs.lemmas.List.FromFn.{fill_by_all}
 use Rattle.std.proofs.lemmas.List.Sums.{length-filter, sum_by-cons}
+use Rattle.emu_names.specs.declared.shortage.Memory.{Memory}
 use Rattle.level_items.specs.declared.items.Item.{Item}
 use Rattle.level_items.specs.Levels.{Level, ids_of}
 use Rattle.link_graph.specs.declared.link.Link.{Link}
@@ -130,3 +131,32 @@ number_flags_are links ids uppers items compare n e =
     (λ a. ap (λ m. compares compare m n) (count_is (dominates links a) ids)) (ids_of items)
     ∙ map_both (has_number links ids compare n) (λ (item : Item). item.id.0) (λ item. has_number links ids compare n item.id.0)
     (λ item. refl) items
+
+-- ---- what the callers get
+
+pub position_exit : (b : BundleParts) (upper lower : ℕ) (rows : List (List Bool)) (items : List Item) (place : Place) (wanted : Bool)
+    (r : Result (List Bool) Memory) → rows ≡ closure_of b lower upper → items ≡ items_at b.levels lower →
+    IfOk r (λ flags. flags ≡ map (rows_place rows (ids_of items) place wanted) (range_with_len 0 (length items))) →
+    IfOk r (λ flags. flags
+    ≡ map (λ item. has_place b.links (ids_at b.levels upper) (ids_at b.levels lower) place wanted item.id.0) (items_at b.levels lower))
+position_exit b upper lower rows items place wanted (Err e) made are told = tt
+position_exit b upper lower rows items place wanted (Ok flags) made are told =
+    told ∙ (λ i. map (rows_place (made i) (ids_of (are i)) place wanted) (range_with_len 0 (length (are i))))
+    ∙ place_flags_are b.links (ids_at b.levels upper) (ids_at b.levels lower) (items_at b.levels lower) place wanted (ids_are b.levels lower)
+
+pub number_exit : (b : BundleParts) (upper lower : ℕ) (rows : List (List Bool)) (compare : Compare) (n : ℕ)
+    (r : Result (List Bool) Memory) → rows ≡ closure_of b lower upper →
+    IfOk r (λ flags. flags ≡ map (row_counts compare n) rows) →
+    IfOk r (λ flags. flags
+    ≡ map (λ item. has_number b.links (ids_at b.levels lower) compare n item.id.0) (items_at b.levels upper))
+number_exit b upper lower rows compare n (Err e) made told = tt
+number_exit b upper lower rows compare n (Ok flags) made told =
+    told ∙ ap (map (row_counts compare n)) made
+    ∙ number_flags_are b.links (ids_at b.levels lower) (ids_at b.levels upper) (items_at b.levels upper) compare n (ids_are b.levels upper)
+
+pub wide_exit : (b : BundleParts) (upper lower : ℕ) (rows : List (List Bool)) (items : List Item) →
+    rows ≡ closure_of b lower upper → items ≡ items_at b.levels lower → All (λ row. length row ≡ length items) rows
+wide_exit b upper lower rows items made are =
+    let P : ℕ → List (List Bool) → Type 0 = λ n rs. All (λ row. length row ≡ n) rs in
+    subst (P (length items)) (sym made)
+    (subst (λ (n : ℕ). All (λ row. length row ≡ n) (closure_of b lower upper)) (sym (ap length are)) (rows_wide b lower upper))

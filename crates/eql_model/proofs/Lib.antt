@@ -1,4 +1,6 @@
 pub mod Between
+pub mod Conditions
+pub mod Covers
 pub mod Gathers
 pub mod MadeRows
 pub mod Places

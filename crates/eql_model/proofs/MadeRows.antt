@@ -47,3 +47,9 @@ match_step found attribute patterns items rows flags more at flag h so_far made 
     flag_is =
         is ∙ ap (λ rs. is_as found (list_any (flag_at at) rs)) made
         ∙ ap (is_as found) (any_of_maps (λ pattern item. matches_label pattern (label_of attribute item)) items at no_item patterns h)
+
+-- one element more of a list that is made of another
+pub made_step : {X Y : Type 0} (f : X → Y) (xs : List X) (i : ℕ) (x : X) (made more : List Y) (y : Y) → i < length xs →
+    x ≡ get_or xs i x → made ≡ map f (take i xs) → y ≡ f x → more ≡ made ++ y ∷ [] → more ≡ map f (take (i + 1) xs)
+made_step f xs i x made more y h here so_far is put =
+    put ∙ (λ k. so_far k ++ (is ∙ ap f here) k ∷ []) ∙ sym (map_more f xs i x h)

@@ -1,6 +1,8 @@
 -- How the program joins two sets of tuples.
 use Rattle.std.specs.Prelude.{◌≡◌, ℕ, ◌+◌, ◌-◌, Bool, true, false, ◌||◌, List, [], All, get_or, length}
 use Rattle.std.specs.List.{list_all, list_any, range_with_len}
+use Rattle.bundle_state.specs.Bundle.{BundleParts}
+use Rattle.hier_closure.specs.Dominance.{closure_of}
 use Rattle.eql_model.specs.declared.tuple.Tuple.{Tuple}
 use Rattle.eql_model.specs.declared.joins.Join.{Join}
 use Rattle.eql_model.specs.declared.joins.Join.TheVariants.{Sequence, Dominance}
@@ -47,3 +49,7 @@ IsOnLeft (Dominance down up) t = fits_in (length down) t ≡ true
 abbrev pub IsOnRight : Join → Tuple → Type 0
 IsOnRight Sequence t = Unit {0}
 IsOnRight (Dominance down up) t = fits_in (length up) t ≡ true
+
+-- a dominance between two levels of a bundle
+abbrev pub both_ways : BundleParts → ℕ → ℕ → Join
+both_ways b left right = Dominance (closure_of b right left) (closure_of b left right)

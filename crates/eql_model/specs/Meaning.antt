@@ -1,6 +1,6 @@
 -- What a query means in one bundle: a set of tuples (EMU-SDMS Manual, "The EMU Query Language (EQL)":
 -- simple queries, conjunction, sequence, dominance, functions).
-use Rattle.std.specs.Prelude.{◌≡◌, ℕ, Bool, true, false, ◌||◌, List, [], map, Some, None, Result, Ok, Err, if◌then◌else◌}
+use Rattle.std.specs.Prelude.{◌≡◌, ℕ, Bool, true, false, ◌||◌, List, [], All, length, map, Some, None, Result, Ok, Err, if◌then◌else◌}
 use Rattle.std.specs.List.{enumerate_from, filter, list_all, list_any, slice_get}
 use Rattle.std.specs.Option.{option_map_or}
 use Rattle.level_items.specs.declared.items.Item.{Item}
@@ -8,12 +8,13 @@ use Rattle.level_items.specs.Levels.{Level}
 use Rattle.db_config.specs.declared.parts.ConfigParts.{ConfigParts}
 use Rattle.bundle_state.specs.Bundle.{BundleParts}
 use Rattle.hier_closure.specs.Dominance.{ids_at}
-use Rattle.eql_resolve.specs.Asked.{AskedTerm, test, position, number, AskedQuery, terms, sequence, dominance, is_marked_term, level_of}
+use Rattle.eql_resolve.specs.Asked.{AskedTerm, test, position, number, AskedQuery, terms, sequence, dominance, is_marked_term, term_level, level_of}
+use Rattle.eql_resolve.specs.Sound.{IsTermOf}
 use Rattle.eql_model.specs.declared.tuple.Tuple.{Tuple}
 use Rattle.eql_model.specs.declared.faults.MatchFault.{MatchFault}
 use Rattle.eql_model.specs.declared.faults.MatchFault.TheVariants.{TooManyTuples, Memory}
 use Rattle.eql_model.specs.Sets.{is_over}
-use Rattle.eql_model.specs.Tuples.{follows, both, left_with, one_covers, joined}
+use Rattle.eql_model.specs.Tuples.{fits_in, follows, both, left_with, one_covers, joined}
 use Rattle.eql_model.specs.Labels.{label_of, passes}
 use Rattle.eql_model.specs.Positions.{has_place, has_number}
 
@@ -28,6 +29,18 @@ meets c b (position marked place upper lower wanted) item =
     has_place b.links (ids_at b.levels upper) (ids_at b.levels lower.level) place wanted item.id.0
 meets c b (number marked upper lower compare count) item =
     has_number b.links (ids_at b.levels lower) compare count item.id.0
+
+-- tuples lie on a level
+abbrev pub LieOn : List Level → ℕ → List Tuple → Type 0
+LieOn levels n ts = All (λ t. fits_in (length (items_at levels n)) t ≡ true) ts
+
+-- for each item of a level whether it meets a condition
+abbrev pub met_row : ConfigParts → BundleParts → ℕ → AskedTerm → List Bool
+met_row c b level t = map (meets c b t) (items_at b.levels level)
+
+-- a condition is one of the configuration, and on the level
+abbrev pub IsTermOn : ConfigParts → ℕ → AskedTerm → Type 0
+IsTermOn c level t = IsTermOf c t × (term_level t ≡ level)
 
 -- an item meets all conditions
 abbrev pub meets_all : ConfigParts → BundleParts → List AskedTerm → Item → Bool

@@ -1,8 +1,8 @@
 //! The tuples of a sequence and of a dominance, from those of its two sides.
-ghost use Rattle.std.specs.Prelude.{◌≡◌, ◌<◌, [], ◌∷◌, length, get_or, true, false, Err, IfOk, OnOk, All};
+ghost use Rattle.std.specs.Prelude.{◌≡◌, ◌<◌, [], ◌∷◌, length, get_or, true, false, Err, OnOk, All};
 ghost use Rattle.std.specs.List.{flat_map};
 ghost use Rattle.std.specs.Option.{option_or};
-ghost use Rattle.eql_model.specs.Sets.{put_all, is_over};
+ghost use Rattle.eql_model.specs.Sets.{put_all, is_over, GivesSet};
 ghost use Rattle.eql_model.specs.Tuples.{fits_in, follows, joined, pairs_with};
 ghost use Rattle.eql_model.specs.Joins.{bit_at, is_under, bits_cover, goes_with, makes, AreWide, IsOnLeft, IsOnRight};
 
@@ -190,12 +190,7 @@ pub(crate) fn joined(
     requires wide { AreWide join.now }
     requires left { All (IsOnLeft join.now) lefts.now }
     requires right { All (IsOnRight join.now) rights.now }
-    ensures ok { IfOk result (λ made. made
-        ≡ joined (goes_with join.now) (makes join.now) lefts.now rights.now) }
-    ensures fits { OnOk result
-        (is_over (joined (goes_with join.now) (makes join.now) lefts.now rights.now) ≡ false) }
-    ensures over { result ≡ Err MatchFault.TooManyTuples
-        → is_over (joined (goes_with join.now) (makes join.now) lefts.now rights.now) ≡ true }
+    ensures { GivesSet result (joined (goes_with join.now) (makes join.now) lefts.now rights.now) }
 {
     let mut gathered = Gathered::new(alloc);
     match gather_all(&mut gathered, join, lefts, rights) {

@@ -3,11 +3,13 @@
 #![tactic(auto)]
 
 mod answer;
+mod conjunction;
 mod faults;
 mod flags;
 mod gathered;
 mod joins;
 mod labels;
+mod pairs;
 mod positions;
 mod row;
 mod terms;
