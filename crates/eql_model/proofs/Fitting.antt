@@ -3,6 +3,7 @@ use Rattle.std.proofs.Common.{◌≡◌, ℕ, zero, suc, ◌+◌, ◌<◌, ◌�
 use Rattle.std.specs.Prelude.{All, IsSome, ◌==◌}
 use Rattle.std.specs.List.{slice_get, filter, flat_map, list_all, enumerate_from}
 use Rattle.std.specs.Option.{option_and_then}
+use Rattle.std.specs.BTreeSet.{insert_key}
 use Rattle.std.proofs.lemmas.Bool.{and_parts, leb-true, ltb-true, eqb-true}
 use Rattle.std.proofs.lemmas.Bool.Decides.{nat_tests}
 use Rattle.std.proofs.lemmas.List.{length-map}
@@ -10,6 +11,7 @@ use Rattle.std.proofs.lemmas.List.Concat.{flat_map-cons}
 use Rattle.std.proofs.lemmas.List.Elements.{All-nil, All-cons, All-head, All-tail, All-append}
 use Rattle.std.proofs.lemmas.Map.Views.{All-insert_key}
 use Rattle.std.proofs.lemmas.Option.{slice_get_within}
+use Rattle.emu_names.specs.declared.limits.TheConstants.{BUNDLE_ITEMS}
 use Rattle.level_items.specs.declared.items.Item.{Item}
 use Rattle.level_items.specs.Levels.{Level}
 use Rattle.db_config.specs.declared.parts.AttributePlace.{AttributePlace}
@@ -17,6 +19,7 @@ use Rattle.db_config.specs.declared.parts.ConfigParts.{ConfigParts}
 use Rattle.db_config.specs.declared.parts.LevelDef.{LevelDef}
 use Rattle.db_config.specs.Lookups.{attribute_at}
 use Rattle.bundle_state.specs.Bundle.{BundleParts}
+use Rattle.bundle_state.specs.Valid.{KeepsBundleRules}
 use Rattle.bundle_state.specs.Built.{FitsConfig, form_of, form_asked}
 use Rattle.hier_closure.specs.Dominance.{ids_at, closure_of}
 use Rattle.eql_resolve.specs.Asked.{AskedTerm, test, position, number, AskedQuery, terms, sequence, dominance, is_on, term_level, level_of, AreOnOneLevel}
@@ -28,8 +31,9 @@ use Rattle.eql_model.specs.declared.faults.MatchFault.TheVariants.{TooManyTuples
 use Rattle.eql_model.specs.Sets.{tuple_cmp, put_all, each_once, is_over, GivesSet}
 use Rattle.eql_model.specs.Tuples.{fits_in, follows, both, left_with, one_covers, pairs_with, joined}
 use Rattle.eql_model.specs.Joins.{AreWide, goes_with, makes, both_ways}
-use Rattle.eql_model.specs.Meaning.{items_at, meets_all, single, singles, tuples, LieOn, IsTermOn}
+use Rattle.eql_model.specs.Meaning.{items_at, meets_all, single, singles, tuples, has_too_many, LieOn, IsTermOn}
 use Rattle.eql_model.proofs.Between.{ids_count, rows_count, rows_wide}
+use Rattle.eql_model.proofs.Conditions.{level_few, singles_few}
 use Rattle.eql_model.proofs.Covers.{dominance_is}
 
 -- ---- what holds of all tuples of a set
@@ -37,7 +41,7 @@ use Rattle.eql_model.proofs.Covers.{dominance_is}
 pub all_put : (P : Tuple → Type 0) (set ts : List Tuple) → All P set → All P ts → All P (put_all set ts)
 all_put P set [] here there = here
 all_put P set (t ∷ ts) here there =
-    all_put P _ ts (All-insert_key tuple_cmp t P set here (All-head P t ts there)) (All-tail P t ts there)
+    all_put P (insert_key tuple_cmp set t) ts (All-insert_key tuple_cmp t P set here (All-head P t ts there)) (All-tail P t ts there)
 
 pub all_once : (P : Tuple → Type 0) (ts : List Tuple) → All P ts → All P (each_once ts)
 all_once P ts there = all_put P [] ts (All-nil P) there
@@ -149,7 +153,7 @@ levels_same c b fits =
 
 level_by : (o : Option LevelDef) (place : AttributePlace) (levels : List LevelDef) → slice_get levels place.level ≡ o →
     IsSome (option_and_then (λ d. slice_get d.attributes place.attribute) o) → place.level < length levels
-level_by None place levels e there = absurd there
+level_by None place levels e there = absurd cc
 level_by (Some def) place levels e there = slice_get_within levels place.level def e
 
 pub place_within : (place : AttributePlace) (levels : List LevelDef) → IsSome (attribute_at place levels) → place.level < length levels
@@ -173,3 +177,44 @@ terms_on c level view (x ∷ xs) sound one =
     let parts = and_parts (is_on level (view x)) (list_all (is_on level) (map view xs)) one in
     All-cons (λ y. IsTermOn c level (view y)) x xs (sound.0, eqb-true (term_level (view x)) level parts.0)
     (terms_on c level view xs sound.1 parts.1)
+
+-- the conditions of a conjunction, by its own level
+pub conditions_on : {A : Type 0} (c : ConfigParts) (level : ℕ) (view : A → AskedTerm) (xs : List A) → level ≡ level_of (terms (map view xs)) →
+    IsQueryOf c (terms (map view xs)) → AreOnOneLevel (terms (map view xs)) → All (λ x. IsTermOn c level (view x)) xs
+conditions_on c level view xs same within one =
+    terms_on c level view xs within.1 (ap (λ n. list_all (is_on n) (map view xs)) same ∙ one)
+
+not_over : (ts : List Tuple) → length ts ≤ BUNDLE_ITEMS → is_over ts ≡ false
+not_over ts few = grind (arith, nat_tests)
+
+-- what a conjunction finds
+pub conjunction_finds : (c : ConfigParts) (b : BundleParts) (ts : List AskedTerm) (level : ℕ) (made : List Tuple) →
+    level ≡ level_of (terms ts) → KeepsBundleRules b → made ≡ singles c b ts 0 (items_at b.levels level) →
+    (made ≡ tuples c b (terms ts)) × (has_too_many c b (terms ts) ≡ false)
+conjunction_finds c b ts level made same rules is =
+    (is ∙ ap (λ n. singles c b ts 0 (items_at b.levels n)) same, not_over (tuples c b (terms ts)) few)
+  where
+    few : length (tuples c b (terms ts)) ≤ BUNDLE_ITEMS
+    few =
+        let kept = singles_few c b ts 0 (items_at b.levels (level_of (terms ts))) in
+        let here = level_few b.levels (level_of (terms ts)) in
+        let all = rules.few_items in
+        omega arith
+
+-- tuples that were found lie on the level of their query
+pub found_fit : (c : ConfigParts) (b : BundleParts) (q : AskedQuery) (level : ℕ) (found : List Tuple) → AreOnOneLevel q →
+    level ≡ level_of q → found ≡ tuples c b q → LieOn b.levels level found
+found_fit c b q level found one same is =
+    subst (λ (n : ℕ). LieOn b.levels n found) (sym same) (subst (LieOn b.levels (level_of q)) (sym is) (tuples_fit c b q one))
+
+pub level_there : (c : ConfigParts) (b : BundleParts) (q : AskedQuery) (level : ℕ) → FitsConfig c b → IsQueryOf c q → level ≡ level_of q →
+    level < length b.levels
+level_there c b q level fits within same =
+    let there = level_within c q within in let count = levels_same c b fits in omega arith
+
+pub joined_at : (b : BundleParts) (p q left right : ℕ) (ls rs : List Tuple) (r : Result (List Tuple) MatchFault) → left ≡ p → right ≡ q →
+    GivesSet r (joined (one_covers b.links (ids_at b.levels left) (ids_at b.levels right)) left_with ls rs) →
+    GivesSet r (joined (one_covers b.links (ids_at b.levels p) (ids_at b.levels q)) left_with ls rs)
+joined_at b p q left right ls rs r on_left on_right told =
+    subst (GivesSet r)
+    (λ i. joined (one_covers b.links (ids_at b.levels (on_left i)) (ids_at b.levels (on_right i))) left_with ls rs) told

@@ -1,15 +1,16 @@
 //! The tuples of a query in a bundle, worked out plainly.
 ghost use Rattle.std.specs.Prelude.{◌≡◌, map};
 ghost use Rattle.bundle_state.specs.Built.{FitsConfig};
-ghost use Rattle.eql_resolve.specs.Asked.{AreOnOneLevel, is_marked, level_of, terms};
+ghost use Rattle.eql_resolve.specs.Asked.{AreOnOneLevel, dominance, is_marked, level_of, terms};
 ghost use Rattle.eql_resolve.specs.Sound.{IsQueryOf};
 ghost use Rattle.eql_resolve.specs.View.{query_in, term_in};
-ghost use Rattle.eql_model.specs.Meaning.{Finds};
+ghost use Rattle.eql_model.specs.Sets.{GivesSet};
+ghost use Rattle.eql_model.specs.Meaning.{Finds, tuples};
 
 use crate::conjunction::conjunction;
 use crate::faults::MatchFault;
-use crate::pairs::{dominance, sequence};
-use crate::tuple::Tuples;
+use crate::pairs::{covered, sequence};
+use crate::tuple::{Tuple, Tuples};
 use bundle_state::Bundle;
 use db_config::Config;
 use eql_resolve::{AskedQuery, AskedTerm};
@@ -31,10 +32,35 @@ fn conjunction_tuples(
     requires marked { marked ≡ is_marked (terms (map term_in conditions.now)) }
     ensures { Finds result config.now bundle.now (terms (map term_in conditions.now)) }
 {
+    let _items = bundle.item_count();
     match conjunction(alloc, config, bundle, level, marked, conditions) {
         Ok(made) => Ok(made),
         Err(_) => Err(MatchFault::Memory),
     }
+}
+
+/// The tuples of a dominance, from those of its two parts.
+fn dominance_tuples(
+    alloc: Global,
+    config: &Config,
+    bundle: &Bundle,
+    left: &AskedQuery,
+    right: &AskedQuery,
+    lefts: &[Tuple],
+    rights: &[Tuple],
+) -> Result<Tuples, MatchFault>
+    requires fits { FitsConfig config.now bundle.now }
+    requires left { IsQueryOf config.now (query_in left.now) }
+    requires right { IsQueryOf config.now (query_in right.now) }
+    requires left_level { AreOnOneLevel (query_in left.now) }
+    requires right_level { AreOnOneLevel (query_in right.now) }
+    requires lefts { lefts.now ≡ tuples config.now bundle.now (query_in left.now) }
+    requires rights { rights.now ≡ tuples config.now bundle.now (query_in right.now) }
+    ensures { GivesSet result (tuples config.now bundle.now
+        (dominance (query_in left.now) (query_in right.now))) }
+{
+    let levels = (left.level(), right.level());
+    covered(alloc, config, bundle, levels, lefts, rights)
 }
 
 /// The set of the tuples of a query. `TooManyTuples` comes exactly where the query or some part of it
@@ -68,7 +94,6 @@ pub(crate) fn evaluate(
             sequence(alloc, lefts.as_slice(), rights.as_slice())
         }
         AskedQuery::Dominance(left, right) => {
-            let levels = (left.level(), right.level());
             let lefts = match evaluate(alloc, config, bundle, left) {
                 Ok(found) => found,
                 Err(fault) => return Err(fault),
@@ -77,7 +102,15 @@ pub(crate) fn evaluate(
                 Ok(found) => found,
                 Err(fault) => return Err(fault),
             };
-            dominance(alloc, config, bundle, levels, lefts.as_slice(), rights.as_slice())
+            dominance_tuples(
+                alloc,
+                config,
+                bundle,
+                left,
+                right,
+                lefts.as_slice(),
+                rights.as_slice(),
+            )
         }
     }
 }

@@ -12,6 +12,7 @@ mod joins;
 mod labels;
 mod pairs;
 mod positions;
+mod results;
 mod row;
 mod terms;
 mod tuple;

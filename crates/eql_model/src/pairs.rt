@@ -49,7 +49,7 @@ fn dominance_of(
 /// The set of the left one of each two tuples of which one covers the other, with the mark of either.
 /// The tuples lie on these two levels. `TooManyTuples` comes exactly where the set has over 1,000,000
 /// tuples.
-pub(crate) fn dominance(
+pub(crate) fn covered(
     alloc: Global,
     config: &Config,
     bundle: &Bundle,

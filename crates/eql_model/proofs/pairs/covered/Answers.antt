@@ -1,5 +1,5 @@
 use Rattle.eql_model.proofs.Fitting.{wide_both, dominance_exit}
-use Rattle.eql_model.proofs.pairs.dominance.Goals as goal
+use Rattle.eql_model.proofs.pairs.covered.Goals as goal
 
 pub joined-requires-clause-wide : goal.joined-requires-clause-wide
 joined-requires-clause-wide c = wide_both c.args.bundle.now c.args.levels.0 c.args.levels.1 c.in-Ok.join c.in-Ok.ensures
