@@ -16,7 +16,7 @@ use Rattle.eql_model.specs.Joins.{positions, bit_at, is_under, bits_cover, goes_
 
 -- ---- a stretch by its positions
 
-taken_by : {X : Type 0} (xs : List X) (d : X) (k n : ℕ) → k + n ≤ length xs →
+pub taken_by : {X : Type 0} (xs : List X) (d : X) (k n : ℕ) → k + n ≤ length xs →
     take n (drop k xs) ≡ map (λ i. get_or xs i d) (range_with_len k n)
 taken_by xs d k zero h = refl
 taken_by xs d k (suc n) h =

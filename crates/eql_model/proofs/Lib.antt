@@ -1,6 +1,7 @@
 pub mod Between
 pub mod Conditions
 pub mod Covers
+pub mod Extents
 pub mod Fitting
 pub mod Gathers
 pub mod MadeRows

@@ -32,7 +32,7 @@ fn bit_at(rows: &Closure, row: usize, place: usize) -> bool
 }
 
 /// Whether some row of the upper stretch has the bit of a place.
-fn is_under(rows: &Closure, upper: Tuple, place: usize) -> bool
+pub(crate) fn is_under(rows: &Closure, upper: Tuple, place: usize) -> bool
     requires upper { fits_in (length rows.now) upper ≡ true }
     requires place { All (λ row. place < length row) rows.now }
     ensures { result ≡ is_under rows.now upper place }

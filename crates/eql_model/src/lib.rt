@@ -15,6 +15,7 @@ mod positions;
 mod results;
 mod row;
 mod terms;
+mod times;
 mod tuple;
 
 pub use answer::answer_plain;
