@@ -1,1 +1,8 @@
+pub mod Binds
+pub mod Bounds
+pub mod Kept
+pub mod Loops
 pub mod Marks
+pub mod Steps
+pub mod TimeLevel
+pub mod Threads

@@ -5,3 +5,4 @@ pub mod Sound
 pub mod Codes
 pub mod View
 pub mod Prepare
+pub mod Laws

@@ -147,9 +147,12 @@ time_level c level None =
 
 -- ---- the whole
 
--- what a query asks of a database, with the name of a level for the times where one is given
-unfoldable pub asked : ConfigParts → Tree → Option (List ℕ) → Result AskedParts AskFault
-asked c q time = do
-  query ← asked_query c q
+-- a query whose names are replaced, with the level that gives its results their times
+abbrev pub timed : ConfigParts → AskedQuery → Option (List ℕ) → Result AskedParts AskFault
+timed c query time = do
   level ← time_level c (result_level query) time
   Ok (record { query = query; time = level })
+
+-- what a query asks of a database, with the name of a level for the times where one is given
+unfoldable pub asked : ConfigParts → Tree → Option (List ℕ) → Result AskedParts AskFault
+asked c q time = asked_query c q >>= λ query. timed c query time

@@ -3,8 +3,8 @@ use Rattle.std.specs.Prelude.{◌≡◌, ℕ, ◌<◌, true, List, [], ◌∷◌
 use Rattle.db_config.specs.declared.parts.ConfigParts.{ConfigParts}
 use Rattle.db_config.specs.Above.{is_above}
 use Rattle.db_config.specs.Lookups.{attribute_at}
-use Rattle.eql_resolve.specs.Asked.{AskedTerm, test, position, number, AskedQuery, terms, sequence, dominance, AskedParts, AreOnOneLevel, level_of, result_level}
-use Rattle.eql_resolve.specs.Resolve.{is_item_level, gives_times, are_joined}
+use Rattle.eql_resolve.specs.Asked.{AskedTerm, test, position, number, AskedQuery, terms, sequence, dominance, AskedParts, AreOnOneLevel, level_of}
+use Rattle.eql_resolve.specs.Resolve.{is_item_level, is_segment_level, gives_times, are_joined}
 
 -- the attribute and the levels of a condition are there, the upper one above the lower one
 abbrev pub IsTermOf : ConfigParts → AskedTerm → Type 0
@@ -33,15 +33,20 @@ pub record IsSound (c : ConfigParts) (q : AskedQuery) : Type 0 where
   pub within : IsQueryOf c q
   pub one_level : AreOnOneLevel q
 
--- a SEGMENT level below the ITEM level of the results
+-- a SEGMENT level, from which results on an ITEM level can have their times
+pub record IsTimeLevel (c : ConfigParts) (time : ℕ) : Type 0 where
+  pub within : time < length c.levels
+  pub segment : is_segment_level c time ≡ true
+
+-- the level of the results is an ITEM level, and the level of the times a SEGMENT level below it
 pub record IsTimeOf (c : ConfigParts) (level time : ℕ) : Type 0 where
   pub within : time < length c.levels
   pub item : is_item_level c level ≡ true
-  pub segment : gives_times c level time ≡ true
+  pub below : gives_times c level time ≡ true
 
--- the query was resolved by the configuration: its levels and attributes are there, the levels agree
--- that have to, and the level of the times is one that gives the results times
+-- The query was resolved by the configuration: its levels and attributes are there, the levels agree
+-- that have to, and the level of the times is a SEGMENT level.
 pub record IsResolvedBy (c : ConfigParts) (a : AskedParts) : Type 0 where
   pub within : IsQueryOf c a.query
   pub one_level : AreOnOneLevel a.query
-  pub time : IfSome a.time (IsTimeOf c (result_level a.query))
+  pub time : IfSome a.time (IsTimeLevel c)

@@ -1,6 +1,6 @@
 //! A query with its names replaced by levels and attributes.
 ghost use Rattle.std.specs.Prelude.{◌≡◌, map};
-ghost use Rattle.eql_resolve.specs.Asked.{is_marked_term, term_place, first_of, marked_of, first_place, level_of, mark_place, is_marked, shown_place};
+ghost use Rattle.eql_resolve.specs.Asked.{is_marked_term, term_place, first_of, marked_of, first_place, level_of, mark_place, is_marked, shown_place, result_level};
 ghost use Rattle.eql_resolve.specs.View.{term_in, query_in};
 
 use db_config::AttributePlace;
@@ -140,6 +140,13 @@ impl<'a> AskedQuery<'a> {
         }
     }
 
+    /// The level of the results, which are the marked items where the query has a mark.
+    pub fn result_level(&self) -> usize
+        ensures { result ≡ result_level (query_in self.now) }
+    {
+        self.shown_place().level
+    }
+
     /// Whether a condition of the query is marked.
     #[tactic(auto, using(crate::proofs::Marks::mark_some))]
     pub fn is_marked(&self) -> bool
@@ -182,6 +189,13 @@ impl<'a> Model for Asked<'a> {
 }
 
 impl<'a> Asked<'a> {
+    /// A query that was resolved, with the level of its times.
+    pub(crate) fn of(query: AskedQuery<'a>, time: Option<usize>) -> Asked<'a>
+        ensures { result ≡ record { query = query_in query.entry; time = time } }
+    {
+        Asked { query, time }
+    }
+
     /// The query with its names replaced.
     pub fn query(&self) -> &AskedQuery<'a>
         ensures { query_in result.now ≡ self.now.query }

@@ -3,11 +3,20 @@
 #![tactic(auto)]
 
 mod asked;
+mod compile;
+mod counts;
+mod crossing;
 mod faults;
+mod laws;
 mod prepared;
+mod queries;
 mod resolution;
+mod terms;
+mod times;
 
 pub use asked::{Asked, AskedQuery, AskedTerm, Wanted};
+pub use crossing::{asked_cross_threads, prepared_cross_threads};
 pub use faults::{AskFault, PrepareFault};
+pub use laws::{levels_are_there, marks_are_found, shown_is_there};
 pub use prepared::{Prepared, prepare};
 pub use resolution::resolve;

@@ -1,15 +1,17 @@
 //! A query whose patterns are compiled.
-ghost use Rattle.std.specs.Prelude.{◌≡◌, ◌≤◌, true, IfOk, IfErr};
+ghost use Rattle.std.specs.Prelude.{◌≡◌, ◌≤◌, true, length, IfOk, IfErr, OnOk};
+ghost use Rattle.emu_names.specs.declared.limits.TheConstants.{QUERY_BYTES};
 ghost use Rattle.std.specs.List.{list_all};
 ghost use Rattle.label_match.specs.Pattern.{are_patterns};
 ghost use Rattle.eql_syntax.specs.declared.query.QueryFault.{QueryFault};
 ghost use Rattle.eql_syntax.specs.Tree.{Tree, tree_of};
 ghost use Rattle.eql_syntax.specs.Answer.{IsQuery, IsFault};
 ghost use Rattle.eql_resolve.specs.Prepared.{patterns_of};
-ghost use Rattle.eql_resolve.specs.Prepare.{IsPrepareFault, PreparesQuery, PreparesFault};
+ghost use Rattle.eql_resolve.specs.Prepare.{IsPatternFault, IsPrepareFault, PreparesQuery, PreparesFault};
 
+use crate::compile::compile_query;
 use crate::faults::PrepareFault;
-use eql_syntax::Query;
+use eql_syntax::{Query, QueryFault, read_query};
 use label_match::{Pattern, PatternMaker};
 use std::alloc::Global;
 use std::marker::Model;
@@ -54,6 +56,26 @@ impl Prepared {
     }
 }
 
+/// A query with its patterns compiled, or why the first that the maker refuses was refused.
+fn with_patterns<P: PatternMaker>(
+    alloc: Global,
+    maker: &mut P,
+    query: Query,
+) -> Result<Prepared, PrepareFault>
+    requires { length (patterns_of (tree_of query)) ≤ QUERY_BYTES }
+    ensures query { IfOk result (λ prepared. prepared.query ≡ tree_of query) }
+    ensures patterns { IfOk result (λ prepared. prepared.patterns ≡ patterns_of (tree_of query)) }
+    ensures read { OnOk result (list_all are_patterns (patterns_of (tree_of query)) ≡ true) }
+    ensures fault { IfErr result (IsPatternFault (patterns_of (tree_of query))
+        (P.refusals maker.old) (P.refusals maker.new)) }
+    ensures later { P.refusals maker.old ≤ P.refusals maker.new }
+{
+    match compile_query(alloc, maker, &query) {
+        Ok(patterns) => Ok(Prepared { query, patterns }),
+        Err(fault) => Err(fault),
+    }
+}
+
 /// The query of a text with its patterns compiled, each once and in the order of the text.
 ///
 /// The fault of the text comes first, else that of the first pattern which the maker refuses:
@@ -73,5 +95,9 @@ pub fn prepare<P: PatternMaker>(
     ensures told { (fault : QueryFault) → IsFault text.now fault → PreparesFault fault result }
     ensures later { P.refusals maker.old ≤ P.refusals maker.new }
 {
-    Err(PrepareFault::Memory)
+    match read_query(alloc, text) {
+        Ok(query) => with_patterns(alloc, maker, query),
+        Err(QueryFault::Memory) => Err(PrepareFault::Memory),
+        Err(fault) => Err(PrepareFault::Query(fault)),
+    }
 }

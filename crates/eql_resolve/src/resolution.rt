@@ -1,16 +1,38 @@
 //! The names of a query, looked up in a configuration.
-ghost use Rattle.std.specs.Prelude.{IfOk};
+ghost use Rattle.std.specs.Prelude.{IfOk, IfSome};
 ghost use Rattle.std.specs.Option.{option_copied};
-ghost use Rattle.eql_resolve.specs.Resolve.{asked};
-ghost use Rattle.eql_resolve.specs.Sound.{IsResolvedBy};
-ghost use Rattle.eql_resolve.specs.View.{Gives};
+ghost use Rattle.eql_resolve.specs.Asked.{result_level};
+ghost use Rattle.eql_resolve.specs.Resolve.{timed, asked};
+ghost use Rattle.eql_resolve.specs.Sound.{IsSound, IsResolvedBy, IsTimeOf};
+ghost use Rattle.eql_resolve.specs.View.{Gives, query_in};
 
-use crate::asked::Asked;
+use crate::asked::{Asked, AskedQuery};
 use crate::faults::AskFault;
 use crate::prepared::Prepared;
+use crate::queries::asked_query;
+use crate::times::time_level;
 use db_config::Config;
 use emu_names::Text;
 use std::alloc::Global;
+
+/// A query whose names are replaced, with the level that gives its results their times.
+fn timed<'a>(
+    config: &Config,
+    query: AskedQuery<'a>,
+    time: Option<&Text>,
+) -> Result<Asked<'a>, AskFault>
+    requires { IsSound config.now (query_in query) }
+    ensures asked { Gives (λ a. a) result
+        (timed config.now (query_in query.entry) (option_copied time.entry)) }
+    ensures sound { IfOk result (IsResolvedBy config.now) }
+    ensures times { IfOk result
+        (λ a. IfSome a.time (IsTimeOf config.now (result_level a.query))) }
+{
+    match time_level(config, query.result_level(), time) {
+        Ok(time) => Ok(Asked::of(query, time)),
+        Err(fault) => Err(fault),
+    }
+}
 
 /// What a prepared query asks of a database, with the name of a level for the times where one is given.
 ///
@@ -21,6 +43,7 @@ use std::alloc::Global;
 /// `SequenceLevels` where the parts of a sequence are. With a time, `BadTimeLevel` comes unless the
 /// results are on an ITEM level and the time names a SEGMENT level below it; without one,
 /// `AmbiguousTime` where the results are on an ITEM level with two or more SEGMENT levels below it.
+#[tactic(auto, unfolding(crate::specs::Resolve::asked))]
 pub fn resolve<'a>(
     alloc: Global,
     config: &Config,
@@ -30,6 +53,11 @@ pub fn resolve<'a>(
     ensures asked { Gives (λ a. a) result
         (asked config.now prepared.now.query (option_copied time.entry)) }
     ensures sound { IfOk result (IsResolvedBy config.now) }
+    ensures times { IfOk result
+        (λ a. IfSome a.time (IsTimeOf config.now (result_level a.query))) }
 {
-    Err(AskFault::Memory)
+    match asked_query(alloc, config, prepared.query(), prepared.patterns()) {
+        Ok(query) => timed(config, query, time),
+        Err(fault) => Err(fault),
+    }
 }
