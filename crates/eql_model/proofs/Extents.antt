@@ -3,7 +3,8 @@ use Rattle.std.proofs.Common.{◌≡◌, ℕ, zero, suc, ◌+◌, ◌-◌, ◌<�
 use Rattle.std.specs.Prelude.{All, min, max, option_map}
 use Rattle.std.specs.List.{filter, list_any, range_with_len}
 use Rattle.std.proofs.lemmas.Bool.Decides.{nat_tests}
-use Rattle.std.proofs.lemmas.List.{drop_more, take-map, drop-map, get_or-map, length-map}
+use Rattle.std.proofs.lemmas.List.{drop_more, take-map, drop-map, get_or-map, length-map, get_or_default}
+use Rattle.std.proofs.lemmas.List.Elements.{All-weaker}
 use Rattle.level_items.specs.declared.items.Item.{Item}
 use Rattle.level_items.specs.Levels.{ids_of}
 use Rattle.level_items.specs.Times.{first_sample, last_sample}
@@ -14,10 +15,10 @@ use Rattle.eql_model.specs.declared.tuple.Span.{Span}
 use Rattle.eql_model.specs.Tuples.{from_to, stretch, fits_in}
 use Rattle.eql_model.specs.Joins.{is_under}
 use Rattle.eql_model.specs.Meaning.{items_at}
-use Rattle.eql_model.specs.Results.{bare}
+use Rattle.eql_model.specs.Results.{bare, IsStretchIn}
 use Rattle.eql_model.specs.Rows.{items_of, is_below_some, items_below, least, greatest, extent, end_to_end}
-use Rattle.eql_model.specs.Below.{widened, IsStretchIn}
-use Rattle.eql_model.proofs.Between.{ids_are}
+use Rattle.eql_model.specs.Below.{widened}
+use Rattle.eql_model.proofs.Between.{ids_are, wide_exit}
 use Rattle.eql_model.proofs.Covers.{under_is, taken_by}
 
 -- samples widened to those of these items, one after another
@@ -104,3 +105,26 @@ ends_are items first last d rises within =
     ∙ ap (λ k. end_to_end (map (λ i. get_or items i d) (range_with_len first k))) n
     ∙ ends_along (λ i. get_or items i d) first (last - first)
     ∙ ap (λ k. Some (first_sample (get_or items first d).time, last_sample (get_or items k d).time)) m
+
+pub ends_answer : (b : BundleParts) (span : Span) (items : List Item) (d e : Item) (f l : ℕ) → items ≡ items_at b.levels span.level →
+    IsStretchIn b span → f ≡ first_sample (get_or items span.first d).time → l ≡ last_sample (get_or items span.last e).time →
+    Some (f, l) ≡ end_to_end (items_of b span)
+ends_answer b span items d e f l are there first last =
+    (λ i. Some ((first ∙ ap (λ xs. first_sample (get_or xs span.first d).time) are) i,
+      (last ∙ ap (λ xs. last_sample (get_or xs span.last e).time) are
+      ∙ ap (λ (x : Item). last_sample x.time) (get_or_default (items_at b.levels span.level) span.last e d there.within)) i))
+    ∙ sym (ends_are (items_at b.levels span.level) span.first span.last d there.rises there.within)
+
+pub below_answer : (b : BundleParts) (span : Span) (time at : ℕ) (d : Item) (items : List Item) (rows : List (List Bool)) (wanted : Bool) →
+    IsStretchIn b span → items ≡ items_at b.levels time → rows ≡ closure_of b time span.level → at < length items →
+    wanted ≡ is_under rows (bare span.first span.last) at → wanted ≡ is_below_some b.links (ids_of (items_of b span)) (get_or items at d)
+below_answer b span time at d items rows wanted there are made h told =
+    told ∙ ap (λ rs. is_under rs (bare span.first span.last) at) made
+    ∙ below_is b span time at d there (let same = ap length are in omega arith)
+    ∙ ap (λ xs. is_below_some b.links (ids_of (items_of b span)) (get_or xs at d)) (sym are)
+
+pub below_wide : (b : BundleParts) (level time at : ℕ) (items : List Item) (rows : List (List Bool)) → items ≡ items_at b.levels time →
+    rows ≡ closure_of b time level → at < length items → All (λ row. at < length row) rows
+below_wide b level time at items rows are made h =
+    All-weaker (λ row. length row ≡ length items) (λ row. at < length row) (λ row same. omega arith) rows
+    (wide_exit b level time rows items made are)

@@ -23,7 +23,8 @@ use Rattle.bundle_state.specs.Valid.{KeepsBundleRules}
 use Rattle.bundle_state.specs.Built.{FitsConfig, form_of, form_asked}
 use Rattle.hier_closure.specs.Dominance.{ids_at, closure_of}
 use Rattle.eql_resolve.specs.Asked.{AskedTerm, test, position, number, AskedQuery, terms, sequence, dominance, is_on, term_level, level_of, AreOnOneLevel}
-use Rattle.eql_resolve.specs.Sound.{IsTermOf, AreTermsOf, IsQueryOf}
+use Rattle.eql_resolve.specs.Sound.{AreTermsOf, IsQueryOf}
+use Rattle.eql_resolve.proofs.Kept.{level_within}
 use Rattle.eql_model.specs.declared.tuple.Tuple.{Tuple}
 use Rattle.eql_model.specs.declared.joins.Join.{Join}
 use Rattle.eql_model.specs.declared.faults.MatchFault.{MatchFault}
@@ -150,25 +151,6 @@ dominance_exit b left right join ls rs r e on_left on_right told =
 pub levels_same : (c : ConfigParts) (b : BundleParts) → FitsConfig c b → length b.levels ≡ length c.levels
 levels_same c b fits =
     sym (length-map b.levels form_of) ∙ ap length fits.levels ∙ length-map c.levels form_asked
-
-level_by : (o : Option LevelDef) (place : AttributePlace) (levels : List LevelDef) → slice_get levels place.level ≡ o →
-    IsSome (option_and_then (λ d. slice_get d.attributes place.attribute) o) → place.level < length levels
-level_by None place levels e there = absurd cc
-level_by (Some def) place levels e there = slice_get_within levels place.level def e
-
-pub place_within : (place : AttributePlace) (levels : List LevelDef) → IsSome (attribute_at place levels) → place.level < length levels
-place_within place levels there = level_by (slice_get levels place.level) place levels refl there
-
-term_within : (c : ConfigParts) (t : AskedTerm) → IsTermOf c t → term_level t < length c.levels
-term_within c (test marked place op labels) sound = place_within place c.levels sound
-term_within c (position marked place upper lower wanted) sound = place_within lower c.levels sound.1
-term_within c (number marked upper lower compare n) sound = place_within upper c.levels sound.0
-
-pub level_within : (c : ConfigParts) (q : AskedQuery) → IsQueryOf c q → level_of q < length c.levels
-level_within c (terms []) sound = absurd (omega (arith, sound.0))
-level_within c (terms (t ∷ ts)) sound = term_within c t sound.1.0
-level_within c (sequence p q) sound = level_within c p sound.0
-level_within c (dominance p q) sound = level_within c p sound.0
 
 pub terms_on : {A : Type 0} (c : ConfigParts) (level : ℕ) (view : A → AskedTerm) (xs : List A) → AreTermsOf c (map view xs) →
     list_all (is_on level) (map view xs) ≡ true → All (λ x. IsTermOn c level (view x)) xs

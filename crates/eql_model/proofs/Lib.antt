@@ -7,3 +7,4 @@ pub mod Gathers
 pub mod MadeRows
 pub mod Places
 pub mod Ranges
+pub mod Shown

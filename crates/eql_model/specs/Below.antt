@@ -4,9 +4,7 @@ use Rattle.level_items.specs.declared.times.Time.{Time}
 use Rattle.level_items.specs.Times.{first_sample, last_sample}
 use Rattle.bundle_state.specs.Bundle.{BundleParts}
 use Rattle.hier_closure.specs.Dominance.{closure_of}
-use Rattle.eql_model.specs.declared.tuple.Span.{Span}
 use Rattle.eql_model.specs.declared.times.Below.{Below}
-use Rattle.eql_model.specs.Meaning.{items_at}
 
 -- samples widened to those of a time
 abbrev pub widened : Option (ℕ × ℕ) → Time → ℕ × ℕ
@@ -25,8 +23,3 @@ pub record IsBelow (b : BundleParts) (level : ℕ) (below : Below) : Type 0 wher
 -- the time level with its rows, where there is one
 abbrev pub below_of : BundleParts → ℕ → Option ℕ → Option Below
 below_of b level time = option_map (λ t. record { time = t; rows = closure_of b t level }) time
-
--- the stretch of a result lies on its level
-pub record IsStretchIn (b : BundleParts) (span : Span) : Type 0 where
-  pub rises : span.first ≤ span.last
-  pub within : span.last < length (items_at b.levels span.level)

@@ -1,6 +1,6 @@
 -- The results of a query in one bundle (EMU-SDMS Manual, "The EMU Query Language (EQL)": results are
 -- stretches of items, or the items that a `#` marks).
-use Rattle.std.specs.Prelude.{◌≡◌, ◌<◌, ◌≤◌, ℕ, Bool, true, false, List, [], ◌∷◌, length, map, Option, Some, None, IsSome, Result, Ok, Err}
+use Rattle.std.specs.Prelude.{◌≡◌, ◌<◌, ◌≤◌, ℕ, Bool, true, false, List, [], ◌∷◌, All, length, map, Option, Some, None, IsSome, Result, Ok, Err}
 use Rattle.std.specs.List.{flat_map}
 use Rattle.db_config.specs.declared.parts.AttributePlace.{AttributePlace}
 use Rattle.db_config.specs.declared.parts.ConfigParts.{ConfigParts}
@@ -48,8 +48,16 @@ Matches (Ok spans) c b q = (spans ≡ results c b q) × (has_too_many c b q ≡ 
 Matches (Err TooManyTuples) c b q = has_too_many c b q ≡ true
 Matches (Err Memory) c b q = Unit {0}
 
--- a result is there in a bundle: its attribute is, and its stretch has one item at least
-pub record IsSpanIn (c : ConfigParts) (b : BundleParts) (span : Span) : Type 0 where
-  pub attribute : IsSome (attribute_at (place_of span.level span.attribute) c.levels)
+-- the stretch of a result lies on its level, and has one item at least
+pub record IsStretchIn (b : BundleParts) (span : Span) : Type 0 where
   pub rises : span.first ≤ span.last
   pub within : span.last < length (items_at b.levels span.level)
+
+-- a result is there in a bundle: its attribute is, and its stretch lies on its level
+pub record IsSpanIn (c : ConfigParts) (b : BundleParts) (span : Span) : Type 0 where
+  pub attribute : IsSome (attribute_at (place_of span.level span.attribute) c.levels)
+  pub stretch : IsStretchIn b span
+
+-- the results of a query are there in the bundle, on the level of the results
+abbrev pub AreThere : ConfigParts → BundleParts → ℕ → List Span → Type 0
+AreThere c b level spans = All (λ span. IsSpanIn c b span × (span.level ≡ level)) spans

@@ -18,7 +18,7 @@ mod terms;
 mod times;
 mod tuple;
 
-pub use answer::answer_plain;
+pub use answer::{answer_plain, match_plain};
 pub use faults::MatchFault;
 pub use row::{Row, SegmentList};
 pub use tuple::{Span, Spans, Tuple, Tuples};

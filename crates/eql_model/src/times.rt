@@ -1,11 +1,11 @@
 //! When a result is: its first and its last sample, and its borders in microseconds.
-ghost use Rattle.std.specs.Prelude.{◌≡◌, ◌<◌, ◌≤◌, ◌^◌, All, length, true, IfOk, IfSome, Some, get_or, option_map, if◌then◌else◌};
+ghost use Rattle.std.specs.Prelude.{◌≡◌, ◌<◌, ◌≤◌, ◌^◌, All, length, true, IfOk, IfSome, Some, option_map, if◌then◌else◌};
 ghost use Rattle.level_items.specs.Times.{ends_in_time, last_sample};
 ghost use Rattle.bundle_state.specs.Built.{FitsConfig};
-ghost use Rattle.hier_closure.specs.Dominance.{closure_of};
 ghost use Rattle.eql_model.specs.Meaning.{items_at};
 ghost use Rattle.eql_model.specs.Rows.{items_below, items_of, extent, end_to_end, samples_of, start_of, end_of};
-ghost use Rattle.eql_model.specs.Below.{widened, IsBelow, below_of, AreInTime, IsStretchIn};
+ghost use Rattle.eql_model.specs.Below.{widened, IsBelow, below_of, AreInTime};
+ghost use Rattle.eql_model.specs.Results.{IsStretchIn};
 
 use crate::joins::is_under;
 use crate::tuple::{Span, Tuple};
