@@ -17,11 +17,13 @@ use Rattle.level_items.specs.declared.items.Item.{Item}
 use Rattle.level_items.specs.Levels.{Level}
 use Rattle.db_config.specs.declared.parts.AttributePlace.{AttributePlace}
 use Rattle.db_config.specs.declared.parts.ConfigParts.{ConfigParts}
+use Rattle.db_config.specs.Lookups.{attribute_at}
 use Rattle.bundle_state.specs.Bundle.{BundleParts}
+use Rattle.bundle_state.specs.Built.{FitsConfig}
 use Rattle.hier_closure.specs.Dominance.{ids_at}
 use Rattle.eql_resolve.specs.Asked.{AskedTerm, AskedQuery, terms, sequence, dominance, is_marked_term, term_place, is_on, term_level, level_of, is_marked, marked_of, mark_place, first_place, shown_place, result_level, AreOnOneLevel}
 use Rattle.eql_resolve.specs.Sound.{IsQueryOf}
-use Rattle.eql_resolve.proofs.Kept.{shown_there}
+use Rattle.eql_resolve.proofs.Kept.{shown_there, result_within}
 use Rattle.eql_resolve.proofs.Marks.{mark_some}
 use Rattle.eql_model.specs.declared.tuple.Tuple.{Tuple}
 use Rattle.eql_model.specs.declared.tuple.Span.{Span}
@@ -31,7 +33,7 @@ use Rattle.eql_model.specs.Sets.{tuple_cmp, put_all, each_once, is_over, GivesSe
 use Rattle.eql_model.specs.Tuples.{fits_in, follows, both, left_with, one_covers}
 use Rattle.eql_model.specs.Meaning.{items_at, meets_all, single, singles, tuples, has_too_many, Finds}
 use Rattle.eql_model.specs.Results.{bare, marked_item, shown, stretches, span_at, results, Matches, IsSpanIn, IsStretchIn, AreThere}
-use Rattle.eql_model.proofs.Fitting.{all_once, all_joined, tuples_fit}
+use Rattle.eql_model.proofs.Fitting.{all_once, all_joined, tuples_fit, levels_same}
 
 -- ---- marks lie on the level of the marked condition, and all tuples have one where there is one
 
@@ -226,3 +228,26 @@ pub stretches_are : (c : ConfigParts) (b : BundleParts) (q : AskedQuery) (marked
     found ≡ tuples c b q → made ≡ each_once (flat_map (shown marked) found) → made ≡ stretches c b q
 stretches_are c b q marked found made mark is put =
     put ∙ (λ i. each_once (flat_map (shown (mark i)) (is i)))
+
+pub shown_err : (c : ConfigParts) (b : BundleParts) (q asked : AskedQuery) (marked : Bool) (found : List Tuple) (fault : MatchFault) →
+    q ≡ asked → marked ≡ is_marked q → found ≡ tuples c b q → has_too_many c b q ≡ false →
+    GivesSet (Err fault) (each_once (flat_map (shown marked) found)) → Matches (Err fault) c b asked
+shown_err c b q asked marked found TooManyTuples same mark is few over = never_over c b q marked found mark (is, few) over
+shown_err c b q asked marked found Memory same mark is few told = tt
+
+pub shown_at : (c : ConfigParts) (q asked : AskedQuery) (place : AttributePlace) → q ≡ asked → place ≡ shown_place q → IsQueryOf c asked →
+    IsSome (attribute_at place c.levels)
+shown_at c q asked place same is within =
+    subst (λ (p : AttributePlace). IsSome (attribute_at p c.levels)) (sym (is ∙ ap shown_place same)) (shown_there c asked within)
+
+pub result_level_there : (c : ConfigParts) (b : BundleParts) (q asked : AskedQuery) (place : AttributePlace) → FitsConfig c b → q ≡ asked →
+    place ≡ shown_place q → IsQueryOf c asked → place.level < length b.levels
+result_level_there c b q asked place fits same is within =
+    let there : result_level asked < length c.levels = result_within c asked within in
+    let count : length b.levels ≡ length c.levels = levels_same c b fits in
+    let level : place.level ≡ result_level asked = ap (λ (p : AttributePlace). p.level) (is ∙ ap shown_place same) in
+    omega arith
+
+pub answer_there : (c : ConfigParts) (b : BundleParts) (q : AskedQuery) (spans : List Span) → IsQueryOf c q → AreOnOneLevel q →
+    spans ≡ results c b q → AreThere c b (result_level q) spans
+answer_there c b q spans within one is = subst (AreThere c b (result_level q)) (sym is) (results_there c b q within one)

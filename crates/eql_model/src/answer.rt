@@ -13,6 +13,7 @@ use crate::evaluate::evaluate;
 use crate::faults::MatchFault;
 use crate::results::{shown_once, spans_at};
 use crate::row::SegmentList;
+use crate::rows::rows_of;
 use crate::tuple::{Spans, Tuple};
 use bundle_state::Bundle;
 use db_config::{AttributePlace, Config};
@@ -81,5 +82,12 @@ pub fn answer_plain(
     requires fits { FitsConfig config.now bundle.now }
     ensures { Answers result config.now bundle.now asked.now }
 {
-    Err(MatchFault::Memory)
+    let spans = match match_plain(alloc, config, bundle, asked) {
+        Ok(spans) => spans,
+        Err(fault) => return Err(fault),
+    };
+    match rows_of(alloc, config, bundle, asked, spans.as_slice()) {
+        Ok(rows) => Ok(rows),
+        Err(_) => Err(MatchFault::Memory),
+    }
 }

@@ -14,6 +14,7 @@ mod pairs;
 mod positions;
 mod results;
 mod row;
+mod rows;
 mod terms;
 mod times;
 mod tuple;
