@@ -5,6 +5,7 @@ pub mod Extents
 pub mod Fitting
 pub mod Gathers
 pub mod MadeRows
+pub mod Members
 pub mod Places
 pub mod Ranges
 pub mod Shown

@@ -3,6 +3,7 @@ pub mod Bits
 pub mod Flags
 pub mod Joins
 pub mod Labels
+pub mod Laws
 pub mod Meaning
 pub mod Positions
 pub mod Results

@@ -10,6 +10,7 @@ mod flags;
 mod gathered;
 mod joins;
 mod labels;
+mod laws;
 mod pairs;
 mod positions;
 mod results;
@@ -21,5 +22,8 @@ mod tuple;
 
 pub use answer::{answer_plain, match_plain};
 pub use faults::MatchFault;
+pub use laws::{
+    joins_are_pairs, results_are_there, sets_are_in_order, sets_have_their_tuples, tuples_lie_on_level,
+};
 pub use row::{Row, SegmentList};
 pub use tuple::{Span, Spans, Tuple, Tuples};
