@@ -1,5 +1,5 @@
 -- The rows of a closure in terms of the items of its two levels.
-use Rattle.std.proofs.Common.{◌≡◌, ℕ, zero, suc, ◌+◌, ◌<◌, Bool, true, false, cond, ◌||◌, ◌&&◌, List, [], ◌∷◌, length, map, get_or, Option, None, Some, Result, Ok, Err, refl, sym, ap, subst, ◌∙◌, arith}
+use Rattle.std.proofs.Common.{◌≡◌, ℕ, ◌+◌, ◌<◌, Bool, true, false, cond, ◌||◌, ◌&&◌, List, [], ◌∷◌, length, map, get_or, Option, None, Some, Result, Ok, Err, refl, sym, ap, subst, ◌∙◌, arith}
 use Rattle.std.specs.Prelude.{All, IfOk, not, count_by}
 use Rattle.std.specs.List.{slice_get, items_where_true, filter, list_any, range_with_len}
 use Rattle.std.specs.Option.{option_map_or}
@@ -16,7 +16,7 @@ use Rattle.hier_closure.specs.Dominance.{dominates, ids_at, closure_row, closure
 use Rattle.eql_syntax.specs.declared.query.Compare.{Compare}
 use Rattle.eql_syntax.specs.declared.query.Place.{Place}
 use Rattle.eql_model.specs.Flags.{flag_at}
-use Rattle.eql_model.specs.Positions.{below, stands, makes_stand, has_place, has_number, compares}
+use Rattle.eql_model.specs.Positions.{stands, makes_stand, has_place, has_number, compares}
 use Rattle.eql_model.specs.Bits.{row_stands, rows_place, row_counts}
 use Rattle.eql_model.specs.Meaning.{items_at}
 use Rattle.eql_model.proofs.MadeRows.{flag_of_map, no_item}
@@ -98,6 +98,7 @@ place_flags_are links uppers ids items place wanted e =
   where
     within : (k : ℕ) → k < length items → k < length ids
     within k h = let n : length ids ≡ length items = ap length e ∙ length-map items (λ (i : Item). i.id.0) in omega arith
+
     at_place : (k : ℕ) → k < length items →
         get_or (map (λ item. has_place links uppers ids place wanted item.id.0) items) k false
         ≡ rows_place (closure_rows links ids uppers) (ids_of items) place wanted k

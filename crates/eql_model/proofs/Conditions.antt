@@ -1,14 +1,12 @@
 -- The tuples of a conjunction, by positions and by items.
-use Rattle.std.proofs.Common.{◌≡◌, ℕ, zero, suc, ◌+◌, ◌<◌, ◌≤◌, Bool, true, false, cond, List, [], ◌∷◌, ◌++◌, length, map, get_or, Option, None, Some, Result, Ok, Err, refl, sym, ap, subst, ◌∙◌, arith}
-use Rattle.std.specs.Prelude.{IfOk, sum_by}
-use Rattle.std.specs.List.{slice_get, filter, list_all, list_any, enumerate_from, range_with_len}
-use Rattle.std.specs.Option.{option_map_or}
+use Rattle.std.proofs.Common.{◌≡◌, ℕ, zero, suc, ◌+◌, ◌<◌, ◌≤◌, Bool, true, false, cond, List, [], ◌∷◌, ◌++◌, length, map, get_or, Result, Ok, Err, refl, sym, ap, ◌∙◌, arith}
+use Rattle.std.specs.Prelude.{IfOk}
+use Rattle.std.specs.List.{filter, list_all, list_any, enumerate_from, range_with_len}
 use Rattle.std.proofs.lemmas.List.{length-map, map-append, map-id}
 use Rattle.std.proofs.lemmas.List.Elements.{filter-append}
 use Rattle.std.proofs.lemmas.List.FromFn.{map-range_with_len_more}
 use Rattle.std.proofs.lemmas.List.Sums.{sum_by-cons, length-filter, count_by-le-length}
 use Rattle.emu_names.specs.declared.shortage.Memory.{Memory}
-use Rattle.emu_names.specs.declared.limits.TheConstants.{BUNDLE_ITEMS}
 use Rattle.level_items.specs.declared.items.Item.{Item}
 use Rattle.level_items.specs.Levels.{Level}
 use Rattle.db_config.specs.declared.parts.ConfigParts.{ConfigParts}
@@ -16,7 +14,6 @@ use Rattle.bundle_state.specs.Bundle.{BundleParts, item_count}
 use Rattle.eql_resolve.specs.Asked.{AskedTerm, is_marked_term}
 use Rattle.eql_model.specs.declared.tuple.Tuple.{Tuple}
 use Rattle.eql_model.specs.Flags.{flag_at}
-use Rattle.eql_model.specs.Sets.{is_over}
 use Rattle.eql_model.specs.Meaning.{items_at, meets, meets_all, met_row, single, singles}
 use Rattle.eql_model.proofs.MadeRows.{all_of_maps, no_item}
 
@@ -84,11 +81,10 @@ conjunction_exit c b level view terms rows items marked (Err e) are at mark told
 conjunction_exit c b level view terms rows items marked (Ok made) are at mark told =
     told
     ∙ (λ i. map (single (mark i))
-      (filter (λ k. list_all (flag_at k) ((are ∙ map_twice (met_row c b level) view terms) i)) (range_with_len 0 (length (at i)))))
+    (filter (λ k. list_all (flag_at k) ((are ∙ map_twice (met_row c b level) view terms) i)) (range_with_len 0 (length (at i)))))
     ∙ singles_are c b (map view terms) (items_at b.levels level)
 
 -- ---- how many there are
-
 
 pub level_few : (levels : List Level) (n : ℕ) → length (items_at levels n) ≤ item_count levels
 level_few [] n = omega arith
@@ -106,7 +102,7 @@ pub singles_few : (c : ConfigParts) (b : BundleParts) (ts : List AskedTerm) (k :
 singles_few c b ts k items =
     let P : ℕ × Item → Bool = λ at. meets_all c b ts at.1 in
     let made : length (singles c b ts k items) ≡ length (filter P (enumerate_from k items)) =
-        length-map (filter P (enumerate_from k items)) (λ (at : ℕ × Item). single (list_any is_marked_term ts) at.0) in
+    length-map (filter P (enumerate_from k items)) (λ (at : ℕ × Item). single (list_any is_marked_term ts) at.0) in
     let kept = length-filter P (enumerate_from k items) in
     let fewer = count_by-le-length P (enumerate_from k items) in
     let all = enumerated k items in

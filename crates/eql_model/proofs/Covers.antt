@@ -1,17 +1,17 @@
 -- A dominance by rows of bits is one by links.
-use Rattle.std.proofs.Common.{◌≡◌, ℕ, zero, suc, ◌+◌, ◌-◌, ◌<◌, ◌≤◌, Bool, true, false, cond, ◌||◌, ◌&&◌, List, [], ◌∷◌, ◌++◌, length, take, drop, map, get_or, refl, sym, ap, subst, ◌∙◌, arith, nat_lt, nat_le}
+use Rattle.std.proofs.Common.{◌≡◌, ℕ, zero, suc, ◌+◌, ◌-◌, ◌<◌, ◌≤◌, Bool, true, false, cond, ◌||◌, ◌&&◌, List, [], ◌∷◌, ◌++◌, length, take, drop, map, get_or, refl, sym, ap, ◌∙◌, arith, nat_lt, nat_le}
 use Rattle.std.specs.Prelude.{All}
 use Rattle.std.specs.List.{filter, flat_map, list_all, list_any, range_with_len}
 use Rattle.std.proofs.lemmas.Bool.{and_parts, leb-true, ltb-true}
-use Rattle.std.proofs.lemmas.List.{drop_more, length-map, get_or-map}
+use Rattle.std.proofs.lemmas.List.{drop_more, get_or-map}
 use Rattle.std.proofs.lemmas.List.Concat.{flat_map-cons}
 use Rattle.std.proofs.lemmas.List.Elements.{All-head, All-tail}
 use Rattle.link_graph.specs.declared.link.Link.{Link}
 use Rattle.bundle_state.specs.Bundle.{BundleParts}
-use Rattle.hier_closure.specs.Dominance.{dominates, ids_at, closure_row, closure_rows, closure_of}
+use Rattle.hier_closure.specs.Dominance.{dominates, ids_at, closure_row, closure_rows}
 use Rattle.eql_model.specs.declared.tuple.Tuple.{Tuple}
 use Rattle.eql_model.specs.Sets.{each_once}
-use Rattle.eql_model.specs.Tuples.{from_to, stretch, fits_in, covers, one_covers, left_with, pairs_with, joined}
+use Rattle.eql_model.specs.Tuples.{stretch, fits_in, covers, one_covers, left_with, pairs_with, joined}
 use Rattle.eql_model.specs.Joins.{positions, bit_at, is_under, bits_cover, goes_with, makes, both_ways}
 
 -- ---- a stretch by its positions
@@ -103,7 +103,7 @@ all_pairs_same p q make L R same [] rs left right = refl
 all_pairs_same p q make L R same (l ∷ ls) rs left right =
     flat_map-cons (pairs_with p make rs) l ls
     ∙ (λ i. pairs_same p q make R l (λ r fits. same l r (All-head L l ls left) fits) rs right i
-      ++ all_pairs_same p q make L R same ls rs (All-tail L l ls left) right i)
+    ++ all_pairs_same p q make L R same ls rs (All-tail L l ls left) right i)
     ∙ sym (flat_map-cons (pairs_with q make rs) l ls)
 
 pub joined_same : (p q : Tuple → Tuple → Bool) (make : Tuple → Tuple → Tuple) (L R : Tuple → Type 0) →

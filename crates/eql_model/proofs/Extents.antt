@@ -10,13 +10,12 @@ use Rattle.level_items.specs.Levels.{ids_of}
 use Rattle.level_items.specs.Times.{first_sample, last_sample}
 use Rattle.bundle_state.specs.Bundle.{BundleParts}
 use Rattle.hier_closure.specs.Dominance.{dominates, ids_at, closure_of}
-use Rattle.eql_model.specs.declared.tuple.Tuple.{Tuple}
 use Rattle.eql_model.specs.declared.tuple.Span.{Span}
 use Rattle.eql_model.specs.Tuples.{from_to, stretch, fits_in}
 use Rattle.eql_model.specs.Joins.{is_under}
 use Rattle.eql_model.specs.Meaning.{items_at}
 use Rattle.eql_model.specs.Results.{bare, IsStretchIn}
-use Rattle.eql_model.specs.Rows.{items_of, is_below_some, items_below, least, greatest, extent, end_to_end}
+use Rattle.eql_model.specs.Rows.{items_of, is_below_some, least, greatest, extent, end_to_end}
 use Rattle.eql_model.specs.Below.{widened}
 use Rattle.eql_model.proofs.Between.{ids_are, wide_exit}
 use Rattle.eql_model.proofs.Covers.{under_is, taken_by}
@@ -81,6 +80,7 @@ below_is b span time at d there here =
   where
     id_here : get_or (ids_at b.levels time) at 0 ≡ (get_or (items_at b.levels time) at d).id.0
     id_here = ap (λ ids. get_or ids at 0) (ids_are b.levels time) ∙ get_or-map (λ (i : Item). i.id.0) (items_at b.levels time) at d 0 here
+
     uppers : stretch (ids_at b.levels span.level) (bare span.first span.last) ≡ ids_of (items_of b span)
     uppers =
         ap (λ ids. from_to ids span.first span.last) (ids_are b.levels span.level)
@@ -110,9 +110,11 @@ pub ends_answer : (b : BundleParts) (span : Span) (items : List Item) (d e : Ite
     IsStretchIn b span → f ≡ first_sample (get_or items span.first d).time → l ≡ last_sample (get_or items span.last e).time →
     Some (f, l) ≡ end_to_end (items_of b span)
 ends_answer b span items d e f l are there first last =
-    (λ i. Some ((first ∙ ap (λ xs. first_sample (get_or xs span.first d).time) are) i,
+    (λ i. Some (
+      (first ∙ ap (λ xs. first_sample (get_or xs span.first d).time) are) i,
       (last ∙ ap (λ xs. last_sample (get_or xs span.last e).time) are
-      ∙ ap (λ (x : Item). last_sample x.time) (get_or_default (items_at b.levels span.level) span.last e d there.within)) i))
+          ∙ ap (λ (x : Item). last_sample x.time) (get_or_default (items_at b.levels span.level) span.last e d there.within)) i,
+    ))
     ∙ sym (ends_are (items_at b.levels span.level) span.first span.last d there.rises there.within)
 
 pub below_answer : (b : BundleParts) (span : Span) (time at : ℕ) (d : Item) (items : List Item) (rows : List (List Bool)) (wanted : Bool) →

@@ -1,8 +1,7 @@
 -- Tuples lie on the level of their query.
-use Rattle.std.proofs.Common.{◌≡◌, ℕ, zero, suc, ◌+◌, ◌<◌, ◌≤◌, Bool, true, false, cond, ◌&&◌, ◌||◌, List, [], ◌∷◌, ◌++◌, length, map, get_or, Option, None, Some, Result, Ok, Err, refl, sym, ap, subst, ◌∙◌, arith, nat_lt, nat_le}
-use Rattle.std.specs.Prelude.{All, IsSome, ◌==◌}
-use Rattle.std.specs.List.{slice_get, filter, flat_map, list_all, enumerate_from}
-use Rattle.std.specs.Option.{option_and_then}
+use Rattle.std.proofs.Common.{◌≡◌, ℕ, ◌+◌, ◌<◌, ◌≤◌, Bool, true, false, cond, ◌&&◌, List, [], ◌∷◌, length, map, Result, refl, sym, ap, subst, ◌∙◌, arith, nat_lt, nat_le}
+use Rattle.std.specs.Prelude.{All}
+use Rattle.std.specs.List.{filter, flat_map, list_all, enumerate_from}
 use Rattle.std.specs.BTreeSet.{insert_key}
 use Rattle.std.proofs.lemmas.Bool.{and_parts, leb-true, ltb-true, eqb-true}
 use Rattle.std.proofs.lemmas.Bool.Decides.{nat_tests}
@@ -10,25 +9,19 @@ use Rattle.std.proofs.lemmas.List.{length-map}
 use Rattle.std.proofs.lemmas.List.Concat.{flat_map-cons}
 use Rattle.std.proofs.lemmas.List.Elements.{All-nil, All-cons, All-head, All-tail, All-append}
 use Rattle.std.proofs.lemmas.Map.Views.{All-insert_key}
-use Rattle.std.proofs.lemmas.Option.{slice_get_within}
 use Rattle.emu_names.specs.declared.limits.TheConstants.{BUNDLE_ITEMS}
 use Rattle.level_items.specs.declared.items.Item.{Item}
-use Rattle.level_items.specs.Levels.{Level}
-use Rattle.db_config.specs.declared.parts.AttributePlace.{AttributePlace}
 use Rattle.db_config.specs.declared.parts.ConfigParts.{ConfigParts}
-use Rattle.db_config.specs.declared.parts.LevelDef.{LevelDef}
-use Rattle.db_config.specs.Lookups.{attribute_at}
 use Rattle.bundle_state.specs.Bundle.{BundleParts}
 use Rattle.bundle_state.specs.Valid.{KeepsBundleRules}
 use Rattle.bundle_state.specs.Built.{FitsConfig, form_of, form_asked}
 use Rattle.hier_closure.specs.Dominance.{ids_at, closure_of}
-use Rattle.eql_resolve.specs.Asked.{AskedTerm, test, position, number, AskedQuery, terms, sequence, dominance, is_on, term_level, level_of, AreOnOneLevel}
+use Rattle.eql_resolve.specs.Asked.{AskedTerm, AskedQuery, terms, sequence, dominance, is_on, term_level, level_of, AreOnOneLevel}
 use Rattle.eql_resolve.specs.Sound.{AreTermsOf, IsQueryOf}
 use Rattle.eql_resolve.proofs.Kept.{level_within}
 use Rattle.eql_model.specs.declared.tuple.Tuple.{Tuple}
 use Rattle.eql_model.specs.declared.joins.Join.{Join}
 use Rattle.eql_model.specs.declared.faults.MatchFault.{MatchFault}
-use Rattle.eql_model.specs.declared.faults.MatchFault.TheVariants.{TooManyTuples, Memory}
 use Rattle.eql_model.specs.Sets.{tuple_cmp, put_all, each_once, is_over, GivesSet}
 use Rattle.eql_model.specs.Tuples.{fits_in, follows, both, left_with, one_covers, pairs_with, joined}
 use Rattle.eql_model.specs.Joins.{AreWide, goes_with, makes, both_ways}
@@ -117,7 +110,7 @@ tuples_fit c b (terms ts) one =
 tuples_fit c b (sequence p q) one =
     let n : ℕ = length (items_at b.levels (level_of p)) in
     let right : LieOn b.levels (level_of p) (tuples c b q) =
-        subst (λ (level : ℕ). LieOn b.levels level (tuples c b q)) (sym one.2) (tuples_fit c b q one.1) in
+    subst (λ (level : ℕ). LieOn b.levels level (tuples c b q)) (sym one.2) (tuples_fit c b q one.1) in
     all_joined follows both (Fits n) (Fits n) (Fits n) (both_fit n) (tuples c b p) (tuples c b q) (tuples_fit c b p one.0) right
 tuples_fit c b (dominance p q) one =
     all_joined (one_covers b.links (ids_at b.levels (level_of p)) (ids_at b.levels (level_of q))) left_with
@@ -129,9 +122,10 @@ tuples_fit c b (dominance p q) one =
 
 pub wide_both : (b : BundleParts) (left right : ℕ) (join : Join) → join ≡ both_ways b left right → AreWide join
 wide_both b left right join e =
-    subst AreWide (sym e)
-    (subst (λ (n : ℕ). All (λ row. length row ≡ n) (closure_of b right left)) (sym (rows_count b left right)) (rows_wide b right left),
-    subst (λ (n : ℕ). All (λ row. length row ≡ n) (closure_of b left right)) (sym (rows_count b right left)) (rows_wide b left right))
+    subst AreWide (sym e) (
+      subst (λ (n : ℕ). All (λ row. length row ≡ n) (closure_of b right left)) (sym (rows_count b left right)) (rows_wide b right left),
+      subst (λ (n : ℕ). All (λ row. length row ≡ n) (closure_of b left right)) (sym (rows_count b right left)) (rows_wide b left right),
+    )
 
 by_ids : (b : BundleParts) (level : ℕ) (ts : List Tuple) → LieOn b.levels level ts →
     All (λ t. fits_in (length (ids_at b.levels level)) t ≡ true) ts

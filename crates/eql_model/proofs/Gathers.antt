@@ -1,14 +1,13 @@
 -- What is put into a set part by part.
-use Rattle.std.proofs.Common.{◌≡◌, ℕ, ◌+◌, ◌<◌, ◌≤◌, Bool, true, false, List, [], ◌∷◌, ◌++◌, length, drop, get_or, refl, sym, cond, ap, subst, ◌∙◌, arith}
-use Rattle.std.specs.Prelude.{nat_lt, map}
-use Rattle.std.specs.List.{filter, flat_map}
+use Rattle.std.proofs.Common.{◌≡◌, ℕ, ◌+◌, ◌<◌, ◌≤◌, Bool, true, false, List, [], ◌∷◌, ◌++◌, length, drop, get_or, refl, sym, cond, ap, ◌∙◌, arith}
+use Rattle.std.specs.Prelude.{map}
+use Rattle.std.specs.List.{filter}
 use Rattle.std.specs.declared.cmp.Ordering.{Ordering}
 use Rattle.std.specs.declared.cmp.Ordering.TheVariants.{Less, Equal, Greater}
 use Rattle.std.specs.Ordering.{match_ordering}
 use Rattle.std.specs.BTreeSet.{insert_key}
 use Rattle.std.proofs.lemmas.List.{drop_more}
 use Rattle.std.proofs.lemmas.Bool.Decides.{nat_tests}
-use Rattle.emu_names.specs.declared.limits.TheConstants.{TUPLES}
 use Rattle.eql_model.specs.declared.tuple.Tuple.{Tuple}
 use Rattle.eql_model.specs.Sets.{tuple_cmp, put_all, is_over}
 use Rattle.eql_model.specs.Tuples.{pairs_with}
@@ -58,7 +57,6 @@ pub gather_over : {X : Type 0} (F : List X → List Tuple) (f : X → List Tuple
 gather_over F f turn xs i d g whole so_far h over =
     ap is_over (sym so_far ∙ at_place F f turn xs i d g h)
     ∙ over_stays (put_all g (f (get_or xs i d))) (F (drop (i + 1) xs)) over
-
 
 pub pairs_in_turn : (goes : Tuple → Tuple → Bool) (make : Tuple → Tuple → Tuple) (left : Tuple) →
     MadeInTurn (λ rights. pairs_with goes make rights left) (λ right. pairs_with goes make (right ∷ []) left)

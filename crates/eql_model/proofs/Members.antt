@@ -1,5 +1,5 @@
 -- The members and the order of sets of tuples.
-use Rattle.std.proofs.Common.{◌≡◌, ℕ, Bool, true, false, cond, ◌||◌, ◌&&◌, List, [], ◌∷◌, ◌++◌, map, Option, None, Some, refl, sym, ap, subst, ◌∙◌}
+use Rattle.std.proofs.Common.{◌≡◌, ℕ, Bool, true, false, cond, ◌||◌, ◌&&◌, List, [], ◌∷◌, map, Option, None, Some, refl, sym, ap, ◌∙◌}
 use Rattle.std.specs.Prelude.{All}
 use Rattle.std.specs.List.{filter, flat_map, list_any, AllByRecursion}
 use Rattle.std.specs.List.Sorted.{IsStrictlySortedBy}
@@ -14,7 +14,7 @@ use Rattle.std.specs.BTreeSet.{insert_key}
 use Rattle.std.proofs.lemmas.List.Concat.{flat_map-cons}
 use Rattle.std.proofs.lemmas.List.Elements.{All-from_recursion, recursion_from_All, All-weaker}
 use Rattle.std.proofs.lemmas.List.Folds.{list_any-append}
-use Rattle.std.proofs.lemmas.Map.Lookups.{exact_unsigned}
+use Rattle.std.proofs.lemmas.Map.Lookups.{exact_unsigned, btree_set_from_contains}
 use Rattle.std.proofs.lemmas.Map.Views.{All-insert_key}
 use Rattle.eql_model.specs.declared.tuple.Tuple.{Tuple}
 use Rattle.eql_model.specs.Sets.{tuple_cmp, has, put_all, each_once}
@@ -136,9 +136,14 @@ sorted_by : (o : Ordering) (t x : Tuple) (xs ys : List Tuple) → tuple_cmp t x 
     (tuple_cmp t x ≡ Greater → All (Above x) ys) → IsStrictlySortedBy tuple_cmp ys →
     IsStrictlySortedBy tuple_cmp (match_ordering o (t ∷ x ∷ xs) (x ∷ xs) (x ∷ ys))
 unfolding IsStrictlySortedBy
-sorted_by Less t x xs ys is sorted above rest =
-    ((is, recursion_from_All (Above t) xs
-    (All-weaker (Above x) (Above t) (λ y less. tuples_total.trans t x y is less) xs (above_all x xs sorted.0))), sorted)
+sorted_by Less t x xs ys is sorted above rest = (
+  (
+    is,
+    recursion_from_All (Above t) xs
+        (All-weaker (Above x) (Above t) (λ y less. tuples_total.trans t x y is less) xs (above_all x xs sorted.0)),
+  ),
+  sorted,
+)
 sorted_by Equal t x xs ys is sorted above rest = sorted
 sorted_by Greater t x xs ys is sorted above rest = (recursion_from_All (Above x) ys (above is), rest)
 
@@ -160,3 +165,20 @@ nothing_sorted = tt
 
 pub once_sorted : (ts : List Tuple) → IsStrictlySortedBy tuple_cmp (each_once ts)
 once_sorted ts = put_sorted [] ts nothing_sorted
+
+-- ---- lists with the same members make the same set
+
+pub same_sorted : (xs ys : List Tuple) → IsStrictlySortedBy tuple_cmp xs → IsStrictlySortedBy tuple_cmp ys →
+    ((q : Tuple) → has xs q ≡ has ys q) → xs ≡ ys
+same_sorted xs ys left right same =
+    btree_set_from_contains tuples_total (record { keys = xs }) (record { keys = ys }) left right
+    (λ q. same q) same_tuple
+
+pub same_once : (xs ys : List Tuple) → ((q : Tuple) → has xs q ≡ has ys q) → each_once xs ≡ each_once ys
+same_once xs ys same =
+    same_sorted (each_once xs) (each_once ys) (once_sorted xs) (once_sorted ys)
+    (λ q. has_once xs q ∙ same q ∙ sym (has_once ys q))
+
+-- a list in order is its own set
+pub once_is : (ts : List Tuple) → IsStrictlySortedBy tuple_cmp ts → each_once ts ≡ ts
+once_is ts sorted = same_sorted (each_once ts) ts (once_sorted ts) sorted (has_once ts)

@@ -1,6 +1,6 @@
 -- The results of a query are there in its bundle, and are no more than its tuples.
-use Rattle.std.proofs.Common.{◌≡◌, ℕ, zero, suc, ◌+◌, ◌<◌, ◌≤◌, Bool, true, false, cond, ◌||◌, List, [], ◌∷◌, ◌++◌, length, map, Option, None, Some, Result, Ok, Err, refl, sym, ap, subst, ◌∙◌, arith, nat_lt, nat_le}
-use Rattle.std.specs.Prelude.{All, IsSome, IfOk, unwrap_or, option_map}
+use Rattle.std.proofs.Common.{◌≡◌, ℕ, suc, ◌+◌, ◌<◌, ◌≤◌, Bool, true, false, cond, ◌||◌, List, [], ◌∷◌, length, map, Option, None, Some, Err, refl, sym, ap, subst, ◌∙◌, arith, nat_lt, nat_le}
+use Rattle.std.specs.Prelude.{All, IsSome, unwrap_or, option_map}
 use Rattle.std.specs.List.{filter, flat_map, list_all, list_any, enumerate_from, find}
 use Rattle.std.specs.Option.{option_or, is_some}
 use Rattle.std.specs.BTreeSet.{insert_key}
@@ -9,10 +9,9 @@ use Rattle.std.specs.declared.cmp.Ordering.{Ordering}
 use Rattle.std.specs.declared.cmp.Ordering.TheVariants.{Less, Equal, Greater}
 use Rattle.std.proofs.lemmas.Bool.{and_parts, or_parts, leb-true, ltb-true, eqb-true}
 use Rattle.std.proofs.lemmas.Bool.Decides.{nat_tests}
-use Rattle.std.proofs.lemmas.List.{length-map, length-append}
+use Rattle.std.proofs.lemmas.List.{length-append}
 use Rattle.std.proofs.lemmas.List.Concat.{flat_map-cons}
-use Rattle.std.proofs.lemmas.List.Elements.{All-nil, All-cons, All-head, All-tail, All-append, All-map}
-use Rattle.emu_names.specs.declared.shortage.Memory.{Memory as NoMemory}
+use Rattle.std.proofs.lemmas.List.Elements.{All-nil, All-cons, All-head, All-tail, All-append}
 use Rattle.level_items.specs.declared.items.Item.{Item}
 use Rattle.level_items.specs.Levels.{Level}
 use Rattle.db_config.specs.declared.parts.AttributePlace.{AttributePlace}
@@ -31,8 +30,8 @@ use Rattle.eql_model.specs.declared.faults.MatchFault.{MatchFault}
 use Rattle.eql_model.specs.declared.faults.MatchFault.TheVariants.{TooManyTuples, Memory}
 use Rattle.eql_model.specs.Sets.{tuple_cmp, put_all, each_once, is_over, GivesSet}
 use Rattle.eql_model.specs.Tuples.{fits_in, follows, both, left_with, one_covers}
-use Rattle.eql_model.specs.Meaning.{items_at, meets_all, single, singles, tuples, has_too_many, Finds}
-use Rattle.eql_model.specs.Results.{bare, marked_item, shown, stretches, span_at, results, Matches, IsSpanIn, IsStretchIn, AreThere}
+use Rattle.eql_model.specs.Meaning.{items_at, meets_all, single, tuples, has_too_many}
+use Rattle.eql_model.specs.Results.{bare, marked_item, shown, stretches, span_at, results, Matches, IsSpanIn, AreThere}
 use Rattle.eql_model.proofs.Fitting.{all_once, all_joined, tuples_fit, levels_same}
 
 -- ---- marks lie on the level of the marked condition, and all tuples have one where there is one
@@ -199,7 +198,7 @@ shown_few : (marked : Bool) (ts : List Tuple) → length (flat_map (shown marked
 shown_few marked [] = omega arith
 shown_few marked (t ∷ ts) =
     let parts : length (flat_map (shown marked) (t ∷ ts)) ≡ length (shown marked t) + length (flat_map (shown marked) ts) =
-        ap length (flat_map-cons (shown marked) t ts) ∙ length-append (shown marked t) (flat_map (shown marked) ts) in
+    ap length (flat_map-cons (shown marked) t ts) ∙ length-append (shown marked t) (flat_map (shown marked) ts) in
     let one = one_shown marked t in let rest = shown_few marked ts in omega arith
 
 over_fewer : (xs ys : List Tuple) → length xs ≤ length ys → is_over ys ≡ false → is_over xs ≡ false

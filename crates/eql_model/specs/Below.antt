@@ -1,5 +1,5 @@
 -- The segments below a result, and what a row needs of them.
-use Rattle.std.specs.Prelude.{◌≡◌, ◌<◌, ◌≤◌, ◌^◌, ℕ, min, max, List, length, Option, Some, None, IfSome, option_map}
+use Rattle.std.specs.Prelude.{◌≡◌, ◌<◌, ◌^◌, ℕ, min, max, length, Option, Some, None, IfSome, option_map}
 use Rattle.level_items.specs.declared.times.Time.{Time}
 use Rattle.level_items.specs.Times.{first_sample, last_sample}
 use Rattle.bundle_state.specs.Bundle.{BundleParts}

@@ -75,8 +75,9 @@ greatest n (m ∷ ms) = greatest (max n m) ms
 abbrev pub extent : List Item → Option (ℕ × ℕ)
 extent [] = None
 extent (s ∷ ss) = Some (
-    least (first_sample s.time) (map (λ i. first_sample i.time) ss),
-    greatest (last_sample s.time) (map (λ i. last_sample i.time) ss))
+  least (first_sample s.time) (map (λ i. first_sample i.time) ss),
+  greatest (last_sample s.time) (map (λ i. last_sample i.time) ss),
+)
 
 -- some of these items dominates an item
 abbrev pub is_below_some : List Link → List ℕ → Item → Bool

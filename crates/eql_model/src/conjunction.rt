@@ -71,12 +71,7 @@ fn single(marked: bool, at: usize) -> Tuple
 }
 
 /// Puts the tuple of a position last, where all rows have its flag. The only refusal is want of memory.
-fn put_single(
-    made: &mut Tuples,
-    rows: &[Flags],
-    marked: bool,
-    at: usize,
-) -> Result<(), Memory>
+fn put_single(made: &mut Tuples, rows: &[Flags], marked: bool, at: usize) -> Result<(), Memory>
     requires { at < BUNDLE_ITEMS }
     ensures { OnOk result (made.new ≡ made.old
         ++ map (single marked) (filter (λ k. list_all (flag_at k) rows.now) (at ∷ []))) }

@@ -98,8 +98,16 @@ impl Join {
     {
         let mark = mark_of(left, right);
         match self {
-            Join::Sequence => Tuple { first: left.first, last: right.last, mark },
-            Join::Dominance { .. } => Tuple { first: left.first, last: left.last, mark },
+            Join::Sequence => Tuple {
+                first: left.first,
+                last: right.last,
+                mark,
+            },
+            Join::Dominance { .. } => Tuple {
+                first: left.first,
+                last: left.last,
+                mark,
+            },
         }
     }
 }

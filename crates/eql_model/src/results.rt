@@ -41,11 +41,7 @@ fn put_shown(gathered: &mut Gathered, marked: bool, tuple: Tuple) -> Result<(), 
 }
 
 /// Puts in what these tuples show.
-fn gather_shown(
-    gathered: &mut Gathered,
-    marked: bool,
-    tuples: &[Tuple],
-) -> Result<(), MatchFault>
+fn gather_shown(gathered: &mut Gathered, marked: bool, tuples: &[Tuple]) -> Result<(), MatchFault>
     requires room { is_over gathered.old ≡ false }
     ensures ok { OnOk result
         (gathered.new ≡ put_all gathered.old (flat_map (shown marked) tuples.now)) }

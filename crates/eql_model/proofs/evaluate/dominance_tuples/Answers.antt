@@ -1,6 +1,5 @@
 use Rattle.eql_resolve.specs.View.{query_in}
-use Rattle.eql_resolve.specs.Asked.{level_of}
-use Rattle.eql_model.proofs.Fitting.{found_fit, level_there, joined_at}
+use Rattle.eql_model.proofs.Fitting.{found_fit, level_there}
 use Rattle.eql_model.proofs.evaluate.dominance_tuples.Goals as goal
 
 pub covered-requires-clause-left : goal.covered-requires-clause-left

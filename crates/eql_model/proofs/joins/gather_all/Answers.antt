@@ -21,9 +21,11 @@ returns-in-Err-clause-over c = λ told.
     (c.in-Err.ensures.over (ap (λ e. Err e) fault))
 
 pub loop-left-preserved : goal.loop-left-preserved
-loop-left-preserved c =
-    (gather_step (flat_map (pairs_with (goes_with c.args.join.now) (makes c.args.join.now) c.args.rights.now))
-    (pairs_with (goes_with c.args.join.now) (makes c.args.join.now) c.args.rights.now)
-    (flat_map-cons (pairs_with (goes_with c.args.join.now) (makes c.args.join.now) c.args.rights.now))
-    c.args.lefts.now c.loop-left.left-index no_tuple c.loop-left.gathered _ _ c.loop-left.invariant.0 c.loop-left-test.true
-    c.in-Ok.ensures.ok, c.in-Ok.ensures.fits)
+loop-left-preserved c = (
+  gather_step (flat_map (pairs_with (goes_with c.args.join.now) (makes c.args.join.now) c.args.rights.now))
+      (pairs_with (goes_with c.args.join.now) (makes c.args.join.now) c.args.rights.now)
+      (flat_map-cons (pairs_with (goes_with c.args.join.now) (makes c.args.join.now) c.args.rights.now))
+      c.args.lefts.now c.loop-left.left-index no_tuple c.loop-left.gathered _ _ c.loop-left.invariant.0 c.loop-left-test.true
+      c.in-Ok.ensures.ok,
+  c.in-Ok.ensures.fits,
+)

@@ -18,7 +18,9 @@ returns-in-Err-clause-over c = λ told.
     (c.in-Err.ensures.over (ap (λ e. Err e) fault))
 
 pub loop-tuple-preserved : goal.loop-tuple-preserved
-loop-tuple-preserved c =
-    (gather_step (flat_map (shown c.args.marked)) (shown c.args.marked) (flat_map-cons (shown c.args.marked))
-    c.args.tuples.now c.loop-tuple.tuple-index no_tuple c.loop-tuple.gathered _ _ c.loop-tuple.invariant.0 c.loop-tuple-test.true
-    c.in-Ok.ensures.ok, c.in-Ok.ensures.fits)
+loop-tuple-preserved c = (
+  gather_step (flat_map (shown c.args.marked)) (shown c.args.marked) (flat_map-cons (shown c.args.marked))
+      c.args.tuples.now c.loop-tuple.tuple-index no_tuple c.loop-tuple.gathered _ _ c.loop-tuple.invariant.0 c.loop-tuple-test.true
+      c.in-Ok.ensures.ok,
+  c.in-Ok.ensures.fits,
+)
