@@ -13,7 +13,7 @@ use std::marker::Model;
 
 /// A set of tuples, which contracts see as the list of its tuples in order.
 #[derive(Drop)]
-pub(crate) struct Gathered {
+pub struct Gathered {
     set: BTreeSet<Tuple>,
 }
 
@@ -28,7 +28,7 @@ impl Model for Gathered {
 
 impl Gathered {
     /// No tuple. The set grows by `alloc`.
-    pub(crate) fn new(alloc: Global) -> Gathered
+    pub fn new(alloc: Global) -> Gathered
         ensures { result ≡ [] }
     {
         Gathered {
@@ -38,7 +38,7 @@ impl Gathered {
 
     /// Puts a tuple in, unless it is there. `TooManyTuples` comes exactly where there are over 1,000,000
     /// then.
-    pub(crate) fn put(&mut self, tuple: Tuple) -> Result<(), MatchFault>
+    pub fn put(&mut self, tuple: Tuple) -> Result<(), MatchFault>
         ensures ok { OnOk result (self.new ≡ put_all self.old (tuple ∷ [])) }
         ensures fits { OnOk result (is_over self.new ≡ false) }
         ensures over { result ≡ Err MatchFault.TooManyTuples
@@ -55,7 +55,7 @@ impl Gathered {
     }
 
     /// The tuples in order. The only refusal is want of memory.
-    pub(crate) fn listed(&self, alloc: Global) -> Result<Tuples, Memory>
+    pub fn listed(&self, alloc: Global) -> Result<Tuples, Memory>
         ensures { IfOk result (λ list. list ≡ self.now) }
     {
         let mut list = Series::new(alloc);

@@ -22,9 +22,11 @@ mod tuple;
 
 pub use answer::{answer_plain, match_plain};
 pub use faults::MatchFault;
+pub use gathered::Gathered;
 pub use laws::{
     joins_are_pairs, results_are_there, sets_are_in_order, sets_have_their_tuples,
     tuples_lie_on_level,
 };
 pub use row::{Row, SegmentList};
+pub use rows::rows_of;
 pub use tuple::{Span, Spans, Tuple, Tuples};

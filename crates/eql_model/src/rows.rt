@@ -164,8 +164,11 @@ fn rows_below(
     Ok(rows)
 }
 
-/// The rows of results of a query. The only refusal is want of memory.
-pub(crate) fn rows_of(
+/// The rows of results of a query in a bundle, in their order. The only refusal is want of memory.
+///
+/// The query was resolved by the configuration, whose levels and link definitions the bundle has, and
+/// each result lies on the level of the results.
+pub fn rows_of(
     alloc: Global,
     config: &Config,
     bundle: &Bundle,
