@@ -1,0 +1,11 @@
+pub mod Between
+pub mod Conditions
+pub mod Covers
+pub mod Extents
+pub mod Fitting
+pub mod Gathers
+pub mod MadeRows
+pub mod Members
+pub mod Places
+pub mod Ranges
+pub mod Shown

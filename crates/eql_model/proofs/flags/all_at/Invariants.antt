@@ -1,0 +1,8 @@
+use Rattle.std.proofs.Common.{◌≡◌, drop}
+use Rattle.std.specs.List.{list_all}
+use Rattle.eql_model.specs.Flags.{flag_at}
+use Rattle.eql_model.proofs.flags.all_at.Given as goal
+
+-- the rows that are left answer the question
+abbrev pub invariant-loop-row : goal.invariant-loop-row
+invariant-loop-row l = list_all (flag_at l.at) (drop l.row-index l.rows) ≡ list_all (flag_at l.at) l.rows

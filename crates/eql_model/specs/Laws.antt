@@ -1,0 +1,42 @@
+-- What sets of tuples, joins and results come to, each law said by itself.
+use Rattle.std.specs.Prelude.{◌≡◌, ◌&&◌, Bool, List}
+use Rattle.std.specs.List.{list_any}
+use Rattle.std.specs.List.Sorted.{IsStrictlySortedBy}
+use Rattle.std.specs.BTreeMap.{is_at}
+use Rattle.db_config.specs.declared.parts.ConfigParts.{ConfigParts}
+use Rattle.bundle_state.specs.Bundle.{BundleParts}
+use Rattle.eql_resolve.specs.Asked.{AskedQuery, level_of, result_level, AreOnOneLevel}
+use Rattle.eql_resolve.specs.Sound.{IsQueryOf}
+use Rattle.eql_model.specs.declared.tuple.Tuple.{Tuple}
+use Rattle.eql_model.specs.Sets.{tuple_cmp, has, each_once}
+use Rattle.eql_model.specs.Tuples.{joined}
+use Rattle.eql_model.specs.Meaning.{tuples, LieOn}
+use Rattle.eql_model.specs.Results.{results, AreThere}
+
+-- the set of some tuples has those and no others
+abbrev pub SetsHaveTheirTuples : Type 0
+SetsHaveTheirTuples = (ts : List Tuple) (t : Tuple) → has (each_once ts) t ≡ has ts t
+
+-- a set is strictly in order, so no tuple stands twice
+abbrev pub SetsAreInOrder : Type 0
+SetsAreInOrder = (ts : List Tuple) → IsStrictlySortedBy tuple_cmp (each_once ts)
+
+-- a tuple is among those that are joined exactly where some left and some right tuple that go with each
+-- other make it
+abbrev pub JoinsArePairs : Type 0
+JoinsArePairs =
+    (goes : Tuple → Tuple → Bool) (make : Tuple → Tuple → Tuple) (lefts rights : List Tuple) (t : Tuple) →
+    has (joined goes make lefts rights) t
+    ≡ list_any (λ l. list_any (λ r. goes l r && is_at (tuple_cmp t) (make l r)) rights) lefts
+
+-- the tuples of a query lie on its level
+abbrev pub TuplesLieOnLevel : Type 0
+TuplesLieOnLevel =
+    (c : ConfigParts) (b : BundleParts) (q : AskedQuery) →
+    AreOnOneLevel q → LieOn b.levels (level_of q) (tuples c b q)
+
+-- the results of a query are there in its bundle, on the level of the results
+abbrev pub ResultsAreThere : Type 0
+ResultsAreThere =
+    (c : ConfigParts) (b : BundleParts) (q : AskedQuery) →
+    IsQueryOf c q → AreOnOneLevel q → AreThere c b (result_level q) (results c b q)

@@ -1,0 +1,12 @@
+pub mod Below
+pub mod Bits
+pub mod Flags
+pub mod Joins
+pub mod Labels
+pub mod Laws
+pub mod Meaning
+pub mod Positions
+pub mod Results
+pub mod Rows
+pub mod Sets
+pub mod Tuples

@@ -1,0 +1,67 @@
+//! A set of tuples that grows, up to 1,000,000 of them.
+ghost use Rattle.std.specs.Prelude.{◌≡◌, [], ◌∷◌, true, false, Err, IfOk, OnOk};
+ghost use Rattle.eql_model.specs.Sets.{put_all, is_over};
+
+use crate::faults::MatchFault;
+use crate::tuple::{Tuple, Tuples};
+use emu_lists::Series;
+use emu_names::Memory;
+use emu_names::limits::TUPLES;
+use std::alloc::Global;
+use std::collections::BTreeSet;
+use std::marker::Model;
+
+/// A set of tuples, which contracts see as the list of its tuples in order.
+#[derive(Drop)]
+pub struct Gathered {
+    set: BTreeSet<Tuple>,
+}
+
+impl Model for Gathered {
+    ghost use Rattle.std.specs.Prelude.{List};
+    ghost use Rattle.eql_model.specs.declared.tuple.Tuple.{Tuple};
+
+    ghost Value = { List Tuple };
+
+    ghost view = { λ s. s.set.keys };
+}
+
+impl Gathered {
+    /// No tuple. The set grows by `alloc`.
+    pub fn new(alloc: Global) -> Gathered
+        ensures { result ≡ [] }
+    {
+        Gathered {
+            set: BTreeSet::new(alloc),
+        }
+    }
+
+    /// Puts a tuple in, unless it is there. `TooManyTuples` comes exactly where there are over 1,000,000
+    /// then.
+    pub fn put(&mut self, tuple: Tuple) -> Result<(), MatchFault>
+        ensures ok { OnOk result (self.new ≡ put_all self.old (tuple ∷ [])) }
+        ensures fits { OnOk result (is_over self.new ≡ false) }
+        ensures over { result ≡ Err MatchFault.TooManyTuples
+            → is_over (put_all self.old (tuple ∷ [])) ≡ true }
+    {
+        match self.set.insert(tuple) {
+            Ok(_) => {}
+            Err(_) => return Err(MatchFault::Memory),
+        }
+        if self.set.len() > TUPLES {
+            return Err(MatchFault::TooManyTuples);
+        }
+        Ok(())
+    }
+
+    /// The tuples in order. The only refusal is want of memory.
+    pub fn listed(&self, alloc: Global) -> Result<Tuples, Memory>
+        ensures { IfOk result (λ list. list ≡ self.now) }
+    {
+        let mut list = Series::new(alloc);
+        for tuple in &self.set {
+            list.push(*tuple)?;
+        }
+        Ok(list)
+    }
+}

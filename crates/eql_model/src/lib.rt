@@ -1,0 +1,32 @@
+//! The meaning of queries (EMU-SDMS Manual, "The EMU Query Language (EQL)"): what a query finds in one
+//! bundle, worked out plainly, and the rows that show it.
+#![tactic(auto)]
+
+mod answer;
+mod conjunction;
+mod evaluate;
+mod faults;
+mod flags;
+mod gathered;
+mod joins;
+mod labels;
+mod laws;
+mod pairs;
+mod positions;
+mod results;
+mod row;
+mod rows;
+mod terms;
+mod times;
+mod tuple;
+
+pub use answer::{answer_plain, match_plain};
+pub use faults::MatchFault;
+pub use gathered::Gathered;
+pub use laws::{
+    joins_are_pairs, results_are_there, sets_are_in_order, sets_have_their_tuples,
+    tuples_lie_on_level,
+};
+pub use row::{Row, SegmentList};
+pub use rows::rows_of;
+pub use tuple::{Span, Spans, Tuple, Tuples};

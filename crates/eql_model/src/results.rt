@@ -1,0 +1,109 @@
+//! The results of a query in a bundle, each once.
+ghost use Rattle.std.specs.Prelude.{◌≡◌, ◌<◌, ◌^◌, true, false, map, Err, IfOk, OnOk};
+ghost use Rattle.std.specs.List.{flat_map};
+ghost use Rattle.eql_model.specs.Sets.{GivesSet, each_once, is_over, put_all};
+ghost use Rattle.eql_model.specs.Results.{bare, shown, span_at};
+
+use crate::faults::MatchFault;
+use crate::gathered::Gathered;
+use crate::tuple::{Span, Spans, Tuple, Tuples};
+use db_config::AttributePlace;
+use emu_lists::Series;
+use emu_names::Memory;
+use std::alloc::Global;
+
+/// A stretch without a mark.
+fn bare(first: u32, last: u32) -> Tuple
+    ensures { result ≡ bare first last }
+{
+    Tuple {
+        first,
+        last,
+        mark: None,
+    }
+}
+
+/// Puts in what a tuple shows: its marked item, where the query has a mark, else its stretch.
+fn put_shown(gathered: &mut Gathered, marked: bool, tuple: Tuple) -> Result<(), MatchFault>
+    requires room { is_over gathered.old ≡ false }
+    ensures ok { OnOk result (gathered.new ≡ put_all gathered.old (shown marked tuple)) }
+    ensures fits { OnOk result (is_over gathered.new ≡ false) }
+    ensures over { result ≡ Err MatchFault.TooManyTuples
+        → is_over (put_all gathered.old (shown marked tuple)) ≡ true }
+{
+    if !marked {
+        return gathered.put(bare(tuple.first, tuple.last));
+    }
+    match tuple.mark {
+        Some(at) => gathered.put(bare(at, at)),
+        None => Ok(()),
+    }
+}
+
+/// Puts in what these tuples show.
+fn gather_shown(gathered: &mut Gathered, marked: bool, tuples: &[Tuple]) -> Result<(), MatchFault>
+    requires room { is_over gathered.old ≡ false }
+    ensures ok { OnOk result
+        (gathered.new ≡ put_all gathered.old (flat_map (shown marked) tuples.now)) }
+    ensures fits { OnOk result (is_over gathered.new ≡ false) }
+    ensures over { result ≡ Err MatchFault.TooManyTuples
+        → is_over (put_all gathered.old (flat_map (shown marked) tuples.now)) ≡ true }
+{
+    for tuple in tuples {
+        match put_shown(gathered, marked, *tuple) {
+            Ok(()) => {}
+            Err(fault) => return Err(fault),
+        }
+    }
+    Ok(())
+}
+
+/// The set of what these tuples show.
+pub(crate) fn shown_once(
+    alloc: Global,
+    marked: bool,
+    tuples: &[Tuple],
+) -> Result<Tuples, MatchFault>
+    ensures { GivesSet result (each_once (flat_map (shown marked) tuples.now)) }
+{
+    let mut gathered = Gathered::new(alloc);
+    match gather_shown(&mut gathered, marked, tuples) {
+        Ok(()) => {}
+        Err(fault) => return Err(fault),
+    }
+    match gathered.listed(alloc) {
+        Ok(made) => Ok(made),
+        Err(_) => Err(MatchFault::Memory),
+    }
+}
+
+/// A stretch on the level of the attribute that is shown.
+fn span_at(place: AttributePlace, stretch: Tuple) -> Span
+    requires level { place.level < 2 ^ 32 }
+    requires attribute { place.attribute < 2 ^ 32 }
+    ensures { result ≡ span_at place stretch }
+{
+    Span {
+        level: place.level as u32,
+        attribute: place.attribute as u32,
+        first: stretch.first,
+        last: stretch.last,
+    }
+}
+
+/// Stretches on the level of the attribute that is shown. The only refusal is want of memory.
+pub(crate) fn spans_at(
+    alloc: Global,
+    place: AttributePlace,
+    stretches: &[Tuple],
+) -> Result<Spans, Memory>
+    requires level { place.level < 2 ^ 32 }
+    requires attribute { place.attribute < 2 ^ 32 }
+    ensures { IfOk result (λ made. made ≡ map (span_at place) stretches.now) }
+{
+    let mut made = Series::new(alloc);
+    for stretch in stretches {
+        made.push(span_at(place, *stretch))?;
+    }
+    Ok(made)
+}

@@ -1,0 +1,187 @@
+//! The rows of results.
+ghost use Rattle.std.specs.Prelude.{◌≡◌, ◌<◌, ◌++◌, length, map, IfOk, IfSome, OnOk, option_map, string_bytes};
+ghost use Rattle.bundle_state.specs.Built.{FitsConfig};
+ghost use Rattle.eql_resolve.specs.Asked.{result_level};
+ghost use Rattle.eql_resolve.specs.Sound.{IsResolvedBy};
+ghost use Rattle.eql_model.specs.Meaning.{items_at};
+ghost use Rattle.eql_model.specs.Results.{AreThere, IsSpanIn, IsStretchIn};
+ghost use Rattle.eql_model.specs.Below.{IsBelow};
+ghost use Rattle.eql_model.specs.Rows.{attribute_name, id_at, items_of, joined_labels, kind_of, level_name, row_of};
+
+use crate::labels::label_of;
+use crate::row::{Row, SegmentList};
+use crate::terms::items_at;
+use crate::times::{Below, below_of, samples_of, times_of};
+use crate::tuple::Span;
+use bundle_state::Bundle;
+use db_config::Config;
+use emu_lists::Series;
+use emu_names::{ItemId, LevelKind, Memory, Text};
+use eql_resolve::Asked;
+use level_items::Item;
+use std::alloc::Global;
+
+/// The name of a level.
+fn level_name(config: &Config, level: usize) -> &str
+    ensures { result.now ≡ level_name config.now level }
+{
+    match config.parts().levels.as_slice().get(level) {
+        Some(def) => def.name.as_str(),
+        None => "",
+    }
+}
+
+/// The name of an attribute of a level.
+fn attribute_name(config: &Config, level: usize, attribute: usize) -> &str
+    ensures { result.now ≡ attribute_name config.now level attribute }
+{
+    match config.parts().levels.as_slice().get(level) {
+        Some(def) => match def.attributes.as_slice().get(attribute) {
+            Some(def) => def.name.as_str(),
+            None => "",
+        },
+        None => "",
+    }
+}
+
+/// The type of a level.
+fn kind_of(config: &Config, level: usize) -> LevelKind
+    ensures { result ≡ kind_of config.now level }
+{
+    match config.parts().levels.as_slice().get(level) {
+        Some(def) => def.kind,
+        None => LevelKind::Item,
+    }
+}
+
+/// The id of the item at a position.
+fn id_at(items: &[Item], position: usize) -> ItemId
+    ensures { result ≡ id_at items.now position }
+{
+    match items.get(position) {
+        Some(item) => item.id,
+        None => ItemId(0),
+    }
+}
+
+/// The items of a result.
+fn items_of(bundle: &Bundle, span: Span) -> &[Item]
+    requires span { IsStretchIn bundle.now span }
+    requires level { span.level < length bundle.now.levels }
+    ensures { result.now ≡ items_of bundle.now span }
+{
+    &items_at(bundle, span.level as usize)[span.first as usize..span.last as usize + 1]
+}
+
+/// Writes the labels of items with `->` between them.
+fn push_labels(out: &mut String, attribute: usize, items: &[Item]) -> Result<(), Memory>
+    ensures { OnOk result
+        (string_bytes out.new ≡ string_bytes out.old ++ joined_labels attribute items.now) }
+{
+    let [first, others @ ..] = items else {
+        return Ok(());
+    };
+    out.push_str(label_of(first, attribute))?;
+    for item in others {
+        out.push_str("->")?;
+        out.push_str(label_of(item, attribute))?;
+    }
+    Ok(())
+}
+
+/// The labels of items, joined by `->`. The only refusal is want of memory.
+fn joined_labels(alloc: Global, attribute: usize, items: &[Item]) -> Result<Text, Memory>
+    ensures { IfOk result (λ made. made ≡ joined_labels attribute items.now) }
+{
+    let mut text = String::new(alloc);
+    push_labels(&mut text, attribute, items)?;
+    Ok(Text::from_string(text))
+}
+
+/// The row of a result. The only refusal is want of memory.
+fn row(
+    alloc: Global,
+    config: &Config,
+    bundle: &Bundle,
+    below: &Option<Below>,
+    span: Span,
+) -> Result<Row, Memory>
+    requires span { IsStretchIn bundle.now span }
+    requires level { span.level < length bundle.now.levels }
+    requires below { IfSome below.now (IsBelow bundle.now span.level) }
+    ensures { IfOk result (λ made. made
+        ≡ row_of config.now bundle.now (option_map (λ b. b.time) below.now) span) }
+{
+    let _items = bundle.item_count();
+    let kind = kind_of(config, span.level as usize);
+    let times = times_of(kind, bundle.rate(), samples_of(bundle, kind, below, span));
+    let items = items_at(bundle, span.level as usize);
+    let session = Text::new(alloc, bundle.key().session.as_str())?;
+    let name = Text::new(alloc, bundle.key().bundle.as_str())?;
+    let level = Text::new(alloc, level_name(config, span.level as usize))?;
+    let attribute = Text::new(
+        alloc,
+        attribute_name(config, span.level as usize, span.attribute as usize),
+    )?;
+    let labels = joined_labels(alloc, span.attribute as usize, items_of(bundle, span))?;
+    Ok(Row {
+        session,
+        bundle: name,
+        level,
+        attribute,
+        labels,
+        start: times.start,
+        end: times.end,
+        sample_start: times.sample_start,
+        sample_end: times.sample_end,
+        rate: bundle.rate(),
+        start_item: id_at(items, span.first as usize),
+        end_item: id_at(items, span.last as usize),
+        start_pos: span.first,
+        end_pos: span.last,
+    })
+}
+
+/// The rows of results on a level. The only refusal is want of memory.
+fn rows_below(
+    alloc: Global,
+    config: &Config,
+    bundle: &Bundle,
+    below: &Option<Below>,
+    level: usize,
+    spans: &[Span],
+) -> Result<SegmentList, Memory>
+    requires level { level < length bundle.now.levels }
+    requires below { IfSome below.now (IsBelow bundle.now level) }
+    requires spans { AreThere config.now bundle.now level spans.now }
+    ensures { IfOk result (λ rows. rows
+        ≡ map (row_of config.now bundle.now (option_map (λ b. b.time) below.now)) spans.now) }
+{
+    let mut rows = Series::new(alloc);
+    for span in spans {
+        rows.push(row(alloc, config, bundle, below, *span)?)?;
+    }
+    Ok(rows)
+}
+
+/// The rows of results of a query in a bundle, in their order. The only refusal is want of memory.
+///
+/// The query was resolved by the configuration, whose levels and link definitions the bundle has, and
+/// each result lies on the level of the results.
+pub fn rows_of(
+    alloc: Global,
+    config: &Config,
+    bundle: &Bundle,
+    asked: &Asked,
+    spans: &[Span],
+) -> Result<SegmentList, Memory>
+    requires resolved { IsResolvedBy config.now asked.now }
+    requires fits { FitsConfig config.now bundle.now }
+    requires spans { AreThere config.now bundle.now (result_level asked.now.query) spans.now }
+    ensures { IfOk result (λ rows. rows
+        ≡ map (row_of config.now bundle.now asked.now.time) spans.now) }
+{
+    let level = asked.query().shown_place().level;
+    let below = below_of(alloc, config, bundle, level, asked.time())?;
+    rows_below(alloc, config, bundle, &below, level, spans)
+}

@@ -1,0 +1,210 @@
+//! When a result is: its first and its last sample, and its borders in microseconds.
+ghost use Rattle.std.specs.Prelude.{◌≡◌, ◌<◌, ◌≤◌, ◌^◌, All, length, true, IfOk, IfSome, Some, option_map, if◌then◌else◌};
+ghost use Rattle.level_items.specs.Times.{ends_in_time, last_sample};
+ghost use Rattle.bundle_state.specs.Built.{FitsConfig};
+ghost use Rattle.eql_model.specs.Meaning.{items_at};
+ghost use Rattle.eql_model.specs.Rows.{items_below, items_of, extent, end_to_end, samples_of, start_of, end_of};
+ghost use Rattle.eql_model.specs.Below.{widened, IsBelow, below_of, AreInTime};
+ghost use Rattle.eql_model.specs.Results.{IsStretchIn};
+
+use crate::joins::is_under;
+use crate::tuple::{Span, Tuple};
+use bundle_state::Bundle;
+use db_config::Config;
+use emu_names::{LevelKind, Memory};
+use hier_closure::Closure;
+use level_items::{Item, Time};
+use sample_time::{micros_of_end, micros_of_point, micros_of_start};
+use std::alloc::Global;
+
+/// A time level, and which items of the level of the results dominate which of its items.
+#[derive(Drop)]
+pub(crate) struct Below {
+    time: usize,
+    rows: Closure,
+}
+
+/// When a row begins and ends, in microseconds and in samples.
+#[derive(Clone, Copy)]
+pub(crate) struct RowTimes {
+    pub(crate) start: Option<u64>,
+    pub(crate) end: Option<u64>,
+    pub(crate) sample_start: Option<u64>,
+    pub(crate) sample_end: Option<u64>,
+}
+
+/// The time level below the level of the results, where there is one. The only refusal is want of
+/// memory.
+pub(crate) fn below_of(
+    alloc: Global,
+    config: &Config,
+    bundle: &Bundle,
+    level: usize,
+    time: Option<usize>,
+) -> Result<Option<Below>, Memory>
+    requires fits { FitsConfig config.now bundle.now }
+    requires level { level < length bundle.now.levels }
+    requires time { IfSome time (λ t. t < length bundle.now.levels) }
+    ensures { IfOk result (λ made. made ≡ below_of bundle.now level time) }
+{
+    match time {
+        Some(time) => {
+            let rows = Closure::between(alloc, config, bundle, level, time)?;
+            Ok(Some(Below { time, rows }))
+        }
+        None => Ok(None),
+    }
+}
+
+/// The items of a level, whose times end below sample 2^40.
+fn timed_items(bundle: &Bundle, level: usize) -> &[Item]
+    requires { level < length bundle.now.levels }
+    ensures items { result.now ≡ items_at bundle.now.levels level }
+    ensures in_time { All (λ i. ends_in_time i.time ≡ true) result.now }
+{
+    bundle.level(level).as_slice()
+}
+
+/// The last sample of a time; 0 where there is none.
+fn last_sample(time: Time) -> u64
+    requires { ends_in_time time ≡ true }
+    ensures last { result ≡ last_sample time }
+    ensures in_time { result < 2 ^ 40 }
+{
+    match time {
+        Time::NoTime => 0,
+        Time::Span { start, dur } => start + dur,
+        Time::Point { at } => at,
+    }
+}
+
+/// Samples widened to those of a time, where it is wanted.
+fn widened(found: Option<(u64, u64)>, wanted: bool, time: Time) -> Option<(u64, u64)>
+    requires time { ends_in_time time ≡ true }
+    requires found { AreInTime found }
+    ensures wide { result ≡ (if wanted then Some (widened found time) else found) }
+    ensures in_time { AreInTime result }
+{
+    if !wanted {
+        return found;
+    }
+    let first = time.first_sample();
+    let last = last_sample(time);
+    match found {
+        Some((least, greatest)) => Some((least.min(first), greatest.max(last))),
+        None => Some((first, last)),
+    }
+}
+
+/// The samples of the items of the time level that some item of the result dominates.
+fn extent_below(bundle: &Bundle, below: &Below, span: Span) -> Option<(u64, u64)>
+    requires below { IsBelow bundle.now span.level below.now }
+    requires span { IsStretchIn bundle.now span }
+    ensures extent { result ≡ extent (items_below bundle.now (Some below.now.time) span) }
+    ensures in_time { AreInTime result }
+{
+    let stretch = Tuple {
+        first: span.first,
+        last: span.last,
+        mark: None,
+    };
+    let items = timed_items(bundle, below.time);
+    let mut found = None;
+    for at in 0..items.len() {
+        let wanted = is_under(&below.rows, stretch, at);
+        found = widened(found, wanted, items[at].time);
+    }
+    found
+}
+
+/// The first sample of the first item of a result and the last one of its last item.
+fn ends_of(bundle: &Bundle, span: Span) -> Option<(u64, u64)>
+    requires span { IsStretchIn bundle.now span }
+    requires level { span.level < length bundle.now.levels }
+    ensures ends { result ≡ end_to_end (items_of bundle.now span) }
+    ensures in_time { AreInTime result }
+{
+    let items = timed_items(bundle, span.level as usize);
+    let first = items[span.first as usize].time.first_sample();
+    let last = last_sample(items[span.last as usize].time);
+    Some((first, last))
+}
+
+/// The first and the last sample of a result: those of its items, or on an ITEM level those of the
+/// segments below it.
+pub(crate) fn samples_of(
+    bundle: &Bundle,
+    kind: LevelKind,
+    below: &Option<Below>,
+    span: Span,
+) -> Option<(u64, u64)>
+    requires below { IfSome below.now (IsBelow bundle.now span.level) }
+    requires span { IsStretchIn bundle.now span }
+    requires level { span.level < length bundle.now.levels }
+    ensures samples { result
+        ≡ samples_of bundle.now kind (option_map (λ b. b.time) below.now) span }
+    ensures in_time { AreInTime result }
+{
+    match kind {
+        LevelKind::Item => match below {
+            Some(below) => extent_below(bundle, below, span),
+            None => None,
+        },
+        LevelKind::Segment => ends_of(bundle, span),
+        LevelKind::Event => ends_of(bundle, span),
+    }
+}
+
+/// The microseconds at which a result begins.
+fn start_of(kind: LevelKind, rate: u32, sample: u64) -> u64
+    requires sample { sample < 2 ^ 40 }
+    requires rate_above { 1 ≤ rate }
+    requires rate_below { rate ≤ 1000000 }
+    ensures { result ≡ start_of kind rate sample }
+{
+    match kind {
+        LevelKind::Item => micros_of_start(sample, rate),
+        LevelKind::Segment => micros_of_start(sample, rate),
+        LevelKind::Event => micros_of_point(sample, rate),
+    }
+}
+
+/// The microseconds at which a result ends.
+fn end_of(kind: LevelKind, rate: u32, sample: u64) -> u64
+    requires sample { sample < 2 ^ 40 }
+    requires rate_above { 1 ≤ rate }
+    requires rate_below { rate ≤ 1000000 }
+    ensures { result ≡ end_of kind rate sample }
+{
+    match kind {
+        LevelKind::Item => micros_of_end(sample, rate),
+        LevelKind::Segment => micros_of_end(sample, rate),
+        LevelKind::Event => micros_of_point(sample, rate),
+    }
+}
+
+/// When a row with these samples is. `rate` is in samples a second.
+pub(crate) fn times_of(kind: LevelKind, rate: u32, samples: Option<(u64, u64)>) -> RowTimes
+    requires samples { AreInTime samples }
+    requires rate_above { 1 ≤ rate }
+    requires rate_below { rate ≤ 1000000 }
+    ensures start { result.start ≡ option_map (λ s. start_of kind rate s.0) samples }
+    ensures end { result.end ≡ option_map (λ s. end_of kind rate s.1) samples }
+    ensures sample_start { result.sample_start ≡ option_map (λ s. s.0) samples }
+    ensures sample_end { result.sample_end ≡ option_map (λ s. s.1) samples }
+{
+    match samples {
+        Some((first, last)) => RowTimes {
+            start: Some(start_of(kind, rate, first)),
+            end: Some(end_of(kind, rate, last)),
+            sample_start: Some(first),
+            sample_end: Some(last),
+        },
+        None => RowTimes {
+            start: None,
+            end: None,
+            sample_start: None,
+            sample_end: None,
+        },
+    }
+}

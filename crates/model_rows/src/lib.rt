@@ -1,0 +1,5 @@
+//! Queries over bundles, worked by hand from their meaning.
+#![tactic(auto)]
+
+#[cfg(test)]
+mod answers;
