@@ -1,19 +1,15 @@
 -- What the levels of a query that was resolved keep.
-use Rattle.std.proofs.Common.{◌≡◌, ℕ, ◌<◌, Bool, true, false, cond, ◌==◌, List, [], ◌∷◌, length, Option, Some, None, Ok, IsSome, IfSome, refl, subst, arith}
+use Rattle.std.proofs.Common.{◌≡◌, ℕ, ◌<◌, Bool, true, false, cond, List, [], ◌∷◌, length, Option, Some, None, IsSome, IfSome, refl, arith}
 use Rattle.std.specs.List.{slice_get, find}
 use Rattle.std.specs.Option.{option_map, option_and_then, option_or, unwrap_or}
 use Rattle.std.proofs.lemmas.Option.{slice_get_within}
-use Rattle.std.proofs.lemmas.Bool.{eqb-true}
 use Rattle.db_config.specs.declared.attributes.AttributeDef.{AttributeDef}
 use Rattle.db_config.specs.declared.parts.LevelDef.{LevelDef}
 use Rattle.db_config.specs.declared.parts.AttributePlace.{AttributePlace}
 use Rattle.db_config.specs.declared.parts.ConfigParts.{ConfigParts}
 use Rattle.db_config.specs.Lookups.{attribute_at}
-use Rattle.eql_resolve.specs.declared.faults.AskFault.TheVariants.{MixedLevels, SequenceLevels, NoPath}
-use Rattle.eql_resolve.specs.Asked.{AskedTerm, test, position, number, AskedQuery, terms, sequence, dominance, is_marked_term, term_place, first_place, level_of, marked_of, mark_place, shown_place, result_level, AreOnOneLevel}
-use Rattle.eql_resolve.specs.Resolve.{are_alike, conjunction_of, sequence_of, are_joined, dominance_of}
-use Rattle.eql_resolve.specs.Sound.{IsTermOf, AreTermsOf, IsQueryOf, IsSound}
-use Rattle.eql_resolve.proofs.Binds.{ok_if}
+use Rattle.eql_resolve.specs.Asked.{AskedTerm, test, position, number, AskedQuery, terms, sequence, dominance, is_marked_term, term_place, first_place, level_of, marked_of, mark_place, shown_place, result_level}
+use Rattle.eql_resolve.specs.Sound.{IsTermOf, AreTermsOf, IsQueryOf}
 
 -- ---- places that are there
 
@@ -76,31 +72,3 @@ shown_there c q is =
 -- the level of the results is there
 pub result_within : (c : ConfigParts) (q : AskedQuery) → IsQueryOf c q → result_level q < length c.levels
 result_within c q is = level_there c (shown_place q) (shown_there c q is)
-
--- ---- levels that agree
-
-alike_on : (ts : List AskedTerm) → are_alike ts ≡ true → (0 < length ts) × AreOnOneLevel (terms ts)
-alike_on [] is = cc
-alike_on (t ∷ ts) is = (omega arith, is)
-
-pub conjunction_sound : (c : ConfigParts) (ts : List AskedTerm) (q : AskedQuery) → AreTermsOf c ts → conjunction_of ts ≡ Ok q → IsSound c q
-conjunction_sound c ts q are is =
-    let made = ok_if (are_alike ts) (terms ts) q MixedLevels is in
-    let on = alike_on ts made.0 in
-    subst (IsSound c) made.1 (record { within = (on.0, are); one_level = on.1 })
-
-pub sequence_sound : (c : ConfigParts) (left right q : AskedQuery) → IsSound c left → IsSound c right → sequence_of left right ≡ Ok q → IsSound c q
-sequence_sound c left right q one two is =
-    let made = ok_if (level_of left == level_of right) (sequence left right) q SequenceLevels is in
-    subst (IsSound c) made.1 (record {
-      within = (one.within, two.within);
-      one_level = (one.one_level, two.one_level, eqb-true _ _ made.0);
-    })
-
-pub dominance_sound : (c : ConfigParts) (left right q : AskedQuery) → IsSound c left → IsSound c right → dominance_of c left right ≡ Ok q → IsSound c q
-dominance_sound c left right q one two is =
-    let made = ok_if (are_joined c (level_of left) (level_of right)) (dominance left right) q NoPath is in
-    subst (IsSound c) made.1 (record {
-      within = (one.within, two.within, made.0);
-      one_level = (one.one_level, two.one_level);
-    })

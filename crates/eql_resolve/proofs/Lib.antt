@@ -1,4 +1,4 @@
-pub mod Binds
+pub mod Choices
 pub mod Bounds
 pub mod Kept
 pub mod Loops

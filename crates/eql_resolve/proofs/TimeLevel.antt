@@ -13,7 +13,7 @@ use Rattle.eql_resolve.specs.declared.faults.AskFault.TheVariants.{BadTimeLevel}
 use Rattle.eql_resolve.specs.Asked.{AskedQuery, result_level}
 use Rattle.eql_resolve.specs.Resolve.{is_item_level, is_segment_kind, is_segment_level, gives_times, segments_below, one_alone, time_level, timed}
 use Rattle.eql_resolve.specs.Sound.{IsSound, IsTimeLevel, IsTimeOf, IsResolvedBy}
-use Rattle.eql_resolve.proofs.Binds.{ok_if}
+use Rattle.eql_resolve.proofs.Choices.{ok_if}
 
 both_of : (a b : Bool) → (a && b) ≡ true → (a ≡ true) × (b ≡ true)
 both_of true true are = (refl, refl)

@@ -1,0 +1,153 @@
+//! Queries with what they ask of a database, or with why they cannot be asked.
+
+use db_config::{Config, read_config};
+use emu_names::Text;
+use eql_resolve::{Asked, Prepared, prepare, resolve};
+use json_view::View;
+use label_match::RegexMaker;
+use serde_json::Value;
+use std::alloc::{AllocError, Global};
+use std::test::Fail;
+
+/// ITEM levels Word, Foot and Syl; below Word the SEGMENT levels Phonetic and Gesture and the EVENT
+/// level Tone, below Foot the level Syl, and below that Phonetic.
+static DATABASE: &str =
+    "{\"name\":\"t\",\"levelDefinitions\":[{\"name\":\"Word\",\"type\":\"ITEM\",\"attributeDefinitions\":[{\"name\":\"Text\"},{\"name\":\"Accent\"},{\"name\":\"Word\"}]},{\"name\":\"Phonetic\",\"type\":\"SEGMENT\",\"attributeDefinitions\":[{\"name\":\"Phonetic\"}]},{\"name\":\"Gesture\",\"type\":\"SEGMENT\",\"attributeDefinitions\":[{\"name\":\"Gesture\"}]},{\"name\":\"Tone\",\"type\":\"EVENT\",\"attributeDefinitions\":[{\"name\":\"Pitch\"}]},{\"name\":\"Foot\",\"type\":\"ITEM\",\"attributeDefinitions\":[{\"name\":\"Foot\"}]},{\"name\":\"Syl\",\"type\":\"ITEM\",\"attributeDefinitions\":[{\"name\":\"Syl\"}]}],\"linkDefinitions\":[{\"type\":\"ONE_TO_MANY\",\"superlevelName\":\"Word\",\"sublevelName\":\"Phonetic\"},{\"type\":\"ONE_TO_MANY\",\"superlevelName\":\"Word\",\"sublevelName\":\"Gesture\"},{\"type\":\"ONE_TO_MANY\",\"superlevelName\":\"Gesture\",\"sublevelName\":\"Tone\"},{\"type\":\"ONE_TO_MANY\",\"superlevelName\":\"Foot\",\"sublevelName\":\"Syl\"},{\"type\":\"ONE_TO_MANY\",\"superlevelName\":\"Syl\",\"sublevelName\":\"Phonetic\"}]}";
+
+/// A query, the name for the times or nothing, and what is asked: the level of the query, the level and
+/// attribute that its results show, and the level of their times; or why it cannot be asked.
+static ROWS: [(&str, &str, &str); 30] = [
+    ("[Word == w]", "", "two levels could give the times"),
+    ("[Word == w]", "Phonetic", "0 0/2 1"),
+    ("[Word == w]", "Gesture", "0 0/2 2"),
+    ("[Word == w]", "Word", "the level cannot give the times"),
+    ("[Word == w]", "Text", "the level cannot give the times"),
+    ("[Word == w]", "Tone", "the level cannot give the times"),
+    ("[Accent == w]", "Phonetic", "0 0/1 1"),
+    ("[Foot == w]", "", "4 4/0 1"),
+    ("[Tone == w]", "", "3 3/0 -"),
+    ("[Tone == w]", "Phonetic", "the level cannot give the times"),
+    ("[Phonetic == w]", "", "1 1/0 -"),
+    ("[Word == w ^ #Phonetic == a]", "", "0 1/0 -"),
+    (
+        "[#Word == w ^ Phonetic == a]",
+        "",
+        "two levels could give the times",
+    ),
+    (
+        "[Phonetic == w ^ #Word == a]",
+        "",
+        "two levels could give the times",
+    ),
+    ("[Phonetic == w ^ #Word == a]", "Gesture", "1 0/2 2"),
+    (
+        "[Phonetic == w ^ Word == a]",
+        "Gesture",
+        "the level cannot give the times",
+    ),
+    (
+        "[Foot == w ^ Word == a]",
+        "",
+        "no path leads between the levels",
+    ),
+    (
+        "[Foot == w -> Syl == a]",
+        "",
+        "the parts of a sequence are on two levels",
+    ),
+    ("[[Foot == w ^ Syl == a] -> Foot == b]", "", "4 4/0 1"),
+    (
+        "Foot == w & Syl == a",
+        "",
+        "the conditions are on two levels",
+    ),
+    (
+        "Foot == w & Nope == a & Syl == b",
+        "",
+        "there is no level or attribute Nope",
+    ),
+    (
+        "[[Foot == w -> Syl == a] -> Nope == a]",
+        "",
+        "the parts of a sequence are on two levels",
+    ),
+    (
+        "[Foot == w -> [Nope == a -> Syl == a]]",
+        "",
+        "there is no level or attribute Nope",
+    ),
+    ("Start(Foot, Syl) == 1", "", "5 5/0 1"),
+    (
+        "Start(Syl, Foot) == 1",
+        "",
+        "no path leads between the levels",
+    ),
+    (
+        "Start(Foot, Foot) == 1",
+        "",
+        "no path leads between the levels",
+    ),
+    ("Num(Foot, Phonetic) >= 3", "", "4 4/0 1"),
+    (
+        "Num(Nope, Nada) >= 3",
+        "",
+        "there is no level or attribute Nope",
+    ),
+    (
+        "Medial(Accent, Phonetic) == 0 & #Phonetic == a",
+        "",
+        "1 1/0 -",
+    ),
+    ("Start == a", "", "there is no level or attribute Start"),
+];
+
+fn config_of(alloc: Global) -> Result<Config, Fail> {
+    let value = Value::from_str(alloc, DATABASE)?;
+    let view = View::root(alloc, &value)?;
+    Ok(read_config(alloc, &view)?)
+}
+
+/// What a query asks, as the table says it.
+fn told(alloc: Global, asked: &Asked) -> Result<String, AllocError> {
+    let level = asked.query().level();
+    let shown = asked.query().shown_place();
+    match asked.time() {
+        Some(time) => format!(in alloc; "{level} {}/{} {time}", shown.level, shown.attribute),
+        None => format!(in alloc; "{level} {}/{} -", shown.level, shown.attribute),
+    }
+}
+
+/// What a prepared query asks of the database, or why it cannot be asked.
+fn answer(
+    alloc: Global,
+    config: &Config,
+    prepared: &Prepared,
+    time: Option<&Text>,
+) -> Result<String, AllocError> {
+    match resolve(alloc, config, prepared, time) {
+        Ok(asked) => told(alloc, &asked),
+        Err(fault) => format!(in alloc; "{fault}"),
+    }
+}
+
+/// Prepares a query and asks the database; the empty name stands for none.
+fn tried(alloc: Global, config: &Config, text: &str, time: &str) -> Result<String, Fail> {
+    let mut maker = RegexMaker::new();
+    let prepared = prepare(alloc, &mut maker, text)?;
+    if time.is_empty() {
+        return Ok(answer(alloc, config, &prepared, None)?);
+    }
+    let name = Text::new(alloc, time)?;
+    Ok(answer(alloc, config, &prepared, Some(&name))?)
+}
+
+#[test]
+fn names_are_resolved(rt: HostRuntime) -> Result<(), Fail> {
+    let alloc = rt.alloc();
+    let config = config_of(alloc)?;
+    for &(text, time, wanted) in &ROWS {
+        let found = tried(alloc, &config, text, time)?;
+        assert_eq!(rt; found.as_str(), wanted, "{text}");
+    }
+    Ok(())
+}
