@@ -1,5 +1,7 @@
-//! Annotations that are read, worked by hand from their format.
+//! Annotations that are read and printed, worked by hand from their format.
 #![tactic(auto)]
 
+#[cfg(test)]
+mod printing;
 #[cfg(test)]
 mod reading;
