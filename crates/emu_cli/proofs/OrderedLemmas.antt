@@ -10,7 +10,7 @@ use Rattle.session_core.specs.InOrder.{Outage, disk_outages, in_turn, ComeInOrde
 use Rattle.session_core.proofs.Turns.{each_push, each_map}
 use Rattle.db_config.specs.Valid.{is_valid}
 use Rattle.session_core.specs.Steps.{start}
-use Rattle.session_core.proofs.Kept.{prefixes_valid}
+use Rattle.edit_rules.proofs.Replay.{states_keep_rules}
 use Rattle.session_core.proofs.Ordered.{in_turn_is_in_order, none_out, none_rise}
 use Rattle.script_lines.specs.declared.faults.LineFault.{LineFault}
 use Rattle.script_lines.specs.declared.faults.ReadLine.{ReadLine}
@@ -143,7 +143,7 @@ runs_from p (Some config) requests outages come each begun valid =
       come = come;
       legal = run.0;
       in_order = run.1;
-      states = prefixes_valid config (in_turn false (start config []) requests outages).1.entries valid run.0.legal;
+      states = states_keep_rules config (in_turn false (start config []) requests outages).1.entries valid run.0.legal;
     }
 
 -- the run of the first lines of a script, wherever memory ran out

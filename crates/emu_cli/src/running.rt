@@ -60,7 +60,8 @@ fn answer(core: &mut Core, line: Line) -> Reply
     let number = line.line;
     let session = line.session;
     match line.request {
-        Request::Edit(_) => given(number, session, core.step(Event::Edit { line })),
+        Request::Edit(Ok(_)) => given(number, session, core.step(Event::Edit { line })),
+        Request::Edit(Err(_)) => given(number, session, core.step(Event::Edit { line })),
         Request::Look(_) => given(number, session, core.step(Event::Look { line })),
         Request::After(_) => given(number, session, core.step(Event::Look { line })),
         Request::Finish => {
