@@ -1,5 +1,0 @@
-//! Queries over bundles, worked by hand from their meaning.
-#![tactic(auto)]
-
-#[cfg(test)]
-mod answers;
