@@ -223,21 +223,21 @@ look_queries : (st : State) (l : Line) (ask : Ask) (held : Option Opened) → st
 look_queries st l ask None = refl
 look_queries st l ask (Some held) = refl
 
-look_some : (st : State) (line : ℕ) (s : SessionNo) (held : Opened) (short : Bool) → IsSome (look_answered st line s held short).0
-look_some st line s held true = tt
-look_some st line s held false = tt
+told_some : (st : State) (line : ℕ) (s : SessionNo) (held : Opened) (short : Bool) → IsSome (look_answered st line s held short).0
+told_some st line s held true = tt
+told_some st line s held false = tt
 
 finish_some : (st : State) (line : ℕ) (s : SessionNo) (held : Option Opened) → IsSome (finish_step st line s held).0
 finish_some st line s None = tt
-finish_some st line s (Some held) = look_some st line s held (lacks_memory held.ask)
+finish_some st line s (Some held) = told_some st line s held (lacks_memory held.ask)
 
-look_queries : (st : State) (line : ℕ) (s : SessionNo) (held : Opened) (short : Bool) → st.queries ≡ (look_answered st line s held short).1.queries
-look_queries st line s held true = refl
-look_queries st line s held false = refl
+told_queries : (st : State) (line : ℕ) (s : SessionNo) (held : Opened) (short : Bool) → st.queries ≡ (look_answered st line s held short).1.queries
+told_queries st line s held true = refl
+told_queries st line s held false = refl
 
 finish_queries : (st : State) (line : ℕ) (s : SessionNo) (held : Option Opened) → st.queries ≡ (finish_step st line s held).1.queries
 finish_queries st line s None = refl
-finish_queries st line s (Some held) = look_queries st line s held (lacks_memory held.ask)
+finish_queries st line s (Some held) = told_queries st line s held (lacks_memory held.ask)
 
 -- a query that is under way for this line
 abbrev IsOf : Line → Option Opened → Type 0

@@ -1,23 +1,16 @@
--- One bundle more of a segment list, and what the rules of databases say of a bundle.
-use Rattle.std.proofs.Common.{◌≡◌, ℕ, suc, ◌+◌, Bool, true, false, ◌||◌, List, ◌∷◌, ◌++◌, drop, add-one, append_assoc, ap, ◌∙◌, sym, subst, Some, slice_get}
-use Rattle.std.proofs.lemmas.Option.{slice_get_within, get_or_from_slice_get}
+-- One bundle more of a segment list.
+use Rattle.std.proofs.Common.{◌≡◌, ℕ, suc, ◌+◌, Bool, true, false, ◌||◌, List, ◌∷◌, ◌++◌, drop, add-one, append_assoc, ap, ◌∙◌, sym, subst, Some, Err, slice_get}
 use Rattle.bundle_state.specs.Bundle.{BundleParts}
-use Rattle.bundle_state.specs.Built.{FitsConfig}
 use Rattle.db_config.specs.declared.parts.ConfigParts.{ConfigParts}
-use Rattle.edit_rules.specs.Database.{DatabaseParts, IsBundleOf, KeepsDatabaseRules}
+use Rattle.edit_rules.specs.Database.{DatabaseParts}
 use Rattle.edit_rules.proofs.Spans.{drop_here}
 use Rattle.eql_resolve.specs.Asked.{AskedParts}
 use Rattle.eql_model.specs.declared.row.Row.{Row}
 use Rattle.eql_model.specs.Meaning.{has_too_many}
 use Rattle.eql_model.specs.Rows.{rows, segment_list}
-use Rattle.session_core.specs.Queries.{any_has_too_many}
-
--- the bundles of a database have the levels of its configuration
-pub fits_at : (database : DatabaseParts) (place : ℕ) (b : BundleParts) → KeepsDatabaseRules database → slice_get database.bundles place ≡ Some b → FitsConfig database.config b
-fits_at database place b keeps found =
-    let own : IsBundleOf database.config b =
-    subst (IsBundleOf database.config) (get_or_from_slice_get database.bundles place b b found) (keeps.bundles place b (slice_get_within database.bundles place b found)) in
-    own.fits
+use Rattle.eql_model.specs.declared.faults.MatchFault.{MatchFault}
+use Rattle.eql_model.specs.declared.faults.MatchFault.TheVariants as faults
+use Rattle.session_core.specs.Queries.{any_has_too_many, AddsRows, ListsRows}
 
 module _ (c : ConfigParts) (a : AskedParts) (bundles : List BundleParts) (place : ℕ) (b : BundleParts) (found : slice_get bundles place ≡ Some b) where
   next : drop place bundles ≡ b ∷ drop (place + 1) bundles
@@ -46,3 +39,13 @@ module _ (c : ConfigParts) (a : AskedParts) (bundles : List BundleParts) (place 
       sym there
       ∙ ap (λ bs. any_has_too_many c bs a) next
       ∙ ap (λ over. over || any_has_too_many c (drop (place + 1) bundles) a) many
+
+-- what refuses a bundle refuses the database
+pub refused : (fault : MatchFault) (c : ConfigParts) (a : AskedParts) (database : DatabaseParts) (place : ℕ) (b : BundleParts) (old new : List Row)
+    → c ≡ database.config → slice_get database.bundles place ≡ Some b
+    → any_has_too_many c (drop place database.bundles) a ≡ any_has_too_many c database.bundles a
+    → AddsRows (Err fault) c b a old new → ListsRows (Err fault) database a
+refused faults.TooManyTuples c a database place b old new own found there many =
+    subst (λ k. any_has_too_many k database.bundles a ≡ true) own
+    (many_there c a database.bundles place b found (any_has_too_many c database.bundles a) there many)
+refused faults.Memory c a database place b old new own found there many = tt

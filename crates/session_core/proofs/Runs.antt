@@ -100,9 +100,9 @@ look_event_config st l (requests.After earlier) = refl
 look_event_config st l (requests.Edit given) = refl
 look_event_config st l requests.Finish = refl
 
-look_config : (st : State) (line : ℕ) (s : SessionNo) (held : Opened) (short : Bool) → (look_answered st line s held short).1.config ≡ st.config
-look_config st line s held true = refl
-look_config st line s held false = refl
+told_config : (st : State) (line : ℕ) (s : SessionNo) (held : Opened) (short : Bool) → (look_answered st line s held short).1.config ≡ st.config
+told_config st line s held true = refl
+told_config st line s held false = refl
 
 way_config : (st : State) (line : ℕ) (s : SessionNo) (held : Opened) (short : Bool) → (way_answered st line s held short).1.config ≡ st.config
 way_config st line s held true = refl
@@ -110,7 +110,7 @@ way_config st line s held false = refl
 
 finish_config : (st : State) (line : ℕ) (s : SessionNo) (look : Option Opened) → (finish_step st line s look).1.config ≡ st.config
 finish_config st line s None = refl
-finish_config st line s (Some held) = look_config st line s held (lacks_memory held.ask)
+finish_config st line s (Some held) = told_config st line s held (lacks_memory held.ask)
 
 query_config : (st : State) (line : ℕ) (s : SessionNo) (held : Option Opened) → (query_step st line s held).1.config ≡ st.config
 query_config st line s None = refl

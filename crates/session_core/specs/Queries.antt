@@ -1,6 +1,6 @@
 -- What a query asks over a whole database: the fault that it came with, and its rows bundle by bundle
 -- (EMU-SDMS Manual, "The EMU Query Language (EQL)").
-use Rattle.std.specs.Prelude.{◌≡◌, ◌++◌, Bool, true, false, List, Unit, Result, Ok, Err}
+use Rattle.std.specs.Prelude.{◌≡◌, ◌++◌, Bool, true, false, List, Result, Ok, Err}
 use Rattle.std.specs.List.{list_any}
 use Rattle.db_config.specs.declared.parts.ConfigParts.{ConfigParts}
 use Rattle.bundle_state.specs.Bundle.{BundleParts}

@@ -220,12 +220,11 @@ fn query_reply(
     if lacks_memory(&held.ask) {
         return Ok(memory_reply(line, session));
     }
-    let answer = answer_held(alloc, held)?;
     Ok(Reply {
         line,
         session,
         n: Some(held.n),
-        answer,
+        answer: answer_held(alloc, held)?,
     })
 }
 
