@@ -2,7 +2,8 @@
 use Rattle.std.proofs.Common.{◌≡◌, ℕ, ◌+◌, ◌≤◌, Bool, true, List, [], ◌∷◌, length, None, refl, sym, ◌∙◌, ap, subst, arith, eq-eqb}
 use Rattle.db_config.specs.declared.parts.ConfigParts.{ConfigParts}
 use Rattle.edit_rules.specs.declared.edit.Entry.{Entry}
-use Rattle.session_core.specs.declared.row.Row.{Row}
+use Rattle.eql_resolve.specs.Resolve.{asked}
+use Rattle.eql_model.specs.declared.row.Row.{Row}
 use Rattle.session_core.specs.declared.line.Answer.{Answer}
 use Rattle.session_core.specs.declared.line.Answer.TheVariants.{Done, Segments, Refused}
 use Rattle.session_core.specs.declared.line.Line.{Line}
@@ -67,9 +68,10 @@ stale history rows store before now run =
     omega arith
 
 pub exact : AnswerIsExact
+unfolding asked
 exact rows store before now run =
     let right : _ = right_there example_config [] example_lines (replies_with 1 rows) example_history store before now run 1 (refl, (refl, tt)) in
-    ap rows_of right.1.0.2
+    ap rows_of right.1.0.2.given
 
 pub recorded : AcceptedIsRecorded
 recorded store before now run =

@@ -1,31 +1,42 @@
--- What a query may be answered: rows, a fault of its meaning, or that it is not built.
-use Rattle.std.proofs.Common.{Bool, true, false, cond, List, Option, Some, None, Ok, Err}
-use Rattle.db_config.specs.declared.parts.AttributePlace.{AttributePlace}
-use Rattle.db_config.specs.Lookups.{name_place}
+-- What a query may be answered whose reading did not want memory: rows, the fault of its text or patterns, a
+-- fault of its names, or that it has too many tuples.
+use Rattle.std.proofs.Common.{◌≡◌, ℕ, Bool, true, false, List, Option, Result, Ok, Err, sym}
+use Rattle.std.proofs.lemmas.Bool.{false≢true}
 use Rattle.edit_rules.specs.Database.{DatabaseParts}
-use Rattle.session_core.specs.declared.row.Row.{Row}
+use Rattle.eql_resolve.specs.declared.faults.AskFault.{AskFault}
+use Rattle.eql_resolve.specs.declared.faults.PrepareFault.{PrepareFault}
+use Rattle.eql_resolve.specs.Prepared.{PreparedParts}
+use Rattle.eql_resolve.specs.Asked.{AskedParts}
+use Rattle.eql_resolve.specs.Resolve.{asked}
+use Rattle.eql_model.specs.declared.row.Row.{Row}
+use Rattle.eql_model.specs.Rows.{segment_list}
 use Rattle.session_core.specs.declared.line.Ask.{Ask}
-use Rattle.session_core.specs.declared.line.AskFault.{AskFault}
-use Rattle.session_core.specs.declared.line.AskFault.TheVariants.{UnknownName}
 use Rattle.session_core.specs.declared.line.Answer.{Answer}
 use Rattle.session_core.specs.declared.line.Answer.TheVariants.{Segments, Refused}
 use Rattle.session_core.specs.declared.line.Refusal.TheVariants as refusals
-use Rattle.session_core.specs.Queries.{Asked, asked_by, asked_at, segment_list, takes_times, names_group}
-use Rattle.session_core.specs.Answers.{rows_over, query_answer, answer_over}
+use Rattle.session_core.specs.Queries.{is_memory_of, is_memory_in, lacks_memory, any_has_too_many}
+use Rattle.session_core.specs.Answers.{prepare_answer, matched_answer, resolved_answer, prepared_answer, answer_over}
 
 module _ (P : Answer → Type 0) (database : DatabaseParts) (rows : (found : List Row) → P (Segments found))
-    (resolve : (fault : AskFault) → P (Refused (refusals.Resolve fault))) (not_built : P (Refused refusals.NotBuilt)) where
-  built : (timed grouped : Bool) (asked : Asked)
-      → P (query_answer (rows_over database (cond timed (Err refusals.NotBuilt) (cond grouped (Err refusals.NotBuilt) (Ok asked)))))
-  built true grouped asked = not_built
-  built false true asked = not_built
-  built false false asked = rows (segment_list database.config asked database.bundles)
+    (prepare : (fault : PrepareFault) → P (Refused (refusals.Prepare fault)))
+    (resolve : (fault : AskFault) → P (Refused (refusals.Resolve fault)))
+    (too_many : P (Refused refusals.TooManyTuples)) where
+  matched : (a : AskedParts) (many : Bool) → P (matched_answer database a many)
+  matched a true = too_many
+  matched a false = rows (segment_list database.config database.bundles a)
 
-  placed : (ask : Ask) (place : Option AttributePlace) → P (query_answer (rows_over database (asked_at database.config ask place)))
-  placed ask None = resolve (UnknownName ask.name)
-  placed ask (Some place) =
-      built (takes_times database.config place.level) (names_group database.config place ask.label) (asked_by place ask.label)
+  resolved : (found : Result AskedParts AskFault) → P (resolved_answer database found)
+  resolved (Ok a) = matched a (any_has_too_many database.config database.bundles a)
+  resolved (Err fault) = resolve fault
+
+  text : (fault : PrepareFault) (short : Bool) → short ≡ false → P (prepare_answer fault short)
+  text fault true is = absurd (false≢true (sym is))
+  text fault false is = prepare fault
+
+  prepared : (made : Result PreparedParts PrepareFault) (time : Option (List ℕ)) → is_memory_in made ≡ false → P (prepared_answer database made time)
+  prepared (Ok query) time is = resolved (asked database.config query.query time)
+  prepared (Err fault) time is = text fault (is_memory_of fault) is
 
   -- a fact of all these answers holds of a query's answer
-  pub answers : (ask : Ask) → P (answer_over database ask)
-  answers ask = placed ask (name_place ask.name database.config.levels)
+  pub answers : (ask : Ask) → lacks_memory ask ≡ false → P (answer_over database ask)
+  answers ask is = prepared ask.prepared ask.time is

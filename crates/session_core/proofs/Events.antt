@@ -24,7 +24,8 @@ use Rattle.session_core.specs.declared.line.Line.{Line}
 use Rattle.session_core.specs.declared.line.Reply.{Reply}
 use Rattle.edit_rules.specs.Effects.{IsLegal, edited, database_after}
 use Rattle.session_core.specs.Answers.{answer_at, memory, is_want_of_memory, grid_number, grid_answer, reply_to, entry_of}
-use Rattle.session_core.specs.Steps.{Opened, State, slot, put_slot, session_places, is_full, opened_at, edit_step, look_step, finish_step, query_step, query_fails, Asker, by_look, by_query, by_none, asker_of, finish_by, finish_fails_by}
+use Rattle.session_core.specs.Queries.{lacks_memory}
+use Rattle.session_core.specs.Steps.{Opened, State, slot, put_slot, session_places, is_full, opened_at, edit_step, look_step, finish_step, look_answered, query_step, way_answered, query_fails, Asker, by_look, by_query, by_none, asker_of, finish_by, finish_fails_by}
 use Rattle.session_core.specs.Worlds.{Turn, Trouble, untroubled, no_memory, store_full, disk_failed, is_disk_failed, Occurrence, World, outcome_of, query_line, finish_line, brought_by, brought, query_answered, answered_by, answered, turns_of, happens, Each, IsBehind, IsNext, is_answered, RequestFits, EditFits, LookFits, IsUnderWay, FinishFits, Fits, passes_store, IsOverStore, TroubleFits, OccurrenceFits}
 use Rattle.session_core.specs.Legal.{of_session, lines_of_session, is_of, is_line_of, lines_in, accepting, numbered, IsRight, low_behind, KeepsUp, Look, open_behind, look_behind, finish_behind, LookReplyFits, FinishReplyFits, ReplyFits, session_of, is_disk}
 use Rattle.session_core.proofs.Asking.{answers}
@@ -394,19 +395,15 @@ module _ (opening : List Entry) (store : Bool) (faults : ℕ) (w : World) (g : G
   -- The answers of open looks and of queries under way.
 
   -- the answer to a query is no failed disk
-  not_disk : (held : Opened) → is_disk (answer_at w.state.config w.state.entries held.n held.ask) ≡ false
-  not_disk held =
+  not_disk : (held : Opened) → lacks_memory held.ask ≡ false → is_disk (answer_at w.state.config w.state.entries held.n held.ask) ≡ false
+  not_disk held told =
       answers (λ answer. is_disk answer ≡ false) (database_after w.state.config (take held.n w.state.entries))
-      (λ rows. refl) (λ fault. refl) refl held.ask
+      (λ rows. refl) (λ fault. refl) (λ fault. refl) refl held.ask told
 
-  finish_good : (line : ℕ) (s : SessionNo) → IsNext w line s.0 → (look : Option Opened) → slot w.state.looks s.0 ≡ look
-      → Good opening store faults (told w (finish_line line s ∷ []) (finish_line line s ∷ []) (finish_step w.state line s look))
-  finish_good line s next None is =
-      same (finish_line line s) None (Refused refusals.NoLook) next refl tt tt refl
-      (λ low high. tt) (λ low above. above) (λ low high. high)
-      (subst (λ (o : Option Opened). FinishReplyFits w.state.config w.state.entries (option_map look_of o) None (Refused refusals.NoLook)) (sym is) (inl refl))
-      refl
-  finish_good line s next (Some held) is =
+  look_answer_good : (line : ℕ) (s : SessionNo) → IsNext w line s.0 → (held : Opened) (short : Bool) → slot w.state.looks s.0 ≡ Some held → lacks_memory held.ask ≡ short
+      → Good opening store faults (told w (finish_line line s ∷ []) (finish_line line s ∷ []) (look_answered w.state line s held short))
+  look_answer_good line s next held true is read = no_memory_good (finish_line line s) next tt
+  look_answer_good line s next held false is read =
       let within : IsIn (length opening) w.state.entries (Some held) = subst (λ (o : Option Opened). IsIn (length opening) w.state.entries o) is (g.seats s.0).look_in in
       let count : length w.state.looks ≡ 17 = g.looks_count in
       let place : s.0 < 17 = next.place in
@@ -418,16 +415,25 @@ module _ (opening : List Entry) (store : Bool) (faults : ℕ) (w : World) (g : G
         mark = refl;
         right = (within.0, within.1, tt);
         still = tt;
-        disks = no_disk_more _ (not_disk held);
+        disks = no_disk_more _ (not_disk held read);
         looks_count = put_length w.state.looks s.0 None ∙ g.looks_count;
         other_looks = λ k ne. slot_other w.state.looks s.0 k None ne;
         keeps = λ low high. tt;
         from = λ low above. above;
         to = λ low high. high;
-        fits = subst (λ (o : Option Opened). FinishReplyFits w.state.config w.state.entries (option_map look_of o) (Some held.n) (answer_at w.state.config w.state.entries held.n held.ask)) (sym is) (refl, refl);
+        fits = subst (λ (o : Option Opened). FinishReplyFits w.state.config w.state.entries (option_map look_of o) (Some held.n) (answer_at w.state.config w.state.entries held.n held.ask)) (sym is) (refl, record { given = refl; is_told = read });
         opens = ap (λ (o : Option Opened). finish_behind (option_map look_of o) (Some held.n)) is ∙ sym (ap (λ (o : Option Opened). option_map look_of o) there);
         look_in = subst (λ (o : Option Opened). IsIn (length opening) w.state.entries o) (sym there) tt;
       })
+
+  finish_good : (line : ℕ) (s : SessionNo) → IsNext w line s.0 → (look : Option Opened) → slot w.state.looks s.0 ≡ look
+      → Good opening store faults (told w (finish_line line s ∷ []) (finish_line line s ∷ []) (finish_step w.state line s look))
+  finish_good line s next None is =
+      same (finish_line line s) None (Refused refusals.NoLook) next refl tt tt refl
+      (λ low high. tt) (λ low above. above) (λ low high. high)
+      (subst (λ (o : Option Opened). FinishReplyFits w.state.config w.state.entries (option_map look_of o) None (Refused refusals.NoLook)) (sym is) (inl refl))
+      refl
+  finish_good line s next (Some held) is = look_answer_good line s next held (lacks_memory held.ask) is refl
 
   -- the reply to a query under way
   module _ (line : ℕ) (s : SessionNo) (held : Opened) (place : s.0 < 17) (is : slot w.state.queries s.0 ≡ Some held) (line_is : held.line ≡ line) where
@@ -468,12 +474,16 @@ module _ (opening : List Entry) (store : Bool) (faults : ℕ) (w : World) (g : G
               (ap (λ (ls : List Line). lines_of_session s.0 ls) (append-nil w.lines) ∙ (g.seats s.0).lines ∙ ap (λ (q : Option Opened). lines_in (of_session s.0 w.turns) ++ query_answered s q) is));
         })
 
-    query_done : Good opening store faults (told w [] (query_answered s (Some held)) (query_step w.state line s (Some held)))
-    query_done =
+    way_done : (short : Bool) → lacks_memory held.ask ≡ short → Good opening store faults (told w [] (query_answered s (Some held)) (way_answered w.state line s held short))
+    way_done true read = query_told None memory tt refl tt (g.seats s.0).from (g.seats s.0).low
+    way_done false read =
         let from : length opening ≤ low_of (length opening) (of_session s.0 w.turns) = (g.seats s.0).from in
         let low : low_of (length opening) (of_session s.0 w.turns) ≤ held.n = waiting.0 in
         let high : held.n ≤ length w.state.entries = waiting.1 in
-        query_told (Some held.n) (answer_at w.state.config w.state.entries held.n held.ask) (omega arith, high, refl) (not_disk held) low (omega arith) high
+        query_told (Some held.n) (answer_at w.state.config w.state.entries held.n held.ask) (omega arith, high, record { given = refl; is_told = read }) (not_disk held read) low (omega arith) high
+
+    query_done : Good opening store faults (told w [] (query_answered s (Some held)) (query_step w.state line s (Some held)))
+    query_done = way_done (lacks_memory held.ask) refl
 
     query_failed : Good opening store faults (told w [] (query_answered s (Some held)) (query_fails w.state line s (Some held)))
     query_failed = query_told None memory tt refl tt (g.seats s.0).from (g.seats s.0).low

@@ -21,8 +21,9 @@ use Rattle.session_core.specs.declared.line.Request.TheVariants as requests
 use Rattle.session_core.specs.declared.slots.Held.{Held}
 use Rattle.session_core.specs.declared.moves.Head.{Head}
 use Rattle.edit_rules.specs.Effects.{after, effect, edited}
-use Rattle.session_core.specs.Steps.{State, slot, put_slot, is_full, session_places, start, edit_event, look_event, edit_step, look_step, finish_step, query_step, with_query, opened_at, query_fails}
-use Rattle.session_core.specs.Kept.{head_reply, opened_by, opened_in, state_of, IsMoment, IsHeld, AreHeld, IsKept, head_entry, held_at, edit_tried, edit_tried_step, given_tried, looked, look_closed, query_closed, query_dropped}
+use Rattle.session_core.specs.Queries.{lacks_memory}
+use Rattle.session_core.specs.Steps.{State, slot, put_slot, is_full, session_places, start, edit_event, look_event, edit_step, look_step, finish_step, look_answered, query_step, way_answered, with_query, opened_at, query_fails}
+use Rattle.session_core.specs.Kept.{head_reply, opened_by, opened_in, state_of, IsMoment, IsHeld, AreHeld, IsKept, head_entry, held_at, edit_tried, edit_tried_step, given_tried, looked, look_closed, look_answer, query_closed, query_reply, query_dropped}
 use Rattle.session_core.proofs.Replay.{after_push, after_config}
 use Rattle.session_core.proofs.SlotPlaces.{slot_put, length_put_slot, slot_map, put_slot_map}
 
@@ -205,18 +206,26 @@ kept_begun c head ask H bs ls qs k = record {
 
 -- The answer of a look.
 
+close_answer : (c : ConfigParts) (line : ℕ) (s : SessionNo) (H : List Entry) (ls qs : List (Option Held)) (held : Held) (short : Bool) → IsMoment c H held → look_answered (state_of c H ls qs) line s (opened_by held) short ≡ (Some (look_answer line s ls held short).0, state_of c H (look_answer line s ls held short).1 qs)
+close_answer c line s H ls qs held true h = refl
+close_answer c line s H ls qs held false h = rw (h.database, put_slot_map opened_by ls s.0 None) refl
+
 close_cases : (c : ConfigParts) (line : ℕ) (s : SessionNo) (H : List Entry) (ls qs : List (Option Held)) (held : Option Held) → IsHeld c H held → finish_step (state_of c H ls qs) line s (option_map opened_by held) ≡ (Some (look_closed line s ls held).0, state_of c H (look_closed line s ls held).1 qs)
 close_cases c line s H ls qs None h = refl
-close_cases c line s H ls qs (Some held) h = rw (h.database, put_slot_map opened_by ls s.0 None) refl
+close_cases c line s H ls qs (Some held) h = close_answer c line s H ls qs held (lacks_memory held.ask) h
 
 pub closed_step : (c : ConfigParts) (line : ℕ) (s : SessionNo) (H : List Entry) (ls ls2 qs : List (Option Held)) (r : Reply) → (r, ls2) ≡ look_closed line s ls (slot ls s.0) → AreHeld c H ls → finish_step (state_of c H ls qs) line s (slot (opened_in ls) s.0) ≡ (Some r, state_of c H ls2 qs)
 closed_step c line s H ls ls2 qs r e h =
     let told : Reply × List (Option Held) → Option Reply × State = λ t. (Some t.0, state_of c H t.1 qs) in
     rw (slot_map opened_by ls s.0) (close_cases c line s H ls qs (slot ls s.0) (h.each s.0) ∙ ap told (sym e))
 
+answer_kept : (c : ConfigParts) (line : ℕ) (s : SessionNo) (H : List Entry) (ls : List (Option Held)) (held : Held) (short : Bool) → AreHeld c H ls → AreHeld c H (look_answer line s ls held short).1
+answer_kept c line s H ls held true h = h
+answer_kept c line s H ls held false h = slots_put c H ls s.0 None tt h
+
 closed_kept : (c : ConfigParts) (line : ℕ) (s : SessionNo) (H : List Entry) (ls : List (Option Held)) (held : Option Held) → AreHeld c H ls → AreHeld c H (look_closed line s ls held).1
 closed_kept c line s H ls None h = h
-closed_kept c line s H ls (Some held) h = slots_put c H ls s.0 None tt h
+closed_kept c line s H ls (Some held) h = answer_kept c line s H ls held (lacks_memory held.ask) h
 
 pub kept_closed : (c : ConfigParts) (line : ℕ) (s : SessionNo) (H : List Entry) (bs : DatabaseParts) (ls ls2 qs : List (Option Held)) (r : Reply) → (r, ls2) ≡ look_closed line s ls (slot ls s.0) → IsKept c H bs ls qs → IsKept c H bs ls2 qs
 kept_closed c line s H bs ls ls2 qs r e k =
@@ -229,9 +238,13 @@ kept_closed c line s H bs ls ls2 qs r e k =
 
 -- The answer of a query under way.
 
+reply_cases : (c : ConfigParts) (line : ℕ) (s : SessionNo) (H : List Entry) (ls qs : List (Option Held)) (held : Held) (short : Bool) → IsMoment c H held → way_answered (state_of c H ls qs) line s (opened_by held) short ≡ (Some (query_reply line s held short), state_of c H ls (put_slot qs s.0 None))
+reply_cases c line s H ls qs held true h = rw (put_slot_map opened_by qs s.0 None) refl
+reply_cases c line s H ls qs held false h = rw (h.database, put_slot_map opened_by qs s.0 None) refl
+
 answer_cases : (c : ConfigParts) (line : ℕ) (s : SessionNo) (H : List Entry) (ls qs : List (Option Held)) (held : Option Held) → IsHeld c H held → query_step (state_of c H ls qs) line s (option_map opened_by held) ≡ ((query_closed line s qs held).0, state_of c H ls (query_closed line s qs held).1)
 answer_cases c line s H ls qs None h = refl
-answer_cases c line s H ls qs (Some held) h = rw (h.database, put_slot_map opened_by qs s.0 None) refl
+answer_cases c line s H ls qs (Some held) h = reply_cases c line s H ls qs held (lacks_memory held.ask) h
 
 pub answered_step : (c : ConfigParts) (line : ℕ) (s : SessionNo) (H : List Entry) (ls qs qs2 : List (Option Held)) (r : Option Reply) → (r, qs2) ≡ query_closed line s qs (slot qs s.0) → AreHeld c H qs → query_step (state_of c H ls qs) line s (slot (opened_in qs) s.0) ≡ (r, state_of c H ls qs2)
 answered_step c line s H ls qs qs2 r e h =

@@ -21,7 +21,8 @@ use Rattle.session_core.specs.declared.line.Request.TheVariants as requests
 use Rattle.session_core.specs.declared.line.Line.{Line}
 use Rattle.session_core.specs.declared.line.Reply.{Reply}
 use Rattle.edit_rules.specs.Effects.{IsLegal, edited}
-use Rattle.session_core.specs.Steps.{Opened, State, slot, put_slot, session_places, start, is_full, opened_at, edit_step, look_step, finish_step, query_step, query_fails}
+use Rattle.session_core.specs.Queries.{lacks_memory}
+use Rattle.session_core.specs.Steps.{Opened, State, slot, put_slot, session_places, start, is_full, opened_at, edit_step, look_step, finish_step, look_answered, query_step, way_answered, query_fails}
 use Rattle.session_core.specs.Worlds.{Turn, Trouble, untroubled, no_memory, store_full, disk_failed, is_disk_failed, Occurrence, World, query_line, query_answered, turns_of, happens, run, opening_world, Each, IsBehind, IsNext, RequestFits, passes_store, TroubleFits, OccurrenceFits, AllFit, disk_failures, Fits, is_waiting, is_done, lines_done}
 use Rattle.session_core.specs.Legal.{lines_in, replies_in, Legal}
 use Rattle.session_core.specs.InOrder.{Outage, fine, at_first, at_last, disk_fails, is_disk_outage, disk_outages, given, replied, query_begun, stored_trouble, made_trouble, edit_trouble, trouble_at, edit_outcome, request_turn, one_turn, in_turn, NamesEarlier, IsBelow, ComesNext, ComeInOrder}
@@ -222,27 +223,44 @@ look_queries : (st : State) (l : Line) (ask : Ask) (held : Option Opened) → st
 look_queries st l ask None = refl
 look_queries st l ask (Some held) = refl
 
+told_some : (st : State) (line : ℕ) (s : SessionNo) (held : Opened) (short : Bool) → IsSome (look_answered st line s held short).0
+told_some st line s held true = tt
+told_some st line s held false = tt
+
 finish_some : (st : State) (line : ℕ) (s : SessionNo) (held : Option Opened) → IsSome (finish_step st line s held).0
 finish_some st line s None = tt
-finish_some st line s (Some held) = tt
+finish_some st line s (Some held) = told_some st line s held (lacks_memory held.ask)
+
+told_queries : (st : State) (line : ℕ) (s : SessionNo) (held : Opened) (short : Bool) → st.queries ≡ (look_answered st line s held short).1.queries
+told_queries st line s held true = refl
+told_queries st line s held false = refl
 
 finish_queries : (st : State) (line : ℕ) (s : SessionNo) (held : Option Opened) → st.queries ≡ (finish_step st line s held).1.queries
 finish_queries st line s None = refl
-finish_queries st line s (Some held) = refl
+finish_queries st line s (Some held) = told_queries st line s held (lacks_memory held.ask)
 
 -- a query that is under way for this line
 abbrev IsOf : Line → Option Opened → Type 0
 IsOf l None = ⊥
 IsOf l (Some held) = query_line l.session held ≡ l
 
+way_turns : (st : State) (l : Line) (held : Opened) (short : Bool) → query_line l.session held ≡ l
+    → turns_of (query_answered l.session (Some held)) (way_answered st l.line l.session held short).0 ≡ turn_to l (given l (way_answered st l.line l.session held short).0) ∷ []
+way_turns st l held true is = ap (λ (k : Line). turn_to k (given l (way_answered st l.line l.session held true).0) ∷ []) is
+way_turns st l held false is = ap (λ (k : Line). turn_to k (given l (way_answered st l.line l.session held false).0) ∷ []) is
+
 query_turns : (st : State) (l : Line) (held : Option Opened) → IsOf l held
     → turns_of (query_answered l.session held) (query_step st l.line l.session held).0 ≡ turn_to l (given l (query_step st l.line l.session held).0) ∷ []
 query_turns st l None is = absurd is
-query_turns st l (Some held) is = ap (λ (k : Line). turn_to k (given l (query_step st l.line l.session (Some held)).0) ∷ []) is
+query_turns st l (Some held) is = way_turns st l held (lacks_memory held.ask) is
+
+way_queries : (st : State) (l : Line) (held : Opened) (short : Bool) → put_slot st.queries l.session.0 None ≡ (way_answered st l.line l.session held short).1.queries
+way_queries st l held true = refl
+way_queries st l held false = refl
 
 query_queries : (st : State) (l : Line) (held : Option Opened) → IsOf l held → put_slot st.queries l.session.0 None ≡ (query_step st l.line l.session held).1.queries
 query_queries st l None is = absurd is
-query_queries st l (Some held) is = refl
+query_queries st l (Some held) is = way_queries st l held (lacks_memory held.ask)
 
 fails_turns : (st : State) (l : Line) (held : Option Opened) → IsOf l held
     → turns_of (query_answered l.session held) (query_fails st l.line l.session held).0 ≡ turn_to l (given l (query_fails st l.line l.session held).0) ∷ []

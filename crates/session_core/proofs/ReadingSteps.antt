@@ -20,8 +20,8 @@ use Rattle.session_core.specs.declared.line.Line.{Line}
 use Rattle.session_core.specs.declared.line.Reply.{Reply}
 use Rattle.edit_rules.specs.Effects.{edited, database_after}
 use Rattle.session_core.specs.Answers.{answer_at, memory, is_want_of_memory, grid_number, grid_answer, reply_to, entry_of}
-use Rattle.session_core.specs.Steps.{Opened, State, slot, put_slot, session_places, is_full, opened_at, with_look, with_query, with_entry, present, edit_step, look_step, finish_step, query_step}
-use Rattle.session_core.specs.Legal.{accepting, IsAcceptance, IsRightAt, IsRightUnnumbered, IsRight, Look, open_behind, LookReplyFits, FinishReplyFits, ReplyFits}
+use Rattle.session_core.specs.Steps.{Opened, State, slot, put_slot, session_places, is_full, opened_at, with_look, with_query, with_entry, present, edit_step, look_step, finish_step, look_answered, query_step, way_answered}
+use Rattle.session_core.specs.Legal.{accepting, IsAcceptance, IsRightQuery, IsRightAt, IsRightUnnumbered, IsRight, Look, open_behind, LookReplyFits, FinishReplyFits, ReplyFits}
 use Rattle.session_core.specs.InOrder.{Outage, fine, replied, query_begun, query_turn, unless_outage, request_turn}
 use Rattle.emu_names.specs.declared.limits.TheConstants.{HISTORY_EDITS}
 use Rattle.session_core.specs.Readings.{IsStanding, outage_in}
@@ -35,8 +35,9 @@ abbrev is_memory : Answer → Bool
 is_memory (Refused refusals.Memory) = true
 is_memory (Refused (refusals.Rule rule)) = false
 is_memory (Refused (refusals.Grid fault)) = false
+is_memory (Refused (refusals.Prepare fault)) = false
 is_memory (Refused (refusals.Resolve fault)) = false
-is_memory (Refused refusals.NotBuilt) = false
+is_memory (Refused refusals.TooManyTuples) = false
 is_memory (Refused refusals.NoLook) = false
 is_memory (Refused refusals.LookOpen) = false
 is_memory (Refused refusals.HistoryFull) = false
@@ -222,8 +223,9 @@ module _ (c : ConfigParts) (m : ℕ) (H : List Entry) (k : ℕ) (st : State) (r 
       (stays (requests.Edit (Ok edit)) (Some n) (Refused refusals.HistoryFull) refl refl)
   refused_edit edit n refusals.StoreFull right is = absurd (false≢true right.stored)
   refused_edit edit n (refusals.Grid fault) right is = absurd right
+  refused_edit edit n (refusals.Prepare fault) right is = absurd right
   refused_edit edit n (refusals.Resolve fault) right is = absurd right
-  refused_edit edit n refusals.NotBuilt right is = absurd right
+  refused_edit edit n refusals.TooManyTuples right is = absurd right
   refused_edit edit n refusals.NoLook right is = absurd right
   refused_edit edit n refusals.LookOpen right is = absurd right
   refused_edit edit n refusals.Disk right is = absurd right
@@ -237,8 +239,9 @@ module _ (c : ConfigParts) (m : ℕ) (H : List Entry) (k : ℕ) (st : State) (r 
   edit_alone edit (Refused refusals.NoLook) right = absurd right
   edit_alone edit (Refused (refusals.Rule rule)) right = absurd right
   edit_alone edit (Refused (refusals.Grid fault)) right = absurd right
+  edit_alone edit (Refused (refusals.Prepare fault)) right = absurd right
   edit_alone edit (Refused (refusals.Resolve fault)) right = absurd right
-  edit_alone edit (Refused refusals.NotBuilt) right = absurd right
+  edit_alone edit (Refused refusals.TooManyTuples) right = absurd right
   edit_alone edit (Refused refusals.HistoryFull) right = absurd right
   edit_alone edit (Refused refusals.StoreFull) right = absurd right
   edit_alone edit (Done command) right = absurd right
@@ -264,8 +267,9 @@ module _ (c : ConfigParts) (m : ℕ) (H : List Entry) (k : ℕ) (st : State) (r 
   grid_alone fault (Refused refusals.NoLook) right = absurd right
   grid_alone fault (Refused (refusals.Rule rule)) right = absurd right
   grid_alone fault (Refused (refusals.Grid other)) right = absurd right
+  grid_alone fault (Refused (refusals.Prepare other)) right = absurd right
   grid_alone fault (Refused (refusals.Resolve other)) right = absurd right
-  grid_alone fault (Refused refusals.NotBuilt) right = absurd right
+  grid_alone fault (Refused refusals.TooManyTuples) right = absurd right
   grid_alone fault (Refused refusals.HistoryFull) right = absurd right
   grid_alone fault (Refused refusals.StoreFull) right = absurd right
   grid_alone fault (Done command) right = absurd right
@@ -290,18 +294,19 @@ module _ (c : ConfigParts) (m : ℕ) (H : List Entry) (k : ℕ) (st : State) (r 
   abbrev query_out : Ask → Option Opened → Reply × State
   query_out ask under = replied l (query_step (query_begun st l ask) l.line l.session under)
 
-  query_answered_is : (ask : Ask) (n : ℕ) (answer : Answer) → answer ≡ answer_at c H n ask → n ≡ k
+  query_answered_is : (ask : Ask) (n : ℕ) (answer : Answer) → IsRightQuery c H ask n answer → n ≡ k
       → (reply_to l (Some n) answer, with_query (query_begun st l ask) l.session.0 None) ≡ query_turn st l ask fine
   query_answered_is ask n answer right is =
       let n_is : n ≡ present st = is ∙ sym r.count in
       let low : n ≤ length st.entries = omega (arith, n_is) in
       let size : length st.queries ≡ 17 = r.queries_count in
       let below : l.session.0 < 17 = place in
-      ap (λ (a : Answer). (reply_to l (Some n) a, with_query (query_begun st l ask) l.session.0 None)) (sym (answer_is n ask answer low right))
+      ap (λ (a : Answer). (reply_to l (Some n) a, with_query (query_begun st l ask) l.session.0 None)) (sym (answer_is n ask answer low right.given))
       ∙ ap (λ (j : ℕ). (reply_to l (Some j) (answer_at st.config st.entries j ask), with_query (query_begun st l ask) l.session.0 None)) n_is
+      ∙ ap (λ (short : Bool). replied l (way_answered (query_begun st l ask) l.line l.session (opened_at st l ask) short)) (sym right.is_told)
       ∙ sym (ap (λ (o : Option Opened). query_out ask o) (slot_put st.queries l.session.0 (Some (opened_at st l ask)) (omega arith)))
 
-  query_done : (ask : Ask) (n : ℕ) (answer : Answer) → answer ≡ answer_at c H n ask → n ≡ k
+  query_done : (ask : Ask) (n : ℕ) (answer : Answer) → IsRightQuery c H ask n answer → n ≡ k
       → Follows c H k st l (requests.Query ask) (Some n) answer (query_turn st l ask fine)
   query_done ask n answer right is =
       moved (requests.Query ask) (Some n) answer (reply_to l (Some n) answer, with_query (query_begun st l ask) l.session.0 None) _ (query_answered_is ask n answer right is)
@@ -328,17 +333,18 @@ module _ (c : ConfigParts) (m : ℕ) (H : List Entry) (k : ℕ) (st : State) (r 
   query_alone ask (Refused refusals.NoLook) right = absurd right
   query_alone ask (Refused (refusals.Rule rule)) right = absurd right
   query_alone ask (Refused (refusals.Grid fault)) right = absurd right
+  query_alone ask (Refused (refusals.Prepare fault)) right = absurd right
   query_alone ask (Refused (refusals.Resolve fault)) right = absurd right
-  query_alone ask (Refused refusals.NotBuilt) right = absurd right
+  query_alone ask (Refused refusals.TooManyTuples) right = absurd right
   query_alone ask (Refused refusals.HistoryFull) right = absurd right
   query_alone ask (Refused refusals.StoreFull) right = absurd right
   query_alone ask (Done command) right = absurd right
   query_alone ask (Segments rows) right = absurd right
 
   -- a query's answer tells of no want of memory
-  told_fine : (n : ℕ) (ask : Ask) (answer : Answer) → answer ≡ answer_at c H n ask → fine ≡ outage_in answer
+  told_fine : (n : ℕ) (ask : Ask) (answer : Answer) → IsRightQuery c H ask n answer → fine ≡ outage_in answer
   told_fine n ask answer right =
-      sym (ap outage_in right ∙ answers (λ told. outage_in told ≡ fine) (database_after c (take n H)) (λ rows. refl) (λ fault. refl) refl ask)
+      sym (ap outage_in right.given ∙ answers (λ told. outage_in told ≡ fine) (database_after c (take n H)) (λ rows. refl) (λ fault. refl) (λ fault. refl) refl ask right.is_told)
 
   query_follows : (ask : Ask) (n : Option ℕ) (answer : Answer) → IsRightFor c m H l (requests.Query ask) n answer
       → IsStanding (k + length (accepting l (requests.Query ask) n answer)) (requests.Query ask) n
@@ -385,8 +391,9 @@ module _ (c : ConfigParts) (m : ℕ) (H : List Entry) (k : ℕ) (st : State) (r 
   look_alone ask (Refused refusals.NoLook) right fits = absurd right
   look_alone ask (Refused (refusals.Rule rule)) right fits = absurd right
   look_alone ask (Refused (refusals.Grid fault)) right fits = absurd right
+  look_alone ask (Refused (refusals.Prepare fault)) right fits = absurd right
   look_alone ask (Refused (refusals.Resolve fault)) right fits = absurd right
-  look_alone ask (Refused refusals.NotBuilt) right fits = absurd right
+  look_alone ask (Refused refusals.TooManyTuples) right fits = absurd right
   look_alone ask (Refused refusals.HistoryFull) right fits = absurd right
   look_alone ask (Refused refusals.StoreFull) right fits = absurd right
   look_alone ask (Done command) right fits = absurd right
@@ -409,11 +416,12 @@ module _ (c : ConfigParts) (m : ℕ) (H : List Entry) (k : ℕ) (st : State) (r 
       → Follows c H k st l requests.Finish (Some n) answer (unless_outage st l (outage_in answer) (finish_step st l.line l.session there))
   finish_done n answer None fits is same = absurd fits
   finish_done n answer (Some other) fits is same =
-      let told : _ = answer_is other.n other.ask answer is.1 fits.1 in
+      let told : _ = answer_is other.n other.ask answer is.1 fits.1.given in
       subst (λ (o : Outage). Follows c H k st l requests.Finish (Some n) answer (unless_outage st l o (finish_step st l.line l.session (Some other)))) (told_fine other.n other.ask answer fits.1)
       (moved requests.Finish (Some n) answer (reply_to l (Some n) answer, with_look st l.session.0 None) (finish_out (Some other))
       (ap (λ (j : ℕ). (reply_to l (Some j) answer, with_look st l.session.0 None)) fits.0
-      ∙ ap (λ (a : Answer). (reply_to l (Some other.n) a, with_look st l.session.0 None)) (sym told))
+      ∙ ap (λ (a : Answer). (reply_to l (Some other.n) a, with_look st l.session.0 None)) (sym told)
+      ∙ ap (λ (short : Bool). replied l (look_answered st l.line l.session other short)) (sym fits.1.is_told))
       (record {
         reply = refl;
         there = subst (λ (j : ℕ). Stands c H j (with_look st l.session.0 None)) (let here : k ≡ k + 0 = omega arith in here) (with_looks None tt);
@@ -438,8 +446,9 @@ module _ (c : ConfigParts) (m : ℕ) (H : List Entry) (k : ℕ) (st : State) (r 
   finish_alone (Refused refusals.Disk) right fits = absurd right
   finish_alone (Refused (refusals.Rule rule)) right fits = absurd right
   finish_alone (Refused (refusals.Grid fault)) right fits = absurd right
+  finish_alone (Refused (refusals.Prepare fault)) right fits = absurd right
   finish_alone (Refused (refusals.Resolve fault)) right fits = absurd right
-  finish_alone (Refused refusals.NotBuilt) right fits = absurd right
+  finish_alone (Refused refusals.TooManyTuples) right fits = absurd right
   finish_alone (Refused refusals.HistoryFull) right fits = absurd right
   finish_alone (Refused refusals.StoreFull) right fits = absurd right
   finish_alone (Done command) right fits = absurd right
@@ -459,8 +468,9 @@ module _ (c : ConfigParts) (m : ℕ) (H : List Entry) (k : ℕ) (st : State) (r 
   after_alone earlier (Refused refusals.NoLook) right = absurd right
   after_alone earlier (Refused (refusals.Rule rule)) right = absurd right
   after_alone earlier (Refused (refusals.Grid fault)) right = absurd right
+  after_alone earlier (Refused (refusals.Prepare fault)) right = absurd right
   after_alone earlier (Refused (refusals.Resolve fault)) right = absurd right
-  after_alone earlier (Refused refusals.NotBuilt) right = absurd right
+  after_alone earlier (Refused refusals.TooManyTuples) right = absurd right
   after_alone earlier (Refused refusals.HistoryFull) right = absurd right
   after_alone earlier (Refused refusals.StoreFull) right = absurd right
   after_alone earlier (Done command) right = absurd right

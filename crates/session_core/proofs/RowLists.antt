@@ -1,63 +1,51 @@
--- What a bundle's rules say of the items of one of its levels, and a bundle that has no such level.
-use Rattle.std.proofs.Common.{◌≡◌, ◌≤◌, ℕ, zero, suc, ◌+◌, true, List, [], ◌∷◌, ◌++◌, length, take, flat_map, add-one, append-nil, ap, ◌∙◌, sym, refl, Some, slice_get, arith, rules}
-use Rattle.std.specs.List.{list_all}
-use Rattle.std.proofs.lemmas.Bool.{and_parts, and_from}
-use Rattle.std.proofs.lemmas.List.Sums.{sum_by-cons}
-use Rattle.std.proofs.lemmas.Grind.{flat_map-append}
-use Rattle.std.proofs.lemmas.Option.{slice_get_past}
-use Rattle.emu_names.specs.declared.kinds.LevelKind.{LevelKind}
-use Rattle.level_items.specs.declared.items.Item.{Item}
-use Rattle.level_items.specs.Times.{ends_in_time}
-use Rattle.level_items.specs.Levels.{Level, fits_level}
+-- One bundle more of a segment list.
+use Rattle.std.proofs.Common.{◌≡◌, ℕ, suc, ◌+◌, Bool, true, false, ◌||◌, List, ◌∷◌, ◌++◌, drop, add-one, append_assoc, ap, ◌∙◌, sym, subst, Some, Err, slice_get}
+use Rattle.bundle_state.specs.Bundle.{BundleParts}
 use Rattle.db_config.specs.declared.parts.ConfigParts.{ConfigParts}
-use Rattle.bundle_state.specs.Bundle.{BundleParts, item_count}
-use Rattle.session_core.specs.declared.row.Row.{Row}
-use Rattle.session_core.specs.Queries.{Asked, rows_in, segment_list}
+use Rattle.edit_rules.specs.Database.{DatabaseParts}
+use Rattle.edit_rules.proofs.Spans.{drop_here}
+use Rattle.eql_resolve.specs.Asked.{AskedParts}
+use Rattle.eql_model.specs.declared.row.Row.{Row}
+use Rattle.eql_model.specs.Meaning.{has_too_many}
+use Rattle.eql_model.specs.Rows.{rows, segment_list}
+use Rattle.eql_model.specs.declared.faults.MatchFault.{MatchFault}
+use Rattle.eql_model.specs.declared.faults.MatchFault.TheVariants as faults
+use Rattle.session_core.specs.Queries.{any_has_too_many, AddsRows, ListsRows}
 
--- a bundle that has no such level gives no row
-pub no_rows : (c : ConfigParts) (asked : Asked) (b : BundleParts) → length b.levels ≤ asked.place.level → rows_in c asked b ≡ []
-no_rows c asked b past = rw (slice_get_past b.levels asked.place.level past) refl
+module _ (c : ConfigParts) (a : AskedParts) (bundles : List BundleParts) (place : ℕ) (b : BundleParts) (found : slice_get bundles place ≡ Some b) where
+  next : drop place bundles ≡ b ∷ drop (place + 1) bundles
+  next = drop_here bundles place b found ∙ ap (λ n. b ∷ drop n bundles) (sym (add-one place))
 
--- the items of a level end in time
-fits_in_time : (kind : LevelKind) (attributes : ℕ) (i : Item) → fits_level kind attributes i ≡ true → ends_in_time i.time ≡ true
-fits_in_time kind attributes i fits = search rules
+  -- the rows of the bundle are behind those before it
+  pub list_more : (old new whole : List Row) → old ++ segment_list c (drop place bundles) a ≡ whole → new ≡ old ++ rows c b a
+      → new ++ segment_list c (drop (place + 1) bundles) a ≡ whole
+  list_more old new whole there more =
+      ap (λ list. list ++ segment_list c (drop (place + 1) bundles) a) more
+      ∙ append_assoc old (rows c b a) (segment_list c (drop (place + 1) bundles) a)
+      ∙ ap (λ bs. old ++ segment_list c bs a) (sym next)
+      ∙ there
 
-pub all_in_time : (kind : LevelKind) (attributes : ℕ) (items : List Item) → list_all (fits_level kind attributes) items ≡ true → list_all (λ i. ends_in_time i.time) items ≡ true
-all_in_time kind attributes [] fits = refl
-all_in_time kind attributes (i ∷ items) fits =
-    let parts : _ = and_parts (fits_level kind attributes i) (list_all (fits_level kind attributes) items) fits in
-    and_from (ends_in_time i.time) (list_all (λ i. ends_in_time i.time) items) (fits_in_time kind attributes i parts.0) (all_in_time kind attributes items parts.1)
+  -- the bundle has not too many tuples
+  pub few_more : (whole : Bool) → any_has_too_many c (drop place bundles) a ≡ whole → has_too_many c b a.query ≡ false
+      → any_has_too_many c (drop (place + 1) bundles) a ≡ whole
+  few_more whole there few =
+      ap (λ many. many || any_has_too_many c (drop (place + 1) bundles) a) (sym few)
+      ∙ ap (λ bs. any_has_too_many c bs a) (sym next)
+      ∙ there
 
-one_level : (a b : Level) → Some a ≡ Some b → length a.items ≡ length b.items
-one_level a b e = cc
+  -- the bundle has
+  pub many_there : (whole : Bool) → any_has_too_many c (drop place bundles) a ≡ whole → has_too_many c b a.query ≡ true → whole ≡ true
+  many_there whole there many =
+      sym there
+      ∙ ap (λ bs. any_has_too_many c bs a) next
+      ∙ ap (λ over. over || any_has_too_many c (drop (place + 1) bundles) a) many
 
--- a level has no more items than all levels together
-pub level_within : (levels : List Level) (n : ℕ) (level : Level) → slice_get levels n ≡ Some level → length level.items ≤ item_count levels
-level_within [] n level found = absurd cc
-level_within (x ∷ levels) zero level found =
-    let sum : item_count (x ∷ levels) ≡ length x.items + item_count levels = sum_by-cons (λ (l : Level). length l.items) x levels in
-    let same : length x.items ≡ length level.items = one_level x level found in
-    omega arith
-level_within (x ∷ levels) (suc n) level found =
-    let sum : item_count (x ∷ levels) ≡ length x.items + item_count levels = sum_by-cons (λ (l : Level). length l.items) x levels in
-    let rest : length level.items ≤ item_count levels = level_within levels n level found in
-    omega arith
-
--- One bundle more.
-
-take_one : {A : Type 0} (xs : List A) (n : ℕ) (x : A) → slice_get xs n ≡ Some x → take (suc n) xs ≡ take n xs ++ x ∷ []
-take_one [] n x found = absurd cc
-take_one (y ∷ xs) zero x found = cc
-take_one (y ∷ xs) (suc n) x found = ap (λ ys. y ∷ ys) (take_one xs n x found)
-
-flat_map_push : {A B : Type 0} (f : A → List B) (xs : List A) (x : A) → flat_map f (xs ++ x ∷ []) ≡ flat_map f xs ++ f x
-flat_map_push f xs x = flat_map-append f xs (x ∷ []) ∙ ap (λ ys. flat_map f xs ++ ys) (append-nil (f x))
-
-pub rows_more : (c : ConfigParts) (asked : Asked) (bundles : List BundleParts) (place : ℕ) (b : BundleParts) (rows rows2 : List Row)
-    → rows ≡ segment_list c asked (take place bundles) → slice_get bundles place ≡ Some b → rows2 ≡ rows ++ rows_in c asked b
-    → rows2 ≡ segment_list c asked (take (place + 1) bundles)
-rows_more c asked bundles place b rows rows2 there found more =
-    let whole : take (place + 1) bundles ≡ take place bundles ++ b ∷ [] = ap (λ n. take n bundles) (add-one place) ∙ take_one bundles place b found in
-    let joined : segment_list c asked (take place bundles ++ b ∷ []) ≡ segment_list c asked (take place bundles) ++ rows_in c asked b =
-    flat_map_push (rows_in c asked) (take place bundles) b in
-    more ∙ ap (λ xs. xs ++ rows_in c asked b) there ∙ sym joined ∙ sym (ap (λ xs. segment_list c asked xs) whole)
+-- what refuses a bundle refuses the database
+pub refused : (fault : MatchFault) (c : ConfigParts) (a : AskedParts) (database : DatabaseParts) (place : ℕ) (b : BundleParts) (old new : List Row)
+    → c ≡ database.config → slice_get database.bundles place ≡ Some b
+    → any_has_too_many c (drop place database.bundles) a ≡ any_has_too_many c database.bundles a
+    → AddsRows (Err fault) c b a old new → ListsRows (Err fault) database a
+refused faults.TooManyTuples c a database place b old new own found there many =
+    subst (λ k. any_has_too_many k database.bundles a ≡ true) own
+    (many_there c a database.bundles place b found (any_has_too_many c database.bundles a) there many)
+refused faults.Memory c a database place b old new own found there many = tt

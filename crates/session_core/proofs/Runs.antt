@@ -20,7 +20,8 @@ use Rattle.session_core.specs.declared.line.Request.TheVariants as requests
 use Rattle.session_core.specs.declared.line.Line.{Line}
 use Rattle.session_core.specs.declared.line.Reply.{Reply}
 use Rattle.edit_rules.specs.Effects.{IsLegal, edited}
-use Rattle.session_core.specs.Steps.{Opened, State, start, slot, session_places, present, is_full, edit_step, edit_event, look_step, look_event, finish_step, query_step, Asker, by_look, by_query, by_none, asker_of, finish_by, core_step, query_fails, finish_fails_by, core_fails, option_list, steps}
+use Rattle.session_core.specs.Queries.{lacks_memory}
+use Rattle.session_core.specs.Steps.{Opened, State, start, slot, session_places, present, is_full, edit_step, edit_event, look_step, look_event, finish_step, look_answered, query_step, way_answered, Asker, by_look, by_query, by_none, asker_of, finish_by, core_step, query_fails, finish_fails_by, core_fails, option_list, steps}
 use Rattle.session_core.specs.Worlds.{Turn, Trouble, untroubled, no_memory, store_full, disk_failed, is_disk_failed, Occurrence, World, edit_kept_out, outcome_of, query_line, finish_line, query_answered, answered_by, answered, turns_of, happens, run, opening_world, Each, AllFit, disk_failures, is_waiting, is_done, lines_done}
 use Rattle.session_core.specs.Legal.{of_session, lines_of_session, is_of, is_line_of, lines_in, replies_in, with_number, HasSeenTurn, disk_replies, Legal}
 use Rattle.emu_names.specs.declared.limits.TheConstants.{HISTORY_EDITS}
@@ -99,13 +100,21 @@ look_event_config st l (requests.After earlier) = refl
 look_event_config st l (requests.Edit given) = refl
 look_event_config st l requests.Finish = refl
 
+told_config : (st : State) (line : ℕ) (s : SessionNo) (held : Opened) (short : Bool) → (look_answered st line s held short).1.config ≡ st.config
+told_config st line s held true = refl
+told_config st line s held false = refl
+
+way_config : (st : State) (line : ℕ) (s : SessionNo) (held : Opened) (short : Bool) → (way_answered st line s held short).1.config ≡ st.config
+way_config st line s held true = refl
+way_config st line s held false = refl
+
 finish_config : (st : State) (line : ℕ) (s : SessionNo) (look : Option Opened) → (finish_step st line s look).1.config ≡ st.config
 finish_config st line s None = refl
-finish_config st line s (Some held) = refl
+finish_config st line s (Some held) = told_config st line s held (lacks_memory held.ask)
 
 query_config : (st : State) (line : ℕ) (s : SessionNo) (held : Option Opened) → (query_step st line s held).1.config ≡ st.config
 query_config st line s None = refl
-query_config st line s (Some held) = refl
+query_config st line s (Some held) = way_config st line s held (lacks_memory held.ask)
 
 fails_config : (st : State) (line : ℕ) (s : SessionNo) (held : Option Opened) → (query_fails st line s held).1.config ≡ st.config
 fails_config st line s None = refl
@@ -276,9 +285,13 @@ one_reply : (l : Line) (reply : Option Reply) → replies_in (turns_of (l ∷ []
 one_reply l None = refl
 one_reply l (Some reply) = refl
 
+way_reply : (st : State) (line : ℕ) (s : SessionNo) (held : Opened) (short : Bool) → replies_in (turns_of (query_answered s (Some held)) (way_answered st line s held short).0) ≡ option_list (way_answered st line s held short).0
+way_reply st line s held true = refl
+way_reply st line s held false = refl
+
 query_reply : (st : State) (line : ℕ) (s : SessionNo) (held : Option Opened) → replies_in (turns_of (query_answered s held) (query_step st line s held).0) ≡ option_list (query_step st line s held).0
 query_reply st line s None = refl
-query_reply st line s (Some held) = refl
+query_reply st line s (Some held) = way_reply st line s held (lacks_memory held.ask)
 
 finish_reply : (st : State) (line : ℕ) (s : SessionNo) (asker : Asker)
     → replies_in (turns_of (answered_by st line s asker) (finish_by st line s asker).0) ≡ option_list (finish_by st line s asker).0

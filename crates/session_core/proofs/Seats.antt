@@ -19,7 +19,7 @@ use Rattle.edit_rules.specs.Effects.{IsLegal, edited, database_after}
 use Rattle.session_core.specs.Answers.{answer_over, answer_at, entry_of}
 use Rattle.session_core.specs.Steps.{Opened, slot, session_places}
 use Rattle.session_core.specs.Worlds.{Turn, World, Each, query_answered, passes_store}
-use Rattle.session_core.specs.Legal.{IsNamed, of_session, lines_of_session, is_of, lines_in, NumberedEntry, accepting, accepted, numbered, IsRightRefusal, IsRightEdit, IsRightAt, IsRight, IsRightTurn, low_behind, KeepsUp, NeverFalls, Look, open_behind, FinishReplyFits, ReplyFits, LooksFit, replies_in, disk_replies}
+use Rattle.session_core.specs.Legal.{IsNamed, of_session, lines_of_session, is_of, lines_in, NumberedEntry, accepting, accepted, numbered, IsRightRefusal, IsRightEdit, IsRightQuery, IsRightAt, IsRight, IsRightTurn, low_behind, KeepsUp, NeverFalls, Look, open_behind, FinishReplyFits, ReplyFits, LooksFit, replies_in, disk_replies}
 use Rattle.session_core.proofs.Turns.{each_push, each_map, each_filter, turns_own, turns_other, lines_push, accepted_push, numbered_more, low_of, falls_push, low_push, held_of, looks_push, held_push, IsPast, IsTo, HasSeenStill, all_still, disk_of, disks_push}
 
 -- A longer history changes nothing of what was said of a shorter one.
@@ -51,8 +51,9 @@ module _ (store : Bool) (c : ConfigParts) (m : ℕ) (H new : List Entry) where
     passes = ap (λ (xs : List Entry). passes_store c xs (entry_of l edit)) (take-append-le n H new high) ∙ right.passes;
   }
   refusal_more l edit n (refusals.Grid fault) high right = right
+  refusal_more l edit n (refusals.Prepare fault) high right = right
   refusal_more l edit n (refusals.Resolve fault) high right = right
-  refusal_more l edit n refusals.NotBuilt high right = right
+  refusal_more l edit n refusals.TooManyTuples high right = right
   refusal_more l edit n refusals.NoLook high right = right
   refusal_more l edit n refusals.LookOpen high right = right
   refusal_more l edit n refusals.Disk high right = right
@@ -75,10 +76,16 @@ module _ (store : Bool) (c : ConfigParts) (m : ℕ) (H new : List Entry) where
   edit_more l edit n (Refused refusal) high right = refusal_more l edit n refusal high right
   edit_more l edit n (Segments rows) high right = right
 
+  query_more : (ask : Ask) (n : ℕ) (answer : Answer) → n ≤ length H → IsRightQuery c H ask n answer → IsRightQuery c (H ++ new) ask n answer
+  query_more ask n answer high right = record {
+    given = right.given ∙ sym (answer_same c H new n ask high);
+    is_told = right.is_told;
+  }
+
   right_at_more : (l : Line) (r : Request) (n : ℕ) (answer : Answer) → n ≤ length H → IsRightAt c H store l r n answer → IsRightAt c (H ++ new) store l r n answer
   right_at_more l (requests.Edit (Ok edit)) n answer high right = edit_more l edit n answer high right
   right_at_more l (requests.Edit (Err fault)) n answer high right = right
-  right_at_more l (requests.Query ask) n answer high right = right ∙ sym (answer_same c H new n ask high)
+  right_at_more l (requests.Query ask) n answer high right = query_more ask n answer high right
   right_at_more l (requests.Look ask) n answer high right = right
   right_at_more l (requests.After earlier) n answer high right = right
   right_at_more l requests.Finish n answer high right = tt
@@ -103,7 +110,7 @@ module _ (store : Bool) (c : ConfigParts) (m : ℕ) (H new : List Entry) where
   finish_more (Some held) (Some n) answer to fits =
       let n_is : n ≡ held.n = fits.0 in
       let high : held.n ≤ length H = omega (arith, to) in
-      (fits.0, fits.1 ∙ sym (answer_same c H new held.n held.ask high))
+      (fits.0, query_more held.ask held.n answer high fits.1)
   finish_more (Some held) None answer to fits = fits
 
   fits_more : (held : Option Look) (r : Request) (n : Option ℕ) (answer : Answer) → IsTo (length H) n → ReplyFits c H held r n answer → ReplyFits c (H ++ new) held r n answer

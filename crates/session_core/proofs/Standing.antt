@@ -14,8 +14,9 @@ use Rattle.session_core.specs.declared.line.Request.TheVariants as requests
 use Rattle.session_core.specs.declared.line.Line.{Line}
 use Rattle.session_core.specs.declared.line.Reply.{Reply}
 use Rattle.edit_rules.specs.Effects.{edited}
+use Rattle.session_core.specs.Queries.{lacks_memory}
 use Rattle.session_core.specs.Answers.{memory, is_want_of_memory, grid_number, grid_answer, reply_to, entry_of}
-use Rattle.session_core.specs.Steps.{Opened, State, slot, put_slot, present, is_full, opened_at, edit_step, look_step, finish_step, query_step, query_fails}
+use Rattle.session_core.specs.Steps.{Opened, State, slot, put_slot, present, is_full, opened_at, edit_step, look_step, finish_step, look_answered, query_step, way_answered, query_fails}
 use Rattle.session_core.specs.Worlds.{Turn, Trouble, untroubled, no_memory, store_full, disk_failed}
 use Rattle.session_core.specs.Legal.{lines_in, replies_in, accepting}
 use Rattle.session_core.specs.InOrder.{Outage, fine, at_first, at_last, disk_fails, replied, query_begun, edit_outcome, trouble_at, request_turn, one_turn, in_turn}
@@ -67,9 +68,13 @@ module _ (st : State) (l : Line) where
   look_counts ask None = record { stands = omega arith; count = omega arith }
   look_counts ask (Some held) = record { stands = tt; count = omega arith }
 
+  answered_counts : (held : Opened) (short : Bool) → Counts st l requests.Finish (replied l (look_answered st l.line l.session held short))
+  answered_counts held true = record { stands = tt; count = omega arith }
+  answered_counts held false = record { stands = tt; count = omega arith }
+
   finish_counts : (held : Option Opened) → Counts st l requests.Finish (replied l (finish_step st l.line l.session held))
   finish_counts None = record { stands = tt; count = omega arith }
-  finish_counts (Some held) = record { stands = tt; count = omega arith }
+  finish_counts (Some held) = answered_counts held (lacks_memory held.ask)
 
   -- a query under way, if there is one, is over the present state
   abbrev IsNow : Option Opened → Type 0
@@ -81,9 +86,13 @@ module _ (st : State) (l : Line) where
   now_put (x ∷ xs) zero held is = is
   now_put (x ∷ xs) (suc s) held is = now_put xs s held is
 
+  way_counts : (ask : Ask) (held : Opened) (short : Bool) → held.n ≡ present st → Counts st l (requests.Query ask) (replied l (way_answered (query_begun st l ask) l.line l.session held short))
+  way_counts ask held true is = record { stands = tt; count = omega arith }
+  way_counts ask held false is = record { stands = omega arith; count = omega arith }
+
   query_counts : (ask : Ask) (held : Option Opened) → IsNow held → Counts st l (requests.Query ask) (replied l (query_step (query_begun st l ask) l.line l.session held))
   query_counts ask None is = record { stands = tt; count = omega arith }
-  query_counts ask (Some held) is = record { stands = (let now : held.n ≡ present st = is in omega arith); count = omega arith }
+  query_counts ask (Some held) is = way_counts ask held (lacks_memory held.ask) is
 
   fails_counts : (ask : Ask) (held : Option Opened) → Counts st l (requests.Query ask) (replied l (query_fails (query_begun st l ask) l.line l.session held))
   fails_counts ask None = record { stands = tt; count = omega arith }

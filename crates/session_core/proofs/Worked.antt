@@ -1,11 +1,13 @@
 -- The example's run, worked out.
 use Rattle.std.proofs.Common.{[], refl, arith}
 use Rattle.edit_rules.specs.Database.{empty_database}
+use Rattle.eql_resolve.specs.Resolve.{asked}
 use Rattle.session_core.specs.Example.{example_config, example_events}
 use Rattle.session_core.specs.Laws.{ExampleFits, ExampleReplies, ExampleHistory, ExampleIsLegal, ExampleSizes}
 use Rattle.session_core.proofs.Runs.{core_run_legal}
 
 pub example_replies_are : ExampleReplies
+unfolding asked
 example_replies_are = refl
 
 pub example_history_is : ExampleHistory
@@ -27,6 +29,7 @@ example_fits = (
 )
 
 pub example_legal : ExampleIsLegal
+unfolding asked
 example_legal = core_run_legal example_config [] example_events (empty_database example_config, refl) (omega arith) example_fits
 
 pub example_sizes : ExampleSizes

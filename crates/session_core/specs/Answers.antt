@@ -7,7 +7,12 @@ use Rattle.edit_rules.specs.declared.edit.Edit.{Edit}
 use Rattle.edit_rules.specs.declared.edit.Entry.{Entry}
 use Rattle.edit_rules.specs.Database.{DatabaseParts}
 use Rattle.edit_rules.specs.Effects.{database_after}
-use Rattle.session_core.specs.declared.row.Row.{Row}
+use Rattle.eql_resolve.specs.declared.faults.AskFault.{AskFault}
+use Rattle.eql_resolve.specs.declared.faults.PrepareFault.{PrepareFault}
+use Rattle.eql_resolve.specs.Prepared.{PreparedParts}
+use Rattle.eql_resolve.specs.Asked.{AskedParts}
+use Rattle.eql_resolve.specs.Resolve.{asked}
+use Rattle.eql_model.specs.Rows.{segment_list}
 use Rattle.session_core.specs.declared.line.Ask.{Ask}
 use Rattle.session_core.specs.declared.line.Answer.{Answer}
 use Rattle.session_core.specs.declared.line.Answer.TheVariants.{Segments, Refused}
@@ -15,29 +20,48 @@ use Rattle.session_core.specs.declared.line.Refusal.{Refusal}
 use Rattle.session_core.specs.declared.line.Refusal.TheVariants as refusals
 use Rattle.session_core.specs.declared.line.Line.{Line}
 use Rattle.session_core.specs.declared.line.Reply.{Reply}
-use Rattle.session_core.specs.Queries.{Asked, resolved, segment_list}
+use Rattle.session_core.specs.Queries.{is_memory_of, any_has_too_many}
 
--- the rows of a query over a database, or why it is refused: first its meaning, and then its list
-abbrev pub rows_over : DatabaseParts → Result Asked Refusal → Result (List Row) Refusal
-rows_over database (Ok asked) = Ok (segment_list database.config asked database.bundles)
-rows_over database (Err refusal) = Err refusal
+-- want of memory, which is an answer to every request
+abbrev pub memory : Answer
+memory = Refused refusals.Memory
 
--- a query is answered by its rows or by its refusal
-abbrev pub query_answer : Result (List Row) Refusal → Answer
-query_answer (Ok rows) = Segments rows
-query_answer (Err refusal) = Refused refusal
+-- The answer to a query.
 
--- the answer to a query over a database
+-- the fault of a text or of its patterns refuses the query; want of memory, of which the flag speaks, is
+-- answered as such
+abbrev pub prepare_answer : PrepareFault → Bool → Answer
+prepare_answer fault true = memory
+prepare_answer fault false = Refused (refusals.Prepare fault)
+
+-- a query whose names were found is answered by the rows of one bundle after another, in the order of
+-- their keys; the flag says that some bundle has too many tuples
+abbrev pub matched_answer : DatabaseParts → AskedParts → Bool → Answer
+matched_answer database a true = Refused refusals.TooManyTuples
+matched_answer database a false = Segments (segment_list database.config database.bundles a)
+
+-- a query without a meaning under the configuration is refused for the first fault of its names
+abbrev pub resolved_answer : DatabaseParts → Result AskedParts AskFault → Answer
+resolved_answer database (Err fault) = Refused (refusals.Resolve fault)
+resolved_answer database (Ok a) =
+    matched_answer database a (any_has_too_many database.config database.bundles a)
+
+-- what was prepared, and the name of the level of the times where it is given
+abbrev pub prepared_answer : DatabaseParts → Result PreparedParts PrepareFault → Option (List ℕ) → Answer
+prepared_answer database (Err fault) time = prepare_answer fault (is_memory_of fault)
+prepared_answer database (Ok prepared) time =
+    resolved_answer database (asked database.config prepared.query time)
+
+-- The answer to a query over a database is the first of these: the fault of its text or of its patterns,
+-- the fault of its names and levels, that it has too many tuples in some bundle, its segment list.
 abbrev pub answer_over : DatabaseParts → Ask → Answer
-answer_over database ask = query_answer (rows_over database (resolved database.config ask))
+answer_over database ask = prepared_answer database ask.prepared ask.time
 
 -- the answer to a query over the state after the first n entries
 abbrev pub answer_at : ConfigParts → List Entry → ℕ → Ask → Answer
 answer_at c history n ask = answer_over (database_after c (take n history)) ask
 
--- want of memory, which is an answer to every request
-abbrev pub memory : Answer
-memory = Refused refusals.Memory
+-- The fault of a TextGrid.
 
 -- whether the fault of a TextGrid is want of memory
 abbrev pub is_want_of_memory : GridFault → Bool

@@ -1,6 +1,6 @@
 -- A small run, worked out: one bundle with two segments is added, and one of them is asked for
 -- (EMU-SDMS Manual, "The EMU Query Language": `Phonetic == m`).
-use Rattle.std.specs.Prelude.{ℕ, List, [], ◌∷◌, Some, codes, None, Ok}
+use Rattle.std.specs.Prelude.{ℕ, false, List, [], ◌∷◌, Some, codes, None, Ok}
 use Rattle.emu_names.specs.declared.kinds.LevelKind.TheVariants as kinds
 use Rattle.emu_names.specs.declared.kinds.SessionNo.{SessionNo}
 use Rattle.level_items.specs.declared.times.Time.TheVariants.{Span}
@@ -11,9 +11,13 @@ use Rattle.db_config.specs.declared.parts.ConfigParts.{ConfigParts}
 use Rattle.edit_rules.specs.declared.edit.Edit.{Edit}
 use Rattle.edit_rules.specs.declared.edit.Edit.TheVariants as edits
 use Rattle.edit_rules.specs.declared.edit.Entry.{Entry}
+use Rattle.eql_syntax.specs.declared.query.Op.TheVariants.{Is}
+use Rattle.eql_syntax.specs.declared.query.Term.TheVariants.{Test}
+use Rattle.eql_syntax.specs.Tree.{Conjunction}
 use Rattle.session_core.specs.declared.event.Event.{Event}
 use Rattle.session_core.specs.declared.event.Event.TheVariants as events
-use Rattle.session_core.specs.declared.row.Row.{Row}
+use Rattle.eql_model.specs.declared.row.Row.{Row}
+use Rattle.session_core.specs.declared.line.Ask.{Ask}
 use Rattle.session_core.specs.declared.line.Answer.TheVariants.{Done, Segments}
 use Rattle.session_core.specs.declared.line.Command.TheVariants as commands
 use Rattle.session_core.specs.declared.line.Request.TheVariants as requests
@@ -74,13 +78,23 @@ first_session = record { 0 = 1 }
 abbrev pub add_line : Line
 add_line = record { line = 2; session = first_session; command = commands.AddBundle; request = requests.Edit (Ok example_edit) }
 
+-- `Phonetic == m`, with no patterns and no level of the times
+abbrev pub example_ask : Ask
+example_ask = record {
+  prepared = Ok (record {
+    query = Conjunction (Test false (codes "Phonetic") Is (codes "m" ∷ []) ∷ []);
+    patterns = [];
+  });
+  time = None;
+}
+
 -- line 3 asks for m
 abbrev pub ask_line : Line
 ask_line = record {
   line = 3;
   session = first_session;
   command = commands.Query;
-  request = requests.Query (record { name = codes "Phonetic"; label = codes "m" });
+  request = requests.Query example_ask;
 }
 
 -- the lines behind the configuration

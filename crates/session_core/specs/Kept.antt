@@ -18,7 +18,8 @@ use Rattle.session_core.specs.declared.line.Reply.{Reply}
 use Rattle.session_core.specs.declared.slots.Held.{Held}
 use Rattle.session_core.specs.declared.moves.Head.{Head}
 use Rattle.edit_rules.specs.Effects.{after, effect}
-use Rattle.session_core.specs.Answers.{answer_over, is_want_of_memory, grid_number, grid_answer}
+use Rattle.session_core.specs.Queries.{lacks_memory}
+use Rattle.session_core.specs.Answers.{answer_over, memory, is_want_of_memory, grid_number, grid_answer}
 use Rattle.session_core.specs.Steps.{Opened, State, slot, put_slot, is_full, session_places, reply_of}
 
 -- The state that the parts of a core stand for.
@@ -108,15 +109,26 @@ looked head ask n database slots (Some held) = (head_reply head None (Refused re
 abbrev pub held_answer : Held → Answer
 held_answer held = answer_over held.database held.ask
 
+-- the answer of an open look: the reply, and the looks; the flag says that memory ran out when its query was read
+abbrev pub look_answer : ℕ → SessionNo → List (Option Held) → Held → Bool → Reply × List (Option Held)
+look_answer line s slots held true = (reply_of line s None memory, slots)
+look_answer line s slots held false = (reply_of line s (Some held.n) (held_answer held), put_slot slots s.0 None)
+
 -- the answer of a look: the reply, and the looks
 abbrev pub look_closed : ℕ → SessionNo → List (Option Held) → Option Held → Reply × List (Option Held)
 look_closed line s slots None = (reply_of line s None (Refused refusals.NoLook), slots)
-look_closed line s slots (Some held) = (reply_of line s (Some held.n) (held_answer held), put_slot slots s.0 None)
+look_closed line s slots (Some held) = look_answer line s slots held (lacks_memory held.ask)
+
+-- the reply to a query under way; the flag says that memory ran out when it was read
+abbrev pub query_reply : ℕ → SessionNo → Held → Bool → Reply
+query_reply line s held true = reply_of line s None memory
+query_reply line s held false = reply_of line s (Some held.n) (held_answer held)
 
 -- the answer of a query under way: the reply where there is one, and the queries
 abbrev pub query_closed : ℕ → SessionNo → List (Option Held) → Option Held → Option Reply × List (Option Held)
 query_closed line s slots None = (None, slots)
-query_closed line s slots (Some held) = (Some (reply_of line s (Some held.n) (held_answer held)), put_slot slots s.0 None)
+query_closed line s slots (Some held) =
+    (Some (query_reply line s held (lacks_memory held.ask)), put_slot slots s.0 None)
 
 -- the queries where memory runs out at the answer of one
 abbrev pub query_dropped : SessionNo → List (Option Held) → Option Held → List (Option Held)

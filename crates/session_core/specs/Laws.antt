@@ -3,7 +3,7 @@ use Rattle.std.specs.Prelude.{◌≡◌, ℕ, ◌≤◌, false, List, [], ◌∷
 use Rattle.db_config.specs.declared.parts.ConfigParts.{ConfigParts}
 use Rattle.edit_rules.specs.declared.edit.Entry.{Entry}
 use Rattle.session_core.specs.declared.event.Event.{Event}
-use Rattle.session_core.specs.declared.row.Row.{Row}
+use Rattle.eql_model.specs.declared.row.Row.{Row}
 use Rattle.edit_rules.specs.Effects.{IsLegal}
 use Rattle.session_core.specs.Steps.{start, steps}
 use Rattle.session_core.specs.Worlds.{Occurrence, untroubled, World, run, opening_world, AllFit, disk_failures, lines_done}

@@ -16,6 +16,7 @@ use Rattle.session_core.specs.declared.line.Request.TheVariants as requests
 use Rattle.session_core.specs.declared.line.Line.{Line}
 use Rattle.session_core.specs.declared.line.Reply.{Reply}
 use Rattle.edit_rules.specs.Effects.{IsLegal, edited}
+use Rattle.session_core.specs.Queries.{lacks_memory}
 use Rattle.session_core.specs.Answers.{answer_at, memory, is_want_of_memory, entry_of}
 use Rattle.session_core.specs.Worlds.{Turn, Each, passes_store}
 use Rattle.fault_counts.specs.Count.{RoseBy}
@@ -117,8 +118,9 @@ IsRightRefusal c H store l edit n (refusals.Rule rule) = (n < HISTORY_EDITS) × 
 IsRightRefusal c H store l edit n refusals.HistoryFull = n ≡ HISTORY_EDITS
 IsRightRefusal c H store l edit n refusals.StoreFull = IsStoreFull c H store l edit n
 IsRightRefusal c H store l edit n (refusals.Grid fault) = ⊥
+IsRightRefusal c H store l edit n (refusals.Prepare fault) = ⊥
 IsRightRefusal c H store l edit n (refusals.Resolve fault) = ⊥
-IsRightRefusal c H store l edit n refusals.NotBuilt = ⊥
+IsRightRefusal c H store l edit n refusals.TooManyTuples = ⊥
 IsRightRefusal c H store l edit n refusals.NoLook = ⊥
 IsRightRefusal c H store l edit n refusals.LookOpen = ⊥
 IsRightRefusal c H store l edit n refusals.Disk = ⊥
@@ -136,11 +138,16 @@ pub record IsRightGrid (fault : GridFault) (answer : Answer) : Type 0 where
   pub told : answer ≡ Refused (refusals.Grid fault)
   pub is_fault : is_want_of_memory fault ≡ false
 
+-- an answer to a query is the one over the state after n; want of memory names no state
+pub record IsRightQuery (c : ConfigParts) (H : List Entry) (ask : Ask) (n : ℕ) (answer : Answer) : Type 0 where
+  pub given : answer ≡ answer_at c H n ask
+  pub is_told : lacks_memory ask ≡ false
+
 -- an answer with a number, which names a state from the opening's to the last one
 abbrev pub IsRightAt : ConfigParts → List Entry → Bool → Line → Request → ℕ → Answer → Type 0
 IsRightAt c H store l (requests.Edit (Ok edit)) n answer = IsRightEdit c H store l edit n answer
 IsRightAt c H store l (requests.Edit (Err fault)) n answer = IsRightGrid fault answer
-IsRightAt c H store l (requests.Query ask) n answer = answer ≡ answer_at c H n ask
+IsRightAt c H store l (requests.Query ask) n answer = IsRightQuery c H ask n answer
 IsRightAt c H store l (requests.Look ask) n answer = answer ≡ Done l.command
 IsRightAt c H store l (requests.After earlier) n answer = answer ≡ Done l.command
 -- 4 says which look a `finish` answers
@@ -181,8 +188,9 @@ IsRefusedUnnumbered store request refusals.LookOpen = IsLook request
 IsRefusedUnnumbered store request refusals.NoLook = IsFinish request
 IsRefusedUnnumbered store request (refusals.Rule rule) = ⊥
 IsRefusedUnnumbered store request (refusals.Grid fault) = ⊥
+IsRefusedUnnumbered store request (refusals.Prepare fault) = ⊥
 IsRefusedUnnumbered store request (refusals.Resolve fault) = ⊥
-IsRefusedUnnumbered store request refusals.NotBuilt = ⊥
+IsRefusedUnnumbered store request refusals.TooManyTuples = ⊥
 IsRefusedUnnumbered store request refusals.HistoryFull = ⊥
 IsRefusedUnnumbered store request refusals.StoreFull = ⊥
 
@@ -264,7 +272,7 @@ LookReplyFits (Some held) None answer = (answer ≡ Refused refusals.LookOpen) �
 abbrev pub FinishReplyFits : ConfigParts → List Entry → Option Look → Option ℕ → Answer → Type 0
 FinishReplyFits c H None (Some n) answer = ⊥
 FinishReplyFits c H None None answer = (answer ≡ Refused refusals.NoLook) ⊎ (answer ≡ memory)
-FinishReplyFits c H (Some held) (Some n) answer = (n ≡ held.n) × (answer ≡ answer_at c H held.n held.ask)
+FinishReplyFits c H (Some held) (Some n) answer = (n ≡ held.n) × IsRightQuery c H held.ask held.n answer
 FinishReplyFits c H (Some held) None answer = answer ≡ memory
 
 -- a reply fits the look that is open before it

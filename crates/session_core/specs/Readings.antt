@@ -43,8 +43,9 @@ abbrev pub outage_at : Refusal → Outage
 outage_at refusals.Memory = at_first
 outage_at (refusals.Rule rule) = fine
 outage_at (refusals.Grid fault) = fine
+outage_at (refusals.Prepare fault) = fine
 outage_at (refusals.Resolve fault) = fine
-outage_at refusals.NotBuilt = fine
+outage_at refusals.TooManyTuples = fine
 outage_at refusals.NoLook = fine
 outage_at refusals.LookOpen = fine
 outage_at refusals.HistoryFull = fine

@@ -20,6 +20,7 @@ use Rattle.session_core.specs.declared.line.Request.TheVariants as requests
 use Rattle.session_core.specs.declared.line.Line.{Line}
 use Rattle.session_core.specs.declared.line.Reply.{Reply}
 use Rattle.edit_rules.specs.Effects.{edited}
+use Rattle.session_core.specs.Queries.{lacks_memory}
 use Rattle.session_core.specs.Answers.{answer_at, memory, reply_to, grid_reply, entry_of}
 
 -- a query that holds the state after the first n entries, and the line that it came from
@@ -126,15 +127,27 @@ edit_event st l (requests.After earlier) = (None, st)
 abbrev pub reply_of : ℕ → SessionNo → Option ℕ → Answer → Reply
 reply_of line session n answer = record { line = line; session = session; n = n; answer = answer }
 
--- a `finish` answers the open look and closes it
+-- an open look is answered over the state of its moment, and closed; the flag says that memory ran out when
+-- its query was read, which is answered as such, with no number, and leaves it open
+abbrev pub look_answered : State → ℕ → SessionNo → Opened → Bool → Option Reply × State
+look_answered st line s held true = (Some (reply_of line s None memory), st)
+look_answered st line s held false = (Some (reply_of line s (Some held.n) (answer_at st.config st.entries held.n held.ask)), with_look st s.0 None)
+
+-- a `finish` answers the open look
 abbrev pub finish_step : State → ℕ → SessionNo → Option Opened → Option Reply × State
 finish_step st line s None = (Some (reply_of line s None (Refused refusals.NoLook)), st)
-finish_step st line s (Some held) = (Some (reply_of line s (Some held.n) (answer_at st.config st.entries held.n held.ask)), with_look st s.0 None)
+finish_step st line s (Some held) = look_answered st line s held (lacks_memory held.ask)
 
--- a query under way is answered and closed
+-- a query under way is answered over the state of its moment, and closed; where memory ran out when it was
+-- read, that is answered, with no number, and it is closed too
+abbrev pub way_answered : State → ℕ → SessionNo → Opened → Bool → Option Reply × State
+way_answered st line s held true = (Some (reply_of line s None memory), with_query st s.0 None)
+way_answered st line s held false = (Some (reply_of line s (Some held.n) (answer_at st.config st.entries held.n held.ask)), with_query st s.0 None)
+
+-- the query under way, where there is one
 abbrev pub query_step : State → ℕ → SessionNo → Option Opened → Option Reply × State
 query_step st line s None = (None, st)
-query_step st line s (Some held) = (Some (reply_of line s (Some held.n) (answer_at st.config st.entries held.n held.ask)), with_query st s.0 None)
+query_step st line s (Some held) = way_answered st line s held (lacks_memory held.ask)
 
 -- what a Finish of a command answers: its session's open look, its query under way, or nothing
 pub data Asker : Type 0 where

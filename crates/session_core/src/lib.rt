@@ -8,8 +8,6 @@ mod line;
 mod machine;
 mod moves;
 mod queries;
-mod row;
-mod rows;
 mod slots;
 
 pub use event::{Event, Events};
@@ -17,7 +15,6 @@ pub use law::{
     a_run_in_order_has_one_reading, an_example_is_legal, every_core_run_is_legal,
     every_run_is_legal, in_order_is_legal, wrong_replies_are_not_legal,
 };
-pub use line::{Answer, Ask, AskFault, Command, Line, Lines, Refusal, Replies, Reply, Request};
+pub use line::{Answer, Ask, Command, Line, Lines, Refusal, Replies, Reply, Request};
 pub use machine::Core;
 pub use queries::answer;
-pub use row::{Row, SegmentList};

@@ -1,11 +1,9 @@
 //! The lines of a script as the core takes them, and the replies that it gives.
-ghost use Rattle.std.specs.Prelude.{◌≡◌, IfOk};
-
-use crate::row::SegmentList;
 use edit_rules::Edit;
-use emu_lists::{PlainData, Series};
-use emu_names::{Broken, Memory, SessionNo, Text};
-use std::alloc::Global;
+use emu_lists::Series;
+use eql_model::SegmentList;
+use eql_resolve::{AskFault, PrepareFault, Prepared};
+use emu_names::{Broken, SessionNo, Text};
 use textgrid::GridFault;
 
 /// The commands of a script.
@@ -49,20 +47,13 @@ pub enum Command {
     After,
 }
 
-/// A query: the items of a level whose label is the wanted one.
+/// A query, and the level of its times.
 #[derive(Drop)]
 pub struct Ask {
-    /// The name of an attribute, or of a level, which stands for its first attribute.
-    pub name: Text,
-    /// The wanted label.
-    pub label: Text,
-}
-
-/// Why a query has no meaning under a configuration.
-#[derive(Drop)]
-pub enum AskFault {
-    /// No level and no attribute has this name.
-    UnknownName(Text),
+    /// The query of the text with its patterns compiled, or the fault of the text or of its patterns.
+    pub prepared: Result<Prepared, PrepareFault>,
+    /// The name of the SEGMENT level on which items without times have their times, where it is given.
+    pub time: Option<Text>,
 }
 
 /// What a line asks for.
@@ -103,11 +94,12 @@ pub enum Refusal {
     Rule(Broken),
     /// The TextGrid that was to be added has this fault.
     Grid(GridFault),
-    /// The query has no meaning.
+    /// The text of the query, or one of its patterns, has this fault.
+    Prepare(PrepareFault),
+    /// The query has no meaning under the configuration.
     Resolve(AskFault),
-    /// The query asks for what is not built yet: times of an ITEM level from a SEGMENT level below it, or a
-    /// label group.
-    NotBuilt,
+    /// A part of the query has over 1,000,000 tuples in some bundle.
+    TooManyTuples,
     /// The session has no open look.
     NoLook,
     /// The session has an open look already.
@@ -148,11 +140,3 @@ pub struct Reply {
 
 /// Replies, in order.
 pub type Replies = Series<Reply>;
-
-impl PlainData for Ask {
-    fn copy(&self, alloc: Global) -> Result<Ask, Memory> {
-        let name = self.name.copy(alloc)?;
-        let label = self.label.copy(alloc)?;
-        Ok(Ask { name, label })
-    }
-}

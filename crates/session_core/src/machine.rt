@@ -33,7 +33,12 @@ pub struct Core {
 impl Model for Core {
     ghost use Rattle.session_core.specs.Steps.{State};
 
+    ghost use Rattle.std.specs.Coded.{codes};
+    ghost use Rattle.eql_resolve.specs.Codes.{tree_code};
+
     ghost Value = { State };
+
+    ghost coded = { Prim.hlevel (codes, tree_code) };
 
     ghost use Rattle.session_core.specs.Kept.{IsKept, state_of};
 

@@ -1,12 +1,14 @@
 //! What one event does to the parts of the core, each part on its own.
 ghost use Rattle.edit_rules.specs.Effects.{after};
 ghost use Rattle.emu_names.specs.Gives.{GivesOrBroken};
-ghost use Rattle.session_core.specs.Kept.{edit_tried, given_tried, grid_told, head_reply, held_answer, held_at, look_closed, looked, query_closed, query_dropped};
-ghost use Rattle.session_core.specs.Steps.{is_full as is_full_list, put_slot, slot};
-ghost use Rattle.std.specs.Prelude.{◌≡◌, ◌<◌, Ok, Some, IfOk, OnErr, OnOk, length};
+ghost use Rattle.session_core.specs.Kept.{edit_tried, given_tried, grid_told, head_reply, held_answer, held_at, look_closed, looked, query_closed, query_dropped, query_reply};
+ghost use Rattle.session_core.specs.Answers.{memory};
+ghost use Rattle.session_core.specs.Queries.{lacks_memory};
+ghost use Rattle.session_core.specs.Steps.{is_full as is_full_list, put_slot, reply_of, slot};
+ghost use Rattle.std.specs.Prelude.{◌≡◌, ◌<◌, None, Ok, Some, IfOk, OnErr, OnOk, length};
 
 use crate::line::{Answer, Ask, Command, Refusal, Reply};
-use crate::queries::answer;
+use crate::queries::{answer, lacks_memory};
 use crate::slots::{Held, Slots};
 use db_config::Config;
 use edit_rules::{Database, Edit, Entries, Entry, apply};
@@ -192,7 +194,42 @@ fn answer_held(alloc: Global, held: &Held) -> Result<Answer, Memory>
     answer(alloc, &held.database, &held.ask)
 }
 
-/// Answers the session's open look and closes it: the reply. Want of memory leaves it open.
+/// The reply to a line at which memory ran out.
+fn memory_reply(line: u32, session: SessionNo) -> Reply
+    ensures { result ≡ reply_of line session None memory }
+{
+    Reply {
+        line,
+        session,
+        n: None,
+        answer: Answer::Refused(Refusal::Memory),
+    }
+}
+
+/// The reply to a query under way, over the state that it holds. Where memory ran out when the query was read,
+/// that is answered, with no number.
+fn query_reply(
+    alloc: Global,
+    line: u32,
+    session: SessionNo,
+    held: &Held,
+) -> Result<Reply, Memory>
+    ensures { IfOk result (λ reply. reply ≡
+        query_reply line session held.now (lacks_memory held.now.ask)) }
+{
+    if lacks_memory(&held.ask) {
+        return Ok(memory_reply(line, session));
+    }
+    Ok(Reply {
+        line,
+        session,
+        n: Some(held.n),
+        answer: answer_held(alloc, held)?,
+    })
+}
+
+/// Answers the session's open look and closes it: the reply. Want of memory, also that at which its query was
+/// read, leaves it open.
 pub fn close_look(
     alloc: Global,
     looks: &mut Slots,
@@ -213,6 +250,9 @@ pub fn close_look(
             answer: Answer::Refused(Refusal::NoLook),
         }),
         Some(held) => {
+            if lacks_memory(&held.ask) {
+                return Ok(memory_reply(line, session));
+            }
             let answer = answer_held(alloc, held)?;
             let n = Some(held.n);
             looks.put(place, None);
@@ -242,14 +282,6 @@ pub fn close_query(
 {
     match queries.take(session.0 as usize) {
         None => Ok(None),
-        Some(held) => {
-            let answer = answer_held(alloc, &held)?;
-            Ok(Some(Reply {
-                line,
-                session,
-                n: Some(held.n),
-                answer,
-            }))
-        }
+        Some(held) => Ok(Some(query_reply(alloc, line, session, &held)?)),
     }
 }

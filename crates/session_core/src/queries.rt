@@ -1,106 +1,159 @@
 //! The answer to a query over a database.
-ghost use Rattle.std.specs.Prelude.{◌≡◌, ◌<◌, IfOk, IsSome, Some, length};
-ghost use Rattle.std.specs.List.{enumerate_from, list_any};
-ghost use Rattle.db_config.specs.Lookups.{attribute_at};
-ghost use Rattle.session_core.specs.Answers.{answer_over, query_answer, rows_over};
-ghost use Rattle.session_core.specs.Queries.{asked_at, is_item, is_segment, is_segment_below, names_group, takes_times};
+ghost use Rattle.std.specs.Prelude.{◌≡◌, ◌++◌, false, IfOk, OnOk};
+ghost use Rattle.std.specs.Option.{option_copied};
+ghost use Rattle.bundle_state.specs.Built.{FitsConfig};
+ghost use Rattle.eql_resolve.specs.Resolve.{asked as asked_of};
+ghost use Rattle.eql_resolve.specs.Sound.{IsResolvedBy};
+ghost use Rattle.eql_model.specs.Rows.{Answers};
+ghost use Rattle.session_core.specs.Answers.{answer_over, matched_answer, prepare_answer, resolved_answer};
+ghost use Rattle.session_core.specs.Queries.{AddsRows, ListsRows, any_has_too_many, is_memory_of, is_memory_of_text, lacks_memory};
 
-use crate::line::{Answer, Ask, AskFault, Refusal};
-use crate::rows::{Wanted, segment_list};
-use db_config::{AttributePlace, Config};
+use crate::line::{Answer, Ask, Refusal};
+use bundle_state::Bundle;
+use db_config::Config;
 use edit_rules::Database;
-use emu_names::{LevelKind, Memory, Text};
+use emu_lists::PlainData;
+use emu_names::{Memory, Text};
+use eql_model::{MatchFault, Row, SegmentList, answer_plain};
+use eql_resolve::{AskFault, Asked, PrepareFault, Prepared, resolve};
+use eql_syntax::QueryFault;
 use std::alloc::Global;
 
-fn is_item(kind: LevelKind) -> bool
-    ensures { result ≡ is_item kind }
+/// Whether the fault of a text is want of memory.
+fn is_memory_of_text(fault: QueryFault) -> bool
+    ensures { result ≡ is_memory_of_text fault }
 {
-    match kind {
-        LevelKind::Item => true,
-        LevelKind::Segment => false,
-        LevelKind::Event => false,
+    match fault {
+        QueryFault::Memory => true,
+        QueryFault::TextTooLong => false,
+        QueryFault::Syntax(_) => false,
+        QueryFault::TooDeep(_) => false,
+        QueryFault::TwoMarks(_) => false,
     }
 }
 
-fn is_segment(kind: LevelKind) -> bool
-    ensures { result ≡ is_segment kind }
+/// Whether the fault of a text, or of one of its patterns, is want of memory.
+fn is_memory_of(fault: PrepareFault) -> bool
+    ensures { result ≡ is_memory_of fault }
 {
-    match kind {
-        LevelKind::Item => false,
-        LevelKind::Segment => true,
-        LevelKind::Event => false,
+    match fault {
+        PrepareFault::Query(fault) => is_memory_of_text(fault),
+        PrepareFault::Memory => true,
+        PrepareFault::BadPattern(_) => false,
+        PrepareFault::PatternTooLarge(_) => false,
     }
 }
 
-/// Whether a SEGMENT level is below this one.
-fn has_segments_below(config: &Config, level: usize) -> bool
-    requires { level < length config.now.levels }
-    ensures { result ≡
-        list_any (is_segment_below config.now.links level) (enumerate_from 0 config.now.levels) }
+/// Whether memory ran out when the query was read.
+pub fn lacks_memory(ask: &Ask) -> bool
+    ensures { result ≡ lacks_memory ask.now }
 {
-    let defs = config.parts().levels.as_slice();
-    for lower in 0..defs.len() {
-        if is_segment(defs[lower].kind) && config.is_above(level, lower) {
-            return true;
-        }
+    match &ask.prepared {
+        Ok(_) => false,
+        Err(fault) => is_memory_of(*fault),
     }
-    false
 }
 
-/// Whether this is an ITEM level above a SEGMENT level, from which its items have their times.
-fn takes_times(config: &Config, level: usize) -> bool
-    requires { level < length config.now.levels }
-    ensures { result ≡ takes_times config.now level }
+/// The refusal of a query for the fault of its text or of its patterns. Want of memory is answered as such.
+fn refuse_text(fault: PrepareFault) -> Answer
+    ensures { result ≡ prepare_answer fault (is_memory_of fault) }
 {
-    is_item(config.kind(level)) && has_segments_below(config, level)
+    if is_memory_of(fault) {
+        return Answer::Refused(Refusal::Memory);
+    }
+    Answer::Refused(Refusal::Prepare(fault))
 }
 
-/// Whether a label names a label group of the attribute or of the database.
-fn names_group(config: &Config, place: AttributePlace, label: &Text) -> bool
-    requires { IsSome (attribute_at place config.now.levels) }
-    ensures { result ≡ names_group config.now place label.now }
+/// Puts copies of rows behind a list. The only refusal is want of memory.
+fn add_rows(alloc: Global, rows: &mut SegmentList, more: &[Row]) -> Result<(), Memory>
+    ensures { OnOk result (rows.new ≡ rows.old ++ more.now) }
 {
-    config.group(place, label.as_str()).is_some()
+    for row in more {
+        rows.push(row.copy(alloc)?)?;
+    }
+    Ok(())
 }
 
-/// The answer to a query at a place of the configuration, over the bundles of a database.
-fn answer_for(
+/// Puts the rows of a query in one bundle behind those of the bundles before it. `TooManyTuples` comes
+/// exactly where the bundle has too many.
+fn add_bundle(
     alloc: Global,
-    database: &Database,
-    place: AttributePlace,
-    ask: &Ask,
-) -> Result<Answer, Memory>
-    requires { IsSome (attribute_at place database.now.config.levels) }
-    ensures { IfOk result (λ given. given ≡
-        query_answer (rows_over database.now (asked_at database.now.config ask.now (Some place)))) }
+    rows: &mut SegmentList,
+    config: &Config,
+    bundle: &Bundle,
+    asked: &Asked,
+) -> Result<(), MatchFault>
+    requires resolved { IsResolvedBy config.now asked.now }
+    requires fits { FitsConfig config.now bundle.now }
+    ensures { AddsRows result config.now bundle.now asked.now rows.old rows.new }
+{
+    match answer_plain(alloc, config, bundle, asked) {
+        Ok(more) => match add_rows(alloc, rows, more.as_slice()) {
+            Ok(()) => Ok(()),
+            Err(_) => Err(MatchFault::Memory),
+        },
+        Err(fault) => Err(fault),
+    }
+}
+
+/// The rows of a query in all bundles, one bundle after another in the order of their keys.
+/// `TooManyTuples` comes exactly where some bundle has too many. The only other refusal is want of memory.
+fn list_rows(alloc: Global, database: &Database, asked: &Asked) -> Result<SegmentList, MatchFault>
+    requires { IsResolvedBy database.now.config asked.now }
+    ensures { ListsRows result database.now asked.now }
 {
     let config = database.config();
-    if takes_times(config, place.level) {
-        return Ok(Answer::Refused(Refusal::NotBuilt));
+    let mut rows = SegmentList::new(alloc);
+    for place in 0..database.len() {
+        match add_bundle(alloc, &mut rows, config, database.at(place), asked) {
+            Ok(()) => {}
+            Err(fault) => return Err(fault),
+        }
     }
-    if names_group(config, place, &ask.label) {
-        return Ok(Answer::Refused(Refusal::NotBuilt));
-    }
-    let wanted = Wanted {
-        config: config.parts(),
-        place,
-        label: &ask.label,
-    };
-    let rows = segment_list(alloc, &wanted, database)?;
-    Ok(Answer::Segments(rows))
+    Ok(rows)
 }
 
-/// The answer to a query over a database: its segment list; or a refusal where no attribute and no level has
-/// its name (`UnknownName`), or where it asks for times from a SEGMENT level below an ITEM level or for a
-/// label group (`NotBuilt`). The only failure is want of memory.
+/// The answer to a query whose names were found.
+fn answer_asked(alloc: Global, database: &Database, asked: &Asked) -> Result<Answer, Memory>
+    requires { IsResolvedBy database.now.config asked.now }
+    ensures { IfOk result (λ given. given ≡ matched_answer database.now asked.now
+        (any_has_too_many database.now.config database.now.bundles asked.now)) }
+{
+    match list_rows(alloc, database, asked) {
+        Ok(rows) => Ok(Answer::Segments(rows)),
+        Err(MatchFault::TooManyTuples) => Ok(Answer::Refused(Refusal::TooManyTuples)),
+        Err(MatchFault::Memory) => Err(Memory),
+    }
+}
+
+/// The answer to a query that was prepared, with the name of the level of the times where it is given.
+fn answer_prepared(
+    alloc: Global,
+    database: &Database,
+    prepared: &Prepared,
+    time: Option<&Text>,
+) -> Result<Answer, Memory>
+    ensures { IfOk result (λ given. given ≡ resolved_answer database.now
+        (asked_of database.now.config prepared.now.query (option_copied time.entry))) }
+{
+    match resolve(alloc, database.config(), prepared, time) {
+        Ok(asked) => answer_asked(alloc, database, &asked),
+        Err(AskFault::Memory) => Err(Memory),
+        Err(fault) => Ok(Answer::Refused(Refusal::Resolve(fault))),
+    }
+}
+
+/// The answer to a query over a database, which is the first of these: the fault of its text or of its
+/// patterns (`Prepare`); the fault of its names and levels under the configuration (`Resolve`);
+/// `TooManyTuples`, exactly where some part of the query has over 1,000,000 tuples in some bundle; its
+/// segment list, the rows of one bundle after another in the order of their keys (EMU-SDMS Manual, "The
+/// EMU Query Language (EQL)"). A fault that is want of memory is answered `Memory`. The only failure is
+/// want of memory.
 pub fn answer(alloc: Global, database: &Database, ask: &Ask) -> Result<Answer, Memory>
     ensures { IfOk result (λ given. given ≡ answer_over database.now ask.now) }
 {
-    match database.config().name_place(ask.name.as_str()) {
-        Some(place) => answer_for(alloc, database, place, ask),
-        None => {
-            let name = ask.name.copy(alloc)?;
-            Ok(Answer::Refused(Refusal::Resolve(AskFault::UnknownName(name))))
-        }
+    match &ask.prepared {
+        Ok(prepared) => answer_prepared(alloc, database, prepared, ask.time.as_ref()),
+        Err(fault) => Ok(refuse_text(*fault)),
     }
 }

@@ -32,7 +32,12 @@ impl Model for Slots {
     ghost use Rattle.std.specs.Prelude.{List, Option};
     ghost use Rattle.session_core.specs.declared.slots.Held.{Held};
 
+    ghost use Rattle.std.specs.Coded.{codes};
+    ghost use Rattle.eql_resolve.specs.Codes.{tree_code};
+
     ghost Value = { List (Option Held) };
+
+    ghost coded = { Prim.hlevel (codes, tree_code) };
 
     ghost view = { λ s. s.list.items };
 }
