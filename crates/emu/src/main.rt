@@ -3,6 +3,7 @@
 
 use emu_cli::emu;
 use emu_io::{InputSource, OutputSink};
+use label_match::RegexMaker;
 use std::process::ExitCode;
 use std::rt::Env;
 use std::{env, io};
@@ -31,6 +32,14 @@ fn main(rt: HostRuntime) -> ExitCode {
     };
     let mut script = InputSource::new(rt.reader());
     let mut out = OutputSink::new(io::writer(&rt));
-    let status = emu(&rt, rt.alloc(), words.as_slice(), &mut script, &mut out);
+    let mut patterns = RegexMaker::new();
+    let status = emu(
+        &rt,
+        rt.alloc(),
+        words.as_slice(),
+        &mut script,
+        &mut out,
+        &mut patterns,
+    );
     ExitCode::from(status)
 }

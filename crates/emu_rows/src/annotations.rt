@@ -11,15 +11,15 @@ static ROWS: [Row; 5] = [
             r#"{"s":1,"do":"add_bundle","session":"s1","bundle":"b1","annot":{"sampleRate":20000,"levels":[{"name":"Utterance","type":"ITEM","items":[{"id":1}]},{"name":"Intonational","type":"ITEM","items":[{"id":2}]},{"name":"Intermediate","type":"ITEM","items":[{"id":3}]},{"name":"Word","type":"ITEM","items":[{"id":4}]},{"name":"Syllable","type":"ITEM","items":[{"id":5}]},{"name":"Phoneme","type":"ITEM","items":[{"id":6,"labels":[{"name":"Phoneme","value":"V"}]},{"id":7,"labels":[{"name":"Phoneme","value":"m"}]}]},{"name":"Phonetic","type":"SEGMENT","items":[{"id":8,"sampleStart":3749,"sampleDur":1389,"labels":[{"name":"Phonetic","value":"V"}]},{"id":9,"sampleStart":5139,"sampleDur":1664,"labels":[{"name":"Phonetic","value":"m"}]}]}],"links":[{"fromID":1,"toID":2},{"fromID":2,"toID":3},{"fromID":3,"toID":4},{"fromID":4,"toID":5},{"fromID":5,"toID":6},{"fromID":5,"toID":7},{"fromID":6,"toID":8},{"fromID":7,"toID":9}]}}"#,
             r#"{"s":1,"do":"query","eql":"Phonetic == m"}"#,
             r#"{"s":1,"do":"query","eql":"Word == w"}"#,
-            r#"{"s":1,"do":"query","eql":"Foot == f"}"#,
+            r#"{"s":1,"do":"query","eql":"[Utterance =~ .*]"}"#,
         ],
         status: 0,
         output: &[
             r#"{"line":1,"n":0,"ok":"config"}"#,
             r#"{"line":2,"n":1,"ok":"add_bundle"}"#,
             r#"{"line":3,"n":1,"segments":[{"attribute":"Phonetic","bundle":"b1","end":340175,"endItem":9,"endPos":1,"labels":"m","level":"Phonetic","sampleEnd":6803,"sampleRate":20000,"sampleStart":5139,"session":"s1","start":256925,"startItem":9,"startPos":1}]}"#,
-            r#"{"line":4,"n":1,"refused":{"rule":"NotBuilt"}}"#,
-            r#"{"line":5,"n":1,"refused":{"rule":"NotBuilt"}}"#,
+            r#"{"line":4,"n":1,"segments":[]}"#,
+            r#"{"line":5,"n":1,"segments":[{"attribute":"Utterance","bundle":"b1","end":340175,"endItem":1,"endPos":0,"labels":"","level":"Utterance","sampleEnd":6803,"sampleRate":20000,"sampleStart":3749,"session":"s1","start":187425,"startItem":1,"startPos":0}]}"#,
         ],
     },
     // a configuration with one name twice

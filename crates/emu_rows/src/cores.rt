@@ -5,23 +5,28 @@ ghost use Rattle.session_core.specs.Steps.{place_of, session_places};
 use crate::made::{config, key, words};
 use db_config::Config;
 use edit_rules::{Edit, Entries, Entry};
-use emu_names::{Broken, Fault, Memory, SessionNo, Text};
+use emu_names::{Broken, Fault, Memory, SessionNo};
+use eql_resolve::prepare;
+use label_match::RegexMaker;
 use script_lines::print_reply;
 use session_core::{Ask, Command, Core, Event, Events, Line, Replies, Request};
 use std::alloc::Global;
 use std::test::Fail;
 
-fn query(alloc: Global) -> Result<Request, Memory> {
-    let name = Text::new(alloc, "Word")?;
-    let label = Text::new(alloc, "m")?;
-    Ok(Request::Query(Ask { name, label }))
+fn query(alloc: Global) -> Request {
+    let mut maker = RegexMaker::new();
+    let prepared = prepare(alloc, &mut maker, "Word == m");
+    Request::Query(Ask {
+        prepared,
+        time: None,
+    })
 }
 
 /// The look and the end of a query, of session 1 at line 2.
 fn events(alloc: Global) -> Result<Events, Memory>
     ensures { IfOk result (λ events. All (λ event. place_of event < session_places) events.items) }
 {
-    let request = query(alloc)?;
+    let request = query(alloc);
     let line = Line {
         line: 2,
         session: SessionNo(1),

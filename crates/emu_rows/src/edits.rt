@@ -108,7 +108,7 @@ static ROWS: [Row; 6] = [
             r#"{"line":4,"n":2,"ok":"set_label"}"#,
             r#"{"line":5,"n":2,"refused":{"name":"Height","rule":"NoAttribute"}}"#,
             r#"{"line":6,"n":2,"refused":{"id":9,"rule":"NoItem"}}"#,
-            r#"{"line":7,"n":2,"refused":{"rule":"NotBuilt"}}"#,
+            r#"{"line":7,"n":2,"segments":[]}"#,
             r#"{"line":8,"n":2,"segments":[{"attribute":"Phonetic","bundle":"b1","end":340175,"endItem":2,"endPos":1,"labels":"m","level":"Phonetic","sampleEnd":6803,"sampleRate":20000,"sampleStart":5139,"session":"s1","start":256925,"startItem":2,"startPos":1}]}"#,
         ],
     },

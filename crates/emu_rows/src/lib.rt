@@ -26,6 +26,8 @@ mod made;
 #[cfg(test)]
 mod outside;
 #[cfg(test)]
+mod queries;
+#[cfg(test)]
 mod replies;
 #[cfg(test)]
 mod scripts;

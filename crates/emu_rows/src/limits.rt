@@ -2,6 +2,7 @@
 use crate::scripts::CONFIG;
 use emu_cli::emu;
 use emu_io::{Failed, ListSink, Source};
+use label_match::RegexMaker;
 use std::io::Read;
 use std::process::Abort;
 use std::sync::Wait;
@@ -71,7 +72,15 @@ fn ends_with(
         column: width,
     };
     let mut sink = ListSink::new(rt.alloc(), Vec::new(rt.alloc()));
-    let ended = emu(rt, rt.alloc(), words.as_slice(), &mut source, &mut sink);
+    let mut patterns = RegexMaker::new();
+    let ended = emu(
+        rt,
+        rt.alloc(),
+        words.as_slice(),
+        &mut source,
+        &mut sink,
+        &mut patterns,
+    );
     assert_eq!(rt; ended, status, "width {width}, {len} bytes");
     let want = if status == 0 { WITHIN } else { OVER };
     assert_eq!(rt; sink.bytes(), want);

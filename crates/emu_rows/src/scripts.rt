@@ -1,6 +1,7 @@
 //! Lines of scripts, and runs of the program over sources and sinks in memory.
 use emu_cli::emu;
 use emu_io::{ListSink, ListSource};
+use label_match::{PatternMaker, RegexMaker};
 use std::alloc::{AllocError, Global};
 use std::process::Abort;
 use std::sync::Wait;
@@ -61,13 +62,27 @@ pub fn run<R: Threads + Wait + Sync>(
     bad_reads: &[u64],
     bad_writes: &[u64],
 ) -> Result<Ran, AllocError> {
+    let mut patterns = RegexMaker::new();
+    run_with(rt, alloc, words, script, bad_reads, bad_writes, &mut patterns)
+}
+
+/// As `run`, with a maker of patterns.
+pub fn run_with<R: Threads + Wait + Sync, P: PatternMaker>(
+    rt: &R,
+    alloc: Global,
+    words: &[&str],
+    script: Vec<u8>,
+    bad_reads: &[u64],
+    bad_writes: &[u64],
+    patterns: &mut P,
+) -> Result<Ran, AllocError> {
     let mut all = Vec::new(alloc);
     for word in words {
         all.push(String::from_str(alloc, word)?)?;
     }
     let mut source = ListSource::new(script, Vec::from_slice(alloc, bad_reads)?);
     let mut sink = ListSink::new(alloc, Vec::from_slice(alloc, bad_writes)?);
-    let status = emu(rt, alloc, all.as_slice(), &mut source, &mut sink);
+    let status = emu(rt, alloc, all.as_slice(), &mut source, &mut sink, patterns);
     let output = Vec::from_slice(alloc, sink.bytes())?;
     Ok(Ran { status, output })
 }
