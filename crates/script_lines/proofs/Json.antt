@@ -5,7 +5,7 @@ use Rattle.std.specs.Str.{IsUtf8, is_utf8}
 use Rattle.std.proofs.lemmas.Str.{is_utf8-from_IsUtf8, IsUtf8-from_is_utf8}
 use Rattle.serde_json.specs.Data.{Data}
 use Rattle.serde_json.specs.Read.{read}
-use Rattle.script_lines.specs.Lines.{json_of}
+use Rattle.script_lines.specs.Values.{json_of}
 
 pub json_text : (line : List ℕ) (o : Option Data) → IsUtf8 line → read line ≡ o → json_of line ≡ o
 unfolding json_of

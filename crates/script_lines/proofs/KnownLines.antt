@@ -23,6 +23,7 @@ use Rattle.annot_json.specs.Forms.{whole_member}
 use Rattle.annot_json.specs.Read.{annot_of, labels_in}
 use Rattle.edit_rules.specs.declared.edit.Edit.TheVariants as edits
 use Rattle.textgrid.specs.declared.fault.GridFault.{GridFault}
+use Rattle.session_core.specs.declared.line.Ask.{Ask}
 use Rattle.session_core.specs.declared.line.Command.{Command}
 use Rattle.session_core.specs.declared.line.Command.TheVariants as commands
 use Rattle.session_core.specs.declared.line.Request.{Request}
@@ -37,7 +38,10 @@ use Rattle.script_lines.specs.declared.faults.ReadLine.TheVariants as reads
 use Rattle.script_lines.specs.Faults.{form, config_form}
 use Rattle.script_lines.specs.Forms.{id_limit, sample_limit, session_at, session_in, if_session, key_at, id_at, position_at, rate_at, time_at}
 use Rattle.script_lines.specs.Edits.{asks, grid_edit, grid_annot, bundle_request, textgrid_request, drop_request, item_request, remove_request, label_request, segment_request, boundary_request, point_request, split_request, merge_request, link_request, unlink_request}
-use Rattle.script_lines.specs.Lines.{request_of, blank_line, json_line, value_line, placed_line, config_line, line_in, if_command, command_named, members_of, query_request, look_request, after_request, if_earlier, ask_in, is_blank, json_of, word_of_line}
+use Rattle.script_lines.specs.Values.{is_blank, json_of, word_of_line}
+use Rattle.script_lines.specs.Questions.{Question, question_at, question_command, time_name_at}
+use Rattle.script_lines.specs.Made.{Made}
+use Rattle.script_lines.specs.Lines.{request_of, blank_line, json_line, value_line, told_line, asking_line, question_request, placed_line, config_line, line_in, if_command, command_named, members_of, after_request, if_earlier}
 use Rattle.script_lines.specs.Known.{Known, NamesOneOf}
 use Rattle.script_lines.proofs.Taken.{Taken, taken}
 use Rattle.script_lines.proofs.ValidConfigs.{config_valid}
@@ -50,6 +54,12 @@ ok_line x = Ok x
 
 abbrev ok_read : ReadLine → Result ReadLine LineFault
 ok_read x = Ok x
+
+abbrev ok_question : Question → Result Question Shape
+ok_question x = Ok x
+
+abbrev some_command : Command → Option Command
+some_command x = Some x
 
 line_ok_is : {x y : Request} → ok_line x ≡ ok_line y → x ≡ y
 line_ok_is h = cc
@@ -117,21 +127,21 @@ session_place s session h = member_place (member_of (codes "s") wanted.Session s
 
 -- members
 
-record IsMade (word : Command) (earlier : List ℕ) (r : Request) : Type 0 where
+record IsRequestOf (word : Command) (earlier : List ℕ) (r : Request) : Type 0 where
   command : is_command_of word r ≡ true
   names : NamesOneOf earlier r
 
 -- each request that a reading gives is one of the command
 abbrev Makes : Command → List ℕ → Result Request Shape → Type 0
-Makes word earlier r = (q : Request) → r ≡ Ok q → IsMade word earlier q
+Makes word earlier r = (q : Request) → r ≡ Ok q → IsRequestOf word earlier q
 
 goes_on : {A : Type 0} (word : Command) (earlier : List ℕ) (first : Result A Shape) (rest : A → Result Request Shape)
     → ((x : A) → Makes word earlier (rest x)) → Makes word earlier (first >>= rest)
 goes_on word earlier (Ok x) rest each = each x
 goes_on word earlier (Err e) rest each = λ q h. absurd (cc)
 
-ends : (word : Command) (earlier : List ℕ) (x : Request) → IsMade word earlier x → Makes word earlier (Ok x)
-ends word earlier x made = λ q h. let same : x ≡ q = ok_is h in subst (λ r. IsMade word earlier r) same made
+ends : (word : Command) (earlier : List ℕ) (x : Request) → IsRequestOf word earlier x → Makes word earlier (Ok x)
+ends word earlier x made = λ q h. let same : x ≡ q = ok_is h in subst (λ r. IsRequestOf word earlier r) same made
 
 bundle_made : (earlier : List ℕ) (s : Seen) → Makes commands.AddBundle earlier (bundle_request s)
 unfolding bundle_request
@@ -141,7 +151,7 @@ bundle_made earlier s =
     goes_on commands.AddBundle earlier (annot_of member) _ (λ annot.
     ends commands.AddBundle earlier (asks (edits.AddBundle key annot)) (record { command = refl; names = tt }))))
 
-grid_made : (earlier : List ℕ) (key : BundleKey) (annot : Result Annot GridFault) → IsMade commands.AddTextgrid earlier (requests.Edit (grid_edit key annot))
+grid_made : (earlier : List ℕ) (key : BundleKey) (annot : Result Annot GridFault) → IsRequestOf commands.AddTextgrid earlier (requests.Edit (grid_edit key annot))
 grid_made earlier key (Ok annot) = record { command = refl; names = tt }
 grid_made earlier key (Err fault) = record { command = refl; names = tt }
 
@@ -243,31 +253,19 @@ unlink_made earlier s =
     goes_on commands.RemoveLink earlier (id_at (codes "toID") s) _ (λ to.
     ends commands.RemoveLink earlier (asks (edits.RemoveLink key from to)) (record { command = refl; names = tt }))))
 
-query_made : (earlier : List ℕ) (s : Seen) → Makes commands.Query earlier (query_request s)
-unfolding query_request
-query_made earlier s =
-    goes_on commands.Query earlier (ask_in s) _ (λ ask.
-    ends commands.Query earlier (requests.Query ask) (record { command = refl; names = tt }))
-
-look_made : (earlier : List ℕ) (s : Seen) → Makes commands.Look earlier (look_request s)
-unfolding look_request
-look_made earlier s =
-    goes_on commands.Look earlier (ask_in s) _ (λ ask.
-    ends commands.Look earlier (requests.Look ask) (record { command = refl; names = tt }))
-
-earlier_made : (earlier : List ℕ) (line : ℕ) (b : Bool) (r : Request) → list_any (nat_eq line) earlier ≡ b → cond b (Ok (requests.After line)) (Err faults.BadAfter) ≡ ok_line r → IsMade commands.After earlier r
-earlier_made earlier line true r any h = let same : requests.After line ≡ r = line_ok_is h in subst (λ q. IsMade commands.After earlier q) same (record { command = refl; names = any })
+earlier_made : (earlier : List ℕ) (line : ℕ) (b : Bool) (r : Request) → list_any (nat_eq line) earlier ≡ b → cond b (Ok (requests.After line)) (Err faults.BadAfter) ≡ ok_line r → IsRequestOf commands.After earlier r
+earlier_made earlier line true r any h = let same : requests.After line ≡ r = line_ok_is h in subst (λ q. IsRequestOf commands.After earlier q) same (record { command = refl; names = any })
 earlier_made earlier line false r any h = absurd (cc)
 
-line_made : (earlier : List ℕ) (line : Result ℕ LineFault) (r : Request) → (line >>= if_earlier earlier) ≡ Ok r → IsMade commands.After earlier r
+line_made : (earlier : List ℕ) (line : Result ℕ LineFault) (r : Request) → (line >>= if_earlier earlier) ≡ Ok r → IsRequestOf commands.After earlier r
 line_made earlier (Ok line) r h = earlier_made earlier line (list_any (nat_eq line) earlier) r refl h
 line_made earlier (Err e) r h = absurd (cc)
 
-after_made : (earlier : List ℕ) (s : Seen) (r : Request) → after_request earlier s ≡ Ok r → IsMade commands.After earlier r
+after_made : (earlier : List ℕ) (s : Seen) (r : Request) → after_request earlier s ≡ Ok r → IsRequestOf commands.After earlier r
 unfolding after_request
 after_made earlier s r h = line_made earlier (form (whole_member (codes "line") id_limit s)) r h
 
-members_made : (command : Command) (earlier : List ℕ) (s : Seen) (r : Request) → members_of command earlier s ≡ Ok r → IsMade command earlier r
+members_made : (command : Command) (earlier : List ℕ) (s : Seen) (r : Request) → members_of command earlier s ≡ Ok r → IsRequestOf command earlier r
 members_made commands.AddBundle earlier s r h = bundle_made earlier s r (form_ok (bundle_request s) r h)
 members_made commands.AddTextgrid earlier s r h = textgrid_made earlier s r (form_ok (textgrid_request s) r h)
 members_made commands.DropBundle earlier s r h = drop_made earlier s r (form_ok (drop_request s) r h)
@@ -281,9 +279,9 @@ members_made commands.Split earlier s r h = split_made earlier s r (form_ok (spl
 members_made commands.Merge earlier s r h = merge_made earlier s r (form_ok (merge_request s) r h)
 members_made commands.AddLink earlier s r h = link_made earlier s r (form_ok (link_request s) r h)
 members_made commands.RemoveLink earlier s r h = unlink_made earlier s r (form_ok (unlink_request s) r h)
-members_made commands.Query earlier s r h = query_made earlier s r (form_ok (query_request s) r h)
-members_made commands.Look earlier s r h = look_made earlier s r (form_ok (look_request s) r h)
-members_made commands.Finish earlier s r h = let same : requests.Finish ≡ r = line_ok_is h in subst (λ q. IsMade commands.Finish earlier q) same (record { command = refl; names = tt })
+members_made commands.Query earlier s r h = absurd (cc)
+members_made commands.Look earlier s r h = absurd (cc)
+members_made commands.Finish earlier s r h = let same : requests.Finish ≡ r = line_ok_is h in subst (λ q. IsRequestOf commands.Finish earlier q) same (record { command = refl; names = tt })
 members_made commands.After earlier s r h = after_made earlier s r h
 members_made commands.Config earlier s r h = absurd (cc)
 
@@ -292,10 +290,10 @@ members_made commands.Config earlier s r h = absurd (cc)
 abbrev request_line : ℕ → SessionNo → Command → Request → Line
 request_line number session command request = record { line = number; session = session; command = command; request = request }
 
-requested : (number : ℕ) (earlier : List ℕ) (command : Command) (session : SessionNo) (request : Result Request LineFault) (read : ReadLine) → ((r : Request) → request ≡ Ok r → IsMade command earlier r) → session.0 < session_places → (request >>= λ r. Ok (reads.Request (request_line number session command r))) ≡ Ok read → Known number false earlier read
+requested : (number : ℕ) (earlier : List ℕ) (command : Command) (session : SessionNo) (request : Result Request LineFault) (read : ReadLine) → ((r : Request) → request ≡ Ok r → IsRequestOf command earlier r) → session.0 < session_places → (request >>= λ r. Ok (reads.Request (request_line number session command r))) ≡ Ok read → Known number false earlier read
 requested number earlier command session (Ok r) read made place h =
     let same : reads.Request (request_line number session command r) ≡ read = read_is h in
-    let ours : IsMade command earlier r = made r refl in
+    let ours : IsRequestOf command earlier r = made r refl in
     subst (λ q. Known number false earlier q) same (record { number = refl; place = place; command = ours.command; names = ours.names })
 requested number earlier command session (Err e) read made place h = absurd (cc)
 
@@ -329,27 +327,68 @@ placed_known true false number earlier word s read h = absurd (cc)
 placed_known false true number earlier word s read h = absurd (cc)
 placed_known false false number earlier word s read h = request_known number earlier word s read h
 
-word_known : (number : ℕ) (wants : Bool) (earlier : List ℕ) (s : Seen) (word : Result (List ℕ) LineFault) (read : ReadLine) → (word >>= λ w. placed_line wants (same_text w (codes "config")) number earlier w s) ≡ Ok read → Known number wants earlier read
-word_known number wants earlier s (Ok w) read h = placed_known wants (same_text w (codes "config")) number earlier w s read h
-word_known number wants earlier s (Err e) read h = absurd (cc)
+-- questions
 
-value_known : (number : ℕ) (wants : Bool) (earlier : List ℕ) (s : Seen) (read : ReadLine) → value_line number wants earlier s ≡ Ok read → Known number wants earlier read
+some_is : {x y : Command} → some_command x ≡ some_command y → x ≡ y
+some_is h = cc
+
+question_is : {x y : Question} → ok_question x ≡ ok_question y → x ≡ y
+question_is h = cc
+
+question_place : (s : Seen) (q : Question) → question_at s ≡ Ok q → q.session.0 < session_places
+unfolding question_at
+question_place s q h =
+    let session : _ = taken (session_at s) _ q h in
+    let eql : _ = taken (text_member (codes "eql") s) _ q session.rest_is in
+    let time : _ = taken (time_name_at s) _ q eql.rest_is in
+    subst (λ (x : Question). x.session.0 < session_places) (question_is time.rest_is)
+    (session_place s session.value session.first_is)
+
+-- a question's command brings the request
+abbrev Asks : Command → List ℕ → Type 0
+Asks command earlier = (ask : Ask) → IsRequestOf command earlier (question_request command ask)
+
+word_asks : (query look : Bool) (earlier : List ℕ) (command : Command) → cond query (Some commands.Query) (cond look (Some commands.Look) None) ≡ Some command → Asks command earlier
+word_asks true look earlier command h = λ ask. subst (λ c. IsRequestOf c earlier (question_request c ask)) (some_is h) (record { command = refl; names = tt })
+word_asks false true earlier command h = λ ask. subst (λ c. IsRequestOf c earlier (question_request c ask)) (some_is h) (record { command = refl; names = tt })
+word_asks false false earlier command h = absurd (cc)
+
+asked_known : (number : ℕ) (earlier : List ℕ) (command : Command) (made : Made) (question : Result Question Shape) (read : ReadLine) → Asks command earlier → ((q : Question) → question ≡ Ok q → q.session.0 < session_places) → asking_line false number command made question ≡ Ok read → Known number false earlier read
+asked_known number earlier command made (Ok q) read asks place h =
+    let ours : IsRequestOf command earlier (question_request command (record { prepared = made; time = q.time })) = asks _ in
+    subst (λ r. Known number false earlier r) (read_is h) (record { number = refl; place = place q refl; command = ours.command; names = ours.names })
+asked_known number earlier command made (Err fault) read asks place h = absurd (cc)
+
+asking_known : (number : ℕ) (wants : Bool) (earlier : List ℕ) (command : Command) (made : Made) (s : Seen) (read : ReadLine) → Asks command earlier → asking_line wants number command made (question_at s) ≡ Ok read → Known number wants earlier read
+asking_known number true earlier command made s read asks h = absurd (cc)
+asking_known number false earlier command made s read asks h = asked_known number earlier command made (question_at s) read asks (question_place s) h
+
+told_known : (number : ℕ) (wants : Bool) (earlier : List ℕ) (made : Made) (word : List ℕ) (s : Seen) (o : Option Command) (read : ReadLine) → question_command word ≡ o → told_line o number wants earlier made word s ≡ Ok read → Known number wants earlier read
+told_known number wants earlier made word s None read is h = placed_known wants (same_text word (codes "config")) number earlier word s read h
+told_known number wants earlier made word s (Some command) read is h =
+    asking_known number wants earlier command made s read (word_asks (same_text word (codes "query")) (same_text word (codes "look")) earlier command is) h
+
+word_known : (number : ℕ) (wants : Bool) (earlier : List ℕ) (made : Made) (s : Seen) (word : Result (List ℕ) LineFault) (read : ReadLine) → (word >>= λ w. told_line (question_command w) number wants earlier made w s) ≡ Ok read → Known number wants earlier read
+word_known number wants earlier made s (Ok w) read h = told_known number wants earlier made w s (question_command w) read refl h
+word_known number wants earlier made s (Err e) read h = absurd (cc)
+
+value_known : (number : ℕ) (wants : Bool) (earlier : List ℕ) (made : Made) (s : Seen) (read : ReadLine) → value_line number wants earlier made s ≡ Ok read → Known number wants earlier read
 unfolding value_line
-value_known number wants earlier s read h = word_known number wants earlier s (form (word_of_line s)) read h
+value_known number wants earlier made s read h = word_known number wants earlier made s (form (word_of_line s)) read h
 
-json_known : (number : ℕ) (wants : Bool) (earlier : List ℕ) (d : Option Data) (read : ReadLine) → json_line number wants earlier d ≡ Ok read → Known number wants earlier read
-json_known number wants earlier None read h = absurd (cc)
-json_known number wants earlier (Some d) read h = value_known number wants earlier (seen d root_path) read h
+json_known : (number : ℕ) (wants : Bool) (earlier : List ℕ) (made : Made) (d : Option Data) (read : ReadLine) → json_line number wants earlier made d ≡ Ok read → Known number wants earlier read
+json_known number wants earlier made None read h = absurd (cc)
+json_known number wants earlier made (Some d) read h = value_known number wants earlier made (seen d root_path) read h
 
 blank_known : (number : ℕ) (wants : Bool) (earlier : List ℕ) (read : ReadLine) → blank_line wants ≡ Ok read → Known number wants earlier read
 blank_known number true earlier read h = absurd (cc)
 blank_known number false earlier read h = let same : reads.Blank ≡ read = read_is h in subst (λ q. Known number false earlier q) same tt
 
-either_known : (number : ℕ) (wants blank : Bool) (earlier line : List ℕ) (read : ReadLine) → cond blank (blank_line wants) (json_line number wants earlier (json_of line)) ≡ Ok read → Known number wants earlier read
-either_known number wants true earlier line read h = blank_known number wants earlier read h
-either_known number wants false earlier line read h = json_known number wants earlier (json_of line) read h
+either_known : (number : ℕ) (wants blank : Bool) (earlier : List ℕ) (made : Made) (line : List ℕ) (read : ReadLine) → cond blank (blank_line wants) (json_line number wants earlier made (json_of line)) ≡ Ok read → Known number wants earlier read
+either_known number wants true earlier made line read h = blank_known number wants earlier read h
+either_known number wants false earlier made line read h = json_known number wants earlier made (json_of line) read h
 
 -- a line that was read is of the kind that was wanted, and a request can be taken by the core
-pub known : (line : List ℕ) (number : ℕ) (wants : Bool) (earlier : List ℕ) (read : ReadLine) → request_of line number wants earlier ≡ Ok read → Known number wants earlier read
+pub known : (line : List ℕ) (number : ℕ) (wants : Bool) (earlier : List ℕ) (made : Made) (read : ReadLine) → request_of line number wants earlier made ≡ Ok read → Known number wants earlier read
 unfolding request_of
-known line number wants earlier read h = either_known number wants (is_blank line) earlier line read h
+known line number wants earlier made read h = either_known number wants (is_blank line) earlier made line read h

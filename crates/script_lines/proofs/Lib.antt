@@ -1,4 +1,3 @@
-pub mod Cuts
 pub mod Json
 pub mod Rising
 pub mod Stops
@@ -6,3 +5,4 @@ pub mod Taken
 pub mod Printed
 pub mod ValidConfigs
 pub mod KnownLines
+pub mod Making

@@ -5,8 +5,13 @@ use Rattle.serde_json.specs.View.{items_of}
 use Rattle.serde_json.specs.Written.{has_float, items_have_float, members_have_float}
 use Rattle.emu_names.specs.declared.rules.Broken.{Broken}
 use Rattle.emu_names.specs.declared.rules.Broken.TheVariants as rules
-use Rattle.session_core.specs.declared.row.Row.{Row}
-use Rattle.session_core.specs.declared.line.AskFault.TheVariants.{UnknownName}
+use Rattle.eql_model.specs.declared.row.Row.{Row}
+use Rattle.eql_syntax.specs.declared.query.QueryFault.{QueryFault}
+use Rattle.eql_syntax.specs.declared.query.QueryFault.TheVariants as queries
+use Rattle.eql_resolve.specs.declared.faults.PrepareFault.{PrepareFault}
+use Rattle.eql_resolve.specs.declared.faults.PrepareFault.TheVariants as prepares
+use Rattle.eql_resolve.specs.declared.faults.AskFault.{AskFault}
+use Rattle.eql_resolve.specs.declared.faults.AskFault.TheVariants as asks
 use Rattle.session_core.specs.declared.line.Refusal.{Refusal}
 use Rattle.session_core.specs.declared.line.Refusal.TheVariants as refusals
 use Rattle.session_core.specs.declared.line.Answer.{Answer}
@@ -18,7 +23,7 @@ use Rattle.db_config.specs.declared.faults.ConfigFault.{ConfigFault}
 use Rattle.db_config.specs.declared.faults.ConfigFault.TheVariants as config_faults
 use Rattle.script_lines.specs.declared.faults.LineFault.{LineFault}
 use Rattle.script_lines.specs.declared.faults.LineFault.TheVariants as faults
-use Rattle.script_lines.specs.Texts.{whole, whole_or_null, line_text, row_data, rows_items, rule_data, grid_fault_data, refusal_data, answer_members, numbered_members, reply_data, reply_text, config_fault_data, fault_data, fault_text}
+use Rattle.script_lines.specs.Texts.{whole, whole_or_null, line_text, row_data, rows_items, rule_data, grid_fault_data, query_fault_data, prepare_fault_data, ask_fault_data, refusal_data, answer_members, numbered_members, reply_data, reply_text, config_fault_data, fault_data, fault_text}
 use Rattle.script_lines.specs.LastLines.{last_data, last_text}
 
 -- the last member of a reply
@@ -65,10 +70,23 @@ grid_plain : (f : GridFault) → has_float (grid_fault_data f) ≡ false
 grid_plain (grid_faults.BadText at) = refl
 grid_plain _ = refl
 
+query_plain : (f : QueryFault) → has_float (query_fault_data f) ≡ false
+query_plain queries.TextTooLong = refl
+query_plain _ = refl
+
+prepare_plain : (f : PrepareFault) → has_float (prepare_fault_data f) ≡ false
+prepare_plain (prepares.Query f) = query_plain f
+prepare_plain _ = refl
+
+ask_plain : (f : AskFault) → has_float (ask_fault_data f) ≡ false
+ask_plain asks.MixedLevels = refl
+ask_plain _ = refl
+
 refusal_plain : (r : Refusal) → has_float (refusal_data r) ≡ false
 refusal_plain (refusals.Rule b) = rule_plain b
 refusal_plain (refusals.Grid f) = grid_plain f
-refusal_plain (refusals.Resolve (UnknownName name)) = refl
+refusal_plain (refusals.Prepare f) = prepare_plain f
+refusal_plain (refusals.Resolve f) = ask_plain f
 refusal_plain _ = refl
 
 answer_plain : (a : Answer) → members_have_float (answer_members a) ≡ false

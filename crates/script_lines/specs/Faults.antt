@@ -1,5 +1,5 @@
 -- How the answer of a reader of lines goes with a definition. Running out of memory alone is left open.
-use Rattle.std.specs.Prelude.{◌≡◌, ◌≢◌, Result, Ok, Err}
+use Rattle.std.specs.Prelude.{◌≡◌, ◌≢◌, Bool, true, false, Result, Ok, Err}
 use Rattle.json_view.specs.declared.faults.Shape.{Shape}
 use Rattle.json_view.specs.declared.faults.ViewFault.{ViewFault}
 use Rattle.json_view.specs.declared.faults.ViewFault.TheVariants as view_faults
@@ -12,6 +12,13 @@ use Rattle.script_lines.specs.declared.faults.LineFault.TheVariants as faults
 abbrev pub as_line_fault : ViewFault → LineFault
 as_line_fault (view_faults.Shape s) = faults.Shape s
 as_line_fault view_faults.Memory = faults.Memory
+
+-- the fault of a question's members, as that of the line: where the configuration has to stand, it is
+-- the line's place
+abbrev pub misread : Bool → ViewFault → LineFault
+misread true (view_faults.Shape s) = faults.ConfigPlace
+misread false (view_faults.Shape s) = faults.Shape s
+misread wants view_faults.Memory = faults.Memory
 
 -- the fault of a configuration, as that of the line: a part of another form is one everywhere
 abbrev pub config_line_fault : ConfigFault → LineFault

@@ -85,12 +85,3 @@ span_or_point s (Some m) = span_in s
 -- else none
 unfoldable pub time_at : Seen → Result Time Shape
 time_at s = optional_of (codes "sampleStart") s >>= span_or_point s
-
--- a member that may not be there, and the form that it is refused as
-abbrev pub none_there : Wanted → Option Seen → Result Bool Shape
-none_there wanted None = Ok true
-none_there wanted (Some m) = Err (shape m.path wanted)
-
--- no member of this name
-unfoldable pub no_member : List ℕ → Wanted → Seen → Result Bool Shape
-no_member name wanted s = optional_of name s >>= none_there wanted

@@ -10,6 +10,7 @@ use Rattle.session_core.specs.Steps.{session_places}
 use Rattle.session_core.specs.Commands.{is_command_of}
 use Rattle.script_lines.specs.declared.faults.ReadLine.{ReadLine}
 use Rattle.script_lines.specs.declared.faults.ReadLine.TheVariants as reads
+use Rattle.script_lines.specs.Made.{Made}
 use Rattle.script_lines.specs.Lines.{request_of}
 
 -- an `after` names one of the earlier requests
@@ -39,5 +40,5 @@ Known number false earlier (reads.Request l) = IsRequestLine number earlier l
 
 -- every line that is read is known so
 abbrev pub ReadLinesAreKnown : Type 0
-ReadLinesAreKnown = (line : List ℕ) (number : ℕ) (wants : Bool) (earlier : List ℕ) (read : ReadLine)
-    → request_of line number wants earlier ≡ Ok read → Known number wants earlier read
+ReadLinesAreKnown = (line : List ℕ) (number : ℕ) (wants : Bool) (earlier : List ℕ) (made : Made) (read : ReadLine)
+    → request_of line number wants earlier made ≡ Ok read → Known number wants earlier read

@@ -1,7 +1,9 @@
 pub mod Faults
 pub mod Forms
 pub mod Edits
-pub mod Queries
+pub mod Values
+pub mod Questions
+pub mod Made
 pub mod Lines
 pub mod Texts
 pub mod LastLines

@@ -1,21 +1,19 @@
--- The lines of a script, and the request that a line stands for, or its first fault.
-use Rattle.std.specs.Prelude.{ℕ, Bool, true, false, ◌||◌, List, Option, Some, None, Result, Ok, Err, nat_eq, ◌==◌, if◌then◌else◌, codes}
-use Rattle.std.specs.List.{list_all, list_any}
-use Rattle.std.specs.Str.{is_utf8}
+-- The request that a line of a script stands for, or its first fault.
+use Rattle.std.specs.Prelude.{ℕ, ◌≤◌, Bool, true, false, List, Option, Some, None, Result, Ok, Err, nat_eq, if◌then◌else◌, codes}
+use Rattle.std.specs.List.{list_any}
+use Rattle.fault_counts.specs.Count.{RoseBy}
 use Rattle.serde_json.specs.Data.{Data}
-use Rattle.serde_json.specs.Read.{read}
 use Rattle.json_view.specs.declared.wants.Wanted.TheVariants as wanted
 use Rattle.json_view.specs.declared.faults.Shape.{Shape}
 use Rattle.json_view.specs.Paths.{root_path}
 use Rattle.json_view.specs.Seen.{Seen, seen}
-use Rattle.json_view.specs.Parts.{shape, member_of, optional_of, text_at}
+use Rattle.json_view.specs.Parts.{member_of}
 use Rattle.json_view.specs.Steps.{◌>>=◌}
 use Rattle.session_core.specs.declared.line.Ask.{Ask}
 use Rattle.session_core.specs.declared.line.Command.{Command}
 use Rattle.session_core.specs.declared.line.Command.TheVariants as commands
 use Rattle.session_core.specs.declared.line.Request.{Request}
 use Rattle.session_core.specs.declared.line.Request.TheVariants as requests
-use Rattle.db_config.specs.Forms.{text_member}
 use Rattle.db_config.specs.Names.{same_text}
 use Rattle.db_config.specs.Read.{config_of}
 use Rattle.annot_json.specs.Forms.{whole_member}
@@ -23,26 +21,16 @@ use Rattle.script_lines.specs.declared.faults.LineFault.{LineFault}
 use Rattle.script_lines.specs.declared.faults.LineFault.TheVariants as faults
 use Rattle.script_lines.specs.declared.faults.ReadLine.{ReadLine}
 use Rattle.script_lines.specs.declared.faults.ReadLine.TheVariants as reads
-use Rattle.script_lines.specs.Faults.{form, config_form}
-use Rattle.script_lines.specs.Forms.{id_limit, session_at, no_member}
+use Rattle.script_lines.specs.Faults.{Reads, form, config_form}
+use Rattle.script_lines.specs.Forms.{id_limit, session_at}
 use Rattle.script_lines.specs.Edits.{bundle_request, textgrid_request, drop_request, item_request, remove_request, label_request, segment_request, boundary_request, point_request, split_request, merge_request, link_request, unlink_request}
-use Rattle.script_lines.specs.Queries.{thin_query}
-
--- white space (RFC 8259, section 2)
-abbrev pub is_space : ℕ → Bool
-is_space b = (b == 32) || (b == 9) || (b == 10) || (b == 13)
-
--- a line of white space alone
-abbrev pub is_blank : List ℕ → Bool
-is_blank line = list_all is_space line
-
--- the JSON value that a line is
-unfoldable pub json_of : List ℕ → Option Data
-json_of line = if is_utf8 line then read line else None
+use Rattle.script_lines.specs.Values.{is_blank, json_of, word_of_line}
+use Rattle.script_lines.specs.Questions.{Question, question_at, question_command}
+use Rattle.script_lines.specs.Made.{Made, times_too_large, eql_of, IsMadeOf}
 
 -- The commands and their members.
 
--- the command of a word, but for the configuration's
+-- the command of a word, but for the configuration's and those of questions
 abbrev pub command_named : List ℕ → Option Command
 command_named word =
     if same_text word (codes "add_bundle") then Some commands.AddBundle
@@ -58,8 +46,6 @@ command_named word =
     else if same_text word (codes "merge") then Some commands.Merge
     else if same_text word (codes "add_link") then Some commands.AddLink
     else if same_text word (codes "remove_link") then Some commands.RemoveLink
-    else if same_text word (codes "query") then Some commands.Query
-    else if same_text word (codes "look") then Some commands.Look
     else if same_text word (codes "finish") then Some commands.Finish
     else if same_text word (codes "after") then Some commands.After
     else None
@@ -68,31 +54,6 @@ command_named word =
 abbrev pub if_command : Option Command → Result Command LineFault
 if_command None = Err faults.NoSuchCommand
 if_command (Some command) = Ok command
-
--- the text of a query
-abbrev pub if_query : Seen → Option Ask → Result Ask Shape
-if_query s None = Err (shape s.path wanted.Text)
-if_query s (Some ask) = Ok ask
-
--- a query, in the place of its text
-unfoldable pub query_in : Seen → Result Ask Shape
-query_in s = text_at s >>= λ text. if_query s (thin_query text)
-
--- `query` and `look`: a query, and no `time`
-unfoldable pub ask_in : Seen → Result Ask Shape
-ask_in s = do
-  member ← member_of (codes "eql") wanted.Text s
-  ask ← query_in member
-  _ ← no_member (codes "time") wanted.Text s
-  Ok ask
-
--- `query`
-unfoldable pub query_request : Seen → Result Request Shape
-query_request s = ask_in s >>= λ ask. Ok (requests.Query ask)
-
--- `look`
-unfoldable pub look_request : Seen → Result Request Shape
-look_request s = ask_in s >>= λ ask. Ok (requests.Look ask)
 
 -- `after`: the number of an earlier request line
 abbrev pub if_earlier : List ℕ → ℕ → Result Request LineFault
@@ -117,8 +78,8 @@ members_of commands.Split earlier s = form (split_request s)
 members_of commands.Merge earlier s = form (merge_request s)
 members_of commands.AddLink earlier s = form (link_request s)
 members_of commands.RemoveLink earlier s = form (unlink_request s)
-members_of commands.Query earlier s = form (query_request s)
-members_of commands.Look earlier s = form (look_request s)
+members_of commands.Query earlier s = Err faults.NoSuchCommand
+members_of commands.Look earlier s = Err faults.NoSuchCommand
 members_of commands.Finish earlier s = Ok requests.Finish
 members_of commands.After earlier s = after_request earlier s
 members_of commands.Config earlier s = Err faults.NoSuchCommand
@@ -145,21 +106,41 @@ placed_line true false number earlier word s = Err faults.ConfigPlace
 placed_line false true number earlier word s = Err faults.ConfigPlace
 placed_line false false number earlier word s = line_in number earlier word s
 
--- what a line does: an object whose `do` is a text
-unfoldable pub word_of_line : Seen → Result (List ℕ) Shape
-word_of_line s = do
-  _ ← optional_of (codes "do") s
-  text_member (codes "do") s
+-- what a question asks for
+abbrev pub question_request : Command → Ask → Request
+question_request commands.Look ask = requests.Look ask
+question_request command ask = requests.Query ask
+
+-- the line of a question, with what was made of its query
+abbrev pub question_line : ℕ → Command → Made → Question → ReadLine
+question_line number command made q = reads.Request (record {
+  line = number;
+  session = q.session;
+  command = command;
+  request = question_request command (record { prepared = made; time = q.time });
+})
+
+-- a question, where the configuration does not have to stand
+abbrev pub asking_line : Bool → ℕ → Command → Made → Result Question Shape → Result ReadLine LineFault
+asking_line true number command made question = Err faults.ConfigPlace
+asking_line false number command made question =
+    form question >>= λ q. Ok (question_line number command made q)
+
+-- a question, or a line that asks the maker of patterns for nothing
+abbrev pub told_line : Option Command → ℕ → Bool → List ℕ → Made → List ℕ → Seen → Result ReadLine LineFault
+told_line (Some command) number wants earlier made word s = asking_line wants number command made (question_at s)
+told_line None number wants earlier made word s =
+    placed_line wants (same_text word (codes "config")) number earlier word s
 
 -- the request of a JSON value
-unfoldable pub value_line : ℕ → Bool → List ℕ → Seen → Result ReadLine LineFault
-value_line number wants earlier s =
-    form (word_of_line s) >>= λ word. placed_line wants (same_text word (codes "config")) number earlier word s
+unfoldable pub value_line : ℕ → Bool → List ℕ → Made → Seen → Result ReadLine LineFault
+value_line number wants earlier made s =
+    form (word_of_line s) >>= λ word. told_line (question_command word) number wants earlier made word s
 
 -- the request of a line that is JSON, or none
-abbrev pub json_line : ℕ → Bool → List ℕ → Option Data → Result ReadLine LineFault
-json_line number wants earlier None = Err faults.NotJson
-json_line number wants earlier (Some d) = value_line number wants earlier (seen d root_path)
+abbrev pub json_line : ℕ → Bool → List ℕ → Made → Option Data → Result ReadLine LineFault
+json_line number wants earlier made None = Err faults.NotJson
+json_line number wants earlier made (Some d) = value_line number wants earlier made (seen d root_path)
 
 -- white space alone is no line of the script, but where the configuration is wanted
 abbrev pub blank_line : Bool → Result ReadLine LineFault
@@ -167,7 +148,27 @@ blank_line true = Err faults.ConfigPlace
 blank_line false = Ok reads.Blank
 
 -- the request of a line, or its first fault: `number` is the line's, `wants` says that the
--- configuration has to stand here, `earlier` are the numbers of the request lines before it
-unfoldable pub request_of : List ℕ → ℕ → Bool → List ℕ → Result ReadLine LineFault
-request_of line number wants earlier =
-    if is_blank line then blank_line wants else json_line number wants earlier (json_of line)
+-- configuration has to stand here, `earlier` are the numbers of the request lines before it, `made` is
+-- what the maker of patterns made of the query that the line asks
+unfoldable pub request_of : List ℕ → ℕ → Bool → List ℕ → Made → Result ReadLine LineFault
+request_of line number wants earlier made =
+    if is_blank line then blank_line wants else json_line number wants earlier made (json_of line)
+
+-- how an answer goes with a reading that uses what was made of a query: some `made` is that of the
+-- query, where there is one, and the maker's refusals, which were and are so many, count it
+pub record ReadsBy (result : Result ReadLine LineFault) (asked : Option (List ℕ)) (there : Made → Result ReadLine LineFault) (before now : ℕ) : Type 0 where
+  pub made : Made
+  pub of_line : IsMadeOf asked made
+  pub rose : RoseBy (times_too_large made) before now
+  pub read : Reads result (there made)
+
+-- the same, but where memory ran out: then the refusals did not fall
+abbrev pub ReadsMade : Result ReadLine LineFault → Option (List ℕ) → (Made → Result ReadLine LineFault) → ℕ → ℕ → Type 0
+ReadsMade (Err faults.Memory) asked there before now = before ≤ now
+ReadsMade result asked there before now = ReadsBy result asked there before now
+
+-- the answer is the request of the line, or its first fault, by what a maker made of its query whose
+-- refusals were and are so many
+abbrev pub IsReadAs : Result ReadLine LineFault → List ℕ → ℕ → Bool → List ℕ → ℕ → ℕ → Type 0
+IsReadAs result bytes number wants earlier before now =
+    ReadsMade result (eql_of bytes) (λ made. request_of bytes number wants earlier made) before now

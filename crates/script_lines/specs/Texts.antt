@@ -10,11 +10,15 @@ use Rattle.emu_names.specs.declared.rules.What.{What}
 use Rattle.emu_names.specs.declared.rules.Broken.{Broken}
 use Rattle.emu_names.specs.declared.rules.Broken.TheVariants as rules
 use Rattle.emu_names.specs.Rule.{word_of, counted_of}
-use Rattle.session_core.specs.declared.row.Row.{Row}
+use Rattle.eql_model.specs.declared.row.Row.{Row}
 use Rattle.session_core.specs.declared.line.Command.{Command}
 use Rattle.session_core.specs.declared.line.Command.TheVariants as commands
-use Rattle.session_core.specs.declared.line.AskFault.{AskFault}
-use Rattle.session_core.specs.declared.line.AskFault.TheVariants.{UnknownName}
+use Rattle.eql_syntax.specs.declared.query.QueryFault.{QueryFault}
+use Rattle.eql_syntax.specs.declared.query.QueryFault.TheVariants as queries
+use Rattle.eql_resolve.specs.declared.faults.PrepareFault.{PrepareFault}
+use Rattle.eql_resolve.specs.declared.faults.PrepareFault.TheVariants as prepares
+use Rattle.eql_resolve.specs.declared.faults.AskFault.{AskFault}
+use Rattle.eql_resolve.specs.declared.faults.AskFault.TheVariants as asks
 use Rattle.session_core.specs.declared.line.Refusal.{Refusal}
 use Rattle.session_core.specs.declared.line.Refusal.TheVariants as refusals
 use Rattle.session_core.specs.declared.line.Answer.{Answer}
@@ -131,11 +135,7 @@ rule_data rules.NoLink = plain_rule (word_of rules.NoLink)
 rule_data (rules.OneParent id) = rule_with_id id (word_of (rules.OneParent id))
 rule_data (rules.OneChild id) = rule_with_id id (word_of (rules.OneChild id))
 
--- the fault of a query under a configuration
-abbrev pub ask_fault_data : AskFault → Data
-ask_fault_data (UnknownName name) = rule_with_name name (codes "UnknownName")
-
--- a refusal that names a place of a TextGrid's text
+-- a refusal that names a place of a text, or the number of a pattern
 abbrev pub rule_at : ℕ → List ℕ → Data
 rule_at at word = object (member (codes "at") (whole at) (member (codes "rule") (string word) no_members))
 
@@ -166,12 +166,38 @@ grid_fault_data (grid_faults.TimeTooLarge tier entry) = rule_in_tier tier entry 
 grid_fault_data (grid_faults.EmptyInterval tier entry) = rule_in_tier tier entry (codes "EmptyInterval")
 grid_fault_data grid_faults.Memory = plain_rule (codes "Memory")
 
+-- the fault of a query's text: its place counts the bytes of the text from 0
+abbrev pub query_fault_data : QueryFault → Data
+query_fault_data queries.TextTooLong = plain_rule (codes "TextTooLong")
+query_fault_data (queries.Syntax at) = rule_at at (codes "Syntax")
+query_fault_data (queries.TooDeep at) = rule_at at (codes "TooDeep")
+query_fault_data (queries.TwoMarks at) = rule_at at (codes "TwoMarks")
+query_fault_data queries.Memory = plain_rule (codes "Memory")
+
+-- the fault of a query's text or of one of its patterns, which are counted from 0
+abbrev pub prepare_fault_data : PrepareFault → Data
+prepare_fault_data (prepares.Query fault) = query_fault_data fault
+prepare_fault_data (prepares.BadPattern k) = rule_at k (codes "BadPattern")
+prepare_fault_data (prepares.PatternTooLarge k) = rule_at k (codes "PatternTooLarge")
+prepare_fault_data prepares.Memory = plain_rule (codes "Memory")
+
+-- the fault of a query under a configuration
+abbrev pub ask_fault_data : AskFault → Data
+ask_fault_data (asks.UnknownName name) = rule_with_name name (codes "UnknownName")
+ask_fault_data asks.MixedLevels = plain_rule (codes "MixedLevels")
+ask_fault_data asks.SequenceLevels = plain_rule (codes "SequenceLevels")
+ask_fault_data asks.NoPath = plain_rule (codes "NoPath")
+ask_fault_data asks.AmbiguousTime = plain_rule (codes "AmbiguousTime")
+ask_fault_data asks.BadTimeLevel = plain_rule (codes "BadTimeLevel")
+ask_fault_data asks.Memory = plain_rule (codes "Memory")
+
 -- a refusal
 abbrev pub refusal_data : Refusal → Data
 refusal_data (refusals.Rule rule) = rule_data rule
 refusal_data (refusals.Grid fault) = grid_fault_data fault
+refusal_data (refusals.Prepare fault) = prepare_fault_data fault
 refusal_data (refusals.Resolve fault) = ask_fault_data fault
-refusal_data refusals.NotBuilt = plain_rule (codes "NotBuilt")
+refusal_data refusals.TooManyTuples = plain_rule (codes "TooManyTuples")
 refusal_data refusals.NoLook = plain_rule (codes "NoLook")
 refusal_data refusals.LookOpen = plain_rule (codes "LookOpen")
 refusal_data refusals.HistoryFull = plain_rule (codes "HistoryFull")

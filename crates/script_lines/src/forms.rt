@@ -1,11 +1,11 @@
 //! The members that a script's lines have, each read as what it has to be.
-ghost use Rattle.std.specs.Prelude.{◌≡◌, ◌≤◌, ◌++◌, ◌∷◌, [], true, IfOk, IfErr, OnOk};
+ghost use Rattle.std.specs.Prelude.{◌≡◌, ◌≤◌, ◌++◌, ◌∷◌, [], IfOk, IfErr, OnOk};
 ghost use Rattle.json_view.specs.Gives.{Gives};
 ghost use Rattle.json_view.specs.Seen.{seen_at};
 ghost use Rattle.emu_names.specs.declared.limits.TheConstants.{TOP_RATE as MOST};
 ghost use Rattle.db_config.specs.Forms.{name_in, name_at, if_name, text_member};
 ghost use Rattle.annot_json.specs.Forms.{whole_member};
-ghost use Rattle.script_lines.specs.Forms.{session_in, session_at, key_at, id_at, position_at, rate_in, rate_at, no_member};
+ghost use Rattle.script_lines.specs.Forms.{session_in, session_at, key_at, id_at, position_at, rate_in, rate_at};
 
 use emu_lists::Series;
 use emu_names::limits::{SESSIONS, TOP_RATE};
@@ -23,7 +23,7 @@ pub(crate) const SAMPLE_LIMIT: u64 = 9_223_372_036_854_775_807;
 const LAST_SESSION: u64 = SESSIONS as u64;
 
 /// A text of one's own. It fails only for want of memory.
-fn owned(alloc: Global, text: &str) -> Result<Text, ViewFault>
+pub(crate) fn owned(alloc: Global, text: &str) -> Result<Text, ViewFault>
     ensures text { IfOk result (λ made. made ≡ text.now) }
     ensures memory { IfErr result (λ e. e ≡ ViewFault.Memory) }
 {
@@ -169,15 +169,4 @@ pub(crate) fn session_at(view: &View) -> Result<SessionNo, ViewFault>
 {
     let part = view.member("s", Wanted::Session)?;
     session_in(&part)
-}
-
-/// Refuses a member of this name, as if it should have been `wanted`.
-#[tactic(auto, unfolding(crate::specs::Forms::no_member))]
-pub(crate) fn no_member(view: &View, name: &str, wanted: Wanted) -> Result<(), ViewFault>
-    ensures { Gives (λ _. true) result (no_member name.now wanted (seen_at view.now)) }
-{
-    match view.optional(name)? {
-        Some(part) => Err(part.refuse(wanted)),
-        None => Ok(()),
-    }
 }

@@ -5,29 +5,23 @@ ghost use Rattle.json_view.specs.Gives.{Gives};
 ghost use Rattle.json_view.specs.Paths.{root_path};
 ghost use Rattle.json_view.specs.Seen.{seen, seen_at};
 ghost use Rattle.script_lines.specs.Faults.{Reads};
-ghost use Rattle.script_lines.specs.Lines.{is_space, is_blank, json_of, json_line, line_in, config_line, placed_line, word_of_line, value_line, request_of};
+ghost use Rattle.script_lines.specs.Values.{is_space, is_blank, json_of, word_of_line};
+ghost use Rattle.script_lines.specs.Made.{eql_told, eql_in};
+ghost use Rattle.script_lines.specs.Lines.{ReadsMade, IsReadAs, json_line, line_in, config_line, placed_line, value_line};
 
 use crate::faults::{LineFault, ReadLine};
 use crate::forms::session_at;
 use crate::line_set::LineSet;
+use crate::place::Place;
+use crate::questions::{asking_line, question_command};
 use crate::requests::{command_named, members_of};
 use db_config::read_config;
 use json_view::{View, ViewFault, Wanted};
+use label_match::PatternMaker;
 use serde_json::Value;
 use session_core::Line;
 use std::alloc::Global;
 use std::str;
-
-// Where a line stands in its script.
-#[derive(Drop)]
-struct Place<'a> {
-    // The line's number, counted from 1.
-    number: u32,
-    // Whether the configuration has to stand here.
-    wants_config: bool,
-    // The numbers of the request lines before it.
-    earlier: &'a LineSet,
-}
 
 fn is_space(byte: u8) -> bool
     ensures { result ≡ is_space byte }
@@ -110,7 +104,7 @@ fn placed_line(
 }
 
 // What a line does: an object whose `do` is a text.
-#[tactic(auto, unfolding(crate::specs::Lines::word_of_line, db_config::specs::Forms::text_member))]
+#[tactic(auto, unfolding(crate::specs::Values::word_of_line, db_config::specs::Forms::text_member))]
 fn word_of_line<'a>(view: &View<'a>) -> Result<&'a str, ViewFault>
     ensures { Gives (λ t. t.now) result (word_of_line (seen_at view.now)) }
 {
@@ -119,37 +113,59 @@ fn word_of_line<'a>(view: &View<'a>) -> Result<&'a str, ViewFault>
     part.text()
 }
 
+// The request of a JSON value; the query of a question is prepared.
 #[tactic(auto, unfolding(crate::specs::Lines::value_line))]
-fn value_line(alloc: Global, place: &Place, view: &View) -> Result<ReadLine, LineFault>
-    ensures { Reads result (value_line place.now.number place.now.wants_config
-        place.now.earlier.now (seen_at view.now)) }
+fn value_line<P: PatternMaker>(
+    alloc: Global,
+    place: &Place,
+    view: &View,
+    maker: &mut P,
+) -> Result<ReadLine, LineFault>
+    ensures { ReadsMade result (eql_told (word_of_line (seen_at view.now)) (seen_at view.now))
+        (λ made. value_line place.now.number place.now.wants_config place.now.earlier.now made
+        (seen_at view.now)) (P.refusals maker.old) (P.refusals maker.new) }
 {
     let word = word_of_line(view)?;
-    placed_line(alloc, place, word == "config", word, view)
+    match question_command(word) {
+        Some(command) => asking_line(alloc, place, command, view, maker),
+        None => placed_line(alloc, place, word == "config", word, view),
+    }
 }
 
 // The request of a line that is not blank.
-fn json_line(alloc: Global, place: &Place, line: &[u8]) -> Result<ReadLine, LineFault>
-    ensures { Reads result (json_line place.now.number place.now.wants_config
-        place.now.earlier.now (json_of line.now)) }
+fn json_line<P: PatternMaker>(
+    alloc: Global,
+    place: &Place,
+    line: &[u8],
+    maker: &mut P,
+) -> Result<ReadLine, LineFault>
+    ensures { ReadsMade result (eql_in (json_of line.now)) (λ made. json_line place.now.number
+        place.now.wants_config place.now.earlier.now made (json_of line.now))
+        (P.refusals maker.old) (P.refusals maker.new) }
 {
     let value = json_of(alloc, line)?;
     let view = View::root(alloc, &value)?;
-    value_line(alloc, place, &view)
+    value_line(alloc, place, &view, maker)
 }
 
 /// The request of a line of a script, or the first fault, or want of memory. `number` is the line's,
 /// counted from 1; `wants_config` says that the configuration has to stand here; `earlier` are the
 /// numbers of the request lines before it.
-#[tactic(auto, unfolding(crate::specs::Lines::request_of))]
-pub fn read_line(
+///
+/// The query of a `query` or a `look` whose members are read well is prepared by the maker of patterns,
+/// wherever the line stands. A fault of the query's text or of a pattern is no fault of the line: the
+/// request brings it.
+#[tactic(auto, unfolding(crate::specs::Lines::request_of, crate::specs::Made::eql_of))]
+pub fn read_line<P: PatternMaker>(
     alloc: Global,
     bytes: &[u8],
     number: u32,
     wants_config: bool,
     earlier: &LineSet,
+    maker: &mut P,
 ) -> Result<ReadLine, LineFault>
-    ensures { Reads result (request_of bytes.now number wants_config earlier.now) }
+    ensures read { IsReadAs result bytes.now number wants_config earlier.now
+        (P.refusals maker.old) (P.refusals maker.new) }
 {
     if is_blank(bytes) {
         if wants_config {
@@ -162,5 +178,5 @@ pub fn read_line(
         wants_config,
         earlier,
     };
-    json_line(alloc, &place, bytes)
+    json_line(alloc, &place, bytes, maker)
 }

@@ -1,11 +1,13 @@
 //! Refusals as JSON values, with the members in the order of their names.
 ghost use Rattle.std.specs.Prelude.{◌≡◌, IfOk};
 ghost use Rattle.serde_json.specs.View.{view};
-ghost use Rattle.script_lines.specs.Texts.{rule_data, plain_rule, rule_with_id, rule_with_name, rule_with_what, rule_at, expected_at, rule_in_tier, grid_fault_data, refusal_data};
+ghost use Rattle.script_lines.specs.Texts.{rule_data, plain_rule, rule_with_id, rule_with_name, rule_with_what, rule_at, expected_at, rule_in_tier, grid_fault_data, query_fault_data, prepare_fault_data, ask_fault_data, refusal_data};
 
 use emu_names::{Broken, ItemId, Memory, Text, What};
+use eql_resolve::{AskFault, PrepareFault};
+use eql_syntax::QueryFault;
 use serde_json::{Value, json};
-use session_core::{AskFault, Refusal};
+use session_core::Refusal;
 use std::alloc::Global;
 use textgrid::{GridFault, GridWhat};
 
@@ -71,7 +73,7 @@ fn rule_value(alloc: Global, broken: &Broken) -> Result<Value, Memory>
     }
 }
 
-/// A refusal that names a place of a TextGrid's text.
+/// A refusal that names a place of a text, or the number of a pattern.
 fn place_value(alloc: Global, at: u64, word: &str) -> Result<Value, Memory>
     ensures { IfOk result (λ v. view v ≡ rule_at at word.now) }
 {
@@ -114,6 +116,46 @@ fn grid_fault_value(alloc: Global, fault: GridFault) -> Result<Value, Memory>
     }
 }
 
+/// The fault of a query's text.
+fn query_fault_value(alloc: Global, fault: QueryFault) -> Result<Value, Memory>
+    ensures { IfOk result (λ v. view v ≡ query_fault_data fault) }
+{
+    match fault {
+        QueryFault::TextTooLong => plain_value(alloc, "TextTooLong"),
+        QueryFault::Syntax(at) => place_value(alloc, at as u64, "Syntax"),
+        QueryFault::TooDeep(at) => place_value(alloc, at as u64, "TooDeep"),
+        QueryFault::TwoMarks(at) => place_value(alloc, at as u64, "TwoMarks"),
+        QueryFault::Memory => plain_value(alloc, "Memory"),
+    }
+}
+
+/// The fault of a query's text or of one of its patterns.
+fn prepare_fault_value(alloc: Global, fault: PrepareFault) -> Result<Value, Memory>
+    ensures { IfOk result (λ v. view v ≡ prepare_fault_data fault) }
+{
+    match fault {
+        PrepareFault::Query(fault) => query_fault_value(alloc, fault),
+        PrepareFault::BadPattern(k) => place_value(alloc, k as u64, "BadPattern"),
+        PrepareFault::PatternTooLarge(k) => place_value(alloc, k as u64, "PatternTooLarge"),
+        PrepareFault::Memory => plain_value(alloc, "Memory"),
+    }
+}
+
+/// The fault of a query under a configuration.
+fn ask_fault_value(alloc: Global, fault: &AskFault) -> Result<Value, Memory>
+    ensures { IfOk result (λ v. view v ≡ ask_fault_data fault.now) }
+{
+    match fault {
+        AskFault::UnknownName(name) => name_value(alloc, name, "UnknownName"),
+        AskFault::MixedLevels => plain_value(alloc, "MixedLevels"),
+        AskFault::SequenceLevels => plain_value(alloc, "SequenceLevels"),
+        AskFault::NoPath => plain_value(alloc, "NoPath"),
+        AskFault::AmbiguousTime => plain_value(alloc, "AmbiguousTime"),
+        AskFault::BadTimeLevel => plain_value(alloc, "BadTimeLevel"),
+        AskFault::Memory => plain_value(alloc, "Memory"),
+    }
+}
+
 /// A refusal.
 pub(crate) fn refusal_value(alloc: Global, refusal: &Refusal) -> Result<Value, Memory>
     ensures { IfOk result (λ v. view v ≡ refusal_data refusal.now) }
@@ -121,8 +163,9 @@ pub(crate) fn refusal_value(alloc: Global, refusal: &Refusal) -> Result<Value, M
     match refusal {
         Refusal::Rule(broken) => rule_value(alloc, broken),
         Refusal::Grid(fault) => grid_fault_value(alloc, *fault),
-        Refusal::Resolve(AskFault::UnknownName(name)) => name_value(alloc, name, "UnknownName"),
-        Refusal::NotBuilt => plain_value(alloc, "NotBuilt"),
+        Refusal::Prepare(fault) => prepare_fault_value(alloc, *fault),
+        Refusal::Resolve(fault) => ask_fault_value(alloc, fault),
+        Refusal::TooManyTuples => plain_value(alloc, "TooManyTuples"),
         Refusal::NoLook => plain_value(alloc, "NoLook"),
         Refusal::LookOpen => plain_value(alloc, "LookOpen"),
         Refusal::HistoryFull => plain_value(alloc, "HistoryFull"),

@@ -1,25 +1,23 @@
 //! The members of a request, by its command.
 ghost use Rattle.std.specs.Prelude.{◌≡◌, true};
-ghost use Rattle.json_view.specs.Gives.{Gives};
 ghost use Rattle.json_view.specs.Seen.{seen_at};
 ghost use Rattle.script_lines.specs.Faults.{Reads};
-ghost use Rattle.script_lines.specs.Lines.{command_named, query_in, ask_in, query_request, look_request, after_request, members_of};
+ghost use Rattle.script_lines.specs.Lines.{command_named, after_request, members_of};
 
 use crate::edits::{bundle_request, drop_request, link_request, unlink_request};
 use crate::faults::LineFault;
-use crate::forms::{ID_LIMIT, no_member, whole_member};
+use crate::forms::{ID_LIMIT, whole_member};
 use crate::grids::textgrid_request;
 use crate::items::{
     boundary_request, item_request, label_request, merge_request, point_request, remove_request,
     segment_request, split_request,
 };
 use crate::line_set::LineSet;
-use crate::query::thin_query;
-use json_view::{View, ViewFault, Wanted};
-use session_core::{Ask, Command, Request};
+use json_view::View;
+use session_core::{Command, Request};
 use std::alloc::Global;
 
-/// The command of a request's word, but for the configuration's.
+/// The command of a request's word, but for the configuration's and those of questions.
 pub(crate) fn command_named(word: &str) -> Option<Command>
     ensures { result ≡ command_named word.now }
 {
@@ -37,52 +35,10 @@ pub(crate) fn command_named(word: &str) -> Option<Command>
         "merge" => Some(Command::Merge),
         "add_link" => Some(Command::AddLink),
         "remove_link" => Some(Command::RemoveLink),
-        "query" => Some(Command::Query),
-        "look" => Some(Command::Look),
         "finish" => Some(Command::Finish),
         "after" => Some(Command::After),
         _ => None,
     }
-}
-
-// A query, in the place of its text.
-#[tactic(auto, unfolding(crate::specs::Lines::query_in))]
-fn query_in(alloc: Global, view: &View) -> Result<Ask, ViewFault>
-    ensures { Gives (λ a. a) result (query_in (seen_at view.now)) }
-{
-    let text = view.text()?;
-    match thin_query(alloc, text) {
-        Ok(Some(ask)) => Ok(ask),
-        Ok(None) => Err(view.refuse(Wanted::Text)),
-        Err(_) => Err(ViewFault::Memory),
-    }
-}
-
-// `query` and `look`: a query, and no `time`.
-#[tactic(auto, unfolding(crate::specs::Lines::ask_in))]
-fn ask_in(alloc: Global, view: &View) -> Result<Ask, ViewFault>
-    ensures { Gives (λ a. a) result (ask_in (seen_at view.now)) }
-{
-    let member = view.member("eql", Wanted::Text)?;
-    let ask = query_in(alloc, &member)?;
-    no_member(view, "time", Wanted::Text)?;
-    Ok(ask)
-}
-
-// `query`.
-#[tactic(auto, unfolding(crate::specs::Lines::query_request))]
-fn query_request(alloc: Global, view: &View) -> Result<Request, ViewFault>
-    ensures { Gives (λ r. r) result (query_request (seen_at view.now)) }
-{
-    Ok(Request::Query(ask_in(alloc, view)?))
-}
-
-// `look`.
-#[tactic(auto, unfolding(crate::specs::Lines::look_request))]
-fn look_request(alloc: Global, view: &View) -> Result<Request, ViewFault>
-    ensures { Gives (λ r. r) result (look_request (seen_at view.now)) }
-{
-    Ok(Request::Look(ask_in(alloc, view)?))
 }
 
 // `after`: the number of an earlier request line.
@@ -120,10 +76,8 @@ pub(crate) fn members_of(
         Command::Merge => Ok(merge_request(alloc, view)?),
         Command::AddLink => Ok(link_request(alloc, view)?),
         Command::RemoveLink => Ok(unlink_request(alloc, view)?),
-        Command::Query => Ok(query_request(alloc, view)?),
-        Command::Look => Ok(look_request(alloc, view)?),
         Command::Finish => Ok(Request::Finish),
         Command::After => after_request(view, earlier),
-        Command::Config => Err(LineFault::NoSuchCommand),
+        Command::Query | Command::Look | Command::Config => Err(LineFault::NoSuchCommand),
     }
 }

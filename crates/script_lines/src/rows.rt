@@ -5,8 +5,8 @@ ghost use Rattle.serde_json.specs.View.{view, members_view};
 ghost use Rattle.script_lines.specs.Texts.{whole, whole_or_null, row_data, rows_data};
 
 use emu_names::{Memory, Text};
+use eql_model::Row;
 use serde_json::{Map, Value, json};
-use session_core::Row;
 use std::alloc::Global;
 
 /// A number, or `null` where there is none.

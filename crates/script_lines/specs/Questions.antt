@@ -1,0 +1,42 @@
+-- The questions that the lines of a script ask.
+use Rattle.std.specs.Prelude.{ℕ, List, Option, Some, None, Result, Ok, Err, if◌then◌else◌, codes}
+use Rattle.json_view.specs.declared.faults.Shape.{Shape}
+use Rattle.json_view.specs.Seen.{Seen}
+use Rattle.json_view.specs.Parts.{optional_of, text_at}
+use Rattle.json_view.specs.Steps.{◌>>=◌}
+use Rattle.emu_names.specs.declared.kinds.SessionNo.{SessionNo}
+use Rattle.db_config.specs.Forms.{text_member}
+use Rattle.db_config.specs.Names.{same_text}
+use Rattle.session_core.specs.declared.line.Command.{Command}
+use Rattle.session_core.specs.declared.line.Command.TheVariants as commands
+use Rattle.script_lines.specs.Forms.{session_at}
+
+-- the command of a question's word
+abbrev pub question_command : List ℕ → Option Command
+question_command word =
+    if same_text word (codes "query") then Some commands.Query
+    else if same_text word (codes "look") then Some commands.Look
+    else None
+
+-- the session that asks, the text of the query, and the name of the level of the times where it is given
+pub record Question : Type 0 where
+  pub session : SessionNo
+  pub eql : List ℕ
+  pub time : Option (List ℕ)
+
+-- a text, or none
+abbrev pub text_there : Option Seen → Result (Option (List ℕ)) Shape
+text_there None = Ok None
+text_there (Some m) = text_at m >>= λ text. Ok (Some text)
+
+-- the name of the level of the times, which may be missing
+unfoldable pub time_name_at : Seen → Result (Option (List ℕ)) Shape
+time_name_at s = optional_of (codes "time") s >>= text_there
+
+-- `query` and `look`
+unfoldable pub question_at : Seen → Result Question Shape
+question_at s = do
+  session ← session_at s
+  eql ← text_member (codes "eql") s
+  time ← time_name_at s
+  Ok (record { session = session; eql = eql; time = time })
