@@ -10,6 +10,7 @@ use Rattle.session_core.specs.InOrder.{Outage, disk_outages, in_turn, ComeInOrde
 use Rattle.session_core.proofs.Turns.{each_push, each_map}
 use Rattle.db_config.specs.Valid.{is_valid}
 use Rattle.session_core.specs.Steps.{start}
+use Rattle.edit_rules.specs.Database.{empty_database}
 use Rattle.edit_rules.proofs.Replay.{states_keep_rules}
 use Rattle.session_core.proofs.Ordered.{in_turn_is_in_order, none_out, none_rise}
 use Rattle.script_lines.specs.declared.faults.LineFault.{LineFault}
@@ -18,7 +19,7 @@ use Rattle.script_lines.specs.declared.faults.ReadLine.TheVariants as reads
 use Rattle.script_lines.specs.Lines.{request_of}
 use Rattle.script_lines.specs.Known.{Known, NamesOneOf}
 use Rattle.script_lines.proofs.KnownLines.{known}
-use Rattle.emu_cli.specs.Scripts.{Parsed, nothing_read, with_read, parse, parse_line, line_at, unless_over, as_stop, passes_limit, numbers_of, Stop, ◌>>=◌}
+use Rattle.emu_cli.specs.Scripts.{AskedLine, Parsed, nothing_read, with_read, parse, parse_line, line_at, unless_over, as_stop, passes_limit, numbers_of, Stop, ◌>>=◌}
 use Rattle.emu_cli.specs.Runs.{IsRun, Runs, alone, run_from, history_in, history_of}
 
 -- an `after` among the numbers is one among the lines
@@ -115,20 +116,20 @@ read_more p (Some c) (reads.Request l) e o k = record {
   valid = o.valid;
 }
 
-ordered_step : (p q : Parsed) (line : List ℕ) (r : Result ReadLine Stop) → Ordered p → ((read : ReadLine) → r ≡ Ok read → Known (p.number + 1) p.wants (numbers_of p.requests) read) → (r >>= λ x. Ok (with_read p x)) ≡ Ok q → Ordered q
+ordered_step : (p q : Parsed) (line : AskedLine) (r : Result ReadLine Stop) → Ordered p → ((read : ReadLine) → r ≡ Ok read → Known (p.number + 1) p.wants (numbers_of p.requests) read) → (r >>= λ x. Ok (with_read p x)) ≡ Ok q → Ordered q
 ordered_step p q line (Ok read) o k h = let same : with_read p read ≡ q = parsed_same h in subst (λ x. Ordered x) same (read_more p p.config read refl o (subst (λ (b : Bool). Known (p.number + 1) b (numbers_of p.requests) read) o.wanted (k read refl)))
 ordered_step p q line (Err stop) o k h = absurd (cc)
 
-ordered_line : (p q : Parsed) (line : List ℕ) → Ordered p → parse_line p line ≡ Ok q → Ordered q
+ordered_line : (p q : Parsed) (line : AskedLine) → Ordered p → parse_line p line ≡ Ok q → Ordered q
 ordered_line p q line o h =
     ordered_step p q line (line_at (p.number + 1) p.wants (numbers_of p.requests) line) o
-    (λ read e. known line (p.number + 1) p.wants (numbers_of p.requests) read (over_ok (passes_limit (p.number + 1) line) (p.number + 1) (request_of line (p.number + 1) p.wants (numbers_of p.requests)) read e)) h
+    (λ read e. known line.line (p.number + 1) p.wants (numbers_of p.requests) line.made read (over_ok (passes_limit (p.number + 1) line.line) (p.number + 1) (request_of line.line (p.number + 1) p.wants (numbers_of p.requests) line.made) read e)) h
 
-ordered_first : (first : Result Parsed Stop) (lines : List (List ℕ)) (q : Parsed) → ((n : Parsed) → first ≡ Ok n → Ordered n) → ((n : Parsed) → Ordered n → parse n lines ≡ Ok q → Ordered q) → (first >>= λ n. parse n lines) ≡ Ok q → Ordered q
+ordered_first : (first : Result Parsed Stop) (lines : List AskedLine) (q : Parsed) → ((n : Parsed) → first ≡ Ok n → Ordered n) → ((n : Parsed) → Ordered n → parse n lines ≡ Ok q → Ordered q) → (first >>= λ n. parse n lines) ≡ Ok q → Ordered q
 ordered_first (Ok n) lines q this later h = later n (this n refl) h
 ordered_first (Err stop) lines q this later h = absurd (cc)
 
-ordered : (lines : List (List ℕ)) (p q : Parsed) → Ordered p → parse p lines ≡ Ok q → Ordered q
+ordered : (lines : List AskedLine) (p q : Parsed) → Ordered p → parse p lines ≡ Ok q → Ordered q
 ordered [] p q o h = let same : p ≡ q = parsed_same h in subst (λ x. Ordered x) same o
 ordered (line ∷ lines) p q o h = ordered_first (parse_line p line) lines q (λ n e. ordered_line p n line o e) (λ n k e. ordered lines n q k e) h
 
@@ -137,7 +138,7 @@ runs_from : (p : Parsed) (config : Option ConfigParts) (requests : List Line) (o
     → Runs (alone p) config requests (run_from [] false config requests outages).0 (history_in [] (run_from [] false config requests outages).1)
 runs_from p None requests outages come each begun valid = (begun refl, refl)
 runs_from p (Some config) requests outages come each begun valid =
-    let run : _ = in_turn_is_in_order config [] requests outages false 0 0 ([], refl) (omega arith) come each (none_rise (disk_outages false outages) (none_out outages)) in
+    let run : _ = in_turn_is_in_order config [] requests outages false 0 0 (empty_database config, refl) (omega arith) come each (none_rise (disk_outages false outages) (none_out outages)) in
     record {
       valid = valid;
       come = come;
@@ -147,7 +148,7 @@ runs_from p (Some config) requests outages come each begun valid =
     }
 
 -- the run of the first lines of a script, wherever memory ran out
-pub legal_run : (lines : List (List ℕ)) (p : Parsed) (outages : List Outage) → parse nothing_read lines ≡ Ok p → length outages ≡ length p.requests → IsRun p outages (history_of p outages)
+pub legal_run : (lines : List AskedLine) (p : Parsed) (outages : List Outage) → parse nothing_read lines ≡ Ok p → length outages ≡ length p.requests → IsRun p outages (history_of p outages)
 legal_run lines p outages h each =
     let o = ordered lines nothing_read p (record { come = tt; below = tt; wanted = refl; begun = λ e. refl; valid = tt }) h in
     record { each = each; made = refl; run = runs_from p p.config p.requests outages o.come each o.begun o.valid }

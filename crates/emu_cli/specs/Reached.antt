@@ -1,5 +1,5 @@
 -- How far a run has come, and how it ends.
-use Rattle.std.specs.Prelude.{false, ◌≡◌, ◌≢◌, ◌⊎◌, ℕ, Bool, List, [], ◌∷◌, ◌++◌, length, take, Option, Some, Result, Ok, Err}
+use Rattle.std.specs.Prelude.{true, false, ◌≡◌, ◌≢◌, ◌⊎◌, ℕ, ◌+◌, Bool, List, [], ◌∷◌, ◌++◌, length, take, Option, Some, Result, Ok, Err}
 use Rattle.std.specs.Io.KnownBytes.{Appends}
 use Rattle.emu_io.specs.Fronts.{WritesFront}
 use Rattle.fault_counts.specs.Count.{Rose}
@@ -10,7 +10,7 @@ use Rattle.script_lines.specs.declared.faults.LineFault.TheVariants as faults
 use Rattle.emu_cli.specs.declared.ended.Ended.{Ended}
 use Rattle.emu_cli.specs.declared.ended.Ended.TheVariants as ends
 use Rattle.emu_cli.specs.declared.running.Running.{Running}
-use Rattle.emu_cli.specs.Scripts.{Parsed, nothing_read, parse, parse_line, parsed_front, ended, Stop, limit, at_fault, numbers_of, ◌>>=◌}
+use Rattle.emu_cli.specs.Scripts.{AskedLine, AreRead, Parsed, nothing_read, parse, parse_line, parsed_front, passes_limit, script_from, Stop, limit, at_fault, numbers_of}
 use Rattle.emu_cli.specs.Runs.{run_text}
 
 -- the run stands behind what was read of the script
@@ -28,108 +28,132 @@ pub record IsBegun (config : ConfigParts) (running : Running) : Type 0 where
   pub earlier : running.earlier ≡ []
   pub number : running.number ≡ 1
 
--- the lines so far were run, and their replies written
-pub record Reached (config : ConfigParts) (lines : List (List ℕ)) (running : Running) (before now : Option (List ℕ)) : Type 0 where
+-- the lines so far were read and run, and their replies written
+pub record Reached (config : ConfigParts) (lines : List (List ℕ)) (running : Running) (refusals refusals_now : ℕ) (before now : Option (List ℕ)) : Type 0 where
+  pub asked : List AskedLine
+  pub read : AreRead asked lines refusals refusals_now
   pub parsed : Parsed
-  pub script : parse nothing_read lines ≡ Ok parsed
+  pub script : parse nothing_read asked ≡ Ok parsed
   pub outages : List Outage
   pub at : IsAt running config parsed outages
   pub output : Appends before now (run_text parsed outages)
 
--- the lines were run, and a front of their replies was written
-pub record Broke (lines : List (List ℕ)) (before now : Option (List ℕ)) : Type 0 where
+-- the lines were read and run, and a front of their replies was written
+pub record Broke (lines : List (List ℕ)) (refusals refusals_now : ℕ) (before now : Option (List ℕ)) : Type 0 where
+  pub asked : List AskedLine
+  pub read : AreRead asked lines refusals refusals_now
   pub parsed : Parsed
-  pub script : parse nothing_read lines ≡ Ok parsed
+  pub script : parse nothing_read asked ≡ Ok parsed
   pub outages : List Outage
   pub each : length outages ≡ length parsed.requests
   pub output : WritesFront before now (run_text parsed outages)
 
--- the lines were run and their replies written, and the next line stops the script
-pub record Stopped (stop : Stop) (lines : List (List ℕ)) (line : List ℕ) (before now : Option (List ℕ)) : Type 0 where
+-- the lines were run and their replies written, and the next line passes a limit
+pub record IsOver (lines : List (List ℕ)) (line : List ℕ) (refusals refusals_now : ℕ) (before now : Option (List ℕ)) : Type 0 where
+  pub asked : List AskedLine
+  pub read : AreRead asked lines refusals refusals_now
   pub parsed : Parsed
-  pub script : parse nothing_read lines ≡ Ok parsed
-  pub stops : parse_line parsed line ≡ Err stop
+  pub script : parse nothing_read asked ≡ Ok parsed
+  pub over : passes_limit (parsed.number + 1) line ≡ true
+  pub outages : List Outage
+  pub each : length outages ≡ length parsed.requests
+  pub output : Appends before now (run_text parsed outages)
+
+-- the lines were run and their replies written, and the next line was read and stops the script
+pub record Stopped (stop : Stop) (lines : List (List ℕ)) (line : List ℕ) (refusals refusals_now : ℕ) (before now : Option (List ℕ)) : Type 0 where
+  pub asked : List AskedLine
+  pub last : AskedLine
+  pub read : AreRead (asked ++ last ∷ []) (lines ++ line ∷ []) refusals refusals_now
+  pub parsed : Parsed
+  pub script : parse nothing_read asked ≡ Ok parsed
+  pub stops : parse_line parsed last ≡ Err stop
   pub outages : List Outage
   pub each : length outages ≡ length parsed.requests
   pub output : Appends before now (run_text parsed outages)
 
 -- the end of a run behind these lines, or behind these lines and one more
-abbrev pub EndsOnLine : Ended → List (List ℕ) → List ℕ → Option (List ℕ) → Option (List ℕ) → Type 0
-EndsOnLine ends.Limit lines line before now = Stopped limit lines line before now
-EndsOnLine (ends.AtFault number fault) lines line before now = Stopped (at_fault number fault) lines line before now × (fault ≢ faults.Memory)
-EndsOnLine ends.Write lines line before now = Broke lines before now ⊎ Broke (lines ++ line ∷ []) before now
-EndsOnLine ends.Memory lines line before now = Broke lines before now ⊎ Broke (lines ++ line ∷ []) before now
+abbrev pub EndsOnLine : Ended → List (List ℕ) → List ℕ → ℕ → ℕ → Option (List ℕ) → Option (List ℕ) → Type 0
+EndsOnLine ends.Limit lines line refusals refusals_now before now = IsOver lines line refusals refusals_now before now
+EndsOnLine (ends.AtFault number fault) lines line refusals refusals_now before now =
+    Stopped (at_fault number fault) lines line refusals refusals_now before now × (fault ≢ faults.Memory)
+EndsOnLine ends.Write lines line refusals refusals_now before now =
+    Broke lines refusals refusals_now before now ⊎ Broke (lines ++ line ∷ []) refusals refusals_now before now
+EndsOnLine ends.Memory lines line refusals refusals_now before now =
+    Broke lines refusals refusals_now before now ⊎ Broke (lines ++ line ∷ []) refusals refusals_now before now
 
 -- one line was run
-abbrev pub RunsLine : {A : Type 0} → Result A Ended → Running → ConfigParts → List (List ℕ) → List ℕ → Option (List ℕ) → Option (List ℕ) → Type 0
-RunsLine (Ok x) running config lines line before now = Reached config (lines ++ line ∷ []) running before now
-RunsLine (Err end) running config lines line before now = EndsOnLine end lines line before now
+abbrev pub RunsLine : {A : Type 0} → Result A Ended → Running → ConfigParts → List (List ℕ) → List ℕ → ℕ → ℕ → Option (List ℕ) → Option (List ℕ) → Type 0
+RunsLine (Ok x) running config lines line refusals refusals_now before now =
+    Reached config (lines ++ line ∷ []) running refusals refusals_now before now
+RunsLine (Err end) running config lines line refusals refusals_now before now =
+    EndsOnLine end lines line refusals refusals_now before now
 
--- all lines were run and their replies written
-pub record RanAll (lines : List (List ℕ)) (before now : Option (List ℕ)) : Type 0 where
+-- all lines were read and run, and their replies written
+pub record RanAll (lines : List (List ℕ)) (refusals refusals_now : ℕ) (before now : Option (List ℕ)) : Type 0 where
+  pub asked : List AskedLine
+  pub read : AreRead asked lines refusals refusals_now
   pub parsed : Parsed
   pub config : ConfigParts
   pub begun : parsed.config ≡ Some config
   pub wants : parsed.wants ≡ false
-  pub script : parse nothing_read lines ≡ Ok parsed
+  pub script : parse nothing_read asked ≡ Ok parsed
   pub outages : List Outage
   pub each : length outages ≡ length parsed.requests
   pub output : Appends before now (run_text parsed outages)
 
--- a line stops the script; the lines before it were run and their replies written
-pub record StoppedIn (stop : Stop) (lines : List (List ℕ)) (before now : Option (List ℕ)) : Type 0 where
-  pub script : parse nothing_read lines ≡ Err stop
-  pub done : ℕ
-  pub read : parse nothing_read (take done lines) ≡ Ok (parsed_front nothing_read lines)
-  pub outages : List Outage
-  pub each : length outages ≡ length (parsed_front nothing_read lines).requests
-  pub output : Appends before now (run_text (parsed_front nothing_read lines) outages)
-
--- the first lines were run, and a front of their replies was written
-pub record BrokeIn (lines : List (List ℕ)) (before now : Option (List ℕ)) : Type 0 where
-  pub done : ℕ
-  pub broke : Broke (take done lines) before now
-
-abbrev pub EndsIn : Ended → List (List ℕ) → Option (List ℕ) → Option (List ℕ) → Type 0
-EndsIn ends.Limit lines before now = StoppedIn limit lines before now
-EndsIn (ends.AtFault number fault) lines before now = StoppedIn (at_fault number fault) lines before now × (fault ≢ faults.Memory)
-EndsIn ends.Write lines before now = BrokeIn lines before now
-EndsIn ends.Memory lines before now = BrokeIn lines before now
-
-abbrev pub RunsLines : {A : Type 0} → Result A Ended → List (List ℕ) → Option (List ℕ) → Option (List ℕ) → Type 0
-RunsLines (Ok x) lines before now = RanAll lines before now
-RunsLines (Err end) lines before now = EndsIn end lines before now
-
--- a whole script was run and its replies written
-pub record RanScript (past : Bool) (lines : List (List ℕ)) (before now : Option (List ℕ)) : Type 0 where
+-- the first lines were read and run, and a front of their replies was written
+pub record BrokeIn (lines : List (List ℕ)) (refusals refusals_now : ℕ) (before now : Option (List ℕ)) : Type 0 where
+  pub asked : List AskedLine
+  pub read : AreRead asked (take (length asked) lines) refusals refusals_now
   pub parsed : Parsed
-  pub script : (parse nothing_read lines >>= ended past) ≡ Ok parsed
-  pub read : parse nothing_read lines ≡ Ok parsed
+  pub script : parse nothing_read asked ≡ Ok parsed
+  pub outages : List Outage
+  pub each : length outages ≡ length parsed.requests
+  pub output : WritesFront before now (run_text parsed outages)
+
+-- a whole script was read and run, and its replies written
+pub record RanScript (past : Bool) (lines : List (List ℕ)) (refusals refusals_now : ℕ) (before now : Option (List ℕ)) : Type 0 where
+  pub asked : List AskedLine
+  pub read : AreRead asked lines refusals refusals_now
+  pub parsed : Parsed
+  pub script : script_from past lines asked ≡ Some (Ok parsed)
+  pub whole : parse nothing_read asked ≡ Ok parsed
   pub outages : List Outage
   pub each : length outages ≡ length parsed.requests
   pub output : Appends before now (run_text parsed outages)
 
 -- something ends the script early; the lines before it were run and their replies written
-pub record StoppedScript (stop : Stop) (past : Bool) (lines : List (List ℕ)) (before now : Option (List ℕ)) : Type 0 where
-  pub script : (parse nothing_read lines >>= ended past) ≡ Err stop
+pub record StoppedScript (stop : Stop) (past : Bool) (lines : List (List ℕ)) (refusals refusals_now : ℕ) (before now : Option (List ℕ)) : Type 0 where
+  pub asked : List AskedLine
+  pub read : AreRead asked (take (length asked) lines) refusals refusals_now
+  pub script : script_from past lines asked ≡ Some (Err stop)
   pub done : ℕ
-  pub read : parse nothing_read (take done lines) ≡ Ok (parsed_front nothing_read lines)
+  pub front : parse nothing_read (take done asked) ≡ Ok (parsed_front nothing_read asked)
   pub outages : List Outage
-  pub each : length outages ≡ length (parsed_front nothing_read lines).requests
-  pub output : Appends before now (run_text (parsed_front nothing_read lines) outages)
+  pub each : length outages ≡ length (parsed_front nothing_read asked).requests
+  pub output : Appends before now (run_text (parsed_front nothing_read asked) outages)
 
-abbrev pub RunsScript : {A : Type 0} → Result A Ended → Bool → List (List ℕ) → Option (List ℕ) → Option (List ℕ) → Type 0
-RunsScript (Ok x) past lines before now = RanScript past lines before now
-RunsScript (Err ends.Limit) past lines before now = StoppedScript limit past lines before now
-RunsScript (Err (ends.AtFault number fault)) past lines before now = StoppedScript (at_fault number fault) past lines before now × (fault ≢ faults.Memory)
-RunsScript (Err ends.Write) past lines before now = BrokeIn lines before now
-RunsScript (Err ends.Memory) past lines before now = BrokeIn lines before now
+abbrev pub EndsScript : Ended → Bool → List (List ℕ) → ℕ → ℕ → Option (List ℕ) → Option (List ℕ) → Type 0
+EndsScript ends.Limit past lines refusals refusals_now before now =
+    StoppedScript limit past lines refusals refusals_now before now
+EndsScript (ends.AtFault number fault) past lines refusals refusals_now before now =
+    StoppedScript (at_fault number fault) past lines refusals refusals_now before now × (fault ≢ faults.Memory)
+EndsScript ends.Write past lines refusals refusals_now before now = BrokeIn lines refusals refusals_now before now
+EndsScript ends.Memory past lines refusals refusals_now before now = BrokeIn lines refusals refusals_now before now
+
+abbrev pub RunsLines : {A : Type 0} → Result A Ended → Bool → List (List ℕ) → ℕ → ℕ → Option (List ℕ) → Option (List ℕ) → Type 0
+RunsLines (Ok x) past lines refusals refusals_now before now = RanAll lines refusals refusals_now before now
+RunsLines (Err end) past lines refusals refusals_now before now = EndsScript end past lines refusals refusals_now before now
+
+abbrev pub RunsScript : {A : Type 0} → Result A Ended → Bool → List (List ℕ) → ℕ → ℕ → Option (List ℕ) → Option (List ℕ) → Type 0
+RunsScript (Ok x) past lines refusals refusals_now before now = RanScript past lines refusals refusals_now before now
+RunsScript (Err end) past lines refusals refusals_now before now = EndsScript end past lines refusals refusals_now before now
 
 -- between two lines of a loop: these lines were run, and those of the rest come next
-pub record InLines (config : ConfigParts) (all : List (List ℕ)) (rest : List (List ℕ)) (running : Running) (before now : Option (List ℕ)) : Type 0 where
+pub record InLines (config : ConfigParts) (all : List (List ℕ)) (rest : List (List ℕ)) (running : Running) (refusals refusals_now : ℕ) (before now : Option (List ℕ)) : Type 0 where
   pub done : List (List ℕ)
   pub split : all ≡ done ++ rest
-  pub reached : Reached config done running before now
+  pub reached : Reached config done running refusals refusals_now before now
 
 -- an end that comes from a failed write has its cause
 abbrev pub EndHasCause : Ended → ℕ → ℕ → Type 0

@@ -1,5 +1,5 @@
 -- What the status of a run says.
-use Rattle.std.specs.Prelude.{◌≡◌, ◌⊎◌, ◌<◌, ◌-◌, ◌^◌, ℕ, List, [], ◌∷◌, ◌++◌, take, Option, Some, Ok, Err, codes}
+use Rattle.std.specs.Prelude.{◌≡◌, ◌⊎◌, ◌<◌, ◌-◌, ◌^◌, ℕ, List, [], ◌∷◌, ◌++◌, length, take, Option, Some, Ok, Err, codes}
 use Rattle.std.specs.Io.KnownBytes.{Appends, IsAtEnd}
 use Rattle.fault_counts.specs.Count.{Rose}
 use Rattle.emu_io.specs.Fronts.{Tells, WritesFront}
@@ -8,7 +8,7 @@ use Rattle.session_core.specs.InOrder.{Outage}
 use Rattle.script_lines.specs.declared.faults.LineFault.{LineFault}
 use Rattle.emu_cli.specs.declared.status.Status.{Status}
 use Rattle.emu_cli.specs.declared.status.Status.TheVariants as statuses
-use Rattle.emu_cli.specs.Scripts.{Parsed, nothing_read, parse, lines_of, script_of, front_of, Stop, limit, at_fault}
+use Rattle.emu_cli.specs.Scripts.{AskedLine, AreRead, Parsed, nothing_read, parse, lines_of, script_of, front_of, IsSound, Stop, limit, at_fault}
 use Rattle.emu_cli.specs.Runs.{run_text, IsRun, usage_text, stop_text}
 
 -- the program's numbers of the statuses
@@ -26,7 +26,7 @@ abbrev pub IsCommand : List (List ℕ) → Type 0
 IsCommand words = words ≡ codes "run" ∷ []
 
 -- Of a call: the words, what the source had left before and after it, what the sink held before and
--- after it, and the two counts of faults before and after it. Where the source does not tell what it
+-- after it, the two counts of faults and that of the maker's refusals before and after it. Where the source does not tell what it
 -- has left, the script is some text; where it tells, the script is that.
 pub record Call : Type 0 where
   pub words : List (List ℕ)
@@ -38,9 +38,11 @@ pub record Call : Type 0 where
   pub reads_after : ℕ
   pub writes : ℕ
   pub writes_after : ℕ
+  pub refusals : ℕ
+  pub refusals_after : ℕ
 
-abbrev pub call_of : List (List ℕ) → Option (List ℕ) → Option (List ℕ) → Option (List ℕ) → Option (List ℕ) → ℕ → ℕ → ℕ → ℕ → Call
-call_of words left left_after written written_after reads reads_after writes writes_after = record {
+abbrev pub call_of : List (List ℕ) → Option (List ℕ) → Option (List ℕ) → Option (List ℕ) → Option (List ℕ) → ℕ → ℕ → ℕ → ℕ → ℕ → ℕ → Call
+call_of words left left_after written written_after reads reads_after writes writes_after refusals refusals_after = record {
   words = words;
   left = left;
   left_after = left_after;
@@ -50,33 +52,39 @@ call_of words left left_after written written_after reads reads_after writes wri
   reads_after = reads_after;
   writes = writes;
   writes_after = writes_after;
+  refusals = refusals;
+  refusals_after = refusals_after;
 }
 
--- 0: the script was read to its end, nothing ends it early, and what was written is the text of a
--- legal run of all its requests
+-- 0: the script was read to its end, each line with what the maker made of its query, nothing ends it
+-- early, and what was written is the text of a legal run of all its requests
 pub record RanWhole (call : Call) : Type 0 where
   pub command : IsCommand call.words
   pub text : List ℕ
   pub told : Tells call.left text
   pub at_end : IsAtEnd call.left_after
+  pub lines : List AskedLine
+  pub read : AreRead lines (lines_of text) call.refusals call.refusals_after
   pub parsed : Parsed
-  pub script : script_of text ≡ Ok parsed
+  pub script : script_of text lines ≡ Some (Ok parsed)
   pub outages : List Outage
   pub history : List Entry
   pub run : IsRun parsed outages history
   pub output : Appends call.written call.written_after (run_text parsed outages)
 
--- 3 and 9: a line at fault or a limit ends the script; the lines before it were run, and what was
--- written is the text of their legal run and then the last line
+-- 3 and 9: a line at fault, which was read, or a limit ends the script; the lines before it were run, and
+-- what was written is the text of their legal run and then the last line
 pub record EndedEarly (call : Call) (stop : Stop) : Type 0 where
   pub command : IsCommand call.words
   pub text : List ℕ
   pub told : Tells call.left text
-  pub script : script_of text ≡ Err stop
+  pub lines : List AskedLine
+  pub read : AreRead lines (take (length lines) (lines_of text)) call.refusals call.refusals_after
+  pub script : script_of text lines ≡ Some (Err stop)
   pub outages : List Outage
   pub history : List Entry
-  pub run : IsRun (front_of text) outages history
-  pub output : Appends call.written call.written_after (run_text (front_of text) outages ++ stop_text stop)
+  pub run : IsRun (front_of lines) outages history
+  pub output : Appends call.written call.written_after (run_text (front_of lines) outages ++ stop_text stop)
 
 -- 3: the first line at fault
 pub record FoundFault (call : Call) : Type 0 where
@@ -90,27 +98,29 @@ pub record NoCommand (call : Call) : Type 0 where
   pub output : Appends call.written call.written_after usage_text
 
 -- the last line of a run that was to end early, behind the run of all lines before
-pub record IsLastLine (text : List ℕ) (parsed : Parsed) (last : List ℕ) : Type 0 where
+pub record IsLastLine (text : List ℕ) (lines : List AskedLine) (parsed : Parsed) (last : List ℕ) : Type 0 where
   pub stop : Stop
-  pub script : script_of text ≡ Err stop
-  pub front : parsed ≡ front_of text
+  pub script : script_of text lines ≡ Some (Err stop)
+  pub front : parsed ≡ front_of lines
   pub line : last ≡ stop_text stop
 
 -- 5 and 8, where the words are a command: what was written is a front of the text of a legal run of
--- the first lines, a line being among them also where its reply could not be written, or of the text
--- of such a run and the last line
+-- the first of the lines that were read, a line being among them also where its reply could not be
+-- written, or of the text of such a run and the last line
 pub record Unfinished (call : Call) : Type 0 where
   pub command : IsCommand call.words
   pub text : List ℕ
   pub told : Tells call.left text
+  pub lines : List AskedLine
+  pub read : AreRead lines (take (length lines) (lines_of text)) call.refusals call.refusals_after
   pub done : ℕ
   pub parsed : Parsed
-  pub script : parse nothing_read (take done (lines_of text)) ≡ Ok parsed
+  pub script : parse nothing_read (take done lines) ≡ Ok parsed
   pub outages : List Outage
   pub history : List Entry
   pub run : IsRun parsed outages history
   pub last : List ℕ
-  pub line : (last ≡ []) ⊎ IsLastLine text parsed last
+  pub line : (last ≡ []) ⊎ IsLastLine text lines parsed last
   pub output : WritesFront call.written call.written_after (run_text parsed outages ++ last)
 
 -- 5 and 8, where the words are no command: what was written is a front of the last line
@@ -141,14 +151,13 @@ Says statuses.Write call = WriteFailed call
 Says statuses.Memory call = BrokeOff call
 Says statuses.Limit call = EndedEarly call limit
 
--- a call whose outside is faultless: the words are a command, nothing ends the script early, and
--- neither count rises or stands at its end
+-- a call whose outside is faultless: the words are a command, nothing ends the script early, whatever the
+-- maker makes of its queries, and neither count of faults rises or stands at its end
 pub record IsFaultless (call : Call) : Type 0 where
   pub command : IsCommand call.words
   pub text : List ℕ
   pub known : call.left ≡ Some text
-  pub parsed : Parsed
-  pub script : script_of text ≡ Ok parsed
+  pub sound : IsSound text
   pub reads : call.reads_after ≡ call.reads
   pub writes : call.writes_after ≡ call.writes
   pub reads_room : call.reads < 2 ^ 64 - 1

@@ -1,5 +1,6 @@
 -- A script: its configuration and its requests, or the limit or the line at fault that ends it.
-use Rattle.std.specs.Prelude.{ℕ, ◌+◌, Bool, true, false, ◌||◌, List, [], ◌∷◌, ◌++◌, length, map, take, Option, Some, None, Result, Ok, Err, nat_lt}
+use Rattle.std.specs.Prelude.{◌≡◌, ℕ, ◌+◌, Bool, true, false, ◌||◌, List, [], ◌∷◌, ◌++◌, length, map, take, drop, All, Option, Some, None, Result, Ok, Err, nat_lt}
+use Rattle.fault_counts.specs.Count.{RoseBy}
 use Rattle.emu_names.specs.declared.limits.TheConstants.{LINE_BYTES, SCRIPT_BYTES, SCRIPT_LINES}
 use Rattle.db_config.specs.declared.parts.ConfigParts.{ConfigParts}
 use Rattle.session_core.specs.declared.line.Line.{Line}
@@ -7,8 +8,36 @@ use Rattle.script_lines.specs.declared.faults.LineFault.{LineFault}
 use Rattle.script_lines.specs.declared.faults.LineFault.TheVariants as faults
 use Rattle.script_lines.specs.declared.faults.ReadLine.{ReadLine}
 use Rattle.script_lines.specs.declared.faults.ReadLine.TheVariants as reads
+use Rattle.script_lines.specs.Made.{Made, times_too_large, eql_of, IsMadeOf}
 use Rattle.script_lines.specs.Lines.{request_of}
 use Rattle.emu_cli.specs.Cuts.{cut}
+
+-- a line of a script that was read, and what the maker of patterns made of the query that it asks
+pub record AskedLine : Type 0 where
+  pub line : List ℕ
+  pub made : Made
+
+abbrev pub asked_line : List ℕ → Made → AskedLine
+asked_line line made = record { line = line; made = made }
+
+abbrev pub lines_in : List AskedLine → List (List ℕ)
+lines_in lines = map (λ (l : AskedLine). l.line) lines
+
+-- what is beside a line is what the maker made of its query
+abbrev pub IsAnswered : AskedLine → Type 0
+IsAnswered l = IsMadeOf (eql_of l.line) l.made
+
+-- how many lines have a query of which the maker refused a pattern as too large
+abbrev pub too_large_in : List AskedLine → ℕ
+too_large_in [] = 0
+too_large_in (l ∷ lines) = times_too_large l.made + too_large_in lines
+
+-- these lines of a script were read, by a maker whose refusals were and are so many: what is beside each
+-- is what the maker answered, and its refusals rose at least as often as it refused a line's pattern
+pub record AreRead (lines : List AskedLine) (script : List (List ℕ)) (before now : ℕ) : Type 0 where
+  pub bytes : lines_in lines ≡ script
+  pub made : All IsAnswered lines
+  pub refused : RoseBy (too_large_in lines) before now
 
 -- what was read of a script: the number of its lines so far, whether it has to give a configuration next, the
 -- one that it gave, its requests
@@ -57,9 +86,9 @@ unless_over false read = read
 
 -- the line of a number, behind so many lines and these requests, where the configuration is wanted
 -- or not: its limits come first
-abbrev pub line_at : ℕ → Bool → List ℕ → List ℕ → Result ReadLine Stop
-line_at number wants earlier line =
-    unless_over (passes_limit number line) (as_stop number (request_of line number wants earlier))
+abbrev pub line_at : ℕ → Bool → List ℕ → AskedLine → Result ReadLine Stop
+line_at number wants earlier l =
+    unless_over (passes_limit number l.line) (as_stop number (request_of l.line number wants earlier l.made))
 
 infixl 10 ◌>>=◌
 abbrev pub ◌>>=◌ : {A B : Type 0} → Result A Stop → (A → Result B Stop) → Result B Stop
@@ -67,11 +96,11 @@ abbrev pub ◌>>=◌ : {A B : Type 0} → Result A Stop → (A → Result B Stop
 (Err stop) >>= f = Err stop
 
 -- a line behind what was read
-abbrev pub parse_line : Parsed → List ℕ → Result Parsed Stop
-parse_line p line =
-    line_at (p.number + 1) p.wants (numbers_of p.requests) line >>= λ read. Ok (with_read p read)
+abbrev pub parse_line : Parsed → AskedLine → Result Parsed Stop
+parse_line p l =
+    line_at (p.number + 1) p.wants (numbers_of p.requests) l >>= λ read. Ok (with_read p read)
 
-abbrev pub parse : Parsed → List (List ℕ) → Result Parsed Stop
+abbrev pub parse : Parsed → List AskedLine → Result Parsed Stop
 parse p [] = Ok p
 parse p (line ∷ lines) = parse_line p line >>= λ next. parse next lines
 
@@ -80,7 +109,7 @@ abbrev pub front_from : Result Parsed Stop → Parsed → (Parsed → Parsed) �
 front_from (Ok next) p goes_on = goes_on next
 front_from (Err stop) p goes_on = p
 
-abbrev pub parsed_front : Parsed → List (List ℕ) → Parsed
+abbrev pub parsed_front : Parsed → List AskedLine → Parsed
 parsed_front p [] = p
 parsed_front p (line ∷ lines) = front_from (parse_line p line) p (λ next. parsed_front next lines)
 
@@ -93,6 +122,25 @@ abbrev pub ended : Bool → Parsed → Result Parsed Stop
 ended true p = Err limit
 ended false p = if_configured p p.wants
 
+-- the next line of a script stops it where it passes a limit, whatever the maker makes of it
+abbrev pub if_over : Bool → Option (Result Parsed Stop)
+if_over true = Some (Err limit)
+if_over false = None
+
+-- behind what was read, with these lines to come: the script is at its end, or stopped, or goes on
+abbrev pub end_behind : Bool → List (List ℕ) → Parsed → Option (Result Parsed Stop)
+end_behind past [] p = Some (ended past p)
+end_behind past (line ∷ rest) p = if_over (passes_limit (p.number + 1) line)
+
+abbrev pub end_from : Bool → List (List ℕ) → Result Parsed Stop → Option (Result Parsed Stop)
+end_from past rest (Ok p) = end_behind past rest p
+end_from past rest (Err stop) = Some (Err stop)
+
+-- what a script of these lines is, or what ends it first, once the first of them were read; none where
+-- it goes on behind those
+abbrev pub script_from : Bool → List (List ℕ) → List AskedLine → Option (Result Parsed Stop)
+script_from past all lines = end_from past (drop (length lines) all) (parse nothing_read lines)
+
 -- the lines of a script, as far as its limit, and whether it passes it
 abbrev pub is_past : List ℕ → Bool
 is_past text = nat_lt SCRIPT_BYTES (length text)
@@ -100,10 +148,16 @@ is_past text = nat_lt SCRIPT_BYTES (length text)
 abbrev pub lines_of : List ℕ → List (List ℕ)
 lines_of text = cut (is_past text) (take SCRIPT_BYTES text)
 
--- a script as a whole: what it is, or what ends it first
-abbrev pub script_of : List ℕ → Result Parsed Stop
-script_of text = parse nothing_read (lines_of text) >>= ended (is_past text)
+-- a script as a whole, once the first of its lines were read: what it is, or what ends it first
+abbrev pub script_of : List ℕ → List AskedLine → Option (Result Parsed Stop)
+script_of text lines = script_from (is_past text) (lines_of text) lines
 
 -- the lines that come before that end
-abbrev pub front_of : List ℕ → Parsed
-front_of text = parsed_front nothing_read (lines_of text)
+abbrev pub front_of : List AskedLine → Parsed
+front_of lines = parsed_front nothing_read lines
+
+-- whatever the maker makes of the queries, no line of a script is at fault and no limit is passed
+abbrev pub IsSound : List ℕ → Type 0
+IsSound text = (lines : List AskedLine) (stop : Stop) →
+    lines_in lines ≡ take (length lines) (lines_of text) → All IsAnswered lines →
+    script_of text lines ≡ Some (Err stop) → ⊥

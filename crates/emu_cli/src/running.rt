@@ -5,13 +5,13 @@ ghost use Rattle.session_core.specs.declared.line.Ask.{Ask};
 ghost use Rattle.session_core.specs.InOrder.{Outage, one_turn};
 ghost use Rattle.session_core.specs.Answers.{memory};
 ghost use Rattle.session_core.specs.Steps.{reply_of, session_places, start};
-ghost use Rattle.emu_cli.specs.Scripts.{line_at};
 ghost use Rattle.emu_cli.specs.Turns.{given_by, ReadsNext};
 ghost use Rattle.script_lines.specs.Known.{Known};
 
 use crate::ended::Ended;
 use emu_names::limits::{LINE_BYTES, SCRIPT_LINES};
 use emu_names::{Memory, SessionNo};
+use label_match::PatternMaker;
 use script_lines::{LineFault, LineSet, ReadLine, read_line};
 use db_config::Config;
 use edit_rules::Entries;
@@ -60,8 +60,7 @@ fn answer(core: &mut Core, line: Line) -> Reply
     let number = line.line;
     let session = line.session;
     match line.request {
-        Request::Edit(Ok(_)) => given(number, session, core.step(Event::Edit { line })),
-        Request::Edit(Err(_)) => given(number, session, core.step(Event::Edit { line })),
+        Request::Edit(_) => given(number, session, core.step(Event::Edit { line })),
         Request::Look(_) => given(number, session, core.step(Event::Look { line })),
         Request::After(_) => given(number, session, core.step(Event::Look { line })),
         Request::Finish => {
@@ -106,22 +105,25 @@ fn query(core: &mut Core, line: Line) -> Reply
 }
 
 /// The next line of a script, behind `number` lines, or the limit or the fault that ends the script
-/// there, or want of memory.
-pub(crate) fn read_next(
+/// there, or want of memory. Where it asks a query, the maker makes the patterns of that; of a line
+/// that passes a limit it is asked nothing.
+pub(crate) fn read_next<P: PatternMaker>(
     alloc: Global,
     number: u32,
     wants_config: bool,
     earlier: &LineSet,
     line: &[u8],
+    patterns: &mut P,
 ) -> Result<ReadLine, Ended>
-    ensures next { ReadsNext result (line_at (number + 1) wants_config earlier.now line.now) }
+    ensures next { ReadsNext result line.now (number + 1) wants_config earlier.now
+        (P.refusals patterns.old) (P.refusals patterns.new) }
     ensures known { IfOk result (Known (number + 1) wants_config earlier.now) }
     ensures room { OnOk result (number < SCRIPT_LINES) }
 {
     if number >= SCRIPT_LINES || line.len() > LINE_BYTES {
         return Err(Ended::Limit);
     }
-    match read_line(alloc, line, number + 1, wants_config, earlier) {
+    match read_line(alloc, line, number + 1, wants_config, earlier, patterns) {
         Ok(read) => Ok(read),
         Err(LineFault::Memory) => Err(Ended::Memory),
         Err(fault) => Err(Ended::AtFault(number + 1, fault)),

@@ -1,11 +1,11 @@
 //! The lines of a script, run one after another.
-ghost use Rattle.std.specs.Prelude.{◌≡◌, ◌≤◌, ℕ, List, [], ◌∷◌, ◌++◌, All, Option, IfErr, OnOk, if◌then◌else◌};
+ghost use Rattle.std.specs.Prelude.{◌≡◌, ◌≤◌, ℕ, List, [], true, ◌∷◌, ◌++◌, All, Option, IfErr, OnOk, if◌then◌else◌};
 ghost use Rattle.db_config.specs.declared.parts.ConfigParts.{ConfigParts as Configuration};
 ghost use Rattle.emu_cli.specs.Cuts.{cut};
 ghost use Rattle.emu_cli.specs.Reached.{EndHasCause, IsBegun, Reached, RunsLine, RunsLines, RunsScript, WritesText};
 ghost use Rattle.script_lines.specs.Texts.{reply_text};
 ghost use Rattle.emu_cli.specs.Runs.{config_reply};
-ghost use Rattle.emu_cli.specs.Scripts.{nothing_read, parse_line, with_read};
+ghost use Rattle.emu_cli.specs.Turns.{IsLineRead};
 
 use crate::cut::next_line;
 use crate::ended::Ended;
@@ -13,27 +13,32 @@ use crate::output::write_reply;
 use crate::running::{Running, begin, read_next};
 use emu_io::Sink;
 use emu_names::SessionNo;
+use label_match::PatternMaker;
 use script_lines::{LineFault, LineSet, ReadLine};
 use db_config::Config;
 use session_core::{Answer, Command, Reply};
 use std::alloc::Global;
 
 /// Runs one line behind that of the configuration, and writes its reply.
-fn one_line<K: Sink>(
+fn one_line<K: Sink, P: PatternMaker>(
     alloc: Global,
     running: &mut Running,
     line: &[u8],
     out: &mut K,
+    patterns: &mut P,
 ) -> Result<(), Ended>
     requires { All (λ n. n ≤ running.old.number) running.old.earlier }
     ensures rises { OnOk result (All (λ n. n ≤ running.new.number) running.new.earlier) }
-    ensures ran { (config : Configuration) (lines : List (List ℕ)) (before : Option (List ℕ)) →
-        Reached config lines running.old before (K.written out.old) →
-        RunsLine result running.new config lines line.now before (K.written out.new) }
+    ensures ran { (config : Configuration) (lines : List (List ℕ)) (refusals : ℕ)
+        (before : Option (List ℕ)) →
+        Reached config lines running.old refusals (P.refusals patterns.old) before
+            (K.written out.old) →
+        RunsLine result running.new config lines line.now refusals (P.refusals patterns.new) before
+            (K.written out.new) }
     ensures cause { IfErr result (λ end. EndHasCause end (K.faults out.old) (K.faults out.new)) }
     ensures later { K.faults out.old ≤ K.faults out.new }
 {
-    match read_next(alloc, running.number, false, &running.earlier, line) {
+    match read_next(alloc, running.number, false, &running.earlier, line, patterns) {
         Err(end) => Err(end),
         Ok(ReadLine::Blank) => {
             running.number += 1;
@@ -48,17 +53,21 @@ fn one_line<K: Sink>(
 }
 
 /// Runs the lines behind that of the configuration, one after another.
-fn run_rest<K: Sink>(
+fn run_rest<K: Sink, P: PatternMaker>(
     alloc: Global,
     running: &mut Running,
     past: bool,
     bytes: &[u8],
     out: &mut K,
+    patterns: &mut P,
 ) -> Result<(), Ended>
     requires { All (λ n. n ≤ running.old.number) running.old.earlier }
-    ensures ran { (config : Configuration) (lines : List (List ℕ)) (before : Option (List ℕ)) →
-        Reached config lines running.old before (K.written out.old) →
-        RunsLines result (lines ++ cut past bytes.now) before (K.written out.new) }
+    ensures ran { (config : Configuration) (lines : List (List ℕ)) (refusals : ℕ)
+        (before : Option (List ℕ)) →
+        Reached config lines running.old refusals (P.refusals patterns.old) before
+            (K.written out.old) →
+        RunsLines result past (lines ++ cut past bytes.now) refusals (P.refusals patterns.new) before
+            (K.written out.new) }
     ensures cause { IfErr result (λ end. EndHasCause end (K.faults out.old) (K.faults out.new)) }
     ensures later { K.faults out.old ≤ K.faults out.new }
 {
@@ -67,7 +76,7 @@ fn run_rest<K: Sink>(
         match next_line(past, rest) {
             None => return Ok(()),
             Some((line, after)) => {
-                match one_line(alloc, running, line, out) {
+                match one_line(alloc, running, line, out, patterns) {
                     Ok(()) => {}
                     Err(end) => return Err(end),
                 }
@@ -94,14 +103,15 @@ fn write_config<K: Sink>(alloc: Global, out: &mut K) -> Result<(), Ended>
 }
 
 /// Runs a script: the line of its configuration, and the lines behind it.
-pub(crate) fn run_script<K: Sink>(
+pub(crate) fn run_script<K: Sink, P: PatternMaker>(
     alloc: Global,
     past: bool,
     bytes: &[u8],
     out: &mut K,
+    patterns: &mut P,
 ) -> Result<(), Ended>
-    ensures ran { RunsScript result past (cut past bytes.now) (K.written out.old)
-        (K.written out.new) }
+    ensures ran { RunsScript result past (cut past bytes.now) (P.refusals patterns.old)
+        (P.refusals patterns.new) (K.written out.old) (K.written out.new) }
     ensures cause { IfErr result (λ end. EndHasCause end (K.faults out.old) (K.faults out.new)) }
     ensures later { K.faults out.old ≤ K.faults out.new }
 {
@@ -109,48 +119,52 @@ pub(crate) fn run_script<K: Sink>(
         None => return Err(empty(past)),
         Some(next) => next,
     };
-    let config = match read_next(alloc, 0, true, &LineSet::new(alloc), line) {
+    let config = match read_next(alloc, 0, true, &LineSet::new(alloc), line, patterns) {
         Err(end) => return Err(end),
         Ok(ReadLine::Config(config)) => config,
         Ok(ReadLine::Blank) => unreachable!(),
         Ok(ReadLine::Request(_)) => unreachable!(),
     };
-    run_configured(alloc, config, past, rest, out)
+    run_configured(alloc, config, past, rest, out, patterns)
 }
 
 /// Runs the lines behind that of the configuration, which was read.
-fn run_configured<K: Sink>(
+fn run_configured<K: Sink, P: PatternMaker>(
     alloc: Global,
     config: Config,
     past: bool,
     rest: &[u8],
     out: &mut K,
+    patterns: &mut P,
 ) -> Result<(), Ended>
-    ensures ran { (line : List ℕ) → parse_line nothing_read line ≡
-        Ok (with_read nothing_read (ReadLine.Config config)) →
-        RunsScript result past (line ∷ cut past rest.now) (K.written out.old) (K.written out.new) }
+    ensures ran { (line : List ℕ) (refusals : ℕ) →
+        IsLineRead line 1 true [] refusals (P.refusals patterns.old) (Ok (ReadLine.Config config)) →
+        RunsScript result past (line ∷ cut past rest.now) refusals (P.refusals patterns.new)
+            (K.written out.old) (K.written out.new) }
     ensures cause { IfErr result (λ end. EndHasCause end (K.faults out.old) (K.faults out.new)) }
     ensures later { K.faults out.old ≤ K.faults out.new }
 {
     match begin(alloc, config) {
-        Ok(mut running) => run_begun(alloc, &mut running, past, rest, out),
+        Ok(mut running) => run_begun(alloc, &mut running, past, rest, out, patterns),
         Err(_) => Err(Ended::Memory),
     }
 }
 
 /// Replies to the line of the configuration, and runs the lines behind it.
-fn run_begun<K: Sink>(
+fn run_begun<K: Sink, P: PatternMaker>(
     alloc: Global,
     running: &mut Running,
     past: bool,
     rest: &[u8],
     out: &mut K,
+    patterns: &mut P,
 ) -> Result<(), Ended>
     requires { All (λ n. n ≤ running.old.number) running.old.earlier }
-    ensures ran { (config : Configuration) (line : List ℕ) →
-        parse_line nothing_read line ≡ Ok (with_read nothing_read (ReadLine.Config config)) →
+    ensures ran { (config : Configuration) (line : List ℕ) (refusals : ℕ) →
+        IsLineRead line 1 true [] refusals (P.refusals patterns.old) (Ok (ReadLine.Config config)) →
         IsBegun config running.old →
-        RunsScript result past (line ∷ cut past rest.now) (K.written out.old) (K.written out.new) }
+        RunsScript result past (line ∷ cut past rest.now) refusals (P.refusals patterns.new)
+            (K.written out.old) (K.written out.new) }
     ensures cause { IfErr result (λ end. EndHasCause end (K.faults out.old) (K.faults out.new)) }
     ensures later { K.faults out.old ≤ K.faults out.new }
 {
@@ -158,7 +172,7 @@ fn run_begun<K: Sink>(
         Ok(()) => {}
         Err(end) => return Err(end),
     }
-    match run_rest(alloc, running, past, rest, out) {
+    match run_rest(alloc, running, past, rest, out, patterns) {
         Ok(()) => {}
         Err(end) => return Err(end),
     }

@@ -11,6 +11,7 @@ use crate::status::{Status, code};
 use emu_io::{ReadFault, Sink, Source, read_front};
 use emu_names::Text;
 use emu_names::limits::SCRIPT_BYTES;
+use label_match::PatternMaker;
 use script_lines::{LineFault, print_fault, print_last};
 use std::alloc::Global;
 use std::sync::Wait;
@@ -73,17 +74,23 @@ fn at_fault<K: Sink>(alloc: Global, line: u32, fault: &LineFault, out: &mut K) -
 }
 
 /// Runs the script of the source, and writes its replies and perhaps a last line.
-fn run_source<S: Source, K: Sink>(alloc: Global, script: &mut S, out: &mut K) -> Status
+fn run_source<S: Source, K: Sink, P: PatternMaker>(
+    alloc: Global,
+    script: &mut S,
+    out: &mut K,
+    patterns: &mut P,
+) -> Status
     ensures says { (words : List (List ℕ)) → IsCommand words → Says result (call_of words
         (S.left script.old) (S.left script.new) (K.written out.old) (K.written out.new)
-        (S.faults script.old) (S.faults script.new) (K.faults out.old) (K.faults out.new)) }
+        (S.faults script.old) (S.faults script.new) (K.faults out.old) (K.faults out.new)
+        (P.refusals patterns.old) (P.refusals patterns.new)) }
 {
     let front = match read_front(alloc, script, SCRIPT_BYTES) {
         Ok(front) => front,
         Err(ReadFault::Failed) => return Status::Read,
         Err(ReadFault::Memory) => return Status::Memory,
     };
-    match run_script(alloc, front.past, front.bytes.as_slice(), out) {
+    match run_script(alloc, front.past, front.bytes.as_slice(), out, patterns) {
         Ok(()) => Status::Fine,
         Err(Ended::Limit) => over(alloc, out),
         Err(Ended::AtFault(line, fault)) => at_fault(alloc, line, &fault, out),
@@ -93,25 +100,28 @@ fn run_source<S: Source, K: Sink>(alloc: Global, script: &mut S, out: &mut K) ->
 }
 
 /// Runs the program on its words, and answers how the run ends.
-fn perform<S: Source, K: Sink>(
+fn perform<S: Source, K: Sink, P: PatternMaker>(
     alloc: Global,
     words: &[String],
     script: &mut S,
     out: &mut K,
+    patterns: &mut P,
 ) -> Status
     ensures says { Says result (call_of (map (λ w. string_bytes w) words.now)
         (S.left script.old) (S.left script.new) (K.written out.old) (K.written out.new)
-        (S.faults script.old) (S.faults script.new) (K.faults out.old) (K.faults out.new)) }
+        (S.faults script.old) (S.faults script.new) (K.faults out.old) (K.faults out.new)
+        (P.refusals patterns.old) (P.refusals patterns.new)) }
 {
     if is_command(words) {
-        run_source(alloc, script, out)
+        run_source(alloc, script, out, patterns)
     } else {
         usage(alloc, out)
     }
 }
 
-/// Runs the program on its words: `run` runs the script of the source, in its order. This call waits
-/// for nobody, and returns. What it answers is the program's status:
+/// Runs the program on its words: `run` runs the script of the source, in its order. The maker makes
+/// the patterns of each line's query when the line is read. This call waits for nobody, and returns.
+/// What it answers is the program's status:
 ///
 /// - 0: the input was read to its end, and every request has its reply.
 /// - 2: the words are no command.
@@ -121,38 +131,44 @@ fn perform<S: Source, K: Sink>(
 /// - 8: memory ran out.
 /// - 9: a line has over 16,777,216 bytes, there are over 200,000 lines, or the script has over
 ///   268,435,456 bytes; the lines before were run.
-pub fn run_words<S: Source, K: Sink>(
+pub fn run_words<S: Source, K: Sink, P: PatternMaker>(
     alloc: Global,
     words: &[String],
     script: &mut S,
     out: &mut K,
+    patterns: &mut P,
 ) -> u8
     ensures says { CallSays (call_of (map (λ w. string_bytes w) words.now)
         (S.left script.old) (S.left script.new) (K.written out.old) (K.written out.new)
-        (S.faults script.old) (S.faults script.new) (K.faults out.old) (K.faults out.new)) result }
+        (S.faults script.old) (S.faults script.new) (K.faults out.old) (K.faults out.new)
+        (P.refusals patterns.old) (P.refusals patterns.new)) result }
     ensures complete { CallCompletes (call_of (map (λ w. string_bytes w) words.now)
         (S.left script.old) (S.left script.new) (K.written out.old) (K.written out.new)
-        (S.faults script.old) (S.faults script.new) (K.faults out.old) (K.faults out.new)) result }
+        (S.faults script.old) (S.faults script.new) (K.faults out.old) (K.faults out.new)
+        (P.refusals patterns.old) (P.refusals patterns.new)) result }
 {
-    let status = perform(alloc, words, script, out);
+    let status = perform(alloc, words, script, out, patterns);
     code(status)
 }
 
 /// Runs the program on its words with a handle of its own, as later commands need one: today every
 /// command is one of `run_words`, which says what the status means.
-pub fn emu<R: Threads + Wait + Sync, S: Source, K: Sink>(
+pub fn emu<R: Threads + Wait + Sync, S: Source, K: Sink, P: PatternMaker>(
     _rt: &R,
     alloc: Global,
     words: &[String],
     script: &mut S,
     out: &mut K,
+    patterns: &mut P,
 ) -> u8
     ensures says { CallSays (call_of (map (λ w. string_bytes w) words.now)
         (S.left script.old) (S.left script.new) (K.written out.old) (K.written out.new)
-        (S.faults script.old) (S.faults script.new) (K.faults out.old) (K.faults out.new)) result }
+        (S.faults script.old) (S.faults script.new) (K.faults out.old) (K.faults out.new)
+        (P.refusals patterns.old) (P.refusals patterns.new)) result }
     ensures complete { CallCompletes (call_of (map (λ w. string_bytes w) words.now)
         (S.left script.old) (S.left script.new) (K.written out.old) (K.written out.new)
-        (S.faults script.old) (S.faults script.new) (K.faults out.old) (K.faults out.new)) result }
+        (S.faults script.old) (S.faults script.new) (K.faults out.old) (K.faults out.new)
+        (P.refusals patterns.old) (P.refusals patterns.new)) result }
 {
-    run_words(alloc, words, script, out)
+    run_words(alloc, words, script, out, patterns)
 }
