@@ -13,12 +13,10 @@ use Rattle.json_view.specs.Steps.{◌>>=◌}
 use Rattle.emu_names.specs.declared.kinds.SessionNo.{SessionNo}
 use Rattle.emu_names.specs.declared.names.BundleKey.{BundleKey}
 use Rattle.level_items.specs.declared.annot.Annot.{Annot}
-use Rattle.db_config.specs.declared.parts.ConfigParts.{ConfigParts}
 use Rattle.db_config.specs.declared.faults.ConfigFault.{ConfigFault}
 use Rattle.db_config.specs.Forms.{or_shape, text_member}
 use Rattle.db_config.specs.Names.{same_text}
 use Rattle.db_config.specs.Read.{config_of}
-use Rattle.db_config.specs.Valid.{is_valid}
 use Rattle.annot_json.specs.Forms.{whole_member}
 use Rattle.annot_json.specs.Read.{annot_of, labels_in}
 use Rattle.edit_rules.specs.declared.edit.Edit.TheVariants as edits
@@ -43,7 +41,7 @@ use Rattle.script_lines.specs.Questions.{Question, question_at, question_command
 use Rattle.script_lines.specs.Made.{Made}
 use Rattle.script_lines.specs.Lines.{request_of, blank_line, json_line, value_line, told_line, asking_line, question_request, placed_line, config_line, line_in, if_command, command_named, members_of, after_request, if_earlier}
 use Rattle.script_lines.specs.Known.{Known, NamesOneOf}
-use Rattle.script_lines.proofs.Taken.{Taken, taken}
+use Rattle.script_lines.proofs.Taken.{taken}
 use Rattle.script_lines.proofs.ValidConfigs.{config_valid}
 
 abbrev ok_shape : Request → Result Request Shape

@@ -1,13 +1,12 @@
 -- A configuration that was read keeps the rules of configurations.
-use Rattle.std.proofs.Common.{◌≡◌, ◌+◌, ◌<◌, ◌≤◌, ℕ, suc, Bool, true, false, cond, List, [], ◌∷◌, length, drop, Option, Some, None, Result, Ok, Err, nat_lt, codes, refl, sym, ◌∙◌, ap, subst, arith}
+use Rattle.std.proofs.Common.{◌≡◌, ◌+◌, ◌<◌, ◌≤◌, ℕ, suc, Bool, true, false, cond, List, [], ◌∷◌, length, Option, Some, None, Result, Ok, Err, nat_lt, codes, refl, sym, ◌∙◌, ap, subst, arith}
 use Rattle.std.specs.Prelude.{is_some, ok_or, ◌&&◌, not}
-use Rattle.std.specs.List.{list_all, position}
+use Rattle.std.specs.List.{list_all}
 use Rattle.std.proofs.lemmas.Bool.{and_from}
 use Rattle.std.proofs.lemmas.Bool.Decides.{nat_tests}
 use Rattle.std.proofs.lemmas.List.Quantifiers.{position-Some}
 use Rattle.serde_json.specs.Data.{Data}
 use Rattle.serde_json.specs.Find.{as_array}
-use Rattle.json_view.specs.declared.faults.Shape.{Shape}
 use Rattle.json_view.specs.declared.wants.Wanted.TheVariants as wanted
 use Rattle.json_view.specs.Seen.{Seen, seen}
 use Rattle.json_view.specs.Paths.{element_path}
@@ -31,7 +30,7 @@ use Rattle.db_config.specs.Valid.{is_in_range, are_apart, keeps_rules, is_valid}
 use Rattle.db_config.specs.Read.{limited, track_in, level_in, link_in, tracks_member, listed_tracks, tracks_or_none, levels_member, listed_levels, links_member, listed_links, links_or_none, groups_member, named_parts, AreBounded, unless_double, level_of_name, placed, all_placed, parts_with, unless_cycle, sound_links, linked_parts, sound_parts, config_of}
 use Rattle.db_config.proofs.Doubles.{no_double}
 use Rattle.db_config.proofs.Sound.{kept_rules}
-use Rattle.script_lines.proofs.Taken.{Taken, taken, config_form_ok, config_same, ok_config}
+use Rattle.script_lines.proofs.Taken.{taken, config_form_ok, config_same, ok_config}
 
 -- ---- limits
 

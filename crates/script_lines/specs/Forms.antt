@@ -1,7 +1,6 @@
 -- Members that the lines of a script have (RFC 8259), each read as what it has to be, or the fault that
 -- says at which path which form was wanted.
-use Rattle.std.specs.Prelude.{ℕ, ◌-◌, ◌^◌, Bool, true, List, Option, Some, None, Result, Ok, Err, if◌then◌else◌, nat_le, codes}
-use Rattle.json_view.specs.declared.wants.Wanted.{Wanted}
+use Rattle.std.specs.Prelude.{ℕ, ◌-◌, ◌^◌, List, Option, Some, None, Result, Ok, Err, if◌then◌else◌, nat_le, codes}
 use Rattle.json_view.specs.declared.wants.Wanted.TheVariants as wanted
 use Rattle.json_view.specs.declared.faults.Shape.{Shape}
 use Rattle.json_view.specs.Seen.{Seen}

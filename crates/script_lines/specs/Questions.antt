@@ -1,5 +1,5 @@
 -- The questions that the lines of a script ask.
-use Rattle.std.specs.Prelude.{ℕ, List, Option, Some, None, Result, Ok, Err, if◌then◌else◌, codes}
+use Rattle.std.specs.Prelude.{ℕ, List, Option, Some, None, Result, Ok, if◌then◌else◌, codes}
 use Rattle.json_view.specs.declared.faults.Shape.{Shape}
 use Rattle.json_view.specs.Seen.{Seen}
 use Rattle.json_view.specs.Parts.{optional_of, text_at}

@@ -1,4 +1,4 @@
-use Rattle.std.proofs.Common.{◌≡◌, refl}
+use Rattle.std.proofs.Common.{refl}
 use Rattle.script_lines.specs.Edits.{segment_request}
 use Rattle.script_lines.proofs.items.segment_request.Goals as goal
 
