@@ -1,5 +1,5 @@
 -- One bundle more of a segment list.
-use Rattle.std.proofs.Common.{◌≡◌, ℕ, suc, ◌+◌, Bool, true, false, ◌||◌, List, ◌∷◌, ◌++◌, drop, add-one, append_assoc, ap, ◌∙◌, sym, subst, Some, Err, slice_get}
+use Rattle.std.proofs.Common.{◌≡◌, ℕ, ◌+◌, Bool, true, false, ◌||◌, List, ◌∷◌, ◌++◌, drop, add-one, append_assoc, ap, ◌∙◌, sym, subst, Some, Err, slice_get}
 use Rattle.bundle_state.specs.Bundle.{BundleParts}
 use Rattle.db_config.specs.declared.parts.ConfigParts.{ConfigParts}
 use Rattle.edit_rules.specs.Database.{DatabaseParts}

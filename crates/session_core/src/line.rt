@@ -1,9 +1,9 @@
 //! The lines of a script as the core takes them, and the replies that it gives.
 use edit_rules::Edit;
 use emu_lists::Series;
+use emu_names::{Broken, SessionNo, Text};
 use eql_model::SegmentList;
 use eql_resolve::{AskFault, PrepareFault, Prepared};
-use emu_names::{Broken, SessionNo, Text};
 use textgrid::GridFault;
 
 /// The commands of a script.

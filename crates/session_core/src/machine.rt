@@ -32,7 +32,6 @@ pub struct Core {
 
 impl Model for Core {
     ghost use Rattle.session_core.specs.Steps.{State};
-
     ghost use Rattle.std.specs.Coded.{codes};
     ghost use Rattle.eql_resolve.specs.Codes.{tree_code};
 

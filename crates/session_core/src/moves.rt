@@ -208,12 +208,7 @@ fn memory_reply(line: u32, session: SessionNo) -> Reply
 
 /// The reply to a query under way, over the state that it holds. Where memory ran out when the query was read,
 /// that is answered, with no number.
-fn query_reply(
-    alloc: Global,
-    line: u32,
-    session: SessionNo,
-    held: &Held,
-) -> Result<Reply, Memory>
+fn query_reply(alloc: Global, line: u32, session: SessionNo, held: &Held) -> Result<Reply, Memory>
     ensures { IfOk result (λ reply. reply ≡
         query_reply line session held.now (lacks_memory held.now.ask)) }
 {

@@ -31,7 +31,6 @@ pub struct Slots {
 impl Model for Slots {
     ghost use Rattle.std.specs.Prelude.{List, Option};
     ghost use Rattle.session_core.specs.declared.slots.Held.{Held};
-
     ghost use Rattle.std.specs.Coded.{codes};
     ghost use Rattle.eql_resolve.specs.Codes.{tree_code};
 
