@@ -28,9 +28,7 @@ static ROWS: [Row; 5] = [
             r#"{"do":"config","config":{"name":"t","levelDefinitions":[{"name":"Phonetic","type":"SEGMENT","attributeDefinitions":[{"name":"Phonetic"}]},{"name":"Phonetic","type":"SEGMENT","attributeDefinitions":[{"name":"Phonetic"}]}]}}"#,
         ],
         status: 3,
-        output: &[
-            r#"{"cause":"DoubleName","line":1,"name":"Phonetic","status":3}"#,
-        ],
+        output: &[r#"{"cause":"DoubleName","line":1,"name":"Phonetic","status":3}"#],
     },
     // a link without a definition
     Row {

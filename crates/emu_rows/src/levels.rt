@@ -133,5 +133,11 @@ fn keyed(alloc: Global) -> Result<(String, String), AllocError> {
 #[test]
 fn bundles_are_in_order_of_keys(rt: HostRuntime) -> Result<(), Fail> {
     let (script, wanted) = keyed(rt.alloc())?;
-    expect(&rt, rt.alloc(), &[script.as_str().trim_end()], 0, &[wanted.as_str().trim_end()])
+    expect(
+        &rt,
+        rt.alloc(),
+        &[script.as_str().trim_end()],
+        0,
+        &[wanted.as_str().trim_end()],
+    )
 }

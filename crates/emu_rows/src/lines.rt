@@ -243,21 +243,13 @@ static CONFIGS: [(&str, &str, &str); 12] = [
 /// Annotations, each with the member and the word of its first fault.
 static ANNOTATIONS: [(&str, &str, &str); 8] = [
     ("{}", ".sampleRate", "whole number"),
-    (
-        r#"{"name":7,"sampleRate":-1}"#,
-        ".name",
-        "text",
-    ),
+    (r#"{"name":7,"sampleRate":-1}"#, ".name", "text"),
     (
         r#"{"sampleRate":9223372036854775808}"#,
         ".sampleRate",
         "whole number",
     ),
-    (
-        r#"{"sampleRate":1,"levels":{}}"#,
-        ".levels",
-        "list",
-    ),
+    (r#"{"sampleRate":1,"levels":{}}"#, ".levels", "list"),
     (
         r#"{"sampleRate":1,"levels":[{"name":"P","type":"SEGMENT","items":[{"id":4294967296}]}]}"#,
         ".levels[0].items[0].id",
@@ -337,12 +329,7 @@ fn the_configuration_has_its_place(rt: HostRuntime) -> Result<(), Fail> {
 }
 
 /// The last line of a run that ends at a line for the form of a member.
-fn member_shape(
-    alloc: Global,
-    line: u32,
-    path: &str,
-    wanted: &str,
-) -> Result<String, AllocError> {
+fn member_shape(alloc: Global, line: u32, path: &str, wanted: &str) -> Result<String, AllocError> {
     format!(in alloc;
         "{{\"cause\":\"Shape\",\"line\":{line},\"path\":\"{path}\",\"status\":3,\"wanted\":\"{wanted}\"}}"
     )

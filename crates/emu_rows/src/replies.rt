@@ -1,8 +1,8 @@
 //! What no clause says: the printed bytes, and that the calls succeed where memory is ample.
 use emu_names::{Broken, ItemId, Memory, SessionNo, Text, What};
-use script_lines::print_reply;
 use eql_model::{Row, SegmentList};
 use eql_resolve::AskFault;
+use script_lines::print_reply;
 use session_core::{Answer, Refusal, Reply};
 use std::alloc::Global;
 use std::process::Abort;

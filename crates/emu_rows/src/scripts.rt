@@ -63,7 +63,15 @@ pub fn run<R: Threads + Wait + Sync>(
     bad_writes: &[u64],
 ) -> Result<Ran, AllocError> {
     let mut patterns = RegexMaker::new();
-    run_with(rt, alloc, words, script, bad_reads, bad_writes, &mut patterns)
+    run_with(
+        rt,
+        alloc,
+        words,
+        script,
+        bad_reads,
+        bad_writes,
+        &mut patterns,
+    )
 }
 
 /// As `run`, with a maker of patterns.
