@@ -26,8 +26,8 @@ abbrev pub IsCommand : List (List ℕ) → Type 0
 IsCommand words = words ≡ codes "run" ∷ []
 
 -- Of a call: the words, what the source had left before and after it, what the sink held before and
--- after it, the two counts of faults and that of the maker's refusals before and after it. Where the source does not tell what it
--- has left, the script is some text; where it tells, the script is that.
+-- after it, and before and after it the two counts of faults and the count of the maker's refusals. Where
+-- the source does not tell what it has left, the script is some text; where it tells, the script is that.
 pub record Call : Type 0 where
   pub words : List (List ℕ)
   pub left : Option (List ℕ)

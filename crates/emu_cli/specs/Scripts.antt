@@ -17,9 +17,11 @@ pub record AskedLine : Type 0 where
   pub line : List ℕ
   pub made : Made
 
+-- a line beside what was made of its query
 abbrev pub asked_line : List ℕ → Made → AskedLine
 asked_line line made = record { line = line; made = made }
 
+-- the bytes of lines that were read
 abbrev pub lines_in : List AskedLine → List (List ℕ)
 lines_in lines = map (λ (l : AskedLine). l.line) lines
 
@@ -132,6 +134,7 @@ abbrev pub end_behind : Bool → List (List ℕ) → Parsed → Option (Result P
 end_behind past [] p = Some (ended past p)
 end_behind past (line ∷ rest) p = if_over (passes_limit (p.number + 1) line)
 
+-- the same, where what was read may have a line that stops the script
 abbrev pub end_from : Bool → List (List ℕ) → Result Parsed Stop → Option (Result Parsed Stop)
 end_from past rest (Ok p) = end_behind past rest p
 end_from past rest (Err stop) = Some (Err stop)
@@ -152,7 +155,7 @@ lines_of text = cut (is_past text) (take SCRIPT_BYTES text)
 abbrev pub script_of : List ℕ → List AskedLine → Option (Result Parsed Stop)
 script_of text lines = script_from (is_past text) (lines_of text) lines
 
--- the lines that come before that end
+-- what was read before that end
 abbrev pub front_of : List AskedLine → Parsed
 front_of lines = parsed_front nothing_read lines
 

@@ -9,12 +9,12 @@ ghost use Rattle.emu_cli.specs.Turns.{given_by, ReadsNext};
 ghost use Rattle.script_lines.specs.Known.{Known};
 
 use crate::ended::Ended;
+use db_config::Config;
+use edit_rules::Entries;
 use emu_names::limits::{LINE_BYTES, SCRIPT_LINES};
 use emu_names::{Memory, SessionNo};
 use label_match::PatternMaker;
 use script_lines::{LineFault, LineSet, ReadLine, read_line};
-use db_config::Config;
-use edit_rules::Entries;
 use session_core::{Answer, Command, Core, Event, Line, Refusal, Reply, Request};
 use std::alloc::Global;
 

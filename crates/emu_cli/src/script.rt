@@ -11,11 +11,11 @@ use crate::cut::next_line;
 use crate::ended::Ended;
 use crate::output::write_reply;
 use crate::running::{Running, begin, read_next};
+use db_config::Config;
 use emu_io::Sink;
 use emu_names::SessionNo;
 use label_match::PatternMaker;
 use script_lines::{LineFault, LineSet, ReadLine};
-use db_config::Config;
 use session_core::{Answer, Command, Reply};
 use std::alloc::Global;
 
@@ -32,13 +32,20 @@ fn one_line<K: Sink, P: PatternMaker>(
     ensures ran { (config : Configuration) (lines : List (List ℕ)) (refusals : ℕ)
         (before : Option (List ℕ)) →
         Reached config lines running.old refusals (P.refusals patterns.old) before
-            (K.written out.old) →
+        (K.written out.old) →
         RunsLine result running.new config lines line.now refusals (P.refusals patterns.new) before
-            (K.written out.new) }
+        (K.written out.new) }
     ensures cause { IfErr result (λ end. EndHasCause end (K.faults out.old) (K.faults out.new)) }
     ensures later { K.faults out.old ≤ K.faults out.new }
 {
-    match read_next(alloc, running.number, false, &running.earlier, line, patterns) {
+    match read_next(
+        alloc,
+        running.number,
+        false,
+        &running.earlier,
+        line,
+        patterns,
+    ) {
         Err(end) => Err(end),
         Ok(ReadLine::Blank) => {
             running.number += 1;
@@ -65,9 +72,9 @@ fn run_rest<K: Sink, P: PatternMaker>(
     ensures ran { (config : Configuration) (lines : List (List ℕ)) (refusals : ℕ)
         (before : Option (List ℕ)) →
         Reached config lines running.old refusals (P.refusals patterns.old) before
-            (K.written out.old) →
+        (K.written out.old) →
         RunsLines result past (lines ++ cut past bytes.now) refusals (P.refusals patterns.new) before
-            (K.written out.new) }
+        (K.written out.new) }
     ensures cause { IfErr result (λ end. EndHasCause end (K.faults out.old) (K.faults out.new)) }
     ensures later { K.faults out.old ≤ K.faults out.new }
 {
@@ -140,7 +147,7 @@ fn run_configured<K: Sink, P: PatternMaker>(
     ensures ran { (line : List ℕ) (refusals : ℕ) →
         IsLineRead line 1 true [] refusals (P.refusals patterns.old) (Ok (ReadLine.Config config)) →
         RunsScript result past (line ∷ cut past rest.now) refusals (P.refusals patterns.new)
-            (K.written out.old) (K.written out.new) }
+        (K.written out.old) (K.written out.new) }
     ensures cause { IfErr result (λ end. EndHasCause end (K.faults out.old) (K.faults out.new)) }
     ensures later { K.faults out.old ≤ K.faults out.new }
 {
@@ -164,7 +171,7 @@ fn run_begun<K: Sink, P: PatternMaker>(
         IsLineRead line 1 true [] refusals (P.refusals patterns.old) (Ok (ReadLine.Config config)) →
         IsBegun config running.old →
         RunsScript result past (line ∷ cut past rest.now) refusals (P.refusals patterns.new)
-            (K.written out.old) (K.written out.new) }
+        (K.written out.old) (K.written out.new) }
     ensures cause { IfErr result (λ end. EndHasCause end (K.faults out.old) (K.faults out.new)) }
     ensures later { K.faults out.old ≤ K.faults out.new }
 {

@@ -14,6 +14,8 @@ returns-in-Ok-clause-next g c =
 
 pub returns-in-Err-clause-next : goal.returns-in-Err-clause-next
 returns-in-Err-clause-next g c =
-    let other : c.in-Err.fault ≢ faults.Memory = search rules in
-    (next_fault c.in-Err.fault c.args.line.now (c.args.number + 1) c.args.wants_config c.args.earlier.now (g.P.PatternMaker.refusals c.args.patterns.now) (g.P.PatternMaker.refusals c.read_line.new.maker)
-    (within (c.args.number + 1) c.args.line.now (omega (arith, c.if-number-ge-SCRIPT_LINES.false)) c.if-line-gt-LINE_BYTES.false) other c.in-Err.ensures.read, other)
+    let other : c.in-Err.fault ≢ faults.Memory = search rules in (
+      next_fault c.in-Err.fault c.args.line.now (c.args.number + 1) c.args.wants_config c.args.earlier.now (g.P.PatternMaker.refusals c.args.patterns.now) (g.P.PatternMaker.refusals c.read_line.new.maker)
+          (within (c.args.number + 1) c.args.line.now (omega (arith, c.if-number-ge-SCRIPT_LINES.false)) c.if-line-gt-LINE_BYTES.false) other c.in-Err.ensures.read,
+      other,
+    )
