@@ -1,6 +1,5 @@
 pub mod Json
 pub mod Rising
-pub mod Stops
 pub mod Taken
 pub mod Printed
 pub mod ValidConfigs

@@ -63,7 +63,7 @@ if_earlier earlier line = if list_any (nat_eq line) earlier then Ok (requests.Af
 unfoldable pub after_request : List ℕ → Seen → Result Request LineFault
 after_request earlier s = form (whole_member (codes "line") id_limit s) >>= if_earlier earlier
 
--- the members of a request, by its command
+-- the members of a request, by its command; a configuration and questions have lines of their own
 abbrev pub members_of : Command → List ℕ → Seen → Result Request LineFault
 members_of commands.AddBundle earlier s = form (bundle_request s)
 members_of commands.AddTextgrid earlier s = form (textgrid_request s)

@@ -37,9 +37,9 @@ pub record IsPreparedFrom (text : List ℕ) (p : PreparedParts) : Type 0 where
   pub patterns : p.patterns ≡ patterns_of p.query
   pub read : list_all are_patterns p.patterns ≡ true
 
--- what is made of a text: its query and the patterns of that; the fault of the text; of a query the
--- number of the first pattern that is none, or of one behind patterns that the maker refused for its
--- size; never want of memory, which is no answer to the text
+-- what is made of a text: its query and the patterns of that; the fault of the text; the number of its
+-- query's first pattern that is none; or that of a pattern which was refused for its size, where those
+-- before it are patterns. Want of memory is never made of it
 abbrev pub IsMade : List ℕ → Made → Type 0
 IsMade text (Ok p) = IsPreparedFrom text p
 IsMade text (Err (Query fault)) = IsFault text fault × (fault ≢ queries.Memory)
