@@ -133,6 +133,7 @@ pub record StoppedScript (stop : Stop) (past : Bool) (lines : List (List ℕ)) (
   pub each : length outages ≡ length (parsed_front nothing_read asked).requests
   pub output : Appends before now (run_text (parsed_front nothing_read asked) outages)
 
+-- a whole script ends early: stopped by a limit or a line at fault, or broken off
 abbrev pub EndsScript : Ended → Bool → List (List ℕ) → ℕ → ℕ → Option (List ℕ) → Option (List ℕ) → Type 0
 EndsScript ends.Limit past lines refusals refusals_now before now =
     StoppedScript limit past lines refusals refusals_now before now
@@ -141,10 +142,12 @@ EndsScript (ends.AtFault number fault) past lines refusals refusals_now before n
 EndsScript ends.Write past lines refusals refusals_now before now = BrokeIn lines refusals refusals_now before now
 EndsScript ends.Memory past lines refusals refusals_now before now = BrokeIn lines refusals refusals_now before now
 
+-- all lines were run, or the script ends early
 abbrev pub RunsLines : {A : Type 0} → Result A Ended → Bool → List (List ℕ) → ℕ → ℕ → Option (List ℕ) → Option (List ℕ) → Type 0
 RunsLines (Ok x) past lines refusals refusals_now before now = RanAll lines refusals refusals_now before now
 RunsLines (Err end) past lines refusals refusals_now before now = EndsScript end past lines refusals refusals_now before now
 
+-- the whole script was run, or ends early
 abbrev pub RunsScript : {A : Type 0} → Result A Ended → Bool → List (List ℕ) → ℕ → ℕ → Option (List ℕ) → Option (List ℕ) → Type 0
 RunsScript (Ok x) past lines refusals refusals_now before now = RanScript past lines refusals refusals_now before now
 RunsScript (Err end) past lines refusals refusals_now before now = EndsScript end past lines refusals refusals_now before now

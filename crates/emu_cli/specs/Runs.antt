@@ -44,6 +44,7 @@ run_from opening store (Some config) requests outages =
 abbrev pub replies_from : Setting → Parsed → List Outage → List Reply
 replies_from setting p outages = (run_from setting.opening setting.store setting.config p.requests outages).0
 
+-- the history of the state that a run leaves, or the one before it where there was no configuration
 abbrev pub history_in : List Entry → Option State → List Entry
 history_in opening None = opening
 history_in opening (Some st) = st.entries
@@ -53,6 +54,7 @@ abbrev pub history_from : Setting → Parsed → List Outage → List Entry
 history_from setting p outages =
     history_in setting.opening (run_from setting.opening setting.store setting.config p.requests outages).1
 
+-- the text of the reply of the configuration, where the script gives one
 abbrev pub config_text : Option ConfigParts → List ℕ
 config_text None = []
 config_text (Some config) = reply_text config_reply
@@ -87,23 +89,29 @@ pub record IsRunFrom (setting : Setting) (p : Parsed) (outages : List Outage) (h
 
 -- The same without a store.
 
+-- what a run writes
 abbrev pub run_text : Parsed → List Outage → List ℕ
 run_text p outages = text_from (alone p) p outages
 
+-- the history that a run leaves
 abbrev pub history_of : Parsed → List Outage → List Entry
 history_of p outages = history_from (alone p) p outages
 
+-- a run of the requests of a script, and the history that it leaves
 abbrev pub IsRun : Parsed → List Outage → List Entry → Type 0
 IsRun p outages history = IsRunFrom (alone p) p outages history
 
 -- The last line of a run that ends early.
 
+-- where the words are no command
 abbrev pub usage_text : List ℕ
 usage_text = last_text (codes "Usage") 2
 
+-- where a limit is passed
 abbrev pub limit_text : List ℕ
 limit_text = last_text (codes "Limit") 9
 
+-- by what ends the script: a limit, or a line at fault
 abbrev pub stop_text : Stop → List ℕ
 stop_text limit = limit_text
 stop_text (at_fault number fault) = fault_text number fault

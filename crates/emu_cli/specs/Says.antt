@@ -41,6 +41,7 @@ pub record Call : Type 0 where
   pub refusals : ℕ
   pub refusals_after : ℕ
 
+-- a call of these parts
 abbrev pub call_of : List (List ℕ) → Option (List ℕ) → Option (List ℕ) → Option (List ℕ) → Option (List ℕ) → ℕ → ℕ → ℕ → ℕ → ℕ → ℕ → Call
 call_of words left left_after written written_after reads reads_after writes writes_after refusals refusals_after = record {
   words = words;
@@ -128,6 +129,7 @@ pub record UnfinishedUsage (call : Call) : Type 0 where
   pub words : IsCommand call.words → ⊥
   pub output : WritesFront call.written call.written_after usage_text
 
+-- 5 and 8: a front of what was to be written
 abbrev pub BrokeOff : Call → Type 0
 BrokeOff call = Unfinished call ⊎ UnfinishedUsage call
 
@@ -142,6 +144,7 @@ pub record WriteFailed (call : Call) : Type 0 where
   pub cause : Rose call.writes call.writes_after
   pub output : BrokeOff call
 
+-- what each status says of a call
 abbrev pub Says : Status → Call → Type 0
 Says statuses.Fine call = RanWhole call
 Says statuses.Usage call = NoCommand call

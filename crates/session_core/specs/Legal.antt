@@ -153,9 +153,11 @@ IsRightAt c H store l (requests.After earlier) n answer = answer ≡ Done l.comm
 -- 4 says which look a `finish` answers
 IsRightAt c H store l requests.Finish n answer = Unit {0}
 
--- an answer without a number: want of memory, a failed disk for an edit where there is a store, and
--- the two refusals of looks, of which 4 says when they come; a line whose TextGrid has a fault never reaches
--- the disk
+-- An answer without a number is one of these: want of memory; a failed disk, for an edit where there is a store;
+-- the two refusals of looks, of which 4 says when they come.
+
+-- a failed disk may answer the request: an edit, where there is a store; a line whose TextGrid has a fault never
+-- reaches the disk
 abbrev pub IsDiskFor : Bool → Request → Type 0
 IsDiskFor store (requests.Edit (Ok edit)) = store ≡ true
 IsDiskFor store (requests.Edit (Err fault)) = ⊥
@@ -242,7 +244,7 @@ pub record Look : Type 0 where
   pub n : ℕ
   pub ask : Ask
 
--- a `look`'s reply, and the look that is open behind it
+-- the look that is open behind the reply to a `look`
 abbrev pub look_behind : Option Look → Ask → Option ℕ → Option Look
 look_behind held ask None = held
 look_behind None ask (Some n) = Some (record { n = n; ask = ask })
@@ -303,7 +305,7 @@ abbrev pub number_or : ℕ → Option ℕ → ℕ
 number_or low None = low
 number_or low (Some n) = max low n
 
--- the greatest number among the replies of a session up to a line
+-- the greatest of m and the numbers of a session's replies up to a line
 abbrev pub seen_by : ℕ → ℕ → ℕ → List Turn → ℕ
 seen_by m session line [] = m
 seen_by m session line (t ∷ ts) =
@@ -311,7 +313,7 @@ seen_by m session line (t ∷ ts) =
     then number_or (seen_by m session line ts) t.reply.n
     else seen_by m session line ts
 
--- the same, where the session is known
+-- the same of the session that was found for the line, or m where none was
 abbrev pub seen_in : ℕ → ℕ → Option ℕ → List Turn → ℕ
 seen_in m line None turns = m
 seen_in m line (Some session) turns = seen_by m session line turns
