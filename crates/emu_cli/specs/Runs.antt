@@ -37,8 +37,10 @@ alone p = record { config = p.config; opening = []; store = false; faults = 0; f
 -- the replies to requests, and the state behind them once there is a configuration
 abbrev pub run_from : List Entry → Bool → Option ConfigParts → List Line → List Outage → List Reply × Option State
 run_from opening store None requests outages = ([], None)
-run_from opening store (Some config) requests outages =
-    ((in_turn store (start config opening) requests outages).0, Some (in_turn store (start config opening) requests outages).1)
+run_from opening store (Some config) requests outages = (
+  (in_turn store (start config opening) requests outages).0,
+  Some (in_turn store (start config opening) requests outages).1,
+)
 
 -- the replies to the requests of a script, where memory ran out or the disk failed at these places
 abbrev pub replies_from : Setting → Parsed → List Outage → List Reply
@@ -64,7 +66,8 @@ abbrev pub text_from : Setting → Parsed → List Outage → List ℕ
 text_from setting p outages = config_text p.config ++ flat_map reply_text (replies_from setting p outages)
 
 -- A run under a configuration: its replies to these requests, beside the history that it leaves.
-pub record RunsUnder (setting : Setting) (config : ConfigParts) (requests : List Line) (replies : List Reply) (history : List Entry) : Type 0 where
+pub record RunsUnder (setting : Setting) (config : ConfigParts) (requests : List Line) (replies : List Reply)
+    (history : List Entry) : Type 0 where
   -- the configuration keeps its rules
   pub valid : IsTrue (is_valid config)
   -- the numbers of the requests rise, and what they name stands before them

@@ -42,20 +42,22 @@ pub record Call : Type 0 where
   pub refusals_after : ℕ
 
 -- a call of these parts
-abbrev pub call_of : List (List ℕ) → Option (List ℕ) → Option (List ℕ) → Option (List ℕ) → Option (List ℕ) → ℕ → ℕ → ℕ → ℕ → ℕ → ℕ → Call
-call_of words left left_after written written_after reads reads_after writes writes_after refusals refusals_after = record {
-  words = words;
-  left = left;
-  left_after = left_after;
-  written = written;
-  written_after = written_after;
-  reads = reads;
-  reads_after = reads_after;
-  writes = writes;
-  writes_after = writes_after;
-  refusals = refusals;
-  refusals_after = refusals_after;
-}
+abbrev pub call_of : List (List ℕ) → Option (List ℕ) → Option (List ℕ) → Option (List ℕ) → Option (List ℕ) →
+    ℕ → ℕ → ℕ → ℕ → ℕ → ℕ → Call
+call_of words left left_after written written_after reads reads_after writes writes_after refusals refusals_after =
+    record {
+      words = words;
+      left = left;
+      left_after = left_after;
+      written = written;
+      written_after = written_after;
+      reads = reads;
+      reads_after = reads_after;
+      writes = writes;
+      writes_after = writes_after;
+      refusals = refusals;
+      refusals_after = refusals_after;
+    }
 
 -- 0: the script was read to its end, each line with what the maker made of its query, nothing ends it
 -- early, and what was written is the text of a legal run of all its requests

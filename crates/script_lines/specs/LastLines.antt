@@ -5,7 +5,8 @@ use Rattle.script_lines.specs.Texts.{whole, line_text}
 
 -- the object: the cause and the status
 abbrev pub last_data : List ℕ → ℕ → Data
-last_data cause status = object (member (codes "cause") (string cause) (member (codes "status") (whole status) no_members))
+last_data cause status =
+    object (member (codes "cause") (string cause) (member (codes "status") (whole status) no_members))
 
 -- its text, with a line feed
 unfoldable pub last_text : List ℕ → ℕ → List ℕ

@@ -113,7 +113,8 @@ rule_with_name name word = object (member (codes "name") (string name) (member (
 
 -- a refusal that names what there are too many of
 abbrev pub rule_with_what : What → List ℕ → Data
-rule_with_what what word = object (member (codes "rule") (string word) (member (codes "what") (string (counted_of what)) no_members))
+rule_with_what what word =
+    object (member (codes "rule") (string word) (member (codes "what") (string (counted_of what)) no_members))
 
 -- a rule that an edit breaks
 abbrev pub rule_data : Broken → Data
@@ -239,7 +240,8 @@ reply_text r = line_text (reply_data r)
 -- a fault with its cause and its line alone
 abbrev pub fault_of_line : List ℕ → ℕ → Data
 fault_of_line cause line = object
-    (member (codes "cause") (string cause) (member (codes "line") (whole line) (member (codes "status") (whole 3) no_members)))
+    (member (codes "cause") (string cause)
+    (member (codes "line") (whole line) (member (codes "status") (whole 3) no_members)))
 
 -- a part of another form than was wanted, with its path and that form
 abbrev pub shape_of_line : Shape → ℕ → Data

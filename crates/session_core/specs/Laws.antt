@@ -20,7 +20,8 @@ IsLegalWorld c opening w store before now =
 
 -- every run is legal, whatever events fit, whenever memory runs out, and whatever the store and the disk refuse
 abbrev pub EveryRunIsLegal : Type 0
-EveryRunIsLegal = (c : ConfigParts) (opening : List Entry) (occurrences : List Occurrence) (store : Bool) (before now : ℕ)
+EveryRunIsLegal =
+    (c : ConfigParts) (opening : List Entry) (occurrences : List Occurrence) (store : Bool) (before now : ℕ)
     → IsLegal c opening → length opening ≤ HISTORY_EDITS → AllFit store (opening_world c opening) occurrences
     → RoseBy (disk_failures occurrences) before now
     → IsLegalWorld c opening (run (opening_world c opening) occurrences) store before now
@@ -62,7 +63,8 @@ StaleIsNotLegal = (history : List Entry) (rows : List Row) (store : Bool) (befor
 -- beside the history with the edit there is one right answer
 abbrev pub AnswerIsExact : Type 0
 AnswerIsExact = (rows : List Row) (store : Bool) (before now : ℕ)
-    → Legal example_config [] example_lines (replies_with 1 rows) example_history store before now → rows ≡ example_row ∷ []
+    → Legal example_config [] example_lines (replies_with 1 rows) example_history store before now
+    → rows ≡ example_row ∷ []
 
 -- an edit that was accepted is in the history
 abbrev pub AcceptedIsRecorded : Type 0

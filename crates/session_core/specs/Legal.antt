@@ -95,7 +95,8 @@ with_number n marks = filter (has_number n) marks
 -- 3. Each answer is right for the state that its number names.
 
 -- an acceptance at n is right for the state after n - 1, and its edit is the n-th entry
-pub record IsAcceptance (c : ConfigParts) (H : List Entry) (l : Line) (edit : Edit) (n : ℕ) (command : Command) : Type 0 where
+pub record IsAcceptance (c : ConfigParts) (H : List Entry) (l : Line) (edit : Edit) (n : ℕ)
+    (command : Command) : Type 0 where
   pub own : command ≡ l.command
   pub before : ℕ
   pub number : n ≡ before + 1
@@ -353,7 +354,8 @@ disk_replies replies = count_by (λ r. is_disk r.answer) replies
 
 -- What holds of the lines and replies of one session alone: m is the number of entries before the run,
 -- and H the history.
-pub record KeepsSession (c : ConfigParts) (m : ℕ) (H : List Entry) (script : List Line) (turns : List Turn) (s : ℕ) : Type 0 where
+pub record KeepsSession (c : ConfigParts) (m : ℕ) (H : List Entry) (script : List Line)
+    (turns : List Turn) (s : ℕ) : Type 0 where
   -- each line of the session has one reply, and the replies stand in the order of the lines
   pub in_order : lines_in (of_session s turns) ≡ lines_of_session s script
   -- its numbers never fall, those of a `finish` apart
@@ -363,7 +365,8 @@ pub record KeepsSession (c : ConfigParts) (m : ℕ) (H : List Entry) (script : L
 
 -- What holds of all lines and replies together: m entries stood before the run, and these came in it. `store`
 -- says whether there is a store; the disk's count of faults went from one number to another.
-pub record KeepsRun (c : ConfigParts) (m : ℕ) (H more : List Entry) (turns : List Turn) (store : Bool) (before now : ℕ) : Type 0 where
+pub record KeepsRun (c : ConfigParts) (m : ℕ) (H more : List Entry) (turns : List Turn)
+    (store : Bool) (before now : ℕ) : Type 0 where
   -- each reply names its line and its session
   pub named : Each IsNamed turns
   -- each new entry has exactly one accepting reply, and each accepting reply has its entry
@@ -377,7 +380,8 @@ pub record KeepsRun (c : ConfigParts) (m : ℕ) (H more : List Entry) (turns : L
 
 -- The replies to the lines of a script are legal beside a history that begins with the opening's entries;
 -- `store` says whether there is a store, and the disk's count of faults went from one number to another.
-pub record Legal (c : ConfigParts) (opening : List Entry) (script : List Line) (replies : List Reply) (H : List Entry) (store : Bool) (before now : ℕ) : Type 0 where
+pub record Legal (c : ConfigParts) (opening : List Entry) (script : List Line) (replies : List Reply)
+    (H : List Entry) (store : Bool) (before now : ℕ) : Type 0 where
   -- the entries that came in the run
   pub more : List Entry
   -- the history goes on from the opening's

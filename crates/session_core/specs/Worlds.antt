@@ -69,7 +69,8 @@ finish_line line s = record { line = line; session = s; command = commands.Finis
 
 -- the line that a query under way came with
 abbrev pub query_line : SessionNo → Opened → Line
-query_line s held = record { line = held.line; session = s; command = commands.Query; request = requests.Query held.ask }
+query_line s held =
+    record { line = held.line; session = s; command = commands.Query; request = requests.Query held.ask }
 
 -- a Finish brings the line of a `finish`; a query's came with its look
 abbrev pub brought_by : ℕ → SessionNo → Asker → List Line
