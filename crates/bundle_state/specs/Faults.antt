@@ -33,7 +33,7 @@ labels_fault defs named (l ∷ ls) =
     else if nat_lt LABEL_BYTES (length l.value) then Some rules.LabelTooLong
     else labels_fault defs (named ++ l.name ∷ []) ls
 
--- how an item lies behind the one before it in the file, which is named
+-- the rule that an item breaks beside the one before it in the file, which is named
 abbrev pub behind_fault : LevelKind → Option AnnotItem → AnnotItem → Option Broken
 behind_fault kind None item = None
 behind_fault kind (Some before) item = order_fault kind before.id before.time item.time

@@ -51,7 +51,8 @@ bundle_added config counts key annot =
 abbrev pub NumberedLevel : Type 0
 NumberedLevel = ℕ × LevelDef
 
--- the levels with this name, numbered from `number` on: the first of them has to be there
+-- the first of these levels that has this name, with its number, where they are numbered from `number` on; there
+-- has to be one
 abbrev pub level_from : ℕ → List ℕ → List LevelDef → Result NumberedLevel Broken
 level_from number name [] = Err (rules.NoLevel name)
 level_from number name (def ∷ defs) =
@@ -113,7 +114,8 @@ item_put config counts level position item b =
 abbrev pub NumberedAttribute : Type 0
 NumberedAttribute = ℕ × AttributeDef
 
--- the attributes with this name, numbered from `number` on: the first of them has to be there
+-- the first of these attributes that has this name, with its number, where they are numbered from `number` on;
+-- there has to be one
 abbrev pub attribute_from : ℕ → List ℕ → List AttributeDef → Result NumberedAttribute Broken
 attribute_from number name [] = Err (rules.NoAttribute name)
 attribute_from number name (def ∷ defs) =
@@ -174,8 +176,8 @@ if_touching s (Some next) = if next.start == suc (last_of s) then Ok next else E
 abbrev pub next_of : List Level → Segment → Result Segment Broken
 next_of levels s = if_touching s (segment_at levels (s.level, suc s.position))
 
--- a place between two samples, of which the second one is the first behind it, has to lie behind the first
--- sample of a segment and at most before this last one
+-- a cut before the sample `start`: it has to leave the segment a sample, and what lies behind it, up to the sample
+-- `last`, another
 abbrev pub cut_fault : Segment → ℕ → ℕ → Option Broken
 cut_fault s last start = if nat_lt s.start start && nat_le start last then None else Some rules.CutOut
 

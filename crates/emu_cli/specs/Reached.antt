@@ -29,7 +29,8 @@ pub record IsBegun (config : ConfigParts) (running : Running) : Type 0 where
   pub number : running.number ≡ 1
 
 -- the lines so far were read and run, and their replies written
-pub record Reached (config : ConfigParts) (lines : List (List ℕ)) (running : Running) (refusals refusals_now : ℕ) (before now : Option (List ℕ)) : Type 0 where
+pub record Reached (config : ConfigParts) (lines : List (List ℕ)) (running : Running)
+    (refusals refusals_now : ℕ) (before now : Option (List ℕ)) : Type 0 where
   pub asked : List AskedLine
   pub read : AreRead asked lines refusals refusals_now
   pub parsed : Parsed
@@ -49,7 +50,8 @@ pub record Broke (lines : List (List ℕ)) (refusals refusals_now : ℕ) (before
   pub output : WritesFront before now (run_text parsed outages)
 
 -- the lines were run and their replies written, and the next line passes a limit
-pub record IsOver (lines : List (List ℕ)) (line : List ℕ) (refusals refusals_now : ℕ) (before now : Option (List ℕ)) : Type 0 where
+pub record IsOver (lines : List (List ℕ)) (line : List ℕ)
+    (refusals refusals_now : ℕ) (before now : Option (List ℕ)) : Type 0 where
   pub asked : List AskedLine
   pub read : AreRead asked lines refusals refusals_now
   pub parsed : Parsed
@@ -60,7 +62,8 @@ pub record IsOver (lines : List (List ℕ)) (line : List ℕ) (refusals refusals
   pub output : Appends before now (run_text parsed outages)
 
 -- the lines were run and their replies written, and the next line was read and stops the script
-pub record Stopped (stop : Stop) (lines : List (List ℕ)) (line : List ℕ) (refusals refusals_now : ℕ) (before now : Option (List ℕ)) : Type 0 where
+pub record Stopped (stop : Stop) (lines : List (List ℕ)) (line : List ℕ)
+    (refusals refusals_now : ℕ) (before now : Option (List ℕ)) : Type 0 where
   pub asked : List AskedLine
   pub last : AskedLine
   pub read : AreRead (asked ++ last ∷ []) (lines ++ line ∷ []) refusals refusals_now
@@ -82,7 +85,8 @@ EndsOnLine ends.Memory lines line refusals refusals_now before now =
     Broke lines refusals refusals_now before now ⊎ Broke (lines ++ line ∷ []) refusals refusals_now before now
 
 -- one line was run
-abbrev pub RunsLine : {A : Type 0} → Result A Ended → Running → ConfigParts → List (List ℕ) → List ℕ → ℕ → ℕ → Option (List ℕ) → Option (List ℕ) → Type 0
+abbrev pub RunsLine : {A : Type 0} → Result A Ended → Running → ConfigParts → List (List ℕ) → List ℕ →
+    ℕ → ℕ → Option (List ℕ) → Option (List ℕ) → Type 0
 RunsLine (Ok x) running config lines line refusals refusals_now before now =
     Reached config (lines ++ line ∷ []) running refusals refusals_now before now
 RunsLine (Err end) running config lines line refusals refusals_now before now =
@@ -112,7 +116,8 @@ pub record BrokeIn (lines : List (List ℕ)) (refusals refusals_now : ℕ) (befo
   pub output : WritesFront before now (run_text parsed outages)
 
 -- a whole script was read and run, and its replies written
-pub record RanScript (past : Bool) (lines : List (List ℕ)) (refusals refusals_now : ℕ) (before now : Option (List ℕ)) : Type 0 where
+pub record RanScript (past : Bool) (lines : List (List ℕ))
+    (refusals refusals_now : ℕ) (before now : Option (List ℕ)) : Type 0 where
   pub asked : List AskedLine
   pub read : AreRead asked lines refusals refusals_now
   pub parsed : Parsed
@@ -123,7 +128,8 @@ pub record RanScript (past : Bool) (lines : List (List ℕ)) (refusals refusals_
   pub output : Appends before now (run_text parsed outages)
 
 -- something ends the script early; the lines before it were run and their replies written
-pub record StoppedScript (stop : Stop) (past : Bool) (lines : List (List ℕ)) (refusals refusals_now : ℕ) (before now : Option (List ℕ)) : Type 0 where
+pub record StoppedScript (stop : Stop) (past : Bool) (lines : List (List ℕ))
+    (refusals refusals_now : ℕ) (before now : Option (List ℕ)) : Type 0 where
   pub asked : List AskedLine
   pub read : AreRead asked (take (length asked) lines) refusals refusals_now
   pub script : script_from past lines asked ≡ Some (Err stop)
@@ -133,6 +139,7 @@ pub record StoppedScript (stop : Stop) (past : Bool) (lines : List (List ℕ)) (
   pub each : length outages ≡ length (parsed_front nothing_read asked).requests
   pub output : Appends before now (run_text (parsed_front nothing_read asked) outages)
 
+-- a whole script ends early: stopped by a limit or a line at fault, or broken off
 abbrev pub EndsScript : Ended → Bool → List (List ℕ) → ℕ → ℕ → Option (List ℕ) → Option (List ℕ) → Type 0
 EndsScript ends.Limit past lines refusals refusals_now before now =
     StoppedScript limit past lines refusals refusals_now before now
@@ -141,16 +148,23 @@ EndsScript (ends.AtFault number fault) past lines refusals refusals_now before n
 EndsScript ends.Write past lines refusals refusals_now before now = BrokeIn lines refusals refusals_now before now
 EndsScript ends.Memory past lines refusals refusals_now before now = BrokeIn lines refusals refusals_now before now
 
-abbrev pub RunsLines : {A : Type 0} → Result A Ended → Bool → List (List ℕ) → ℕ → ℕ → Option (List ℕ) → Option (List ℕ) → Type 0
+-- all lines were run, or the script ends early
+abbrev pub RunsLines : {A : Type 0} → Result A Ended → Bool → List (List ℕ) →
+    ℕ → ℕ → Option (List ℕ) → Option (List ℕ) → Type 0
 RunsLines (Ok x) past lines refusals refusals_now before now = RanAll lines refusals refusals_now before now
-RunsLines (Err end) past lines refusals refusals_now before now = EndsScript end past lines refusals refusals_now before now
+RunsLines (Err end) past lines refusals refusals_now before now =
+    EndsScript end past lines refusals refusals_now before now
 
-abbrev pub RunsScript : {A : Type 0} → Result A Ended → Bool → List (List ℕ) → ℕ → ℕ → Option (List ℕ) → Option (List ℕ) → Type 0
+-- the whole script was run, or ends early
+abbrev pub RunsScript : {A : Type 0} → Result A Ended → Bool → List (List ℕ) →
+    ℕ → ℕ → Option (List ℕ) → Option (List ℕ) → Type 0
 RunsScript (Ok x) past lines refusals refusals_now before now = RanScript past lines refusals refusals_now before now
-RunsScript (Err end) past lines refusals refusals_now before now = EndsScript end past lines refusals refusals_now before now
+RunsScript (Err end) past lines refusals refusals_now before now =
+    EndsScript end past lines refusals refusals_now before now
 
 -- between two lines of a loop: these lines were run, and those of the rest come next
-pub record InLines (config : ConfigParts) (all : List (List ℕ)) (rest : List (List ℕ)) (running : Running) (refusals refusals_now : ℕ) (before now : Option (List ℕ)) : Type 0 where
+pub record InLines (config : ConfigParts) (all : List (List ℕ)) (rest : List (List ℕ)) (running : Running)
+    (refusals refusals_now : ℕ) (before now : Option (List ℕ)) : Type 0 where
   pub done : List (List ℕ)
   pub split : all ≡ done ++ rest
   pub reached : Reached config done running refusals refusals_now before now

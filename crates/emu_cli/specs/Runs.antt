@@ -37,13 +37,16 @@ alone p = record { config = p.config; opening = []; store = false; faults = 0; f
 -- the replies to requests, and the state behind them once there is a configuration
 abbrev pub run_from : List Entry → Bool → Option ConfigParts → List Line → List Outage → List Reply × Option State
 run_from opening store None requests outages = ([], None)
-run_from opening store (Some config) requests outages =
-    ((in_turn store (start config opening) requests outages).0, Some (in_turn store (start config opening) requests outages).1)
+run_from opening store (Some config) requests outages = (
+  (in_turn store (start config opening) requests outages).0,
+  Some (in_turn store (start config opening) requests outages).1,
+)
 
 -- the replies to the requests of a script, where memory ran out or the disk failed at these places
 abbrev pub replies_from : Setting → Parsed → List Outage → List Reply
 replies_from setting p outages = (run_from setting.opening setting.store setting.config p.requests outages).0
 
+-- the history of the state that a run leaves, or the one before it where there was no configuration
 abbrev pub history_in : List Entry → Option State → List Entry
 history_in opening None = opening
 history_in opening (Some st) = st.entries
@@ -53,6 +56,7 @@ abbrev pub history_from : Setting → Parsed → List Outage → List Entry
 history_from setting p outages =
     history_in setting.opening (run_from setting.opening setting.store setting.config p.requests outages).1
 
+-- the text of the reply of the configuration, where the script gives one
 abbrev pub config_text : Option ConfigParts → List ℕ
 config_text None = []
 config_text (Some config) = reply_text config_reply
@@ -62,7 +66,8 @@ abbrev pub text_from : Setting → Parsed → List Outage → List ℕ
 text_from setting p outages = config_text p.config ++ flat_map reply_text (replies_from setting p outages)
 
 -- A run under a configuration: its replies to these requests, beside the history that it leaves.
-pub record RunsUnder (setting : Setting) (config : ConfigParts) (requests : List Line) (replies : List Reply) (history : List Entry) : Type 0 where
+pub record RunsUnder (setting : Setting) (config : ConfigParts) (requests : List Line) (replies : List Reply)
+    (history : List Entry) : Type 0 where
   -- the configuration keeps its rules
   pub valid : IsTrue (is_valid config)
   -- the numbers of the requests rise, and what they name stands before them
@@ -87,23 +92,29 @@ pub record IsRunFrom (setting : Setting) (p : Parsed) (outages : List Outage) (h
 
 -- The same without a store.
 
+-- what a run writes
 abbrev pub run_text : Parsed → List Outage → List ℕ
 run_text p outages = text_from (alone p) p outages
 
+-- the history that a run leaves
 abbrev pub history_of : Parsed → List Outage → List Entry
 history_of p outages = history_from (alone p) p outages
 
+-- a run of the requests of a script, and the history that it leaves
 abbrev pub IsRun : Parsed → List Outage → List Entry → Type 0
 IsRun p outages history = IsRunFrom (alone p) p outages history
 
 -- The last line of a run that ends early.
 
+-- where the words are no command
 abbrev pub usage_text : List ℕ
 usage_text = last_text (codes "Usage") 2
 
+-- where a limit is passed
 abbrev pub limit_text : List ℕ
 limit_text = last_text (codes "Limit") 9
 
+-- by what ends the script: a limit, or a line at fault
 abbrev pub stop_text : Stop → List ℕ
 stop_text limit = limit_text
 stop_text (at_fault number fault) = fault_text number fault

@@ -41,20 +41,23 @@ pub record Call : Type 0 where
   pub refusals : ℕ
   pub refusals_after : ℕ
 
-abbrev pub call_of : List (List ℕ) → Option (List ℕ) → Option (List ℕ) → Option (List ℕ) → Option (List ℕ) → ℕ → ℕ → ℕ → ℕ → ℕ → ℕ → Call
-call_of words left left_after written written_after reads reads_after writes writes_after refusals refusals_after = record {
-  words = words;
-  left = left;
-  left_after = left_after;
-  written = written;
-  written_after = written_after;
-  reads = reads;
-  reads_after = reads_after;
-  writes = writes;
-  writes_after = writes_after;
-  refusals = refusals;
-  refusals_after = refusals_after;
-}
+-- a call of these parts
+abbrev pub call_of : List (List ℕ) → Option (List ℕ) → Option (List ℕ) → Option (List ℕ) → Option (List ℕ) →
+    ℕ → ℕ → ℕ → ℕ → ℕ → ℕ → Call
+call_of words left left_after written written_after reads reads_after writes writes_after refusals refusals_after =
+    record {
+      words = words;
+      left = left;
+      left_after = left_after;
+      written = written;
+      written_after = written_after;
+      reads = reads;
+      reads_after = reads_after;
+      writes = writes;
+      writes_after = writes_after;
+      refusals = refusals;
+      refusals_after = refusals_after;
+    }
 
 -- 0: the script was read to its end, each line with what the maker made of its query, nothing ends it
 -- early, and what was written is the text of a legal run of all its requests
@@ -128,6 +131,7 @@ pub record UnfinishedUsage (call : Call) : Type 0 where
   pub words : IsCommand call.words → ⊥
   pub output : WritesFront call.written call.written_after usage_text
 
+-- 5 and 8: a front of what was to be written
 abbrev pub BrokeOff : Call → Type 0
 BrokeOff call = Unfinished call ⊎ UnfinishedUsage call
 
@@ -142,6 +146,7 @@ pub record WriteFailed (call : Call) : Type 0 where
   pub cause : Rose call.writes call.writes_after
   pub output : BrokeOff call
 
+-- what each status says of a call
 abbrev pub Says : Status → Call → Type 0
 Says statuses.Fine call = RanWhole call
 Says statuses.Usage call = NoCommand call

@@ -75,13 +75,16 @@ with_read p (reads.Config config) =
 with_read p (reads.Request l) =
     record { number = p.number + 1; wants = p.wants; config = p.config; requests = p.requests ++ l ∷ [] }
 
+-- the numbers of the lines of these requests
 abbrev pub numbers_of : List Line → List ℕ
 numbers_of requests = map (λ (l : Line). l.line) requests
 
+-- a line at fault stops the script, by its number
 abbrev pub as_stop : ℕ → Result ReadLine LineFault → Result ReadLine Stop
 as_stop number (Ok read) = Ok read
 as_stop number (Err fault) = Err (at_fault number fault)
 
+-- a line that passes a limit stops the script, whatever it is
 abbrev pub unless_over : Bool → Result ReadLine Stop → Result ReadLine Stop
 unless_over true read = Err limit
 unless_over false read = read
@@ -93,6 +96,7 @@ line_at number wants earlier l =
     unless_over (passes_limit number l.line) (as_stop number (request_of l.line number wants earlier l.made))
 
 infixl 10 ◌>>=◌
+-- what follows from what was read, or what stopped the script before
 abbrev pub ◌>>=◌ : {A B : Type 0} → Result A Stop → (A → Result B Stop) → Result B Stop
 (Ok x) >>= f = f x
 (Err stop) >>= f = Err stop
@@ -102,6 +106,7 @@ abbrev pub parse_line : Parsed → AskedLine → Result Parsed Stop
 parse_line p l =
     line_at (p.number + 1) p.wants (numbers_of p.requests) l >>= λ read. Ok (with_read p read)
 
+-- what is read of these lines behind what was read, or what stops the script first
 abbrev pub parse : Parsed → List AskedLine → Result Parsed Stop
 parse p [] = Ok p
 parse p (line ∷ lines) = parse_line p line >>= λ next. parse next lines
@@ -111,15 +116,17 @@ abbrev pub front_from : Result Parsed Stop → Parsed → (Parsed → Parsed) �
 front_from (Ok next) p goes_on = goes_on next
 front_from (Err stop) p goes_on = p
 
+-- what is read of the lines before the first that stops the script, or of all of them
 abbrev pub parsed_front : Parsed → List AskedLine → Parsed
 parsed_front p [] = p
 parsed_front p (line ∷ lines) = front_from (parse_line p line) p (λ next. parsed_front next lines)
 
--- the end of a script: it passes its limit, or it is empty where a configuration is wanted
+-- a script that ends where a configuration is still wanted is at fault there, in the line that would be next
 abbrev pub if_configured : Parsed → Bool → Result Parsed Stop
 if_configured p true = Err (at_fault (p.number + 1) faults.ConfigPlace)
 if_configured p false = Ok p
 
+-- a script past its limit is stopped by that; else it is what was read of it
 abbrev pub ended : Bool → Parsed → Result Parsed Stop
 ended true p = Err limit
 ended false p = if_configured p p.wants
@@ -144,10 +151,11 @@ end_from past rest (Err stop) = Some (Err stop)
 abbrev pub script_from : Bool → List (List ℕ) → List AskedLine → Option (Result Parsed Stop)
 script_from past all lines = end_from past (drop (length lines) all) (parse nothing_read lines)
 
--- the lines of a script, as far as its limit, and whether it passes it
+-- whether a script passes its limit of bytes
 abbrev pub is_past : List ℕ → Bool
 is_past text = nat_lt SCRIPT_BYTES (length text)
 
+-- the lines of the bytes up to that limit
 abbrev pub lines_of : List ℕ → List (List ℕ)
 lines_of text = cut (is_past text) (take SCRIPT_BYTES text)
 

@@ -20,7 +20,8 @@ given_by line session (Ok None) = reply_of line session None memory
 given_by line session (Err e) = reply_of line session None memory
 
 -- a line was read, by a maker whose refusals were and are so many, and this is what it is
-pub record IsLineRead (line : List ℕ) (number : ℕ) (wants : Bool) (earlier : List ℕ) (before now : ℕ) (there : Result ReadLine Stop) : Type 0 where
+pub record IsLineRead (line : List ℕ) (number : ℕ) (wants : Bool) (earlier : List ℕ)
+    (before now : ℕ) (there : Result ReadLine Stop) : Type 0 where
   pub made : Made
   pub answered : IsAnswered (asked_line line made)
   pub rose : RoseBy (times_too_large made) before now

@@ -95,11 +95,13 @@ asked_query c (Dominance p q) = do
 
 -- ---- the time
 
+-- whether it is the type of an ITEM level
 abbrev pub is_item_kind : LevelKind → Bool
 is_item_kind Item = true
 is_item_kind Segment = false
 is_item_kind Event = false
 
+-- whether it is the type of a SEGMENT level
 abbrev pub is_segment_kind : LevelKind → Bool
 is_segment_kind Item = false
 is_segment_kind Segment = true

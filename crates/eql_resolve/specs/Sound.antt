@@ -16,6 +16,7 @@ IsTermOf c (number marked upper lower compare count) =
     IsSome (attribute_at upper c.levels) × (lower < length c.levels)
     × (is_above c.links upper.level lower ≡ true)
 
+-- the same of each condition
 abbrev pub AreTermsOf : ConfigParts → List AskedTerm → Type 0
 AreTermsOf c [] = Unit {0}
 AreTermsOf c (term ∷ others) = IsTermOf c term × AreTermsOf c others

@@ -13,8 +13,8 @@ use Rattle.level_items.specs.Faults.{position_fault, append_fault, insert_fault,
 abbrev pub put_at_place : LevelKind → List Item → Option ℕ → Item → List Item
 put_at_place kind items position item = insert items (new_place kind items position item.time) item
 
--- a new item with whole labels is taken exactly where its position is one and the level keeps the
--- level rule with it
+-- a new item with whole labels is taken exactly where its position may be asked for and the level
+-- keeps the level rule with it
 abbrev pub InsertRefusesExactly : Type 0
 InsertRefusesExactly =
     (kind : LevelKind) (attributes : ℕ) (items : List Item) (position : Option ℕ) (item : Item) →

@@ -156,7 +156,8 @@ request_of line number wants earlier made =
 
 -- how an answer goes with a reading that uses what was made of a query: some `made` is that of the
 -- query, where there is one, and the maker's refusals, which were and are so many, count it
-pub record ReadsBy (result : Result ReadLine LineFault) (asked : Option (List ℕ)) (there : Made → Result ReadLine LineFault) (before now : ℕ) : Type 0 where
+pub record ReadsBy (result : Result ReadLine LineFault) (asked : Option (List ℕ))
+    (there : Made → Result ReadLine LineFault) (before now : ℕ) : Type 0 where
   pub made : Made
   pub of_line : IsMadeOf asked made
   pub rose : RoseBy (times_too_large made) before now

@@ -35,9 +35,11 @@ use Rattle.textgrid.specs.declared.fault.GridFault.TheVariants as grid_faults
 use Rattle.script_lines.specs.declared.faults.LineFault.{LineFault}
 use Rattle.script_lines.specs.declared.faults.LineFault.TheVariants as faults
 
+-- a whole number
 abbrev pub whole : ℕ → Data
 whole n = number (unsigned n)
 
+-- a whole number, or null where there is none
 abbrev pub whole_or_null : Option ℕ → Data
 whole_or_null None = null
 whole_or_null (Some n) = whole n
@@ -86,26 +88,33 @@ row_data r = object
     (member (codes "startPos") (whole r.start_pos)
     no_members))))))))))))))
 
+-- the rows as elements of a list
 abbrev pub rows_items : List Row → Items
 rows_items [] = no_items
 rows_items (r ∷ rs) = item (row_data r) (rows_items rs)
 
+-- the rows of a segment list, in their order
 abbrev pub rows_data : List Row → Data
 rows_data rows = array (rows_items rows)
 
 -- a refusal: its rule, and the id, the name or the counted thing of the rule
 
+-- a refusal with its rule alone
 abbrev pub plain_rule : List ℕ → Data
 plain_rule word = object (member (codes "rule") (string word) no_members)
 
+-- a refusal that names an item
 abbrev pub rule_with_id : ItemId → List ℕ → Data
 rule_with_id id word = object (member (codes "id") (whole id.0) (member (codes "rule") (string word) no_members))
 
+-- a refusal that names a level, an attribute or another name
 abbrev pub rule_with_name : List ℕ → List ℕ → Data
 rule_with_name name word = object (member (codes "name") (string name) (member (codes "rule") (string word) no_members))
 
+-- a refusal that names what there are too many of
 abbrev pub rule_with_what : What → List ℕ → Data
-rule_with_what what word = object (member (codes "rule") (string word) (member (codes "what") (string (counted_of what)) no_members))
+rule_with_what what word =
+    object (member (codes "rule") (string word) (member (codes "what") (string (counted_of what)) no_members))
 
 -- a rule that an edit breaks
 abbrev pub rule_data : Broken → Data
@@ -207,27 +216,34 @@ refusal_data refusals.Memory = plain_rule (codes "Memory")
 
 -- a reply: its line, the number of edits where it has one, and the answer
 
+-- what was done, the rows, or the refusal
 abbrev pub answer_members : Answer → Members
 answer_members (Done command) = member (codes "ok") (string (command_word command)) no_members
 answer_members (Segments rows) = member (codes "segments") (rows_data rows) no_members
 answer_members (Refused refusal) = member (codes "refused") (refusal_data refusal) no_members
 
+-- the number of edits, where the reply has one, before these members
 abbrev pub numbered_members : Option ℕ → Members → Members
 numbered_members None rest = rest
 numbered_members (Some n) rest = member (codes "n") (whole n) rest
 
+-- the object of a reply
 abbrev pub reply_data : Reply → Data
 reply_data r = object (member (codes "line") (whole r.line) (numbered_members r.n (answer_members r.answer)))
 
+-- the text of a reply
 unfoldable pub reply_text : Reply → List ℕ
 reply_text r = line_text (reply_data r)
 
 -- The last line of a run that a line at fault ends, with the status 3.
 
+-- a fault with its cause and its line alone
 abbrev pub fault_of_line : List ℕ → ℕ → Data
 fault_of_line cause line = object
-    (member (codes "cause") (string cause) (member (codes "line") (whole line) (member (codes "status") (whole 3) no_members)))
+    (member (codes "cause") (string cause)
+    (member (codes "line") (whole line) (member (codes "status") (whole 3) no_members)))
 
+-- a part of another form than was wanted, with its path and that form
 abbrev pub shape_of_line : Shape → ℕ → Data
 shape_of_line shape line = object
     (member (codes "cause") (string (codes "Shape"))

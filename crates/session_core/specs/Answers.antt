@@ -84,7 +84,8 @@ reply_to l n answer = record { line = l.line; session = l.session; n = n; answer
 
 -- the reply to a line whose TextGrid has a fault, where n entries stand
 abbrev pub grid_reply : Line → ℕ → GridFault → Reply
-grid_reply l n fault = reply_to l (grid_number n (is_want_of_memory fault)) (grid_answer fault (is_want_of_memory fault))
+grid_reply l n fault =
+    reply_to l (grid_number n (is_want_of_memory fault)) (grid_answer fault (is_want_of_memory fault))
 
 -- the entry that an accepted edit of a line puts into the history
 abbrev pub entry_of : Line → Edit → Entry

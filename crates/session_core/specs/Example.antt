@@ -76,7 +76,12 @@ first_session = record { 0 = 1 }
 
 -- line 2 of a script, whose line 1 gives the configuration
 abbrev pub add_line : Line
-add_line = record { line = 2; session = first_session; command = commands.AddBundle; request = requests.Edit (Ok example_edit) }
+add_line = record {
+  line = 2;
+  session = first_session;
+  command = commands.AddBundle;
+  request = requests.Edit (Ok example_edit);
+}
 
 -- `Phonetic == m`, with no patterns and no level of the times
 abbrev pub example_ask : Ask
@@ -103,7 +108,9 @@ example_lines = add_line ∷ ask_line ∷ []
 
 -- the lines as events of the core
 abbrev pub example_events : List Event
-example_events = events.Edit add_line ∷ events.Look ask_line ∷ events.Piece first_session ∷ events.Finish 3 first_session commands.Query ∷ []
+example_events =
+    events.Edit add_line ∷ events.Look ask_line ∷ events.Piece first_session
+    ∷ events.Finish 3 first_session commands.Query ∷ []
 
 -- the entry of the edit
 abbrev pub adding : Entry

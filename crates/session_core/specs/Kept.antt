@@ -53,7 +53,8 @@ pub record AreHeld (c : ConfigParts) (history : List Entry) (slots : List (Optio
   pub each : (s : ℕ) → IsHeld c history (slot slots s)
 
 -- the database is that after the history, and what is held is of its moment
-pub record IsKept (c : ConfigParts) (history : List Entry) (database : DatabaseParts) (looks queries : List (Option Held)) : Type 0 where
+pub record IsKept (c : ConfigParts) (history : List Entry) (database : DatabaseParts)
+    (looks queries : List (Option Held)) : Type 0 where
   pub present : after c history ≡ Ok database
   pub of_looks : AreHeld c history looks
   pub of_queries : AreHeld c history queries
@@ -69,14 +70,16 @@ abbrev pub head_entry : Head → Edit → Entry
 head_entry head edit = record { session = head.session; line = head.line; edit = edit }
 
 -- an edit behind the rules: its entry is put last, or the rule is told
-abbrev pub edit_tried_made : Head → Edit → List Entry → DatabaseParts → Result DatabaseParts Broken → Reply × List Entry × DatabaseParts
+abbrev pub edit_tried_made : Head → Edit → List Entry → DatabaseParts → Result DatabaseParts Broken →
+    Reply × List Entry × DatabaseParts
 edit_tried_made head edit history database (Ok next) =
     (head_reply head (Some (length history + 1)) (Done head.command), history ++ head_entry head edit ∷ [], next)
 edit_tried_made head edit history database (Err rule) =
     (head_reply head (Some (length history)) (Refused (refusals.Rule rule)), history, database)
 
 -- an edit behind the limit of the history
-abbrev pub edit_tried_step : Head → Edit → List Entry → DatabaseParts → Bool → Result DatabaseParts Broken → Reply × List Entry × DatabaseParts
+abbrev pub edit_tried_step : Head → Edit → List Entry → DatabaseParts → Bool → Result DatabaseParts Broken →
+    Reply × List Entry × DatabaseParts
 edit_tried_step head edit history database true made =
     (head_reply head (Some (length history)) (Refused refusals.HistoryFull), history, database)
 edit_tried_step head edit history database false made = edit_tried_made head edit history database made
@@ -88,7 +91,8 @@ edit_tried head edit history database =
 
 -- the reply to the fault of a line's TextGrid, where n entries stand
 abbrev pub grid_told : Head → ℕ → GridFault → Reply
-grid_told head n fault = head_reply head (grid_number n (is_want_of_memory fault)) (grid_answer fault (is_want_of_memory fault))
+grid_told head n fault =
+    head_reply head (grid_number n (is_want_of_memory fault)) (grid_answer fault (is_want_of_memory fault))
 
 -- an edit that was given, or the fault of a TextGrid
 abbrev pub given_tried : Head → Result Edit GridFault → List Entry → DatabaseParts → Reply × List Entry × DatabaseParts

@@ -18,9 +18,10 @@ abbrev pub IsLegalWorld : ConfigParts → List Entry → World → Bool → ℕ 
 IsLegalWorld c opening w store before now =
     Legal c opening (lines_done w) (replies_in w.turns) w.state.entries store before now
 
--- whatever events fit, whenever memory runs out, and whatever the store and the disk refuse
+-- every run is legal, whatever events fit, whenever memory runs out, and whatever the store and the disk refuse
 abbrev pub EveryRunIsLegal : Type 0
-EveryRunIsLegal = (c : ConfigParts) (opening : List Entry) (occurrences : List Occurrence) (store : Bool) (before now : ℕ)
+EveryRunIsLegal =
+    (c : ConfigParts) (opening : List Entry) (occurrences : List Occurrence) (store : Bool) (before now : ℕ)
     → IsLegal c opening → length opening ≤ HISTORY_EDITS → AllFit store (opening_world c opening) occurrences
     → RoseBy (disk_failures occurrences) before now
     → IsLegalWorld c opening (run (opening_world c opening) occurrences) store before now
@@ -29,7 +30,8 @@ EveryRunIsLegal = (c : ConfigParts) (opening : List Entry) (occurrences : List O
 abbrev pub taken : Event → Occurrence
 taken e = record { event = e; trouble = untroubled }
 
--- the replies and the history of the core's steps, where memory does not run out and there is no store
+-- the replies of the core's steps are legal beside the history that they leave, where memory does not run out and
+-- there is no store
 abbrev pub EveryCoreRunIsLegal : Type 0
 EveryCoreRunIsLegal = (c : ConfigParts) (opening : List Entry) (events : List Event)
     → IsLegal c opening → length opening ≤ HISTORY_EDITS → AllFit false (opening_world c opening) (map taken events)
@@ -61,7 +63,8 @@ StaleIsNotLegal = (history : List Entry) (rows : List Row) (store : Bool) (befor
 -- beside the history with the edit there is one right answer
 abbrev pub AnswerIsExact : Type 0
 AnswerIsExact = (rows : List Row) (store : Bool) (before now : ℕ)
-    → Legal example_config [] example_lines (replies_with 1 rows) example_history store before now → rows ≡ example_row ∷ []
+    → Legal example_config [] example_lines (replies_with 1 rows) example_history store before now
+    → rows ≡ example_row ∷ []
 
 -- an edit that was accepted is in the history
 abbrev pub AcceptedIsRecorded : Type 0

@@ -95,7 +95,8 @@ with_number n marks = filter (has_number n) marks
 -- 3. Each answer is right for the state that its number names.
 
 -- an acceptance at n is right for the state after n - 1, and its edit is the n-th entry
-pub record IsAcceptance (c : ConfigParts) (H : List Entry) (l : Line) (edit : Edit) (n : ℕ) (command : Command) : Type 0 where
+pub record IsAcceptance (c : ConfigParts) (H : List Entry) (l : Line) (edit : Edit) (n : ℕ)
+    (command : Command) : Type 0 where
   pub own : command ≡ l.command
   pub before : ℕ
   pub number : n ≡ before + 1
@@ -153,9 +154,11 @@ IsRightAt c H store l (requests.After earlier) n answer = answer ≡ Done l.comm
 -- 4 says which look a `finish` answers
 IsRightAt c H store l requests.Finish n answer = Unit {0}
 
--- an answer without a number: want of memory, a failed disk for an edit where there is a store, and
--- the two refusals of looks, of which 4 says when they come; a line whose TextGrid has a fault never reaches
--- the disk
+-- An answer without a number is one of these: want of memory; a failed disk, for an edit where there is a store;
+-- the two refusals of looks, of which 4 says when they come.
+
+-- a failed disk may answer the request: an edit, where there is a store; a line whose TextGrid has a fault never
+-- reaches the disk
 abbrev pub IsDiskFor : Bool → Request → Type 0
 IsDiskFor store (requests.Edit (Ok edit)) = store ≡ true
 IsDiskFor store (requests.Edit (Err fault)) = ⊥
@@ -242,7 +245,7 @@ pub record Look : Type 0 where
   pub n : ℕ
   pub ask : Ask
 
--- a `look`'s reply, and the look that is open behind it
+-- the look that is open behind the reply to a `look`
 abbrev pub look_behind : Option Look → Ask → Option ℕ → Option Look
 look_behind held ask None = held
 look_behind None ask (Some n) = Some (record { n = n; ask = ask })
@@ -303,7 +306,7 @@ abbrev pub number_or : ℕ → Option ℕ → ℕ
 number_or low None = low
 number_or low (Some n) = max low n
 
--- the greatest number among the replies of a session up to a line
+-- the greatest of m and the numbers of a session's replies up to a line
 abbrev pub seen_by : ℕ → ℕ → ℕ → List Turn → ℕ
 seen_by m session line [] = m
 seen_by m session line (t ∷ ts) =
@@ -311,7 +314,7 @@ seen_by m session line (t ∷ ts) =
     then number_or (seen_by m session line ts) t.reply.n
     else seen_by m session line ts
 
--- the same, where the session is known
+-- the same of the session that was found for the line, or m where none was
 abbrev pub seen_in : ℕ → ℕ → Option ℕ → List Turn → ℕ
 seen_in m line None turns = m
 seen_in m line (Some session) turns = seen_by m session line turns
@@ -351,7 +354,8 @@ disk_replies replies = count_by (λ r. is_disk r.answer) replies
 
 -- What holds of the lines and replies of one session alone: m is the number of entries before the run,
 -- and H the history.
-pub record KeepsSession (c : ConfigParts) (m : ℕ) (H : List Entry) (script : List Line) (turns : List Turn) (s : ℕ) : Type 0 where
+pub record KeepsSession (c : ConfigParts) (m : ℕ) (H : List Entry) (script : List Line)
+    (turns : List Turn) (s : ℕ) : Type 0 where
   -- each line of the session has one reply, and the replies stand in the order of the lines
   pub in_order : lines_in (of_session s turns) ≡ lines_of_session s script
   -- its numbers never fall, those of a `finish` apart
@@ -361,7 +365,8 @@ pub record KeepsSession (c : ConfigParts) (m : ℕ) (H : List Entry) (script : L
 
 -- What holds of all lines and replies together: m entries stood before the run, and these came in it. `store`
 -- says whether there is a store; the disk's count of faults went from one number to another.
-pub record KeepsRun (c : ConfigParts) (m : ℕ) (H more : List Entry) (turns : List Turn) (store : Bool) (before now : ℕ) : Type 0 where
+pub record KeepsRun (c : ConfigParts) (m : ℕ) (H more : List Entry) (turns : List Turn)
+    (store : Bool) (before now : ℕ) : Type 0 where
   -- each reply names its line and its session
   pub named : Each IsNamed turns
   -- each new entry has exactly one accepting reply, and each accepting reply has its entry
@@ -375,7 +380,8 @@ pub record KeepsRun (c : ConfigParts) (m : ℕ) (H more : List Entry) (turns : L
 
 -- The replies to the lines of a script are legal beside a history that begins with the opening's entries;
 -- `store` says whether there is a store, and the disk's count of faults went from one number to another.
-pub record Legal (c : ConfigParts) (opening : List Entry) (script : List Line) (replies : List Reply) (H : List Entry) (store : Bool) (before now : ℕ) : Type 0 where
+pub record Legal (c : ConfigParts) (opening : List Entry) (script : List Line) (replies : List Reply)
+    (H : List Entry) (store : Bool) (before now : ℕ) : Type 0 where
   -- the entries that came in the run
   pub more : List Entry
   -- the history goes on from the opening's

@@ -10,11 +10,12 @@ use Rattle.session_core.specs.Steps.{start}
 use Rattle.session_core.specs.Legal.{Legal}
 use Rattle.session_core.specs.InOrder.{Outage, disk_outages, in_turn, ComeInOrder}
 
--- whatever the configuration and the lines, with a store and without, and wherever memory runs out or the disk
+-- Whatever the configuration and the lines, with a store and without, and wherever memory runs out or the disk
 -- fails: the replies in turn are legal beside the history that they leave, which begins with any legal history
--- that is not too long
+-- of at most 100,000 entries.
 abbrev pub InOrderIsLegal : Type 0
-InOrderIsLegal = (c : ConfigParts) (opening : List Entry) (lines : List Line) (outages : List Outage) (store : Bool) (before now : ℕ)
+InOrderIsLegal =
+    (c : ConfigParts) (opening : List Entry) (lines : List Line) (outages : List Outage) (store : Bool) (before now : ℕ)
     → IsLegal c opening → length opening ≤ HISTORY_EDITS
     → ComeInOrder [] lines → length outages ≡ length lines → RoseBy (disk_outages store outages) before now
     → Legal c opening lines (in_turn store (start c opening) lines outages).0

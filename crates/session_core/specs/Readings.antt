@@ -70,8 +70,11 @@ pub record IsInOrder (opening : List Entry) (lines : List Line) (turns : List Tu
 -- the replies of a legal run in order, with no store, are those that the definition gives in turn,
 -- and the history is the one that it leaves
 abbrev pub RepliesFollow : Type 0
-RepliesFollow = (c : ConfigParts) (opening : List Entry) (lines : List Line) (replies : List Reply) (H : List Entry) (before now : ℕ)
-    → ComeInOrder [] lines → (run : Legal c opening lines replies H false before now) → IsInOrder opening lines run.turns
+RepliesFollow =
+    (c : ConfigParts) (opening : List Entry) (lines : List Line)
+    (replies : List Reply) (H : List Entry) (before now : ℕ)
+    → ComeInOrder [] lines → (run : Legal c opening lines replies H false before now)
+    → IsInOrder opening lines run.turns
     → (replies ≡ (in_turn false (start c opening) lines (map outage_of replies)).0)
     × (H ≡ (in_turn false (start c opening) lines (map outage_of replies)).1.entries)
 
@@ -90,7 +93,8 @@ OneReading = (c : ConfigParts) (opening : List Entry) (lines : List Line)
 -- without, whatever the configuration and the lines, and wherever memory runs out or the disk fails, from
 -- any legal history that is not too long. So without a store the legal replies in order are exactly these.
 abbrev pub InTurnIsInOrder : Type 0
-InTurnIsInOrder = (c : ConfigParts) (opening : List Entry) (lines : List Line) (outages : List Outage) (store : Bool) (before now : ℕ)
+InTurnIsInOrder =
+    (c : ConfigParts) (opening : List Entry) (lines : List Line) (outages : List Outage) (store : Bool) (before now : ℕ)
     → IsLegal c opening → length opening ≤ HISTORY_EDITS
     → ComeInOrder [] lines → length outages ≡ length lines → RoseBy (disk_outages store outages) before now
     → (run : Legal c opening lines (in_turn store (start c opening) lines outages).0

@@ -1,4 +1,4 @@
--- How many bytes a configuration and an entry take in a store, frames apart. Numbers are big-endian;
+-- How many bytes a configuration and an entry take in a store, and how many a store takes. Numbers are big-endian;
 -- a text or a list has four bytes for its length, an option one for whether it is there, an id, a position or
 -- the number of a level four, a sample or a rate eight, a kind one.
 use Rattle.std.specs.Prelude.{ℕ, ◌+◌, ◌*◌, List, Option, Some, None, length, sum_by}

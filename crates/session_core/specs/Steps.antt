@@ -63,11 +63,13 @@ put_slot (x ∷ xs) (suc s) v = x ∷ put_slot xs s v
 
 -- a state with this look at a session's place
 abbrev pub with_look : State → ℕ → Option Opened → State
-with_look st s v = record { config = st.config; entries = st.entries; looks = put_slot st.looks s v; queries = st.queries }
+with_look st s v =
+    record { config = st.config; entries = st.entries; looks = put_slot st.looks s v; queries = st.queries }
 
 -- a state with this query under way at a session's place
 abbrev pub with_query : State → ℕ → Option Opened → State
-with_query st s v = record { config = st.config; entries = st.entries; looks = st.looks; queries = put_slot st.queries s v }
+with_query st s v =
+    record { config = st.config; entries = st.entries; looks = st.looks; queries = put_slot st.queries s v }
 
 -- a state with one entry more
 abbrev pub with_entry : State → Entry → State
@@ -85,7 +87,8 @@ is_full history = nat_le HISTORY_EDITS (length history)
 
 -- an edit behind the limit of the history: it is accepted, or the rule that it breaks is told
 abbrev pub edit_made : State → Line → Edit → Result DatabaseParts Broken → Option Reply × State
-edit_made st l edit (Ok database) = (Some (reply_to l (Some (present st + 1)) (Done l.command)), with_entry st (entry_of l edit))
+edit_made st l edit (Ok database) =
+    (Some (reply_to l (Some (present st + 1)) (Done l.command)), with_entry st (entry_of l edit))
 edit_made st l edit (Err rule) = (Some (reply_to l (Some (present st)) (Refused (refusals.Rule rule))), st)
 
 -- an edit: a full history comes before the rules
@@ -101,7 +104,8 @@ opened_at st l ask = record { line = l.line; n = present st; ask = ask }
 
 -- a `look` opens, unless one is open
 abbrev pub look_step : State → Line → Ask → Option Opened → Option Reply × State
-look_step st l ask None = (Some (reply_to l (Some (present st)) (Done l.command)), with_look st l.session.0 (Some (opened_at st l ask)))
+look_step st l ask None =
+    (Some (reply_to l (Some (present st)) (Done l.command)), with_look st l.session.0 (Some (opened_at st l ask)))
 look_step st l ask (Some held) = (Some (reply_to l None (Refused refusals.LookOpen)), st)
 
 -- a Look of a line
@@ -131,7 +135,8 @@ reply_of line session n answer = record { line = line; session = session; n = n;
 -- its query was read, which is answered as such, with no number, and leaves it open
 abbrev pub look_answered : State → ℕ → SessionNo → Opened → Bool → Option Reply × State
 look_answered st line s held true = (Some (reply_of line s None memory), st)
-look_answered st line s held false = (Some (reply_of line s (Some held.n) (answer_at st.config st.entries held.n held.ask)), with_look st s.0 None)
+look_answered st line s held false =
+    (Some (reply_of line s (Some held.n) (answer_at st.config st.entries held.n held.ask)), with_look st s.0 None)
 
 -- a `finish` answers the open look
 abbrev pub finish_step : State → ℕ → SessionNo → Option Opened → Option Reply × State
@@ -142,7 +147,8 @@ finish_step st line s (Some held) = look_answered st line s held (lacks_memory h
 -- read, that is answered, with no number, and it is closed too
 abbrev pub way_answered : State → ℕ → SessionNo → Opened → Bool → Option Reply × State
 way_answered st line s held true = (Some (reply_of line s None memory), with_query st s.0 None)
-way_answered st line s held false = (Some (reply_of line s (Some held.n) (answer_at st.config st.entries held.n held.ask)), with_query st s.0 None)
+way_answered st line s held false =
+    (Some (reply_of line s (Some held.n) (answer_at st.config st.entries held.n held.ask)), with_query st s.0 None)
 
 -- the query under way, where there is one
 abbrev pub query_step : State → ℕ → SessionNo → Option Opened → Option Reply × State

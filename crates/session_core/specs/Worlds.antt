@@ -69,7 +69,8 @@ finish_line line s = record { line = line; session = s; command = commands.Finis
 
 -- the line that a query under way came with
 abbrev pub query_line : SessionNo → Opened → Line
-query_line s held = record { line = held.line; session = s; command = commands.Query; request = requests.Query held.ask }
+query_line s held =
+    record { line = held.line; session = s; command = commands.Query; request = requests.Query held.ask }
 
 -- a Finish brings the line of a `finish`; a query's came with its look
 abbrev pub brought_by : ℕ → SessionNo → Asker → List Line
@@ -262,21 +263,23 @@ abbrev pub AllFit : Bool → World → List Occurrence → Type 0
 AllFit store w [] = Unit {0}
 AllFit store w (m ∷ ms) = OccurrenceFits store w m × AllFit store (happens w m) ms
 
--- how often the disk failed
+-- whether it is the disk that failed
 abbrev pub is_disk_failed : Trouble → Bool
 is_disk_failed disk_failed = true
 is_disk_failed trouble = false
 
--- how many of them the disk kept from their step
+-- how many of these events the disk kept from their step
 abbrev pub disk_failures : List Occurrence → ℕ
 disk_failures ms = count_by (λ (m : Occurrence). is_disk_failed m.trouble) ms
 
 -- The script of a run: the lines that came, but for a query that is still under way.
+
+-- whether the query under way, if there is one, came with this line
 abbrev pub is_waiting : Line → Option Opened → Bool
 is_waiting l None = false
 is_waiting l (Some held) = nat_eq held.line l.line
 
--- a line is answered, or is no query under way
+-- whether a line is other than that of its session's query under way
 abbrev pub is_done : State → Line → Bool
 is_done st l = not (is_waiting l (slot st.queries l.session.0))
 

@@ -42,6 +42,7 @@ abbrev pub point_at : ℕ → ℕ → Result ℕ TimeFault → Result Time GridF
 point_at tier entry (Ok at) = Ok (Point at)
 point_at tier entry (Err fault) = Err (time_fault tier entry fault)
 
+-- the sample of a point, or the fault of its time
 abbrev pub point_of : ℕ → ℕ → ℕ → GridPoint → Result Time GridFault
 point_of rate tier entry point = point_at tier entry (nearest_sample point.time rate)
 
@@ -70,11 +71,12 @@ events_from rate tier before level n (p ∷ ps) =
     with_item (point_of rate tier (n + 1) p) (λ time. item_of level (before + (n + 1)) time p.mark)
     (events_from rate tier before level (n + 1) ps)
 
--- how many entries a tier has, and tiers have together
+-- how many entries a tier has
 abbrev pub entry_count : GridEntries → ℕ
 entry_count (Intervals list) = length list
 entry_count (Points list) = length list
 
+-- how many entries tiers have together
 abbrev pub entry_total : List GridTier → ℕ
 entry_total [] = 0
 entry_total (t ∷ ts) = entry_count t.entries + entry_total ts
@@ -84,6 +86,7 @@ abbrev pub level_with : List ℕ → LevelKind → Result (List AnnotItem) GridF
 level_with name kind (Ok items) = Ok (record { name = name; kind = kind; items = items })
 level_with name kind (Err fault) = Err fault
 
+-- the level of entries, by their class
 abbrev pub level_in : ℕ → ℕ → ℕ → List ℕ → GridEntries → Result AnnotLevel GridFault
 level_in rate number before name (Intervals list) = level_with name Segment (segments_from rate number before name 0 list)
 level_in rate number before name (Points list) = level_with name Event (events_from rate number before name 0 list)
@@ -113,11 +116,12 @@ annot_with rate (Ok levels) = Ok (record { annotates = []; rate = rate; levels =
 abbrev pub annot_of : ℕ → Grid → Result Annot GridFault
 annot_of rate grid = annot_with rate (levels_from rate 0 0 grid.tiers)
 
--- items and levels that were made, in front of more
+-- items that were made, in front of more
 abbrev pub items_before : List AnnotItem → Result (List AnnotItem) GridFault → Result (List AnnotItem) GridFault
 items_before made (Ok items) = Ok (made ++ items)
 items_before made (Err fault) = Err fault
 
+-- levels that were made, in front of more
 abbrev pub levels_before : List AnnotLevel → Result (List AnnotLevel) GridFault → Result (List AnnotLevel) GridFault
 levels_before made (Ok levels) = Ok (made ++ levels)
 levels_before made (Err fault) = Err fault

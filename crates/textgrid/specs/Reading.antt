@@ -40,23 +40,27 @@ abbrev pub given : {A : Type 0} → Option A → ℕ → GridWhat → List Place
 given None place what rest = Err (Some place, what)
 given (Some a) place what rest = Ok (a, rest)
 
+-- the next value, taken for what is wanted
 abbrev pub taken : {A : Type 0} → (Value → Option A) → GridWhat → List Placed → Answer A
 taken get what [] = Err (None, what)
 taken get what (p ∷ ps) = given (get p.value) p.at what ps
 
--- the number, the text, the flag `<exists>` and the count that a value is
+-- the number that a value is
 abbrev pub number_in : Value → Option Decimal
 number_in (Number number) = Some number
 number_in _ = None
 
+-- the text that a value is
 abbrev pub text_in : Value → Option (List ℕ)
 text_in (Quoted text) = Some text
 text_in _ = None
 
+-- the flag `<exists>`; another flag is none
 abbrev pub flag_in : Value → Option (Unit {0})
 flag_in (Flag true) = Some tt
 flag_in _ = None
 
+-- the count that a value is: a whole number from 0 to 65,536
 abbrev pub count_in : Value → Option ℕ
 count_in (Number number) = count_of number
 count_in _ = None
@@ -65,11 +69,12 @@ count_in _ = None
 abbrev pub is_word : List ℕ → List ℕ → Bool
 is_word text word = pointwise nat_eq text word
 
--- the first and the second text of a file
+-- the first text of a file, in either of its two forms
 abbrev pub header_in : Value → Option (Unit {0})
 header_in (Quoted text) = if is_word text (codes "ooTextFile") || is_word text (codes "ooTextFile short") then Some tt else None
 header_in _ = None
 
+-- the second text of a file
 abbrev pub title_in : Value → Option (Unit {0})
 title_in (Quoted text) = if is_word text (codes "TextGrid") then Some tt else None
 title_in _ = None
@@ -81,24 +86,31 @@ class_in (Quoted text) =
     else (if is_word text (codes "TextTier") then Some false else None)
 class_in _ = None
 
+-- a number, next
 abbrev pub number_at : List Placed → Answer Decimal
 number_at = taken number_in whats.Number
 
+-- a text, next
 abbrev pub text_at : List Placed → Answer (List ℕ)
 text_at = taken text_in whats.Text
 
+-- the flag, next
 abbrev pub flag_at : List Placed → Answer (Unit {0})
 flag_at = taken flag_in whats.Flag
 
+-- a count, next
 abbrev pub count_at : List Placed → Answer ℕ
 count_at = taken count_in whats.Count
 
+-- the first text of a file, next
 abbrev pub header_at : List Placed → Answer (Unit {0})
 header_at = taken header_in whats.Header
 
+-- the second text of a file, next
 abbrev pub title_at : List Placed → Answer (Unit {0})
 title_at = taken title_in whats.Header
 
+-- the class of a tier, next
 abbrev pub class_at : List Placed → Answer Bool
 class_at = taken class_in whats.TierClass
 

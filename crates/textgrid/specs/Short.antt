@@ -23,6 +23,7 @@ IsShortValue (Number number) = IsShort number
 IsShortValue (Quoted text) = Unit {0}
 IsShortValue (Flag exists) = Unit {0}
 
+-- the same of a value with its place
 abbrev pub IsShortPlaced : Placed → Type 0
 IsShortPlaced placed = IsShortValue placed.value
 

@@ -24,24 +24,27 @@ front (b ∷ bs) = b
 abbrev pub is_space : ℕ → Bool
 is_space b = b == 32 || b == 9 || b == 10 || b == 13
 
--- a comment goes on up to the end of its line, a flag up to white space or `>`, a word up to white
--- space or a quote
+-- a comment goes on up to the end of its line
 abbrev pub in_comment : ℕ → Bool
 in_comment b = not (b == 10)
 
+-- a flag goes on up to white space or `>`
 abbrev pub in_flag : ℕ → Bool
 in_flag b = not (is_space b) && not (b == 62)
 
+-- a word goes on up to white space or a quote
 abbrev pub is_inside : ℕ → Bool
 is_inside b = not (is_space b) && not (b == 34)
 
--- how many bytes of a comment, a flag or a word stand at the front
+-- how many bytes of a comment stand at the front
 abbrev pub comment_len : List ℕ → ℕ
 comment_len bs = prefix_len in_comment bs
 
+-- how many bytes of a flag stand at the front
 abbrev pub flag_len : List ℕ → ℕ
 flag_len bs = prefix_len in_flag bs
 
+-- how many bytes of a word stand at the front
 abbrev pub word_len : List ℕ → ℕ
 word_len bs = prefix_len is_inside bs
 

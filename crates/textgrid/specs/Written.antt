@@ -19,17 +19,20 @@ use Rattle.textgrid.specs.Levels.{entry_count}
 abbrev pub Slot : Type 0
 Slot = GridWhat × Value
 
--- the slots of an interval, of a point, and of the entries of a tier
+-- the slots of an interval: its two times and its text
 abbrev pub interval_slots : GridInterval → List Slot
 interval_slots i = (whats.Number, Number i.xmin) ∷ (whats.Number, Number i.xmax) ∷ (whats.Text, Quoted i.text) ∷ []
 
+-- the slots of a point: its time and its mark
 abbrev pub point_slots : GridPoint → List Slot
 point_slots p = (whats.Number, Number p.time) ∷ (whats.Text, Quoted p.mark) ∷ []
 
+-- the slots of each, one behind another
 abbrev pub all_slots : {A : Type 0} → (A → List Slot) → List A → List Slot
 all_slots slots [] = []
 all_slots slots (a ∷ ls) = slots a ++ all_slots slots ls
 
+-- the slots of the entries of a tier
 abbrev pub entry_slots : GridEntries → List Slot
 entry_slots (Intervals list) = all_slots interval_slots list
 entry_slots (Points list) = all_slots point_slots list
@@ -105,14 +108,15 @@ pub record IsGrid (vs : List Placed) (grid : Grid) : Type 0 where
   pub written : IsGridWritten grid slots
   pub begins : Begins vs slots []
 
--- a grid written out goes on behind the slots with what is wanted; or the slots are a whole grid, behind
--- which only the end is wanted
+-- a grid written out goes on behind the slots with what is wanted
 pub record GoesOn (slots : List Slot) (what : GridWhat) : Type 0 where
   pub grid : Grid
   pub value : Value
   pub more : List Slot
   pub written : IsGridWritten grid (slots ++ (what, value) ∷ more)
 
+-- what is wanted behind these slots: a grid written out goes on with it; or they are a whole grid, and the end
+-- is wanted
 abbrev pub IsWanted : List Slot → GridWhat → Type 0
 IsWanted slots what = GoesOn slots what ⊎ ((grid : Grid) × IsGridWritten grid slots × (what ≡ whats.End))
 
