@@ -18,7 +18,8 @@ abbrev pub ends_of : List Item → List ℕ
 ends_of items = map (λ i. last_sample i.time) items
 
 -- for each of the first n attributes there is the column of the items' labels
-pub record AreLabelColumns (numbered : List (List ℕ)) (items : List Item) (n : ℕ) (columns : List (List ℕ)) : Type 0 where
+pub record AreLabelColumns (numbered : List (List ℕ)) (items : List Item) (n : ℕ)
+    (columns : List (List ℕ)) : Type 0 where
   pub count : length columns ≡ n
   pub each : (attribute : ℕ) → attribute < n →
       IsColumnOf numbered (get_or columns attribute []) (map (label_at attribute) items)
@@ -31,7 +32,8 @@ pub record AreColumnsOf (numbered : List (List ℕ)) (level : Level) (columns : 
   pub ends : level.kind ≢ kinds.Item → columns.ends ≡ ends_of level.items
 
 -- the columns of each level but one are those of the level
-pub record AreColumnsBut (numbered : List (List ℕ)) (levels : List Level) (changed : ℕ) (all : List LevelColumns) : Type 0 where
+pub record AreColumnsBut (numbered : List (List ℕ)) (levels : List Level) (changed : ℕ)
+    (all : List LevelColumns) : Type 0 where
   pub each : (k : ℕ) (level : Level) (columns : LevelColumns) → k ≢ changed →
       slice_get levels k ≡ Some level → slice_get all k ≡ Some columns →
       AreColumnsOf numbered level columns

@@ -33,7 +33,8 @@ abbrev pub trees_of : List Tree → List (List Term ⊎ Bool) → List Tree
 trees_of trees [] = trees
 trees_of trees (piece ∷ rest) = trees_of (tree_step trees piece) rest
 
-pub trees_back : (q : Tree) (trees : List Tree) (rest : List (List Term ⊎ Bool)) → trees_of trees (tree_pieces q rest) ≡ trees_of (q ∷ trees) rest
+pub trees_back : (q : Tree) (trees : List Tree) (rest : List (List Term ⊎ Bool))
+    → trees_of trees (tree_pieces q rest) ≡ trees_of (q ∷ trees) rest
 trees_back (Conjunction all) trees rest = refl
 trees_back (Sequence left right) trees rest = trees_back left trees _ ∙ trees_back right (left ∷ trees) _
 trees_back (Dominance left right) trees rest = trees_back left trees _ ∙ trees_back right (left ∷ trees) _
@@ -44,11 +45,13 @@ first_tree (q ∷ trees) = q
 
 abbrev pub tree_code : Coded Tree
 tree_code =
-    code_by (List (List Term ⊎ Bool)) (coded_list (coded⊎ (coded_list term.the_row.coded) coded_bool)) (λ q. tree_pieces q []) (λ pieces. first_tree (trees_of [] pieces)) (λ q. ap first_tree (trees_back q [] []))
+    code_by (List (List Term ⊎ Bool)) (coded_list (coded⊎ (coded_list term.the_row.coded) coded_bool))
+    (λ q. tree_pieces q []) (λ pieces. first_tree (trees_of [] pieces)) (λ q. ap first_tree (trees_back q [] []))
 
 abbrev pub prepared_code : Coded PreparedParts
 prepared_code =
-    code_by (Tree × List (List ℕ)) (coded× tree_code (coded_list (coded_list coded_ℕ))) (λ p. (p.query, p.patterns)) (λ p. record { query = p.0; patterns = p.1 }) (λ _. refl)
+    code_by (Tree × List (List ℕ)) (coded× tree_code (coded_list (coded_list coded_ℕ))) (λ p. (p.query, p.patterns))
+    (λ p. record { query = p.0; patterns = p.1 }) (λ _. refl)
 
 -- ---- the same for an asked query
 
@@ -92,7 +95,8 @@ number_code =
 
 abbrev pub term_code : Coded AskedTerm
 term_code =
-    code_by (Test ⊎ (Position ⊎ Number)) (coded⊎ test_code (coded⊎ position_code number_code)) term_parts term_from term_back
+    code_by (Test ⊎ (Position ⊎ Number)) (coded⊎ test_code (coded⊎ position_code number_code))
+    term_parts term_from term_back
 
 abbrev pub query_pieces : AskedQuery → List (List AskedTerm ⊎ Bool) → List (List AskedTerm ⊎ Bool)
 query_pieces (terms ts) rest = inl ts ∷ rest
@@ -109,7 +113,8 @@ abbrev pub queries_of : List AskedQuery → List (List AskedTerm ⊎ Bool) → L
 queries_of queries [] = queries
 queries_of queries (piece ∷ rest) = queries_of (query_step queries piece) rest
 
-pub queries_back : (q : AskedQuery) (queries : List AskedQuery) (rest : List (List AskedTerm ⊎ Bool)) → queries_of queries (query_pieces q rest) ≡ queries_of (q ∷ queries) rest
+pub queries_back : (q : AskedQuery) (queries : List AskedQuery) (rest : List (List AskedTerm ⊎ Bool))
+    → queries_of queries (query_pieces q rest) ≡ queries_of (q ∷ queries) rest
 queries_back (terms ts) queries rest = refl
 queries_back (sequence left right) queries rest =
     queries_back left queries _ ∙ queries_back right (left ∷ queries) _
@@ -122,8 +127,11 @@ first_query (q ∷ queries) = q
 
 abbrev pub query_code : Coded AskedQuery
 query_code =
-    code_by (List (List AskedTerm ⊎ Bool)) (coded_list (coded⊎ (coded_list term_code) coded_bool)) (λ q. query_pieces q []) (λ pieces. first_query (queries_of [] pieces)) (λ q. ap first_query (queries_back q [] []))
+    code_by (List (List AskedTerm ⊎ Bool)) (coded_list (coded⊎ (coded_list term_code) coded_bool))
+    (λ q. query_pieces q []) (λ pieces. first_query (queries_of [] pieces))
+    (λ q. ap first_query (queries_back q [] []))
 
 abbrev pub asked_code : Coded AskedParts
 asked_code =
-    code_by (AskedQuery × Option ℕ) (coded× query_code (coded_option coded_ℕ)) (λ a. (a.query, a.time)) (λ p. record { query = p.0; time = p.1 }) (λ _. refl)
+    code_by (AskedQuery × Option ℕ) (coded× query_code (coded_option coded_ℕ)) (λ a. (a.query, a.time))
+    (λ p. record { query = p.0; time = p.1 }) (λ _. refl)

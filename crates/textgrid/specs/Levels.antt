@@ -52,7 +52,8 @@ item_of level id time label =
     record { id = record { 0 = id }; time = time; labels = record { name = level; value = label } ∷ [] }
 
 -- an item and those behind it, or the first fault
-abbrev pub with_item : Result Time GridFault → (Time → AnnotItem) → Result (List AnnotItem) GridFault → Result (List AnnotItem) GridFault
+abbrev pub with_item : Result Time GridFault → (Time → AnnotItem) → Result (List AnnotItem) GridFault
+    → Result (List AnnotItem) GridFault
 with_item (Err fault) made rest = Err fault
 with_item (Ok time) made (Err fault) = Err fault
 with_item (Ok time) made (Ok items) = Ok (made time ∷ items)
@@ -88,7 +89,8 @@ level_with name kind (Err fault) = Err fault
 
 -- the level of entries, by their class
 abbrev pub level_in : ℕ → ℕ → ℕ → List ℕ → GridEntries → Result AnnotLevel GridFault
-level_in rate number before name (Intervals list) = level_with name Segment (segments_from rate number before name 0 list)
+level_in rate number before name (Intervals list) = level_with name Segment
+    (segments_from rate number before name 0 list)
 level_in rate number before name (Points list) = level_with name Event (events_from rate number before name 0 list)
 
 -- the level of a tier: SEGMENT of intervals, EVENT of points
@@ -96,7 +98,8 @@ abbrev pub level_of : ℕ → ℕ → ℕ → GridTier → Result AnnotLevel Gri
 level_of rate number before tier = level_in rate number before tier.name tier.entries
 
 -- a level and those behind it, or the first fault
-abbrev pub with_level : Result AnnotLevel GridFault → Result (List AnnotLevel) GridFault → Result (List AnnotLevel) GridFault
+abbrev pub with_level : Result AnnotLevel GridFault → Result (List AnnotLevel) GridFault
+    → Result (List AnnotLevel) GridFault
 with_level (Err fault) rest = Err fault
 with_level (Ok level) (Err fault) = Err fault
 with_level (Ok level) (Ok levels) = Ok (level ∷ levels)

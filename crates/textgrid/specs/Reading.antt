@@ -33,7 +33,8 @@ and_then (Err e) next = Err e
 -- the same reading n times
 abbrev pub times_at : {A : Type 0} → (List Placed → Answer A) → ℕ → List Placed → Answer (List A)
 times_at one zero vs = Ok ([], vs)
-times_at one (suc n) vs = and_then (one vs) (λ a rest. and_then (times_at one n rest) (λ more after. Ok (a ∷ more, after)))
+times_at one (suc n) vs = and_then (one vs)
+    (λ a rest. and_then (times_at one n rest) (λ more after. Ok (a ∷ more, after)))
 
 -- what the next value is taken for, if it is that
 abbrev pub given : {A : Type 0} → Option A → ℕ → GridWhat → List Placed → Answer A
@@ -71,7 +72,8 @@ is_word text word = pointwise nat_eq text word
 
 -- the first text of a file, in either of its two forms
 abbrev pub header_in : Value → Option (Unit {0})
-header_in (Quoted text) = if is_word text (codes "ooTextFile") || is_word text (codes "ooTextFile short") then Some tt else None
+header_in (Quoted text) = if is_word text (codes "ooTextFile") || is_word text (codes "ooTextFile short")
+    then Some tt else None
 header_in _ = None
 
 -- the second text of a file

@@ -63,7 +63,10 @@ word_at bs =
 unfoldable pub flag_at : List ℕ → Piece × ℕ
 flag_at bs =
     if front (drop (flag_len (drop 1 bs)) (drop 1 bs)) == 62
-    then (Found (Flag (pointwise nat_eq (take (flag_len (drop 1 bs)) (drop 1 bs)) (codes "exists"))), flag_len (drop 1 bs) + 2)
+    then (
+      Found (Flag (pointwise nat_eq (take (flag_len (drop 1 bs)) (drop 1 bs)) (codes "exists"))),
+      flag_len (drop 1 bs) + 2,
+    )
     else word_at bs
 
 -- the text that was found, and its length with both quotes
