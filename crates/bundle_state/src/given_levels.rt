@@ -10,6 +10,7 @@ use crate::annot_rules::annot_passes;
 use crate::handle::Handle;
 use crate::shared_levels::SharedLevels;
 use db_config::{AttributeDef, Config, LevelDef};
+use emu_lists::Shared;
 use emu_names::{Fault, Memory, Text};
 use level_items::{Annot, AnnotItem, AnnotLabel, AnnotLevel, Item, Labels, LevelList};
 use std::alloc::Global;
@@ -31,7 +32,7 @@ fn made_labels(
     alloc: Global,
     defs: &[AttributeDef],
     labels: &[AnnotLabel],
-) -> Result<Labels, Memory>
+) -> Result<Shared<Labels>, Memory>
     ensures { IfOk result (λ made. made ≡ made_labels defs.now labels.now) }
 {
     let mut made = Labels::new(alloc);
@@ -39,7 +40,7 @@ fn made_labels(
         let label = Text::new(alloc, label_named(def, labels))?;
         made.push(label)?;
     }
-    Ok(made)
+    Shared::new(alloc, made)
 }
 
 /// The item of a bundle. The only refusal is want of memory.

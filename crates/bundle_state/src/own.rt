@@ -35,7 +35,7 @@ impl Handle<LevelList> {
         ensures kept { OnErr result (self.new ≡ self.old) }
     {
         let list = Arc::make_mut(&mut self.inside)?;
-        list.remove(position);
+        list.remove(position)?;
         Ok(())
     }
 
@@ -54,8 +54,7 @@ impl Handle<LevelList> {
         ensures kept { OnErr result (self.new ≡ self.old) }
     {
         let list = Arc::make_mut(&mut self.inside)?;
-        list.set_label(position, attribute, label);
-        Ok(())
+        list.set_label(position, attribute, label)
     }
 
     /// Sets the time of the item at a position, as the level's list does.

@@ -1,5 +1,5 @@
 -- What a level list keeps, after each change.
-use Rattle.std.proofs.Common.{◌≡◌, ℕ, zero, suc, ◌<◌, Bool, true, false, not, ◌&&◌, ◌||◌, ◌==◌, cond, List, [], ◌∷◌, ◌++◌, length, take, drop, nat_eq, refl, sym, ap, subst, ◌∙◌, Option, Some, None, arith}
+use Rattle.std.proofs.Common.{◌≡◌, ◌⊎◌, inl, inr, ℕ, zero, suc, ◌<◌, Bool, true, false, not, ◌&&◌, ◌||◌, ◌==◌, cond, List, [], ◌∷◌, ◌++◌, length, take, drop, nat_eq, refl, sym, ap, subst, ◌∙◌, Option, Some, None, arith}
 use Rattle.std.specs.List.{list_any, list_all, slice_get, slice_set, insert, remove}
 use Rattle.std.proofs.lemmas.Bool.{and_parts, and_from, eqb-true, eq-eqb}
 use Rattle.std.proofs.lemmas.List.{append-nil, take-append-drop, length-set}
@@ -234,3 +234,20 @@ kept_label kind attributes items i x attribute label marks kept at short =
           (order_same kind before x y behind refl rule.ordered));
       marked = λ q. kept.marked q ∙ ap (λ zs. list_any (nat_eq q) (ids_of zs)) (sym whole) ∙ any_id q before x behind ∙ sym (rest q);
     }
+
+-- ---- marks that are shared until one owner changes them
+
+-- those that an owner may write are the marks from before
+pub own_marks : (m x : Marks) → (x ≡ m) ⊎ ((q : ℕ) → is_marked x q ≡ is_marked m q) → (q : ℕ) → is_marked x q ≡ is_marked m q
+own_marks m x (inl same) q = ap (λ (z : Marks). is_marked z q) same
+own_marks m x (inr same) q = same q
+
+-- an owner's marks with one more
+pub own_more : (m x new end : Marks) (n : ℕ) → end ≡ new → (x ≡ m) ⊎ ((q : ℕ) → is_marked x q ≡ is_marked m q) →
+    ((q : ℕ) → is_marked new q ≡ (nat_eq q n || is_marked x q)) → (q : ℕ) → is_marked end q ≡ (nat_eq q n || is_marked m q)
+own_more m x new end n back own more q = ap (λ (z : Marks). is_marked z q) back ∙ more q ∙ ap (λ b. nat_eq q n || b) (own_marks m x own q)
+
+-- an owner's marks with one less
+pub own_less : (m x new end : Marks) (n : ℕ) → end ≡ new → (x ≡ m) ⊎ ((q : ℕ) → is_marked x q ≡ is_marked m q) →
+    ((q : ℕ) → is_marked new q ≡ (not (nat_eq q n) && is_marked x q)) → (q : ℕ) → is_marked end q ≡ (not (nat_eq q n) && is_marked m q)
+own_less m x new end n back own less q = ap (λ (z : Marks). is_marked z q) back ∙ less q ∙ ap (λ b. not (nat_eq q n) && b) (own_marks m x own q)

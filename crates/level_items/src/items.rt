@@ -3,7 +3,7 @@ ghost use Rattle.std.specs.Prelude.{◌≡◌, IfOk};
 
 use crate::labels::Labels;
 use crate::times::Time;
-use emu_lists::PlainData;
+use emu_lists::{PlainData, Shared};
 use emu_names::{ItemId, Memory};
 use std::alloc::Global;
 
@@ -14,12 +14,12 @@ pub struct Item {
     pub id: ItemId,
     /// When it is.
     pub time: Time,
-    /// Its labels, in the order of the level's attributes.
-    pub labels: Labels,
+    /// Its labels, in the order of the level's attributes. Copies of the item share them.
+    pub labels: Shared<Labels>,
 }
 
 impl Item {
-    /// The same item again. The only refusal is want of memory.
+    /// The same item again, which shares its labels. The only refusal is want of memory.
     pub fn copy(&self, alloc: Global) -> Result<Item, Memory>
         ensures { IfOk result (λ made. made ≡ self.now) }
     {

@@ -1,7 +1,7 @@
 //! The labels of an item, which contracts see as a list of texts.
 ghost use Rattle.std.specs.Prelude.{◌≡◌, ◌<◌, ◌==◌, [], ◌∷◌, ◌++◌, length, IfOk, OnOk, OnErr, slice_get, slice_set, Some};
 
-use emu_lists::PlainData;
+use emu_lists::{PlainData, Shared};
 use emu_names::{Memory, Text};
 use std::alloc::Global;
 use std::marker::Model;
@@ -74,6 +74,22 @@ impl Labels {
         ensures { self.new ≡ slice_set self.old place label }
     {
         self.labels[place] = label;
+    }
+
+    /// These labels with `label` in the place of the one that stands there, for copies to share. The only
+    /// refusal is want of memory.
+    pub(crate) fn with(
+        &self,
+        alloc: Global,
+        place: usize,
+        label: Text,
+    ) -> Result<Shared<Labels>, Memory>
+        requires { place < length self.now }
+        ensures { IfOk result (λ made. made ≡ slice_set self.now place label) }
+    {
+        let mut made = self.copy(alloc)?;
+        made.set(place, label);
+        Shared::new(alloc, made)
     }
 
     /// The same labels again. The only refusal is want of memory.

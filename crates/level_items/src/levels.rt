@@ -22,6 +22,7 @@ use emu_lists::PlainData;
 use emu_names::{Fault, ItemId, LevelKind, Memory, Text};
 use std::alloc::{AllocError, Global};
 use std::marker::Model;
+use std::sync::Arc;
 
 /// The items of a level, which contracts see as the level's kind, its number of attributes and the list
 /// of its items (EMU-SDMS Manual, "The emuDB format": `levels` in `_annot.json`).
@@ -35,7 +36,7 @@ pub struct LevelList {
     kind: LevelKind,
     attributes: usize,
     items: Vec<Item>,
-    marks: Marks,
+    marks: Arc<Marks>,
 }
 
 impl Model for LevelList {
@@ -48,20 +49,22 @@ impl Model for LevelList {
 
     ghost view = { λ l. level_of l.kind l.attributes l.items.items };
 
-    ghost invariant = { λ l. IsKept (level_of l.kind l.attributes l.items.items) l.marks };
+    ghost invariant = { λ l. IsKept (level_of l.kind l.attributes l.items.items) l.marks.value };
 }
 
 impl LevelList {
-    /// The list of no item, on a level of this kind with so many attributes. It grows by `alloc`.
-    pub fn new(alloc: Global, kind: LevelKind, attributes: usize) -> LevelList
-        ensures { result ≡ level_of kind attributes [] }
+    /// The list of no item, on a level of this kind with so many attributes. It grows by `alloc`. The only
+    /// refusal is want of memory.
+    pub fn new(alloc: Global, kind: LevelKind, attributes: usize) -> Result<LevelList, Memory>
+        ensures { IfOk result (λ list. list ≡ level_of kind attributes []) }
     {
-        LevelList {
+        let marks = Arc::new(alloc, Marks::new(alloc))?;
+        Ok(LevelList {
             kind,
             attributes,
             items: Vec::new(alloc),
-            marks: Marks::new(alloc),
-        }
+            marks,
+        })
     }
 
     /// The list of these items, which keep the level rule. The only refusal is want of memory.
@@ -117,7 +120,7 @@ impl LevelList {
     pub fn find(&self, id: ItemId) -> Option<usize>
         ensures { result ≡ position (λ i. nat_eq i.id.0 id.0) self.now.items }
     {
-        let mark = self.marks.get(id)?;
+        let mark = self.marks.as_ref().get(id)?;
         let guess = place_of_mark(self.kind, &self.items, mark);
         position_near(&self.items, guess, id)
     }
@@ -137,11 +140,12 @@ impl LevelList {
         ensures inserted { IfOk result (λ place. self.new ≡ with_items self.old (insert self.old.items place item)) }
         ensures kept { OnErr result (self.new ≡ self.old) }
     {
-        let place = place_for(self.kind, &self.items, &self.marks, position, &item)?;
+        let place = place_for(self.kind, &self.items, self.marks.as_ref(), position, &item)?;
         self.items.reserve(1)?;
-        self.marks.put(item.id, mark_of(place, item.time))?;
+        let marks = Arc::make_mut(&mut self.marks)?;
+        marks.put(item.id, mark_of(place, item.time))?;
         put_in(&mut self.items, place, item);
-        mark_behind(&mut self.marks, self.kind, &self.items, place);
+        mark_behind(marks, self.kind, &self.items, place);
         Ok(place)
     }
 
@@ -157,35 +161,47 @@ impl LevelList {
         ensures appended { OnOk result (self.new ≡ with_items self.old (self.old.items ++ item ∷ [])) }
         ensures kept { OnErr result (self.new ≡ self.old) }
     {
-        append_passes(self.kind, &self.items, &self.marks, &item)?;
+        append_passes(self.kind, &self.items, self.marks.as_ref(), &item)?;
         self.items.reserve(1)?;
-        self.marks
-            .put(item.id, mark_of(self.items.len(), item.time))?;
+        let marks = Arc::make_mut(&mut self.marks)?;
+        marks.put(item.id, mark_of(self.items.len(), item.time))?;
         put_last(&mut self.items, item);
         Ok(())
     }
 
-    /// Takes the item at a position out, and closes up.
-    pub fn remove(&mut self, position: usize) -> Item
+    /// Takes the item at a position out, and closes up. The only refusal is want of memory, which changes
+    /// nothing.
+    pub fn remove(&mut self, position: usize) -> Result<Item, Memory>
         requires { position < length self.old.items }
-        ensures item { slice_get self.old.items position ≡ Some result }
-        ensures removed { self.new ≡ with_items self.old (remove self.old.items position) }
+        ensures item { IfOk result (λ item. slice_get self.old.items position ≡ Some item) }
+        ensures removed { OnOk result (self.new ≡ with_items self.old (remove self.old.items position)) }
+        ensures kept { OnErr result (self.new ≡ self.old) }
     {
+        let marks = Arc::make_mut(&mut self.marks)?;
         let item = self.items.remove(position);
-        self.marks.take_away(item.id);
-        mark_behind(&mut self.marks, self.kind, &self.items, position);
-        item
+        marks.take_away(item.id);
+        mark_behind(marks, self.kind, &self.items, position);
+        Ok(item)
     }
 
-    /// Sets one label of the item at a position. All else stays.
-    pub fn set_label(&mut self, position: usize, attribute: usize, label: Text)
+    /// Sets one label of the item at a position, which no copy of the list sees. All else stays. The only
+    /// refusal is want of memory, which changes nothing.
+    pub fn set_label(
+        &mut self,
+        position: usize,
+        attribute: usize,
+        label: Text,
+    ) -> Result<(), Memory>
         requires position { position < length self.old.items }
         requires attribute { attribute < self.old.attributes }
         requires label { IsTrue (is_short label) }
-        ensures { self.new ≡ with_items self.old
-            (change_at (relabelled attribute label) position self.old.items) }
+        ensures labelled { OnOk result (self.new ≡ with_items self.old
+            (change_at (relabelled attribute label) position self.old.items)) }
+        ensures kept { OnErr result (self.new ≡ self.old) }
     {
-        set_label_in(&mut self.items, position, attribute, label);
+        let alloc = *self.items.allocator();
+        set_label_in(alloc, &mut self.items, position, attribute, label)?;
+        Ok(())
     }
 
     /// Sets the time of the item at a position, which it keeps.
@@ -202,18 +218,18 @@ impl LevelList {
         ensures kept { OnErr result (self.new ≡ self.old) }
     {
         retime_passes(self.kind, &self.items, position, time)?;
-        self.marks
-            .put(self.items[position].id, mark_of(position, time))?;
+        let marks = Arc::make_mut(&mut self.marks)?;
+        marks.put(self.items[position].id, mark_of(position, time))?;
         set_time_in(&mut self.items, position, time);
         Ok(())
     }
 
-    /// The same list again. The only refusal is want of memory.
+    /// The same list again, which shares the labels of the items. The only refusal is want of memory.
     pub fn copy(&self, alloc: Global) -> Result<LevelList, Memory>
         ensures { IfOk result (λ made. made ≡ self.now) }
     {
         let items = copied(alloc, self.items.as_slice())?;
-        let marks = self.marks.copy()?;
+        let marks = self.marks.clone()?;
         Ok(LevelList {
             kind: self.kind,
             attributes: self.attributes,

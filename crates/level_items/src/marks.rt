@@ -1,9 +1,9 @@
 //! The ids of a level list, each with a mark by which its item is found.
-ghost use Rattle.std.specs.Prelude.{◌≡◌, ℕ, false, not, ◌&&◌, ◌||◌, nat_eq, is_some, IfOk, OnOk, OnErr};
+ghost use Rattle.std.specs.Prelude.{◌≡◌, ℕ, false, not, ◌&&◌, ◌||◌, nat_eq, is_some, OnOk, OnErr};
 ghost use Rattle.level_items.specs.Marked.{is_marked};
 
 use emu_names::{ItemId, Memory};
-use std::alloc::Global;
+use std::alloc::{AllocError, Global};
 use std::collections::BTreeMap;
 
 /// A map from ids to marks. Of a mark nothing is promised: it tells where to look first.
@@ -54,11 +54,15 @@ impl Marks {
     {
         self.marks.remove(&id.0);
     }
+}
 
-    /// The same marks again. The only refusal is want of memory.
-    pub(crate) fn copy(&self) -> Result<Marks, Memory>
-        ensures { IfOk result (λ made. (q : ℕ) → is_marked made q ≡ is_marked self.now q) }
-    {
+impl Clone for Marks {
+    ghost use Rattle.std.specs.Prelude.{◌≡◌, ℕ};
+    ghost use Rattle.level_items.specs.Marked.{is_marked};
+
+    ghost is_clone = { λ s t. (q : ℕ) → is_marked t q ≡ is_marked s q };
+
+    fn clone(&self) -> Result<Marks, AllocError> {
         let marks = self.marks.clone()?;
         Ok(Marks { marks })
     }

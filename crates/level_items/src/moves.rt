@@ -1,5 +1,5 @@
 //! Work on the items of a level list, and the marks by which they are found.
-ghost use Rattle.std.specs.Prelude.{◌≡◌, ℕ, ◌+◌, ◌<◌, ◌≤◌, ◌++◌, ◌∷◌, [], length, nat_eq, insert, position, slice_get, Some, vec_len, vec_capacity, IfOk, IsTrue};
+ghost use Rattle.std.specs.Prelude.{◌≡◌, ℕ, ◌+◌, ◌<◌, ◌≤◌, ◌++◌, ◌∷◌, [], length, nat_eq, insert, position, slice_get, Some, vec_len, vec_capacity, IfOk, OnOk, OnErr, IsTrue};
 ghost use Rattle.level_items.specs.Levels.{change_at, relabelled, retimed, are_different, ids_of};
 ghost use Rattle.level_items.specs.Faults.{retime_fault};
 ghost use Rattle.emu_names.specs.Gives.{FindsFault};
@@ -13,6 +13,7 @@ use crate::places::{neighbours_pass, time_passes};
 use crate::times::Time;
 use emu_names::{Fault, ItemId, LevelKind, Memory, Text};
 use std::alloc::Global;
+use std::sync::Arc;
 
 /// The mark of an item that is put at this place: its first sample, or the place where it has no time.
 pub(crate) fn mark_of(place: usize, time: Time) -> u64 {
@@ -44,16 +45,16 @@ pub(crate) fn position_near(items: &[Item], guess: usize, id: ItemId) -> Option<
     }
 }
 
-/// The marks of these items. The only refusal is want of memory.
-pub(crate) fn marks_of(alloc: Global, items: &[Item]) -> Result<Marks, Memory>
-    ensures { IfOk result (λ marks. AreMarksOf items.now marks) }
+/// The marks of these items, for copies to share. The only refusal is want of memory.
+pub(crate) fn marks_of(alloc: Global, items: &[Item]) -> Result<Arc<Marks>, Memory>
+    ensures { IfOk result (λ marks. AreMarksOf items.now marks.value) }
 {
     let mut marks = Marks::new(alloc);
     for place in 0..items.len() {
         let item = &items[place];
         marks.put(item.id, mark_of(place, item.time))?;
     }
-    Ok(marks)
+    Ok(Arc::new(alloc, marks)?)
 }
 
 /// Marks the items of an ITEM level from a place on by where they stand now. The marks of items with
@@ -107,14 +108,24 @@ pub(crate) fn set_time_in(items: &mut [Item], position: usize, time: Time)
     items[position].time = time;
 }
 
-/// Sets one label of the item at a position.
-pub(crate) fn set_label_in(items: &mut [Item], position: usize, attribute: usize, label: Text)
+/// Gives the item at a position labels of its own, of which this one is another. The only refusal is want
+/// of memory, which changes nothing.
+pub(crate) fn set_label_in(
+    alloc: Global,
+    items: &mut [Item],
+    position: usize,
+    attribute: usize,
+    label: Text,
+) -> Result<(), Memory>
     requires position { position < length items.old }
     requires attribute { (item : Item) → slice_get items.old position ≡ Some item → attribute < length item.labels }
-    ensures { items.new ≡ change_at (relabelled attribute label) position items.old }
+    ensures labelled { OnOk result
+        (items.new ≡ change_at (relabelled attribute label) position items.old) }
+    ensures kept { OnErr result (items.new ≡ items.old) }
 {
     let item = &mut items[position];
-    item.labels.set(attribute, label);
+    item.labels = item.labels.as_ref().with(alloc, attribute, label)?;
+    Ok(())
 }
 
 /// The same items again. The only refusal is want of memory.

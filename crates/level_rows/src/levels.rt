@@ -1,6 +1,7 @@
 //! Lists worked by hand from the level rule, and each call that allocates on its happy path.
 ghost use Rattle.std.specs.Prelude.{◌≡◌, IfOk};
 
+use emu_lists::Shared;
 use emu_names::{Broken, Fault, ItemId, LevelKind, Memory, Text};
 use level_items::Time::{NoTime, Point, Span};
 use level_items::{
@@ -280,6 +281,21 @@ fn told(rule: &Broken) -> (&'static str, u64) {
     }
 }
 
+/// Puts an item in on a level without attributes.
+fn put(
+    alloc: Global,
+    list: &mut LevelList,
+    position: Option<u32>,
+    id: ItemId,
+    time: Time,
+) -> Result<usize, Fault>
+    requires { list.old.attributes ≡ 0 }
+    ensures { list.new.attributes ≡ 0 }
+{
+    let labels = Shared::new(alloc, Labels::new(alloc))?;
+    list.insert(position, Item { id, time, labels })
+}
+
 /// What one step is answered on a level without attributes.
 fn answered(alloc: Global, list: &mut LevelList, row: &Row) -> (&'static str, u64)
     requires { list.old.attributes ≡ 0 }
@@ -287,36 +303,38 @@ fn answered(alloc: Global, list: &mut LevelList, row: &Row) -> (&'static str, u6
 {
     let (step, id, time, _, _) = *row;
     match step {
-        Put(position) => {
-            let labels = Labels::new(alloc);
-            let id = ItemId(id);
-            match list.insert(position, Item { id, time, labels }) {
-                Ok(place) => ("at", place as u64),
-                Err(Fault::Broken(rule)) => told(&rule),
-                Err(Fault::Memory) => ("Memory", 0),
-            }
-        }
+        Put(position) => match put(alloc, list, position, ItemId(id), time) {
+            Ok(place) => ("at", place as u64),
+            Err(Fault::Broken(rule)) => told(&rule),
+            Err(Fault::Memory) => ("Memory", 0),
+        },
         Move(position) if position < list.len() => match list.retime(position, time) {
             Ok(()) => ("moved", 0),
             Err(Fault::Broken(rule)) => told(&rule),
             Err(Fault::Memory) => ("Memory", 0),
         },
-        Take(position) if position < list.len() => ("taken", u64::from(list.remove(position).id.0)),
+        Take(position) if position < list.len() => match list.remove(position) {
+            Ok(item) => ("taken", u64::from(item.id.0)),
+            Err(Memory) => ("Memory", 0),
+        },
         _ => ("no such position", 0),
     }
 }
 
 /// The list after these steps, of which each is answered as its row says.
-fn after(rt: &impl Abort, alloc: Global, kind: LevelKind, rows: &[Row]) -> LevelList
-    ensures { result.attributes ≡ 0 }
-{
-    let mut list = LevelList::new(alloc, kind, 0);
+fn after(
+    rt: &impl Abort,
+    alloc: Global,
+    kind: LevelKind,
+    rows: &[Row],
+) -> Result<LevelList, Memory> {
+    let mut list = LevelList::new(alloc, kind, 0)?;
     for row in rows {
         let (word, number) = answered(alloc, &mut list, row);
         assert_eq!(rt; word, row.3, "{number} at the id {}", row.1);
         assert_eq!(rt; number, row.4, "{word} at the id {}", row.1);
     }
-    list
+    Ok(list)
 }
 
 /// Asserts that these ids stand on the list in this order, each where it is found.
@@ -332,14 +350,14 @@ fn stand(rt: &impl Abort, list: &LevelList, ids: &[u32]) {
 #[test]
 fn lists_keep_the_level_rule(rt: HostRuntime) -> Result<(), Fail> {
     let alloc = rt.alloc();
-    let segments = after(&rt, alloc, LevelKind::Segment, &SEGMENTS);
+    let segments = after(&rt, alloc, LevelKind::Segment, &SEGMENTS)?;
     stand(&rt, &segments, &[2, 5, 1, 4]);
     stand(&rt, &segments.copy(alloc)?, &[2, 5, 1, 4]);
-    let cut = after(&rt, alloc, LevelKind::Segment, &BOUNDARIES);
+    let cut = after(&rt, alloc, LevelKind::Segment, &BOUNDARIES)?;
     stand(&rt, &cut, &[1, 2]);
-    let points = after(&rt, alloc, LevelKind::Event, &POINTS);
+    let points = after(&rt, alloc, LevelKind::Event, &POINTS)?;
     stand(&rt, &points, &[5, 1, 3, 2]);
-    let words = after(&rt, alloc, LevelKind::Item, &WORDS);
+    let words = after(&rt, alloc, LevelKind::Item, &WORDS)?;
     stand(&rt, &words, &[3, 2, 4, 5]);
     stand(&rt, &words.copy(alloc)?, &[3, 2, 4, 5]);
     Ok(())
@@ -349,7 +367,7 @@ fn lists_keep_the_level_rule(rt: HostRuntime) -> Result<(), Fail> {
 fn row_of(rt: &impl Abort, alloc: Global, kind: LevelKind, count: u32) -> Result<LevelList, Fail>
     ensures { IfOk result (λ list. list.attributes ≡ 0) }
 {
-    let mut list = LevelList::new(alloc, kind, 0);
+    let mut list = LevelList::new(alloc, kind, 0)?;
     for number in 0..count {
         let start = u64::from(number) * 2;
         let time = match kind {
@@ -357,9 +375,7 @@ fn row_of(rt: &impl Abort, alloc: Global, kind: LevelKind, count: u32) -> Result
             LevelKind::Segment => Span { start, dur: 1 },
             LevelKind::Event => Point { at: start },
         };
-        let labels = Labels::new(alloc);
-        let id = ItemId(count - number);
-        list.insert(None, Item { id, time, labels })?;
+        put(alloc, &mut list, None, ItemId(count - number), time)?;
     }
     assert_eq!(rt; list.len(), count as usize);
     Ok(list)
@@ -386,13 +402,10 @@ fn change_front(rt: &impl Abort, list: &mut LevelList, alloc: Global) -> Result<
     ensures { list.new.attributes ≡ 0 }
 {
     for id in [1_000_000, 1_000_001] {
-        let labels = Labels::new(alloc);
-        let id = ItemId(id);
-        let time = NoTime;
-        list.insert(Some(0), Item { id, time, labels })?;
+        put(alloc, list, Some(0), ItemId(id), NoTime)?;
     }
     assert!(rt; list.len() > 0);
-    let taken = list.remove(0);
+    let taken = list.remove(0)?;
     assert_eq!(rt; taken.id, ItemId(1_000_001));
     Ok(())
 }
@@ -415,16 +428,17 @@ fn items_are_found_behind_a_change(rt: HostRuntime) -> Result<(), Fail> {
 fn crosses_threads<T: Send + Sync>(_value: &T) {}
 
 /// The label V, and one without a text.
-fn two_labels(alloc: Global) -> Result<Labels, Memory> {
+fn two_labels(alloc: Global) -> Result<Shared<Labels>, Memory>
+{
     let first = Text::new(alloc, "V")?;
     let second = Text::new(alloc, "")?;
     let mut labels = Labels::new(alloc);
     labels.push(first)?;
     labels.push(second)?;
-    Ok(labels)
+    Shared::new(alloc, labels)
 }
 
-fn expect_labels(rt: &impl Abort, labels: &Labels, first: &str, second: &str) {
+fn expect_labels(rt: &impl Abort, labels: &Shared<Labels>, first: &str, second: &str) {
     assert_eq!(rt; labels.len(), 2);
     assert_eq!(rt; labels.get(0).as_str(), first);
     assert_eq!(rt; labels.get(1).as_str(), second);
@@ -449,14 +463,15 @@ fn labels_are_set_and_copied(rt: HostRuntime) -> Result<(), Fail> {
     let mut labels = Labels::new(rt.alloc());
     labels.push(Text::new(rt.alloc(), "V")?)?;
     labels.push(Text::new(rt.alloc(), "")?)?;
-    let mut list = LevelList::new(rt.alloc(), LevelKind::Item, 2);
+    let labels = Shared::new(rt.alloc(), labels)?;
+    let mut list = LevelList::new(rt.alloc(), LevelKind::Item, 2)?;
     let item = Item {
         id: ItemId(7),
         time: NoTime,
         labels,
     };
     assert_eq!(rt; list.insert(None, item)?, 0);
-    list.set_label(0, 1, label);
+    list.set_label(0, 1, label)?;
     let copied = list.copy(rt.alloc())?;
     crosses_threads(&copied);
     assert_eq!(rt; copied.len(), 1);
