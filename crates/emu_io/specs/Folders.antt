@@ -1,11 +1,9 @@
 -- What stands in a folder: files and folders by their paths, whose parts are joined by `/`, which is the byte 47.
-use Rattle.std.specs.Prelude.{◌≡◌, ℕ, ◌≤◌, Bool, cond, ◌||◌, ◌&&◌, ◌==◌, nat_eq, nat_lt, nat_le}
+use Rattle.std.specs.Prelude.{◌≡◌, ℕ, ◌≤◌, Bool, cond, ◌||◌, ◌&&◌, ◌==◌, nat_eq, nat_lt, nat_le, count_by}
 use Rattle.std.specs.Prelude.{List, [], ◌∷◌, length, Option, None, Some, is_none, is_some, Result, Ok, Err, IsErrOf, ⊤}
-use Rattle.std.specs.List.{before_first, position_or_len, list_any}
-use Rattle.std.specs.Ordering.{nat_cmp}
+use Rattle.std.specs.List.{before_first, position_or_len, list_any, insert}
+use Rattle.std.specs.Ordering.{nat_cmp, is_lt}
 use Rattle.std.specs.Cmp.Lexicographic.{pointwise, slice_cmp}
-use Rattle.std.specs.declared.cmp.Ordering.{Ordering}
-use Rattle.std.specs.declared.cmp.Ordering.TheVariants.{Less, Equal, Greater}
 use Rattle.fault_counts.specs.Count.{next_count, Rose}
 use Rattle.emu_io.specs.declared.entries.FolderEntry.{FolderEntry}
 use Rattle.emu_io.specs.declared.tree.Stored.{Stored}
@@ -55,16 +53,19 @@ entry_behind s (Some rest) = Some (record { name = first_part rest; folder = has
 abbrev pub entry_of : List ℕ → Stored → Option FolderEntry
 entry_of folder s = entry_behind s (behind folder s.path)
 
--- an entry before another one, in its place, or behind it, by the order of their names
-abbrev pub placed : Ordering → FolderEntry → FolderEntry → List FolderEntry → List FolderEntry → List FolderEntry
-placed Less e x rest behind_x = e ∷ x ∷ rest
-placed Equal e x rest behind_x = record { name = x.name; folder = x.folder || e.folder } ∷ rest
-placed Greater e x rest behind_x = x ∷ behind_x
+-- whether an entry has a name
+abbrev pub is_named : List ℕ → FolderEntry → Bool
+is_named name entry = pointwise nat_eq entry.name name
 
--- entries in order of name with one more, which stands once where its name is there already
+-- whether an entry comes before a name
+abbrev pub is_before : List ℕ → FolderEntry → Bool
+is_before name entry = is_lt (slice_cmp nat_cmp entry.name name)
+
+-- Entries in order of name with one more, which stands behind those that come before its name. Where its name is there,
+-- none is added.
 abbrev pub with_entry : FolderEntry → List FolderEntry → List FolderEntry
-with_entry e [] = e ∷ []
-with_entry e (x ∷ rest) = placed (slice_cmp nat_cmp e.name x.name) e x rest (with_entry e rest)
+with_entry e entries =
+    cond (list_any (is_named e.name) entries) entries (insert entries (count_by (is_before e.name) entries) e)
 
 abbrev pub with_any : Option FolderEntry → List FolderEntry → List FolderEntry
 with_any None entries = entries

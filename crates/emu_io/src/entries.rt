@@ -238,10 +238,17 @@ impl FolderEntries {
     pub fn copy(&self, alloc: Global) -> Result<FolderEntries, Memory>
         ensures { IfOk result (λ made. made ≡ self.now) }
     {
-        let mut items = Vec::new(alloc);
-        for entry in &self.items {
-            items.push(entry.copy(alloc)?)?;
-        }
+        let items = copied(alloc, self.items.as_slice())?;
         Ok(FolderEntries { items })
     }
+}
+
+fn copied(alloc: Global, entries: &[FolderEntry]) -> Result<Vec<FolderEntry>, Memory>
+    ensures { IfOk result (λ made. made.items ≡ entries.now) }
+{
+    let mut made = Vec::with_capacity(alloc, entries.len())?;
+    'entries: for entry in entries {
+        made.push(entry.copy(alloc)?)?;
+    }
+    Ok(made)
 }

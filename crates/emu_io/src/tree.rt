@@ -1,7 +1,8 @@
 //! What a folder in memory stores, and what is found there by a path.
-ghost use Rattle.std.specs.Prelude.{◌≡◌, [], ◌∷◌, length, string_bytes, IfOk, IsErrOf, MatchOption, None, OnOk, Some};
+ghost use Rattle.std.specs.Prelude.{◌≡◌, ◌≤◌, count_by, length, IfOk, IsErrOf, MatchOption, None, OnOk, Some};
 ghost use Rattle.std.specs.List.{list_any};
-ghost use Rattle.emu_io.specs.Folders.{behind, first_part, has_parts, entry_of, with_entry, entries_below};
+ghost use Rattle.emu_io.specs.Folders.{behind, first_part, has_parts, entry_of, entries_below};
+ghost use Rattle.emu_io.specs.Folders.{is_named, is_before, with_entry};
 ghost use Rattle.emu_io.specs.Folders.{makes_folder, file_of, within, Gives, file_answer, list_answer};
 ghost use Rattle.emu_io.specs.declared.limits.TheConstants.{FILE_BYTES};
 
@@ -10,7 +11,6 @@ use crate::faults::Memory;
 use crate::folder::FolderFault;
 use crate::limits::{FILE_BYTES, FOLDER_ENTRIES};
 use std::alloc::Global;
-use std::cmp::Ordering;
 use std::marker::Model;
 
 /// The path of a file or folder, whose parts are joined by `/`. Contracts see it as the list of its
@@ -118,21 +118,38 @@ fn entry_of(alloc: Global, folder: &str, stored: &Stored) -> Result<Option<Folde
     }
 }
 
+fn is_named(entry: &FolderEntry, name: &FileName) -> bool
+    ensures { result ≡ is_named name.now entry.now }
+{
+    entry.name.as_str() == name.as_str()
+}
+
+fn is_before(entry: &FolderEntry, name: &FileName) -> bool
+    ensures { result ≡ is_before name.now entry.now }
+{
+    entry.name.cmp(name).is_lt()
+}
+
+fn is_there(entries: &[FolderEntry], name: &FileName) -> bool
+    ensures { result ≡ list_any (is_named name.now) entries.now }
+{
+    entries.iter().any(|entry| is_named(entry, name))
+}
+
+fn place_for(entries: &[FolderEntry], name: &FileName) -> usize
+    ensures place { result ≡ count_by (is_before name.now) entries.now }
+    ensures bound { result ≤ length entries.now }
+{
+    entries.iter().filter(|entry| is_before(entry, name)).count()
+}
+
 fn put_entry(entries: &mut Vec<FolderEntry>, entry: FolderEntry) -> Result<(), Memory>
     ensures { OnOk result (entries.new.items ≡ with_entry entry entries.old.items) }
 {
-    let mut at = 0;
-    'places: while at < entries.len() {
-        match entry.name.cmp(&entries[at].name) {
-            Ordering::Less => break,
-            Ordering::Equal => {
-                entries[at].folder = entries[at].folder || entry.folder;
-                return Ok(());
-            }
-            Ordering::Greater => at += 1,
-        }
+    if !is_there(entries, &entry.name) {
+        let place = place_for(entries, &entry.name);
+        entries.insert(place, entry)?;
     }
-    entries.insert(at, entry)?;
     Ok(())
 }
 
