@@ -9,11 +9,10 @@ use crate::folder::{Folder, FolderFault, count_fault, count_miss};
 use crate::limits::{FILE_BYTES, FOLDER_ENTRIES};
 use crate::whole::read_front;
 use std::alloc::Global;
-use std::fs;
 use std::fs::OpenFile;
-use std::io;
 use std::io::{ErrorKind, Read};
 use std::rt::Files;
+use std::{fs, io};
 
 // A file name that is not UTF-8 is a fault.
 impl From<io::Error> for FolderFault {

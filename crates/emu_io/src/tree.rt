@@ -140,7 +140,10 @@ fn place_for(entries: &[FolderEntry], name: &FileName) -> usize
     ensures place { result ≡ count_by (is_before name.now) entries.now }
     ensures bound { result ≤ length entries.now }
 {
-    entries.iter().filter(|entry| is_before(entry, name)).count()
+    entries
+        .iter()
+        .filter(|entry| is_before(entry, name))
+        .count()
 }
 
 fn put_entry(entries: &mut Vec<FolderEntry>, entry: FolderEntry) -> Result<(), Memory>
@@ -170,7 +173,8 @@ fn entries_below(alloc: Global, content: &[Stored], path: &str) -> Result<Folder
 fn makes_folder(stored: &Stored, path: &str) -> bool
     ensures { result ≡ makes_folder path.now stored.now }
 {
-    (stored.path.as_str() == path && stored.bytes.is_none()) || below(stored.path.as_str(), path).is_some()
+    (stored.path.as_str() == path && stored.bytes.is_none())
+        || below(stored.path.as_str(), path).is_some()
 }
 
 fn is_folder(content: &[Stored], path: &str) -> bool
@@ -180,7 +184,11 @@ fn is_folder(content: &[Stored], path: &str) -> bool
 }
 
 /// What a listing of a path answers where no call fails.
-pub(crate) fn list_of(alloc: Global, content: &[Stored], path: &str) -> Result<FolderEntries, FolderFault>
+pub(crate) fn list_of(
+    alloc: Global,
+    content: &[Stored],
+    path: &str,
+) -> Result<FolderEntries, FolderFault>
     ensures answer { Gives (list_answer path.now content.now) result }
     ensures sure { IsErrOf result FolderFault.Failed → ⊥ }
 {
@@ -216,7 +224,11 @@ fn copy_of(alloc: Global, bytes: &FileBytes) -> Result<FileBytes, FolderFault>
 }
 
 /// What a reading of a path answers where no call fails.
-pub(crate) fn read_of(alloc: Global, content: &[Stored], path: &str) -> Result<FileBytes, FolderFault>
+pub(crate) fn read_of(
+    alloc: Global,
+    content: &[Stored],
+    path: &str,
+) -> Result<FileBytes, FolderFault>
     ensures answer { Gives (file_answer path.now content.now) result }
     ensures sure { IsErrOf result FolderFault.Failed → ⊥ }
 {
