@@ -1,6 +1,8 @@
-//! Names, streams, lists, JSON views and times, with what is known of them from outside.
+//! Names, streams, folders, lists, JSON views and times, with what is known of them from outside.
 #![tactic(auto)]
 
+#[cfg(test)]
+mod folders;
 #[cfg(test)]
 mod lists;
 #[cfg(test)]

@@ -1,3 +1,4 @@
 pub mod Cause
+pub mod Folders
 pub mod Fronts
 pub mod InMemory
