@@ -1,5 +1,6 @@
 //! What no clause says: that edits of the greatest sizes succeed where memory is ample.
 use crate::made::{config, key, words};
+use db_config::Config;
 use edit_rules::{Counts, Edit, change};
 use emu_names::{Broken, Fault};
 use std::alloc::Global;
@@ -15,20 +16,29 @@ fn word<T>(ended: &Result<T, Fault>) -> &'static str {
     }
 }
 
+/// The edit that adds a bundle of so many words.
+fn bundle_of(alloc: Global, count: u32) -> Result<Edit, Fail> {
+    let key = key(alloc, "s1", "b1")?;
+    let annot = words(alloc, count)?;
+    Ok(Edit::AddBundle { key, annot })
+}
+
+/// What ends an edit of a database with so many bundles and items.
+fn ended(alloc: Global, config: &Config, counts: Counts, edit: &Edit) -> &'static str {
+    let made = change(alloc, config, counts, None, edit);
+    word(&made)
+}
+
 /// Adds one bundle of so many words to so many bundles with so many items.
-fn added(alloc: Global, bundles: u32, items: u32, more: u32) -> Result<&'static str, Fail> {
-    let config = config(alloc)?;
-    let edit = Edit::AddBundle {
-        key: key(alloc, "s1", "b1")?,
-        annot: words(alloc, more)?,
-    };
-    let made = change(alloc, &config, Counts { bundles, items }, None, &edit);
-    Ok(word(&made))
+fn added(alloc: Global, config: &Config, counts: Counts, count: u32) -> Result<&'static str, Fail> {
+    let edit = bundle_of(alloc, count)?;
+    Ok(ended(alloc, config, counts, &edit))
 }
 
 #[test]
 fn counts_keep_the_limits(rt: HostRuntime) -> Result<(), Fail> {
-    for (bundles, items, more, wanted) in [
+    let config = config(rt.alloc())?;
+    for (bundles, items, count, wanted) in [
         (0, 0, 65536, "none"),
         (0, 0, 65537, "BundleItems"),
         (9999, 1_966_080, 33920, "none"),
@@ -36,8 +46,8 @@ fn counts_keep_the_limits(rt: HostRuntime) -> Result<(), Fail> {
         (9999, 2_000_000, 0, "none"),
         (10000, 0, 0, "Bundles"),
     ] {
-        let text = added(rt.alloc(), bundles, items, more)?;
-        assert_eq!(rt; text, wanted, "{bundles} {items} {more}");
+        let text = added(rt.alloc(), &config, Counts { bundles, items }, count)?;
+        assert_eq!(rt; text, wanted, "{bundles} {items} {count}");
     }
     Ok(())
 }

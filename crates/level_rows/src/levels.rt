@@ -4,11 +4,8 @@ ghost use Rattle.std.specs.Prelude.{◌≡◌, IfOk};
 use emu_lists::Shared;
 use emu_names::{Broken, Fault, ItemId, LevelKind, Memory, Text};
 use level_items::Time::{NoTime, Point, Span};
-use level_items::{
-    Annot, AnnotItem, AnnotItems, AnnotLabel, AnnotLabels, AnnotLevel, AnnotLevels, AnnotLink,
-    AnnotLinks, Item, Labels, LevelList, Time,
-};
-use std::alloc::{AllocError, Global};
+use level_items::{Item, Labels, LevelList, Time};
+use std::alloc::Global;
 use std::process::Abort;
 use std::test::Fail;
 
@@ -427,34 +424,11 @@ fn items_are_found_behind_a_change(rt: HostRuntime) -> Result<(), Fail> {
 /// Values that go to other threads and are shared among them.
 fn crosses_threads<T: Send + Sync>(_value: &T) {}
 
-/// The label V, and one without a text.
-fn two_labels(alloc: Global) -> Result<Shared<Labels>, Memory>
-{
-    let first = Text::new(alloc, "V")?;
-    let second = Text::new(alloc, "")?;
-    let mut labels = Labels::new(alloc);
-    labels.push(first)?;
-    labels.push(second)?;
-    Shared::new(alloc, labels)
-}
-
-fn expect_labels(rt: &impl Abort, labels: &Shared<Labels>, first: &str, second: &str) {
+/// Checks that there are these two labels.
+fn expect_labels(rt: &impl Abort, labels: &Labels, first: &str, second: &str) {
     assert_eq!(rt; labels.len(), 2);
     assert_eq!(rt; labels.get(0).as_str(), first);
     assert_eq!(rt; labels.get(1).as_str(), second);
-}
-
-#[test]
-fn items_are_copied(rt: HostRuntime) -> Result<(), Fail> {
-    let labels = two_labels(rt.alloc())?;
-    let item = Item {
-        id: ItemId(7),
-        time: NoTime,
-        labels,
-    };
-    let copied = item.copy(rt.alloc())?;
-    expect_labels(&rt, &copied.labels, "V", "");
-    Ok(())
 }
 
 #[test]
@@ -475,88 +449,6 @@ fn labels_are_set_and_copied(rt: HostRuntime) -> Result<(), Fail> {
     let copied = list.copy(rt.alloc())?;
     crosses_threads(&copied);
     assert_eq!(rt; copied.len(), 1);
-    expect_labels(&rt, &copied.get(0).labels, "V", "m");
-    Ok(())
-}
-
-fn labels_of(alloc: Global, name: &str, value: &str) -> Result<AnnotLabels, Memory> {
-    let name = Text::new(alloc, name)?;
-    let value = Text::new(alloc, value)?;
-    let mut labels = AnnotLabels::new(alloc);
-    labels.push(AnnotLabel { name, value })?;
-    Ok(labels)
-}
-
-/// The segment V.
-fn items_of_annot(alloc: Global) -> Result<AnnotItems, Memory> {
-    let labels = labels_of(alloc, "Phonetic", "V")?;
-    let mut items = AnnotItems::new(alloc);
-    items.push(AnnotItem {
-        id: ItemId(1),
-        time: Span {
-            start: 3749,
-            dur: 1389,
-        },
-        labels,
-    })?;
-    Ok(items)
-}
-
-fn levels_of_annot(alloc: Global) -> Result<AnnotLevels, Memory> {
-    let items = items_of_annot(alloc)?;
-    let name = Text::new(alloc, "Phonetic")?;
-    let mut levels = AnnotLevels::new(alloc);
-    levels.push(AnnotLevel {
-        name,
-        kind: LevelKind::Segment,
-        items,
-    })?;
-    Ok(levels)
-}
-
-fn links_of_annot(alloc: Global) -> Result<AnnotLinks, Memory> {
-    let mut links = AnnotLinks::new(alloc);
-    links.push(AnnotLink {
-        from: ItemId(2),
-        to: ItemId(1),
-    })?;
-    Ok(links)
-}
-
-fn annot(alloc: Global) -> Result<Annot, Memory> {
-    let levels = levels_of_annot(alloc)?;
-    let links = links_of_annot(alloc)?;
-    let annotates = Text::new(alloc, "b1.wav")?;
-    Ok(Annot {
-        annotates,
-        rate: 20000,
-        levels,
-        links,
-    })
-}
-
-/// What an annotation of one item and one link says.
-fn annot_told(alloc: Global, annot: &Annot) -> Result<String, AllocError> {
-    let ([level], [link]) = (annot.levels.as_slice(), annot.links.as_slice()) else {
-        return String::from_str(alloc, "not one level and one link");
-    };
-    let [item] = level.items.as_slice() else {
-        return String::from_str(alloc, "not one item");
-    };
-    let [label] = item.labels.as_slice() else {
-        return String::from_str(alloc, "not one label");
-    };
-    format!(in alloc;
-        "{} {} {}.{}={} {}-{}",
-        annot.annotates, annot.rate, level.name, item.id.0, label.value, link.from.0, link.to.0
-    )
-}
-
-#[test]
-fn annotations_are_copied(rt: HostRuntime) -> Result<(), Fail> {
-    let copied = annot(rt.alloc())?.copy(rt.alloc())?;
-    crosses_threads(&copied);
-    let told = annot_told(rt.alloc(), &copied)?;
-    assert_eq!(rt; told.as_str(), "b1.wav 20000 Phonetic.1=V 2-1");
+    expect_labels(&rt, copied.get(0).labels.as_ref(), "V", "m");
     Ok(())
 }
