@@ -1,10 +1,7 @@
 -- A query is the same whatever stands behind it, and so brackets round it change nothing.
-use Rattle.std.proofs.Common.{◌≡◌, ◌⊎◌, inl, inr, ℕ, Bool, true, List, [], ◌∷◌, ◌++◌, Some, refl, sym, ap, subst, ◌∙◌, append_assoc}
+use Rattle.std.proofs.Common.{◌≡◌, inl, inr, ℕ, Bool, true, List, [], ◌∷◌, ◌++◌, refl, sym, ap, subst, ◌∙◌, append_assoc}
 use Rattle.std.proofs.lemmas.List.{append-nil, append_cancel_right}
-use Rattle.eql_syntax.specs.declared.query.Op.{Op}
 use Rattle.eql_syntax.specs.declared.query.Term.{Term}
-use Rattle.eql_syntax.specs.declared.query.Term.TheVariants as terms
-use Rattle.eql_syntax.specs.declared.token.Sign.{Sign}
 use Rattle.eql_syntax.specs.declared.token.Sign.TheVariants as signs
 use Rattle.eql_syntax.specs.declared.token.Token.{Token}
 use Rattle.eql_syntax.specs.declared.token.Token.TheVariants.{Open, Close, LeftParen, RightParen, Comma, And, Or, Above, Arrow, Hash, Sign as Between, Word}
@@ -147,8 +144,7 @@ two_inside : (between : Token) {us : List Token} {left : Tree} {mid : List Token
     (ts : List Token) × ((us ≡ ts ++ Close ∷ []) × SpellTwo between ts left right)
 two_inside between first second =
     let l = in_front first in
-    let r = in_front second in
-    (
+    let r = in_front second in (
       l.0 ++ between ∷ r.0,
       (
         l.1.0 ∙ ap (λ us. l.0 ++ between ∷ us) r.1.0 ∙ sym (append_assoc l.0 (between ∷ r.0) (Close ∷ [])),
@@ -205,7 +201,7 @@ two_spelled between ts left right q parts make =
     let front = parts.0 in
     let back = parts.1.0 in
     let same : ts ++ Close ∷ [] ≡ front ++ (between ∷ (back ++ Close ∷ [])) =
-        ap (λ us. us ++ Close ∷ []) parts.1.1.0 ∙ append_assoc front (between ∷ back) (Close ∷ []) in
+    ap (λ us. us ++ Close ∷ []) parts.1.1.0 ∙ append_assoc front (between ∷ back) (Close ∷ []) in
     subst (λ us. Spells (Open ∷ us) q) (sym same)
     (make (front ++ (between ∷ (back ++ Close ∷ []))) (back ++ Close ∷ [])
     (before front left (between ∷ (back ++ Close ∷ [])) parts.1.1.1.0) (before back right (Close ∷ []) parts.1.1.1.1))

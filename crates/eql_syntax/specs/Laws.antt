@@ -30,7 +30,7 @@ BracketsChangeNothing =
 abbrev pub SpellTwo : Token → List Token → Tree → Tree → Type 0
 SpellTwo between ts left right =
     (front : List Token) × ((back : List Token) × (
-      (ts ≡ front ++ between ∷ back) × (Spells front left × Spells back right)
+    (ts ≡ front ++ between ∷ back) × (Spells front left × Spells back right)
     ))
 
 -- the tokens spell the query, or they spell its two parts with `->` or `^` between them
