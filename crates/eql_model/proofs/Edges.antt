@@ -91,8 +91,7 @@ not_medial c b upper lower item h =
     let start = has_place b.links uppers lowers Start true x in
     let end = has_place b.links uppers lowers End true x in
     let is_above = list_any (λ a. dominates b.links a x) uppers in
-    let medial = has_place b.links uppers lowers Medial true x in
-    (
+    let medial = has_place b.links uppers lowers Medial true x in (
       λ is. let zero = edge ∙ or_left start end is in (zero, not_one is_above medial zero),
       λ is. let zero = edge ∙ or_right start end is in (zero, not_one is_above medial zero),
     )
@@ -118,8 +117,7 @@ told_below c b upper lower item place =
     let x = item.id.0 in
     let one = with_one b.links uppers lowers place x in
     let zero = with_zero b.links uppers lowers place x in
-    let g = at_place b.links lowers x place in
-    (
+    let g = at_place b.links lowers x place in (
       λ h. one ∙ told_by g (above b upper item) h ∙ ap not (sym zero),
       λ h. let neither = neither_by g (above b upper item) h in (one ∙ neither.0, zero ∙ neither.1),
     )

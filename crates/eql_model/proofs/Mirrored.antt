@@ -1,5 +1,5 @@
 -- A dominance and its mirror have the same results, where one of the two parts has the mark.
-use Rattle.std.proofs.Common.{◌≡◌, ℕ, ◌<◌, Bool, true, false, ◌||◌, ◌&&◌, not, List, [], ◌∷◌, map, length, Option, None, Some, refl, sym, ap, ◌∙◌, arith}
+use Rattle.std.proofs.Common.{◌≡◌, ℕ, Bool, true, false, ◌||◌, ◌&&◌, not, List, [], ◌∷◌, map, length, Option, None, Some, refl, sym, ap, ◌∙◌, arith}
 use Rattle.std.specs.Prelude.{All, unwrap_or}
 use Rattle.std.specs.List.{flat_map, list_any}
 use Rattle.std.specs.Option.{option_or, is_some}
@@ -168,10 +168,10 @@ results_by c b q marked = λ i. map (span_at (shown_place q)) (each_once (flat_m
 pub mirrored : MirrorsAgree
 mirrored c b p q one =
     let place : shown_place (dominance p q) ≡ shown_place (dominance q p) =
-        place_turned (mark_place p) (mark_place q) (first_place p) (first_place q)
-        (mark_some p ∙ one ∙ ap not (sym (mark_some q))) in
+    place_turned (mark_place p) (mark_place q) (first_place p) (first_place q)
+    (mark_some p ∙ one ∙ ap not (sym (mark_some q))) in
     let marks = same_once (flat_map (shown true) (tuples c b (dominance p q))) (flat_map (shown true) (tuples c b (dominance q p)))
-        (marks_turned c b p q one) in
+    (marks_turned c b p q one) in
     results_by c b (dominance p q) (one_of (is_marked p) (is_marked q) one)
     ∙ (λ i. map (span_at (place i)) (marks i))
     ∙ sym (results_by c b (dominance q p) (one_of (is_marked q) (is_marked p) (turned (is_marked p) (is_marked q) one)))

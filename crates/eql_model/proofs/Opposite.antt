@@ -1,12 +1,11 @@
 -- Of a label test and its opposite, an item meets exactly one.
-use Rattle.std.proofs.Common.{◌≡◌, ℕ, zero, suc, ◌+◌, ◌<◌, ◌≤◌, Bool, true, false, cond, ◌||◌, ◌&&◌, not, List, [], ◌∷◌, map, length, None, refl, sym, ap, ◌∙◌, arith}
-use Rattle.std.specs.List.{filter, list_any, enumerate_from}
+use Rattle.std.proofs.Common.{◌≡◌, ℕ, zero, suc, ◌+◌, ◌<◌, Bool, true, false, cond, ◌||◌, ◌&&◌, not, List, [], ◌∷◌, map, length, refl, sym, ap, ◌∙◌, arith}
+use Rattle.std.specs.List.{filter, enumerate_from}
 use Rattle.std.specs.BTreeMap.{is_at}
 use Rattle.std.specs.declared.cmp.Ordering.{Ordering}
 use Rattle.std.specs.declared.cmp.Ordering.TheVariants.{Less, Equal, Greater}
 use Rattle.std.specs.Ordering.{is_eq, ordering_reverse}
 use Rattle.level_items.specs.declared.items.Item.{Item}
-use Rattle.db_config.specs.declared.parts.AttributePlace.{AttributePlace}
 use Rattle.eql_syntax.specs.declared.query.Op.{Op}
 use Rattle.eql_syntax.specs.declared.query.Op.TheVariants.{Is, IsNot, Like, NotLike}
 use Rattle.eql_resolve.specs.Asked.{test, AskedTerm}
