@@ -1,11 +1,14 @@
 pub mod Between
 pub mod Conditions
 pub mod Covers
+mod Edges
 pub mod Extents
 pub mod Fitting
 pub mod Gathers
 pub mod MadeRows
 pub mod Members
+mod Mirrored
+mod Opposite
 pub mod Places
 pub mod Ranges
 pub mod Shown

@@ -60,18 +60,18 @@ or_swap true false c = refl
 or_swap false true c = refl
 or_swap false false c = refl
 
-has_by : (o : Ordering) (q t x : Tuple) (xs ys : List Tuple) → (o ≡ Equal → t ≡ x) →
-    has ys q ≡ (is_at (tuple_cmp q) t || has xs q) →
-    has (match_ordering o (t ∷ x ∷ xs) (x ∷ xs) (x ∷ ys)) q ≡ (is_at (tuple_cmp q) t || has (x ∷ xs) q)
-has_by Less q t x xs ys same rest = refl
-has_by Equal q t x xs ys same rest =
-    or_again (is_at (tuple_cmp q) x) (has xs q) ∙ ap (λ y. is_at (tuple_cmp q) y || has (x ∷ xs) q) (sym (same refl))
-has_by Greater q t x xs ys same rest =
-    ap (λ b. is_at (tuple_cmp q) x || b) rest ∙ or_swap (is_at (tuple_cmp q) x) (is_at (tuple_cmp q) t) (has xs q)
+any_by : (f : Tuple → Bool) (o : Ordering) (t x : Tuple) (xs ys : List Tuple) → (o ≡ Equal → t ≡ x) →
+    list_any f ys ≡ (f t || list_any f xs) →
+    list_any f (match_ordering o (t ∷ x ∷ xs) (x ∷ xs) (x ∷ ys)) ≡ (f t || list_any f (x ∷ xs))
+any_by f Less t x xs ys same rest = refl
+any_by f Equal t x xs ys same rest =
+    or_again (f x) (list_any f xs) ∙ ap (λ y. f y || list_any f (x ∷ xs)) (sym (same refl))
+any_by f Greater t x xs ys same rest = ap (λ b. f x || b) rest ∙ or_swap (f x) (f t) (list_any f xs)
 
-has_insert : (set : List Tuple) (t q : Tuple) → has (insert_key tuple_cmp set t) q ≡ (is_at (tuple_cmp q) t || has set q)
-has_insert [] t q = refl
-has_insert (x ∷ xs) t q = has_by (tuple_cmp t x) q t x xs (insert_key tuple_cmp xs t) (same_tuple t x) (has_insert xs t q)
+any_insert : (f : Tuple → Bool) (set : List Tuple) (t : Tuple) → list_any f (insert_key tuple_cmp set t) ≡ (f t || list_any f set)
+any_insert f [] t = refl
+any_insert f (x ∷ xs) t =
+    any_by f (tuple_cmp t x) t x xs (insert_key tuple_cmp xs t) (same_tuple t x) (any_insert f xs t)
 
 or_move : (a b c : Bool) → ((a || b) || c) ≡ (b || (a || c))
 or_move true true c = refl
@@ -79,47 +79,58 @@ or_move true false c = refl
 or_move false true c = refl
 or_move false false c = refl
 
-pub has_put : (set ts : List Tuple) (q : Tuple) → has (put_all set ts) q ≡ (has set q || has ts q)
-has_put set [] q = or_none (has set q)
+any_put : (f : Tuple → Bool) (set ts : List Tuple) → list_any f (put_all set ts) ≡ (list_any f set || list_any f ts)
+any_put f set [] = or_none (list_any f set)
   where
     or_none : (b : Bool) → b ≡ (b || false)
     or_none true = refl
     or_none false = refl
-has_put set (t ∷ ts) q =
-    has_put (insert_key tuple_cmp set t) ts q ∙ ap (λ b. b || has ts q) (has_insert set t q)
-    ∙ or_move (is_at (tuple_cmp q) t) (has set q) (has ts q)
+any_put f set (t ∷ ts) =
+    any_put f (insert_key tuple_cmp set t) ts ∙ ap (λ b. b || list_any f ts) (any_insert f set t)
+    ∙ or_move (f t) (list_any f set) (list_any f ts)
+
+pub any_once : (f : Tuple → Bool) (ts : List Tuple) → list_any f (each_once ts) ≡ list_any f ts
+any_once f ts = any_put f [] ts
+
+pub has_put : (set ts : List Tuple) (q : Tuple) → has (put_all set ts) q ≡ (has set q || has ts q)
+has_put set ts q = any_put (is_at (tuple_cmp q)) set ts
 
 pub has_once : (ts : List Tuple) (q : Tuple) → has (each_once ts) q ≡ has ts q
-has_once ts q = has_put [] ts q
+has_once ts q = any_once (is_at (tuple_cmp q)) ts
 
 -- ---- joins
 
-pair_by : (b : Bool) (q r : Tuple) (make : Tuple → Tuple) (kept : List Tuple) →
-    has (map make (cond b (r ∷ kept) kept)) q ≡ ((b && is_at (tuple_cmp q) (make r)) || has (map make kept) q)
-pair_by true q r make kept = refl
-pair_by false q r make kept = refl
+pair_by : (f : Tuple → Bool) (b : Bool) (r : Tuple) (make : Tuple → Tuple) (kept : List Tuple) →
+    list_any f (map make (cond b (r ∷ kept) kept)) ≡ ((b && f (make r)) || list_any f (map make kept))
+pair_by f true r make kept = refl
+pair_by f false r make kept = refl
 
-pairs_has : (goes : Tuple → Tuple → Bool) (make : Tuple → Tuple → Tuple) (l q : Tuple) (rights : List Tuple) →
-    has (pairs_with goes make rights l) q ≡ list_any (λ r. goes l r && is_at (tuple_cmp q) (make l r)) rights
-pairs_has goes make l q [] = refl
-pairs_has goes make l q (r ∷ rights) =
-    pair_by (goes l r) q r (make l) (filter (goes l) rights)
-    ∙ ap (λ b. (goes l r && is_at (tuple_cmp q) (make l r)) || b) (pairs_has goes make l q rights)
+pairs_any : (f : Tuple → Bool) (goes : Tuple → Tuple → Bool) (make : Tuple → Tuple → Tuple) (l : Tuple) (rights : List Tuple) →
+    list_any f (pairs_with goes make rights l) ≡ list_any (λ r. goes l r && f (make l r)) rights
+pairs_any f goes make l [] = refl
+pairs_any f goes make l (r ∷ rights) =
+    pair_by f (goes l r) r (make l) (filter (goes l) rights)
+    ∙ ap (λ b. (goes l r && f (make l r)) || b) (pairs_any f goes make l rights)
 
-all_has : (goes : Tuple → Tuple → Bool) (make : Tuple → Tuple → Tuple) (q : Tuple) (rights lefts : List Tuple) →
-    has (flat_map (pairs_with goes make rights) lefts) q
-    ≡ list_any (λ l. list_any (λ r. goes l r && is_at (tuple_cmp q) (make l r)) rights) lefts
-all_has goes make q rights [] = refl
-all_has goes make q rights (l ∷ lefts) =
-    ap (λ ts. has ts q) (flat_map-cons (pairs_with goes make rights) l lefts)
-    ∙ list_any-append (is_at (tuple_cmp q)) (pairs_with goes make rights l) (flat_map (pairs_with goes make rights) lefts)
-    ∙ (λ i. pairs_has goes make l q rights i || all_has goes make q rights lefts i)
+all_any : (f : Tuple → Bool) (goes : Tuple → Tuple → Bool) (make : Tuple → Tuple → Tuple) (rights lefts : List Tuple) →
+    list_any f (flat_map (pairs_with goes make rights) lefts)
+    ≡ list_any (λ l. list_any (λ r. goes l r && f (make l r)) rights) lefts
+all_any f goes make rights [] = refl
+all_any f goes make rights (l ∷ lefts) =
+    ap (list_any f) (flat_map-cons (pairs_with goes make rights) l lefts)
+    ∙ list_any-append f (pairs_with goes make rights l) (flat_map (pairs_with goes make rights) lefts)
+    ∙ (λ i. pairs_any f goes make l rights i || all_any f goes make rights lefts i)
+
+pub joined_any : (f : Tuple → Bool) (goes : Tuple → Tuple → Bool) (make : Tuple → Tuple → Tuple) (lefts rights : List Tuple) →
+    list_any f (joined goes make lefts rights)
+    ≡ list_any (λ l. list_any (λ r. goes l r && f (make l r)) rights) lefts
+joined_any f goes make lefts rights =
+    any_once f (flat_map (pairs_with goes make rights) lefts) ∙ all_any f goes make rights lefts
 
 pub joined_has : (goes : Tuple → Tuple → Bool) (make : Tuple → Tuple → Tuple) (lefts rights : List Tuple) (q : Tuple) →
     has (joined goes make lefts rights) q
     ≡ list_any (λ l. list_any (λ r. goes l r && is_at (tuple_cmp q) (make l r)) rights) lefts
-joined_has goes make lefts rights q =
-    has_once (flat_map (pairs_with goes make rights) lefts) q ∙ all_has goes make q rights lefts
+joined_has goes make lefts rights q = joined_any (is_at (tuple_cmp q)) goes make lefts rights
 
 -- ---- order
 

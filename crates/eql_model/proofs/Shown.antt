@@ -83,7 +83,7 @@ kept_marks : (b : Bool) (P : Tuple → Type 0) (f : ℕ × Item → Tuple) (at :
 kept_marks true P f at kept one rest = All-cons P (f at) (map f kept) one rest
 kept_marks false P f at kept one rest = rest
 
-singles_marks : (n : ℕ) (P : Tuple → Type 0) (marked : Bool) (p : ℕ × Item → Bool) → ((k : ℕ) → k < n → P (single marked k)) →
+pub singles_marks : (n : ℕ) (P : Tuple → Type 0) (marked : Bool) (p : ℕ × Item → Bool) → ((k : ℕ) → k < n → P (single marked k)) →
     (k : ℕ) (items : List Item) → k + length items ≤ n →
     All P (map (λ (e : ℕ × Item). single marked e.0) (filter p (enumerate_from k items)))
 singles_marks n P marked p each k [] h = All-nil P

@@ -1,17 +1,25 @@
--- What sets of tuples, joins and results come to, each law said by itself.
-use Rattle.std.specs.Prelude.{◌≡◌, ◌&&◌, Bool, List}
-use Rattle.std.specs.List.{list_any}
+-- What sets of tuples, joins and results come to, and what a user can check of two queries that go
+-- together (EMU-SDMS Manual, "The EMU Query Language (EQL)"), each law said by itself.
+use Rattle.std.specs.Prelude.{◌≡◌, ◌≤◌, ◌<◌, ◌&&◌, ◌||◌, not, ℕ, Bool, true, false, List, [], ◌∷◌, length}
+use Rattle.std.specs.List.{list_any, filter}
 use Rattle.std.specs.List.Sorted.{IsStrictlySortedBy}
 use Rattle.std.specs.BTreeMap.{is_at}
+use Rattle.level_items.specs.declared.items.Item.{Item}
+use Rattle.db_config.specs.declared.parts.AttributePlace.{AttributePlace}
 use Rattle.db_config.specs.declared.parts.ConfigParts.{ConfigParts}
 use Rattle.bundle_state.specs.Bundle.{BundleParts}
-use Rattle.eql_resolve.specs.Asked.{AskedQuery, level_of, result_level, AreOnOneLevel}
+use Rattle.hier_closure.specs.Dominance.{dominates, ids_at}
+use Rattle.eql_syntax.specs.declared.query.Op.{Op}
+use Rattle.eql_syntax.specs.declared.query.Op.TheVariants.{Is, IsNot, Like, NotLike}
+use Rattle.eql_syntax.specs.declared.query.Place.{Place}
+use Rattle.eql_syntax.specs.declared.query.Place.TheVariants.{Start, Medial, End}
+use Rattle.eql_resolve.specs.Asked.{test, position, AskedQuery, terms, dominance, is_marked, level_of, result_level, AreOnOneLevel}
 use Rattle.eql_resolve.specs.Sound.{IsQueryOf}
 use Rattle.eql_model.specs.declared.tuple.Tuple.{Tuple}
 use Rattle.eql_model.specs.Sets.{tuple_cmp, has, each_once}
 use Rattle.eql_model.specs.Tuples.{joined}
-use Rattle.eql_model.specs.Meaning.{tuples, LieOn}
-use Rattle.eql_model.specs.Results.{results, AreThere}
+use Rattle.eql_model.specs.Meaning.{items_at, meets, tuples, LieOn}
+use Rattle.eql_model.specs.Results.{bare, results, AreThere}
 
 -- the set of some tuples has those and no others
 abbrev pub SetsHaveTheirTuples : Type 0
@@ -40,3 +48,72 @@ abbrev pub ResultsAreThere : Type 0
 ResultsAreThere =
     (c : ConfigParts) (b : BundleParts) (q : AskedQuery) →
     IsQueryOf c q → AreOnOneLevel q → AreThere c b (result_level q) (results c b q)
+
+-- ---- dominance
+
+-- a dominance has the same results as the one with its two parts in each other's place, where one of
+-- the two parts has the mark: `[A == a ^ #B == b]` and `[#B == b ^ A == a]`
+abbrev pub MirrorsAgree : Type 0
+MirrorsAgree =
+    (c : ConfigParts) (b : BundleParts) (p q : AskedQuery) →
+    is_marked p ≡ not (is_marked q) → results c b (dominance p q) ≡ results c b (dominance q p)
+
+-- ---- positions
+
+-- the items of a level, by their ids, that dominate an item
+abbrev pub above : BundleParts → ℕ → Item → List ℕ
+above b upper item = filter (λ a. dominates b.links a item.id.0) (ids_at b.levels upper)
+
+-- an item meets the test of its place below the items of an upper level with 1 (true) or with 0 (false)
+abbrev pub is_placed : ConfigParts → BundleParts → ℕ → AttributePlace → Item → Place → Bool → Bool
+is_placed c b upper lower item place wanted = meets c b (position false place upper lower wanted) item
+
+-- under one item at most, an item that is the first or the last is not between the two: where it meets
+-- `Start(..) == 1` it meets `Medial(..) == 0` and not `Medial(..) == 1`, and so where it meets `End(..) == 1`
+abbrev pub EdgesAreNotMedial : Type 0
+EdgesAreNotMedial =
+    (c : ConfigParts) (b : BundleParts) (upper : ℕ) (lower : AttributePlace) (item : Item) →
+    let placed = is_placed c b upper lower item in
+    length (above b upper item) ≤ 1 →
+    (placed Start true ≡ true → (placed Medial false ≡ true) × (placed Medial true ≡ false))
+    × (placed End true ≡ true → (placed Medial false ≡ true) × (placed Medial true ≡ false))
+
+-- under one item at most, an item meets `Medial(..) == 0` exactly where it is the first or the last
+abbrev pub MedialIsNoEdge : Type 0
+MedialIsNoEdge =
+    (c : ConfigParts) (b : BundleParts) (upper : ℕ) (lower : AttributePlace) (item : Item) →
+    let placed = is_placed c b upper lower item in
+    length (above b upper item) ≤ 1 → placed Medial false ≡ (placed Start true || placed End true)
+
+-- an item that some item of the upper level dominates meets one of the tests with 1 and with 0, and an
+-- item that none dominates meets neither
+abbrev pub PlacesAreToldBelow : Type 0
+PlacesAreToldBelow =
+    (c : ConfigParts) (b : BundleParts) (upper : ℕ) (lower : AttributePlace) (item : Item) (place : Place) →
+    let placed = is_placed c b upper lower item place in
+    (0 < length (above b upper item) → placed true ≡ not (placed false))
+    × (length (above b upper item) ≡ 0 → (placed true ≡ false) × (placed false ≡ false))
+
+-- ---- label tests
+
+-- the operator that finds what another one does not: `!=` for `==`, `!~` for `=~`
+abbrev pub opposite : Op → Op
+opposite Is = IsNot
+opposite IsNot = Is
+opposite Like = NotLike
+opposite NotLike = Like
+
+-- an item meets exactly one of a label test and its opposite
+abbrev pub TestsAreOpposite : Type 0
+TestsAreOpposite =
+    (c : ConfigParts) (b : BundleParts) (marked : Bool) (place : AttributePlace) (op : Op)
+    (labels : List (List ℕ)) (item : Item) →
+    meets c b (test marked place (opposite op) labels) item ≡ not (meets c b (test marked place op labels) item)
+
+-- each item of a level is among the tuples of exactly one of a label test and its opposite
+abbrev pub QueriesAreOpposite : Type 0
+QueriesAreOpposite =
+    (c : ConfigParts) (b : BundleParts) (place : AttributePlace) (op : Op) (labels : List (List ℕ)) (at : ℕ) →
+    at < length (items_at b.levels place.level) →
+    has (tuples c b (terms (test false place (opposite op) labels ∷ []))) (bare at at)
+    ≡ not (has (tuples c b (terms (test false place op labels ∷ []))) (bare at at))

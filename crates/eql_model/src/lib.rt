@@ -24,8 +24,9 @@ pub use answer::{answer_plain, match_plain};
 pub use faults::MatchFault;
 pub use gathered::Gathered;
 pub use laws::{
-    joins_are_pairs, results_are_there, sets_are_in_order, sets_have_their_tuples,
-    tuples_lie_on_level,
+    edges_are_not_medial, joins_are_pairs, medial_is_no_edge, mirrors_agree, places_are_told_below,
+    queries_are_opposite, results_are_there, sets_are_in_order, sets_have_their_tuples,
+    tests_are_opposite, tuples_lie_on_level,
 };
 pub use row::{Row, SegmentList};
 pub use rows::rows_of;

@@ -1,6 +1,7 @@
 mod Accepts
 mod Behind
 mod Cuts
+mod Enclosed
 mod Exact
 mod Faults
 mod Limits

@@ -8,3 +8,4 @@ pub mod Reading
 pub mod View
 pub mod Answer
 pub mod Print
+pub mod Laws

@@ -3,6 +3,7 @@
 #![tactic(auto)]
 
 mod crossing;
+mod laws;
 mod lexer;
 mod machine;
 mod print;
@@ -12,6 +13,9 @@ mod token;
 mod words;
 
 pub use crossing::queries_cross_threads;
+pub use laws::{
+    brackets_are_closed, brackets_change_nothing, brackets_hold_one_or_two, queries_stand_anywhere,
+};
 pub use lexer::read_tokens;
 pub use print::print_query;
 pub use query::{Compare, Op, Place, Query, QueryFault, Term, Terms, Words};
