@@ -3,7 +3,7 @@
 use eql_resolve::{PrepareFault, prepare};
 use eql_syntax::QueryFault;
 use label_match::{ListMaker, PatternMaker, RegexMaker};
-use std::alloc::Global;
+use std::alloc::{AllocError, Global};
 use std::test::Fail;
 
 /// A text, the one call of the maker that is refused, counted from 1, and the number of patterns.
@@ -100,5 +100,36 @@ fn patterns_stand_in_the_order_of_the_text(rt: HostRuntime) -> Result<(), Fail> 
         are_patterns_of(rt.alloc(), text, &["a", "b", "c", "e", "f", ""]),
         Ok(true)
     );
+    Ok(())
+}
+
+/// A test for one pattern of so many groups in one another.
+fn grouped(alloc: Global, count: usize) -> Result<String, AllocError> {
+    let mut text = String::new(alloc);
+    text.push_str("A =~ '")?;
+    for _ in 0..count {
+        text.push('(')?;
+    }
+    text.push('a')?;
+    for _ in 0..count {
+        text.push(')')?;
+    }
+    text.push('\'')?;
+    Ok(text)
+}
+
+/// 2,044 groups fill the 4,096 bytes of a text; patterns are nested 250 deep at most.
+#[test]
+fn groups_in_one_another_have_a_limit(rt: HostRuntime) -> Result<(), Fail> {
+    for (count, wanted) in [
+        (0, Ok(1)),
+        (100, Ok(1)),
+        (2044, Err(PrepareFault::BadPattern(0))),
+    ] {
+        let text = grouped(rt.alloc(), count)?;
+        let mut maker = RegexMaker::new();
+        let found = pattern_count(rt.alloc(), &mut maker, text.as_str());
+        assert!(rt; found == wanted, "{count}");
+    }
     Ok(())
 }
