@@ -88,6 +88,7 @@ impl NamePieces {
     }
 
     /// Makes the pieces anew, unless these are the names of the row. The only refusal is want of memory.
+    #[tactic(auto, using(crate::proofs::Plain::same_names))]
     pub(crate) fn turn_to(&mut self, alloc: Global, row: &Row) -> Result<(), Memory>
         ensures { OnOk result (self.new ≡ names_of row.now) }
     {

@@ -22,10 +22,11 @@ fn push_front(
 {
     out.push_str(pieces.head())?;
     push_or_null(out, row.end)?;
-    push_number(out, ",\"endItem\":", u64::from(row.end_item.0))?;
-    push_number(out, ",\"endPos\":", u64::from(row.end_pos))?;
+    push_number(out, ",\"endItem\":", row.end_item.0 as u64)?;
+    push_number(out, ",\"endPos\":", row.end_pos as u64)?;
     out.push_str(",\"labels\":")?;
-    push_quoted(out, alloc, row.labels.as_str())
+    push_quoted(out, alloc, row.labels.as_str())?;
+    Ok(())
 }
 
 /// Writes a row from the level to the first sample. The only refusal is want of memory.
@@ -35,9 +36,10 @@ fn push_samples(out: &mut String, pieces: &NamePieces, row: &Row) -> Result<(), 
 {
     out.push_str(pieces.before_sample())?;
     push_or_null(out, row.sample_end)?;
-    push_number(out, ",\"sampleRate\":", u64::from(row.rate))?;
+    push_number(out, ",\"sampleRate\":", row.rate as u64)?;
     out.push_str(",\"sampleStart\":")?;
-    push_or_null(out, row.sample_start)
+    push_or_null(out, row.sample_start)?;
+    Ok(())
 }
 
 /// Writes a row from the session to the closing brace. The only refusal is want of memory.
@@ -47,8 +49,8 @@ fn push_back(out: &mut String, pieces: &NamePieces, row: &Row) -> Result<(), Mem
 {
     out.push_str(pieces.before_start())?;
     push_or_null(out, row.start)?;
-    push_number(out, ",\"startItem\":", u64::from(row.start_item.0))?;
-    push_number(out, ",\"startPos\":", u64::from(row.start_pos))?;
+    push_number(out, ",\"startItem\":", row.start_item.0 as u64)?;
+    push_number(out, ",\"startPos\":", row.start_pos as u64)?;
     out.push_str("}")?;
     Ok(())
 }
@@ -65,7 +67,8 @@ fn push_row(
 {
     push_front(out, alloc, pieces, row)?;
     push_samples(out, pieces, row)?;
-    push_back(out, pieces, row)
+    push_back(out, pieces, row)?;
+    Ok(())
 }
 
 /// Writes the next row, behind a comma where one stands before. The only refusal is want of memory.
@@ -81,7 +84,8 @@ fn push_next(
 {
     pieces.turn_to(alloc, row)?;
     push_comma(out, later)?;
-    push_row(out, alloc, pieces, row)
+    push_row(out, alloc, pieces, row)?;
+    Ok(())
 }
 
 /// Writes rows with a comma between each two. The only refusal is want of memory.
