@@ -1,6 +1,6 @@
 -- Rows that are taken from the back, one after another.
-use Rattle.std.proofs.Common.{◌≡◌, ◌<◌, ◌≤◌, ◌+◌, ◌-◌, ℕ, suc, List, [], ◌∷◌, ◌++◌, Option, Some, None, length, get_or, take, drop, reverse, slice_get, refl, ap, sym, ◌∙◌, arith, append_assoc}
-use Rattle.std.specs.List.{remove, flat_map}
+use Rattle.std.proofs.Common.{◌≡◌, ◌<◌, ◌-◌, ℕ, suc, List, [], ◌∷◌, ◌++◌, Option, Some, length, get_or, take, drop, reverse, slice_get, ap, sym, ◌∙◌, arith, append_assoc}
+use Rattle.std.specs.List.{remove}
 use Rattle.std.proofs.Math.ListN.{drop_of_length-le}
 use Rattle.std.proofs.Math.Seq.{drop-cons}
 use Rattle.std.proofs.lemmas.Grind.{flat_map-append}
@@ -17,22 +17,26 @@ pub last_out : (rows : List Row) (row : Row) → slice_get rows (length rows - 1
 last_out rows row at =
     let i = length rows - 1 in
     let within : i < length rows = slice_get_within rows i row at in
-    let here : get_or rows i row ≡ row = sym (unwrap_or-slice_get rows i row) ∙ ap (λ (o : Option Row). unwrap_or o row) at in
+    let here : get_or rows i row ≡ row = sym (unwrap_or-slice_get rows i row) ∙ ap (λ
+    (o : Option Row). unwrap_or o row) at in
     let past : drop (suc i) rows ≡ [] = drop_of_length-le rows {i = suc i} (omega arith) in
     let split : take i rows ++ row ∷ [] ≡ rows =
-      ap (λ (x : Row). take i rows ++ x ∷ []) (sym here)
-      ∙ ap (λ (end : List Row). take i rows ++ get_or rows i row ∷ end) (sym past)
-      ∙ ap (λ (end : List Row). take i rows ++ end) (sym (drop-cons rows i row within))
-      ∙ take-append-drop i rows in
-    let left : remove rows i ≡ take i rows = ap (λ (end : List Row). take i rows ++ end) past ∙ append-nil (take i rows) in
-    sym (ap reverse split) ∙ reverse-append (take i rows) (row ∷ []) ∙ ap (λ (x : List Row). row ∷ reverse x) (sym left)
+    ap (λ (x : Row). take i rows ++ x ∷ []) (sym here)
+    ∙ ap (λ (end : List Row). take i rows ++ get_or rows i row ∷ end) (sym past)
+    ∙ ap (λ (end : List Row). take i rows ++ end) (sym (drop-cons rows i row within))
+    ∙ take-append-drop i rows in
+    let left : remove rows i ≡ take i rows = ap (λ (end : List Row). take i rows ++ end) past ∙ append-nil
+    (take i rows) in
+    sym (ap reverse split) ∙ reverse-append (take i rows) (row ∷ []) ∙ ap (λ (x : List Row). row ∷ reverse x)
+    (sym left)
 
 -- the last part's rows, turned round, stand before those of the others
 pub part_out : (parts left : List Part) (part : Part) → parts ≡ left ++ part ∷ [] →
     reverse (rows_in_turn parts) ≡ reverse part.rows ++ reverse (rows_in_turn left)
 part_out parts left part is =
     ap (λ (ps : List Part). reverse (rows_in_turn ps)) is
-    ∙ ap reverse (flat_map-append (λ (p : Part). p.rows) left (part ∷ []) ∙ ap (λ (x : List Row). rows_in_turn left ++ x) (append-nil part.rows))
+    ∙ ap reverse (flat_map-append (λ (p : Part). p.rows) left (part ∷ []) ∙ ap (λ (x : List Row). rows_in_turn left
+    ++ x) (append-nil part.rows))
     ∙ reverse-append (rows_in_turn left) part.rows
 
 -- ---- loops that take from the back
@@ -49,8 +53,10 @@ row_out out out' whole rows rows' at row last here left more before =
     ∙ ap (λ (x : List Row). out ++ x) (sym (last_out rows row here'))
     ∙ before
 
-pub part_moved : (rows rows' whole : List Row) (parts left : List Part) (got : Option Part) (part : Part) → got ≡ Some part →
-    parts ≡ left ++ option_to_list got → rows' ≡ rows ++ reverse part.rows → rows ++ reverse (rows_in_turn parts) ≡ whole →
+pub part_moved : (rows rows' whole : List Row) (parts left : List Part) (got : Option Part) (part : Part) → got
+    ≡ Some part →
+    parts ≡ left ++ option_to_list got → rows' ≡ rows ++ reverse part.rows → rows ++ reverse (rows_in_turn parts)
+    ≡ whole →
     rows' ++ reverse (rows_in_turn left) ≡ whole
 part_moved rows rows' whole parts left got part is split more before =
     let last : parts ≡ left ++ part ∷ [] = split ∙ ap (λ (o : Option Part). left ++ option_to_list o) is in

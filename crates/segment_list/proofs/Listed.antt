@@ -15,19 +15,22 @@ use Rattle.segment_list.specs.Pieces.{back_text, front_text, number_or_null, row
 -- the front of a row's text before another text, and so the other parts
 abbrev front_onto : Row → List ℕ → List ℕ
 front_onto r rest =
-    codes "{\"attribute\":" ++ (quoted r.attribute ++ (codes ",\"bundle\":" ++ (quoted r.bundle ++ (codes ",\"end\":" ++ (number_or_null r.end
+    codes "{\"attribute\":" ++ (quoted r.attribute ++ (codes ",\"bundle\":" ++ (quoted r.bundle
+    ++ (codes ",\"end\":" ++ (number_or_null r.end
     ++ (codes ",\"endItem\":" ++ (decimal r.end_item.0 ++ (codes ",\"endPos\":" ++ (decimal r.end_pos
     ++ (codes ",\"labels\":" ++ (quoted r.labels ++ rest)))))))))))
 
 abbrev samples_onto : Row → List ℕ → List ℕ
 samples_onto r rest =
     codes ",\"level\":" ++ (quoted r.level ++ (codes ",\"sampleEnd\":" ++ (number_or_null r.sample_end
-    ++ (codes ",\"sampleRate\":" ++ (decimal r.rate ++ (codes ",\"sampleStart\":" ++ (number_or_null r.sample_start ++ rest)))))))
+    ++ (codes ",\"sampleRate\":" ++ (decimal r.rate ++ (codes ",\"sampleStart\":" ++ (number_or_null r.sample_start
+    ++ rest)))))))
 
 abbrev back_onto : Row → List ℕ
 back_onto r =
     codes ",\"session\":" ++ (quoted r.session ++ (codes ",\"start\":" ++ (number_or_null r.start
-    ++ (codes ",\"startItem\":" ++ (decimal r.start_item.0 ++ (codes ",\"startPos\":" ++ (decimal r.start_pos ++ codes "}")))))))
+    ++ (codes ",\"startItem\":" ++ (decimal r.start_item.0 ++ (codes ",\"startPos\":" ++ (decimal r.start_pos
+    ++ codes "}")))))))
 
 front_flat : (h a i b j e k d l f m g rest : List ℕ) →
     ((h ++ (a ++ (i ++ (b ++ j)))) ++ (e ++ ((k ++ d) ++ ((l ++ f) ++ (m ++ g))))) ++ rest
@@ -35,7 +38,8 @@ front_flat : (h a i b j e k d l f m g rest : List ℕ) →
 front_flat h a i b j e k d l f m g rest = simp append_assoc
 
 samples_flat : (h a i e k d l f rest : List ℕ) →
-    ((h ++ (a ++ i)) ++ (e ++ ((k ++ d) ++ (l ++ f)))) ++ rest ≡ h ++ (a ++ (i ++ (e ++ (k ++ (d ++ (l ++ (f ++ rest)))))))
+    ((h ++ (a ++ i)) ++ (e ++ ((k ++ d) ++ (l ++ f)))) ++ rest
+    ≡ h ++ (a ++ (i ++ (e ++ (k ++ (d ++ (l ++ (f ++ rest)))))))
 samples_flat h a i e k d l f rest = simp append_assoc
 
 back_flat : (h a i e k d l f z : List ℕ) →
@@ -44,17 +48,21 @@ back_flat h a i e k d l f z = simp append_assoc
 
 front_is : (r : Row) (rest : List ℕ) → front_text r ++ rest ≡ front_onto r rest
 front_is r rest =
-    front_flat (codes "{\"attribute\":") (quoted r.attribute) (codes ",\"bundle\":") (quoted r.bundle) (codes ",\"end\":") (number_or_null r.end)
-    (codes ",\"endItem\":") (decimal r.end_item.0) (codes ",\"endPos\":") (decimal r.end_pos) (codes ",\"labels\":") (quoted r.labels) rest
+    front_flat (codes "{\"attribute\":") (quoted r.attribute) (codes ",\"bundle\":") (quoted r.bundle)
+    (codes ",\"end\":") (number_or_null r.end)
+    (codes ",\"endItem\":") (decimal r.end_item.0) (codes ",\"endPos\":") (decimal r.end_pos)
+    (codes ",\"labels\":") (quoted r.labels) rest
 
 samples_is : (r : Row) (rest : List ℕ) → samples_text r ++ rest ≡ samples_onto r rest
 samples_is r rest =
-    samples_flat (codes ",\"level\":") (quoted r.level) (codes ",\"sampleEnd\":") (number_or_null r.sample_end) (codes ",\"sampleRate\":") (decimal r.rate)
+    samples_flat (codes ",\"level\":") (quoted r.level) (codes ",\"sampleEnd\":") (number_or_null r.sample_end)
+    (codes ",\"sampleRate\":") (decimal r.rate)
     (codes ",\"sampleStart\":") (number_or_null r.sample_start) rest
 
 back_is : (r : Row) → back_text r ≡ back_onto r
 back_is r =
-    back_flat (codes ",\"session\":") (quoted r.session) (codes ",\"start\":") (number_or_null r.start) (codes ",\"startItem\":") (decimal r.start_item.0)
+    back_flat (codes ",\"session\":") (quoted r.session) (codes ",\"start\":") (number_or_null r.start)
+    (codes ",\"startItem\":") (decimal r.start_item.0)
     (codes ",\"startPos\":") (decimal r.start_pos) (codes "}")
 
 whole_is : (r : Row) → front_onto r (samples_onto r (back_onto r)) ≡ row_text r
@@ -65,7 +73,8 @@ whole_is r = refl
 pub row_in_parts : (r : Row) → front_text r ++ (samples_text r ++ back_text r) ≡ row_text r
 row_in_parts r =
     front_is r (samples_text r ++ back_text r)
-    ∙ ap (λ (t : List ℕ). front_onto r t) (samples_is r (back_text r) ∙ ap (λ (t : List ℕ). samples_onto r t) (back_is r))
+    ∙ ap (λ (t : List ℕ). front_onto r t) (samples_is r (back_text r) ∙ ap (λ (t : List ℕ). samples_onto r t)
+    (back_is r))
     ∙ whole_is r
 
 -- ---- rows
@@ -93,7 +102,8 @@ behind n = lt-ltb 0 (n + 1) (omega arith)
 
 first_left : (rows : List Row) (place : ℕ) (row : Row) → place < length rows → row ≡ get_or rows place row →
     drop place rows ≡ row ∷ drop (place + 1) rows
-first_left rows place row lt at = rw (add-one place) (drop-cons rows place row lt ∙ ap (λ (x : Row). x ∷ drop (suc place) rows) (sym at))
+first_left rows place row lt at = rw (add-one place) (drop-cons rows place row lt ∙ ap (λ (x : Row). x ∷ drop
+    (suc place) rows) (sym at))
 
 seam : (o c r rest : List ℕ) → (o ++ (c ++ r)) ++ rest ≡ o ++ (c ++ (r ++ rest))
 seam o c r rest = simp append_assoc
@@ -112,4 +122,5 @@ next_row out out' whole rows place row lt at e before =
 pub no_more : (out whole : List ℕ) (rows : List Row) (place : ℕ) (later : Bool) → length rows ≤ place →
     out ++ row_texts later (drop place rows) ≡ whole → out ≡ whole
 no_more out whole rows place later past before =
-    sym (append-nil out) ∙ ap (λ (rs : List Row). out ++ row_texts later rs) (sym (drop_of_length-le rows past)) ∙ before
+    sym (append-nil out) ∙ ap (λ (rs : List Row). out ++ row_texts later rs) (sym (drop_of_length-le rows past))
+    ∙ before

@@ -1,7 +1,6 @@
 -- Texts whose bytes stand for themselves, and names that are the same.
-use Rattle.std.proofs.Common.{◌≡◌, ◌≢◌, ◌≤◌, ◌<◌, ℕ, List, [], ◌∷◌, ◌++◌, Bool, true, false, cond, ◌&&◌, ◌==◌, not, nat_le, nat_lt, refl, ap, sym, ◌∙◌, arith}
+use Rattle.std.proofs.Common.{◌≡◌, ℕ, List, [], ◌∷◌, Bool, true, false, ◌&&◌, refl, ap, ◌∙◌, arith}
 use Rattle.std.specs.List.{list_all}
-use Rattle.std.proofs.lemmas.Bool.{ne_eqb}
 use Rattle.std.proofs.lemmas.Bool.Decides.{nat_tests}
 use Rattle.std.proofs.lemmas.Slice.Eq.{bytes_eq-Decides}
 use Rattle.db_config.specs.Names.{same_text}
@@ -29,8 +28,10 @@ same a b e = (bytes_eq-Decides a b).0 e
 -- names that are compared alike are the same
 pub same_names : (a b : Names) → are_same_names a b ≡ true → a ≡ b
 same_names a b e =
-    let third = both (same_text a.session b.session && same_text a.bundle b.bundle && same_text a.level b.level) (same_text a.attribute b.attribute) e in
-    let second = both (same_text a.session b.session && same_text a.bundle b.bundle) (same_text a.level b.level) third.0 in
+    let third = both (same_text a.session b.session && same_text a.bundle b.bundle && same_text a.level b.level)
+    (same_text a.attribute b.attribute) e in
+    let second = both (same_text a.session b.session && same_text a.bundle b.bundle)
+    (same_text a.level b.level) third.0 in
     let first = both (same_text a.session b.session) (same_text a.bundle b.bundle) second.0 in
     let session = same a.session b.session first.0 in
     let bundle = same a.bundle b.bundle first.1 in

@@ -1,6 +1,6 @@
 -- Parts in the order of their keys: a sort makes them rise, and only one arrangement of them rises.
-use Rattle.std.proofs.Common.{◌≡◌, ◌<◌, ◌+◌, ℕ, zero, suc, List, [], ◌∷◌, Bool, true, false, ◌⊎◌, inl, inr, length, get_or, map, refl, ap, sym, ◌∙◌, subst, arith}
-use Rattle.std.specs.List.{AllByRecursion, IsDistinct}
+use Rattle.std.proofs.Common.{◌≡◌, ◌<◌, ◌+◌, ℕ, zero, suc, List, [], ◌∷◌, Bool, true, false, ◌⊎◌, inl, inr, length, get_or, refl, ap, sym, ◌∙◌, subst, arith}
+use Rattle.std.specs.List.{AllByRecursion}
 use Rattle.std.specs.List.Sorted.{IsPermutation, IsSortedByKey, IsSortedBy, IsStrictlySortedBy}
 use Rattle.std.specs.Cmp.{IsStrictWeakOrder}
 use Rattle.std.specs.Fn.{Called, ComparesAs}
@@ -19,9 +19,8 @@ use denote.Ref.{Bor}
 use Rattle.emu_names.specs.declared.names.BundleKey.{BundleKey}
 use Rattle.emu_names.specs.Order.{key_cmp}
 use Rattle.emu_names.proofs.KeyOrder.{keys_total}
-use Rattle.eql_model.specs.declared.row.Row.{Row}
 use Rattle.segment_list.specs.declared.parts.Part.{Part}
-use Rattle.segment_list.specs.Merged.{AreApart, IsMergeOf, RiseByKey, keys_of, rows_in_turn}
+use Rattle.segment_list.specs.Merged.{AreApart, RiseByKey, keys_of, rows_in_turn}
 use Rattle.segment_list.specs.Laws.{MergesAreOne}
 
 abbrev key_of : Part → BundleKey
@@ -50,12 +49,13 @@ in_turn a b = not_both (key_cmp a b) (key_cmp b a) (keys_total.antisymm a b)
 -- what the clause of a sort by a closure says, where the closure compares keys
 pub by_keys : {F : Type 0} {g : Mut F (Bor Part × (Bor Part × Unit {0})) Ordering} {f : F} (parts : List Part)
     → ((lt : Part → Part → Bool) → IsStrictWeakOrder lt → ComparesAs g lt f → IsSortedBy lt parts)
-    → ((a : Bor Part × (Bor Part × Unit {0})) (r : Ordering) (f' : F) → Called g f a r f' → (r ≡ key_cmp a.0.now.key a.1.0.now.key) × (f' ≡ f))
+    → ((a : Bor Part × (Bor Part × Unit {0})) (r : Ordering) (f' : F) → Called g f a r f' →
+    (r ≡ key_cmp a.0.now.key a.1.0.now.key) × (f' ≡ f))
     → IsSortedByKey key_of key_cmp parts
 by_keys {g = g} {f = f} parts up calls =
     up (λ x y. is_lt (key_cmp x.key y.key)) (ranks_by keys_total key_of)
     (always_returns_same g (λ a r. is_lt r ≡ is_lt (key_cmp a.0.now.key a.1.0.now.key)) f
-      (λ a r f' called. (ap is_lt (calls a r f' called).0, (calls a r f' called).1)))
+    (λ a r f' called. (ap is_lt (calls a r f' called).0, (calls a r f' called).1)))
 
 step : (a b : BundleKey) → is_lt (key_cmp b a) ≡ false → eq_by_cmp key_cmp a b ≡ false → key_cmp a b ≡ Less
 step a b = turned (key_cmp a b) (key_cmp b a) (keys_total.antisymm a b)
@@ -66,12 +66,12 @@ unfolding IsStrictlySortedBy
 rising [] up apart = tt
 rising (p ∷ ps) up apart =
     sorted_from_all_adjacent keys_total (keys_of (p ∷ ps)) p.key (λ k lt.
-      let short : k + 1 < length (p ∷ ps) = subst (λ (n : ℕ). k + 1 < n) (length-map (p ∷ ps) key_of) lt in
-      let here = get_or-map key_of (p ∷ ps) k p in
-      let next = get_or-map key_of (p ∷ ps) (k + 1) p in
-      step (get_or (keys_of (p ∷ ps)) k p.key) (get_or (keys_of (p ∷ ps)) (k + 1) p.key)
-      (rw (here, next) (up k p (omega arith) short))
-      (apart_from_distinct (eq_by_cmp key_cmp) (keys_of (p ∷ ps)) k (k + 1) p.key apart (omega arith) lt))
+    let short : k + 1 < length (p ∷ ps) = subst (λ (n : ℕ). k + 1 < n) (length-map (p ∷ ps) key_of) lt in
+    let here = get_or-map key_of (p ∷ ps) k p in
+    let next = get_or-map key_of (p ∷ ps) (k + 1) p in
+    step (get_or (keys_of (p ∷ ps)) k p.key) (get_or (keys_of (p ∷ ps)) (k + 1) p.key)
+    (rw (here, next) (up k p (omega arith) short))
+    (apart_from_distinct (eq_by_cmp key_cmp) (keys_of (p ∷ ps)) k (k + 1) p.key apart (omega arith) lt))
 
 -- parts that change places keep keys of their own
 pub still_apart : (parts ordered : List Part) → IsPermutation parts ordered → AreApart parts → AreApart ordered
@@ -99,7 +99,8 @@ pick P (q ∷ qs) all p (inr among) = pick P qs all.1 p among
 moved : (parts ordered : List Part) → IsPermutation parts ordered → (p : Part) → In p parts → In p ordered
 moved parts ordered same =
     let P : Part → Type 0 = λ p. In p ordered in
-    pick P parts (recursion_from_All P parts (All-permutation P ordered parts (IsPermutation-sym parts ordered same) (there ordered)))
+    pick P parts (recursion_from_All P parts (All-permutation P ordered parts
+    (IsPermutation-sym parts ordered same) (there ordered)))
 
 below : (k : BundleKey) (parts : List Part) → AllByRecursion (λ q. key_cmp k q ≡ Less) (keys_of parts) →
     (p : Part) → In p parts → key_cmp k p.key ≡ Less
@@ -111,33 +112,40 @@ below k (q ∷ qs) all p (inr among) = below k qs all.1 p among
 above_first : (p : Part) (ps : List Part) → RiseByKey (p ∷ ps) → (q : Part) → In q ps → key_cmp p.key q.key ≡ Less
 above_first p ps rises = below p.key ps (sorted_head key_cmp p.key (keys_of ps) rises)
 
-first_same : (p q : Part) (ps qs : List Part) → RiseByKey (p ∷ ps) → RiseByKey (q ∷ qs) → In p (q ∷ qs) → In q (p ∷ ps) → p ≡ q
+first_same : (p q : Part) (ps qs : List Part) → RiseByKey (p ∷ ps) → RiseByKey (q ∷ qs) → In p (q ∷ qs) → In q
+    (p ∷ ps) → p ≡ q
 first_same p q ps qs rises rises' (inl e) among = e
 first_same p q ps qs rises rises' (inr there') (inl e) = sym e
 first_same p q ps qs rises rises' (inr there') (inr there'') =
     absurd (in_turn p.key q.key (above_first p ps rises q there'') (above_first q qs rises' p there'))
 
-others : (p q : Part) (ps qs : List Part) → p ≡ q → RiseByKey (p ∷ ps) → (r : Part) → In r ps → In r (q ∷ qs) → In r qs
+others : (p q : Part) (ps qs : List Part) → p ≡ q → RiseByKey (p ∷ ps) → (r : Part) → In r ps → In r (q ∷ qs) →
+    In r qs
 others p q ps qs e rises r among (inr behind) = behind
 others p q ps qs e rises r among (inl first) =
     let less = above_first p ps rises r among in
-    let again : key_cmp r.key p.key ≡ Less = ap (λ (x : Part). key_cmp x.key p.key) (first ∙ sym e) ∙ ap (λ (x : Part). key_cmp p.key x.key) (e ∙ sym first) ∙ less in
+    let again : key_cmp r.key p.key ≡ Less = ap (λ (x : Part). key_cmp x.key p.key) (first ∙ sym e) ∙ ap (λ
+    (x : Part). key_cmp p.key x.key) (e ∙ sym first) ∙ less in
     absurd (in_turn p.key r.key less again)
 
-one_rising : (xs ys : List Part) → RiseByKey xs → RiseByKey ys → ((p : Part) → In p xs → In p ys) → ((p : Part) → In p ys → In p xs) → xs ≡ ys
+one_rising : (xs ys : List Part) → RiseByKey xs → RiseByKey ys → ((p : Part) → In p xs → In p ys) → ((p : Part) →
+    In p ys → In p xs) → xs ≡ ys
 one_rising [] [] rises rises' to back = refl
 one_rising [] (y ∷ ys) rises rises' to back = absurd (back y (inl refl))
 one_rising (x ∷ xs) [] rises rises' to back = absurd (to x (inl refl))
 one_rising (x ∷ xs) (y ∷ ys) rises rises' to back =
     let first = first_same x y xs ys rises rises' (to x (inl refl)) (back y (inl refl)) in
-    let rest = one_rising xs ys (sorted_tail key_cmp x.key (keys_of xs) rises) (sorted_tail key_cmp y.key (keys_of ys) rises')
-          (λ p among. others x y xs ys first rises p among (to p (inr among)))
-          (λ p among. others y x ys xs (sym first) rises' p among (back p (inr among))) in
+    let rest = one_rising xs ys (sorted_tail key_cmp x.key (keys_of xs) rises) (sorted_tail key_cmp y.key
+    (keys_of ys) rises')
+    (λ p among. others x y xs ys first rises p among (to p (inr among)))
+    (λ p among. others y x ys xs (sym first) rises' p among (back p (inr among))) in
     ap (λ (p : Part). p ∷ xs) first ∙ ap (λ (ps : List Part). y ∷ ps) rest
 
 -- what parts merge to is their rows in any arrangement by rising keys
 pub merged_once : MergesAreOne
 merged_once parts ordered list merge same rises =
     merge.rows ∙ ap rows_in_turn (one_rising merge.ordered ordered merge.rises rises
-      (λ p among. moved parts ordered same p (moved merge.ordered parts (IsPermutation-sym parts merge.ordered merge.same) p among))
-      (λ p among. moved parts merge.ordered merge.same p (moved ordered parts (IsPermutation-sym parts ordered same) p among)))
+    (λ p among. moved parts ordered same p (moved merge.ordered parts
+    (IsPermutation-sym parts merge.ordered merge.same) p among))
+    (λ p among. moved parts merge.ordered merge.same p (moved ordered parts
+    (IsPermutation-sym parts ordered same) p among)))

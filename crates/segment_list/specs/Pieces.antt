@@ -14,6 +14,7 @@ pub record Names : Type 0 where
   pub level : List ℕ
   pub attribute : List ℕ
 
+-- names by themselves
 abbrev pub names : List ℕ → List ℕ → List ℕ → List ℕ → Names
 names session bundle level attribute =
     record { session = session; bundle = bundle; level = level; attribute = attribute }
@@ -39,7 +40,8 @@ number_or_null n = compact_text (whole_or_null n)
 -- from the brace to the time of the end
 abbrev pub head_text : Names → List ℕ
 head_text n =
-    codes "{\"attribute\":" ++ (quoted n.attribute ++ (codes ",\"bundle\":" ++ (quoted n.bundle ++ codes ",\"end\":")))
+    codes "{\"attribute\":" ++ (quoted n.attribute ++ (codes ",\"bundle\":" ++ (quoted n.bundle
+    ++ codes ",\"end\":")))
 
 -- from the level to the last sample
 abbrev pub level_text : Names → List ℕ

@@ -11,12 +11,7 @@ use eql_model::{Row, SegmentList};
 use std::alloc::Global;
 
 /// Writes a row from the brace to the labels. The only refusal is want of memory.
-fn push_front(
-    out: &mut String,
-    alloc: Global,
-    pieces: &NamePieces,
-    row: &Row,
-) -> Result<(), Memory>
+fn push_front(out: &mut String, alloc: Global, pieces: &NamePieces, row: &Row) -> Result<(), Memory>
     requires { pieces.now ≡ names_of row.now }
     ensures { OnOk result (string_bytes out.new ≡ string_bytes out.old ++ front_text row.now) }
 {
@@ -56,12 +51,7 @@ fn push_back(out: &mut String, pieces: &NamePieces, row: &Row) -> Result<(), Mem
 }
 
 /// Writes a row. The only refusal is want of memory.
-fn push_row(
-    out: &mut String,
-    alloc: Global,
-    pieces: &NamePieces,
-    row: &Row,
-) -> Result<(), Memory>
+fn push_row(out: &mut String, alloc: Global, pieces: &NamePieces, row: &Row) -> Result<(), Memory>
     requires { pieces.now ≡ names_of row.now }
     ensures { OnOk result (string_bytes out.new ≡ string_bytes out.old ++ row_text row.now) }
 {

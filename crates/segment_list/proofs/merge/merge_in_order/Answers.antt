@@ -5,8 +5,9 @@ use Rattle.segment_list.proofs.merge.merge_in_order.Goals as goal
 
 pub returns : goal.returns
 returns c = record {
-    ordered = c.sort.new.self;
-    same = c.sort.ensures.same;
-    rises = c.in_ok-sort.ensures.rises;
-    rows = c.from_vec.ensures ∙ c.reverse.ensures.items ∙ ap reverse c.in_ok-rows.ensures ∙ reverse-reverse (rows_in_turn c.sort.new.self);
-  }
+  ordered = c.sort.new.self;
+  same = c.sort.ensures.same;
+  rises = c.in_ok-sort.ensures.rises;
+  rows = c.from_vec.ensures ∙ c.reverse.ensures.items ∙ ap reverse c.in_ok-rows.ensures ∙ reverse-reverse
+      (rows_in_turn c.sort.new.self);
+}

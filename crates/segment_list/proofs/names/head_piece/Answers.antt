@@ -9,5 +9,6 @@ returns c =
     let b = quoted c.args.bundle.now in
     c.from_string.ensures
     ∙ four (string_bytes c.in_ok-out.out) a (codes ",\"bundle\":") b (codes ",\"end\":")
-      c.in_ok-push_quoted.ensures c.in_ok-push_str.ensures.bytes c.in_ok-push_quoted-2.ensures c.in_ok-push_str-2.ensures.bytes
+    c.in_ok-push_quoted.ensures c.in_ok-push_str.ensures.bytes c.in_ok-push_quoted-2.ensures
+    c.in_ok-push_str-2.ensures.bytes
     ∙ ap (λ (t : List ℕ). t ++ (a ++ (codes ",\"bundle\":" ++ (b ++ codes ",\"end\":")))) c.in_ok-out.ensures.ok

@@ -7,4 +7,5 @@ pub returns : goal.returns
 returns c =
     three (string_bytes c.args.out.now) (codes "\"") c.args.text.now (codes "\"")
     c.in_ok-push_str.ensures.bytes c.in_ok-push_str-2.ensures.bytes c.in_ok-push_str-3.ensures.bytes
-    ∙ ap (λ (t : List ℕ). string_bytes c.args.out.now ++ 34 ∷ (t ++ 34 ∷ [])) (sym (plain_text c.args.text.now c.requires))
+    ∙ ap (λ (t : List ℕ). string_bytes c.args.out.now ++ 34 ∷ (t ++ 34 ∷ [])) (sym
+    (plain_text c.args.text.now c.requires))

@@ -6,4 +6,5 @@ use Rattle.segment_list.proofs.print.push_next.Goals as goal
 
 pub returns : goal.returns
 returns c =
-    two (string_bytes c.args.out.now) (comma_if c.args.later) (row_text c.args.row.now) c.in_ok-push_comma.ensures c.in_ok-push_row.ensures
+    two (string_bytes c.args.out.now) (comma_if c.args.later) (row_text c.args.row.now) c.in_ok-push_comma.ensures
+    c.in_ok-push_row.ensures

@@ -10,4 +10,5 @@ returns c =
     five (string_bytes c.args.out.now) (level_text (names_of row)) (number_or_null row.sample_end)
     (number_behind (codes ",\"sampleRate\":") row.rate) (codes ",\"sampleStart\":") (number_or_null row.sample_start)
     (c.in_ok-push_str.ensures.bytes ∙ ap (λ (t : List ℕ). string_bytes c.args.out.now ++ t) piece)
-    c.in_ok-push_or_null.ensures c.in_ok-push_number.ensures c.in_ok-push_str-2.ensures.bytes c.in_ok-push_or_null-2.ensures
+    c.in_ok-push_or_null.ensures c.in_ok-push_number.ensures c.in_ok-push_str-2.ensures.bytes
+    c.in_ok-push_or_null-2.ensures

@@ -1,4 +1,4 @@
-use Rattle.std.proofs.Common.{◌≡◌, ◌++◌, length, reverse, vec_len}
+use Rattle.std.proofs.Common.{◌≡◌, ◌++◌, reverse, vec_len}
 use Rattle.segment_list.specs.Merged.{rows_in_turn}
 use Rattle.segment_list.proofs.parts.Parts.into_rows_backwards.Given as goal
 

@@ -9,4 +9,5 @@ returns-clause-rises c =
     let P : List Part → Type 0 = λ parts. AreApart parts in
     rising c.sort_by.new.self.items
     (by_keys c.sort_by.new.self.items c.in_ok-sort_by.ensures.sorted (λ a r q k. search rules))
-    (still_apart c.self.inside.list.items c.sort_by.new.self.items c.sort_by.ensures.permutation (subst P (sym c.self.view_is) c.requires))
+    (still_apart c.self.inside.list.items c.sort_by.new.self.items c.sort_by.ensures.permutation (subst P
+    (sym c.self.view_is) c.requires))
