@@ -1,0 +1,5 @@
+mod Backwards
+mod Listed
+mod Plain
+mod Pushed
+mod Rising

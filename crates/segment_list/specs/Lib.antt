@@ -1,0 +1,4 @@
+pub mod Laws
+pub mod Merged
+pub mod Pieces
+pub mod Texts

@@ -1,0 +1,17 @@
+//! Segment lists: the rows of results in an indexed bundle, those of many bundles in the order of their
+//! keys, and their text.
+#![tactic(auto)]
+
+mod laws;
+mod merge;
+mod names;
+mod parts;
+mod pieces;
+mod print;
+mod rows;
+
+pub use laws::merges_are_one;
+pub use merge::merge_in_order;
+pub use parts::{Part, Parts};
+pub use print::print_rows;
+pub use rows::rows_of;

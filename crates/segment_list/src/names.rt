@@ -1,0 +1,123 @@
+//! The pieces of a row's text that are the same for all rows of one bundle, level and attribute.
+ghost use Rattle.std.specs.Prelude.{◌≡◌, ◌++◌, ◌&&◌, IfOk, OnOk, IsTrue, codes, string_bytes};
+ghost use Rattle.db_config.specs.Names.{same_text};
+ghost use Rattle.json.specs.Print.{quoted};
+ghost use Rattle.segment_list.specs.Pieces.{are_same_names, head_text, level_text, names_of, session_text};
+
+use crate::pieces::push_quoted;
+use emu_names::{Memory, Text};
+use eql_model::Row;
+use std::alloc::Global;
+use std::marker::Model;
+
+/// The pieces for the names of a row, which contracts see as these names.
+#[derive(Drop)]
+pub(crate) struct NamePieces {
+    session: Text,
+    bundle: Text,
+    level: Text,
+    attribute: Text,
+    head: Text,
+    before_sample: Text,
+    before_start: Text,
+}
+
+impl Model for NamePieces {
+    ghost use Rattle.segment_list.specs.Pieces.{ArePieces, Names, names};
+
+    ghost Value = { Names };
+
+    ghost view = { λ p. names p.session p.bundle p.level p.attribute };
+
+    ghost invariant = { λ p. ArePieces (names p.session p.bundle p.level p.attribute) p.head
+        p.before_sample p.before_start };
+}
+
+impl NamePieces {
+    /// The pieces for the names of a row. The only refusal is want of memory.
+    pub(crate) fn new(alloc: Global, row: &Row) -> Result<NamePieces, Memory>
+        ensures { IfOk result (λ made. made ≡ names_of row.now) }
+    {
+        let session = row.session.copy(alloc)?;
+        let bundle = row.bundle.copy(alloc)?;
+        let level = row.level.copy(alloc)?;
+        let attribute = row.attribute.copy(alloc)?;
+        let head = head_piece(alloc, row.attribute.as_str(), row.bundle.as_str())?;
+        let before_sample = piece(alloc, ",\"level\":", row.level.as_str(), ",\"sampleEnd\":")?;
+        let before_start = piece(alloc, ",\"session\":", row.session.as_str(), ",\"start\":")?;
+        Ok(NamePieces {
+            session,
+            bundle,
+            level,
+            attribute,
+            head,
+            before_sample,
+            before_start,
+        })
+    }
+
+    /// The text from the brace to the time of the end.
+    pub(crate) fn head(&self) -> &str
+        ensures { result.now ≡ head_text self.now }
+    {
+        self.head.as_str()
+    }
+
+    /// The text from the level to the last sample.
+    pub(crate) fn before_sample(&self) -> &str
+        ensures { result.now ≡ level_text self.now }
+    {
+        self.before_sample.as_str()
+    }
+
+    /// The text from the session to the time of the start.
+    pub(crate) fn before_start(&self) -> &str
+        ensures { result.now ≡ session_text self.now }
+    {
+        self.before_start.as_str()
+    }
+
+    /// Whether these are the names of a row.
+    fn are_of(&self, row: &Row) -> bool
+        ensures { result ≡ are_same_names self.now (names_of row.now) }
+    {
+        self.session == row.session
+            && self.bundle == row.bundle
+            && self.level == row.level
+            && self.attribute == row.attribute
+    }
+
+    /// Makes the pieces anew, unless these are the names of the row. The only refusal is want of memory.
+    #[tactic(auto, using(crate::proofs::Plain::same_names))]
+    pub(crate) fn turn_to(&mut self, alloc: Global, row: &Row) -> Result<(), Memory>
+        ensures { OnOk result (self.new ≡ names_of row.now) }
+    {
+        if !self.are_of(row) {
+            *self = NamePieces::new(alloc, row)?;
+        }
+        Ok(())
+    }
+}
+
+/// A text in quotes between two others. The only refusal is want of memory.
+fn piece(alloc: Global, before: &str, text: &str, behind: &str) -> Result<Text, Memory>
+    ensures { IfOk result (λ made. made ≡ before.now ++ (quoted text.now ++ behind.now)) }
+{
+    let mut out = String::from_str(alloc, before)?;
+    push_quoted(&mut out, alloc, text)?;
+    out.push_str(behind)?;
+    Ok(Text::from_string(out))
+}
+
+/// The beginning of a row's text, up to the time of the end. The only refusal is want of memory.
+fn head_piece(alloc: Global, attribute: &str, bundle: &str) -> Result<Text, Memory>
+    ensures { IfOk result (λ made. made ≡ codes "{\"attribute\":" ++ (quoted attribute.now
+        ++ (codes ",\"bundle\":" ++ (quoted bundle.now ++ codes ",\"end\":")))) }
+{
+    let mut out = String::from_str(alloc, "{\"attribute\":")?;
+    push_quoted(&mut out, alloc, attribute)?;
+    out.push_str(",\"bundle\":")?;
+    push_quoted(&mut out, alloc, bundle)?;
+    out.push_str(",\"end\":")?;
+    Ok(Text::from_string(out))
+}

@@ -1,0 +1,107 @@
+//! The text of a segment list.
+ghost use Rattle.std.specs.Prelude.{◌≡◌, ◌++◌, IfOk, OnOk, false, string_bytes};
+ghost use Rattle.serde_json.specs.Written.{comma_if};
+ghost use Rattle.segment_list.specs.Pieces.{back_text, front_text, names_of, row_text, row_texts, samples_text};
+ghost use Rattle.segment_list.specs.Texts.{rows_text};
+
+use crate::names::NamePieces;
+use crate::pieces::{push_comma, push_number, push_or_null, push_quoted};
+use emu_names::{Memory, Text};
+use eql_model::{Row, SegmentList};
+use std::alloc::Global;
+
+/// Writes a row from the brace to the labels. The only refusal is want of memory.
+fn push_front(out: &mut String, alloc: Global, pieces: &NamePieces, row: &Row) -> Result<(), Memory>
+    requires { pieces.now ≡ names_of row.now }
+    ensures { OnOk result (string_bytes out.new ≡ string_bytes out.old ++ front_text row.now) }
+{
+    out.push_str(pieces.head())?;
+    push_or_null(out, row.end)?;
+    push_number(out, ",\"endItem\":", row.end_item.0 as u64)?;
+    push_number(out, ",\"endPos\":", row.end_pos as u64)?;
+    out.push_str(",\"labels\":")?;
+    push_quoted(out, alloc, row.labels.as_str())?;
+    Ok(())
+}
+
+/// Writes a row from the level to the first sample. The only refusal is want of memory.
+fn push_samples(out: &mut String, pieces: &NamePieces, row: &Row) -> Result<(), Memory>
+    requires { pieces.now ≡ names_of row.now }
+    ensures { OnOk result (string_bytes out.new ≡ string_bytes out.old ++ samples_text row.now) }
+{
+    out.push_str(pieces.before_sample())?;
+    push_or_null(out, row.sample_end)?;
+    push_number(out, ",\"sampleRate\":", row.rate as u64)?;
+    out.push_str(",\"sampleStart\":")?;
+    push_or_null(out, row.sample_start)?;
+    Ok(())
+}
+
+/// Writes a row from the session to the closing brace. The only refusal is want of memory.
+fn push_back(out: &mut String, pieces: &NamePieces, row: &Row) -> Result<(), Memory>
+    requires { pieces.now ≡ names_of row.now }
+    ensures { OnOk result (string_bytes out.new ≡ string_bytes out.old ++ back_text row.now) }
+{
+    out.push_str(pieces.before_start())?;
+    push_or_null(out, row.start)?;
+    push_number(out, ",\"startItem\":", row.start_item.0 as u64)?;
+    push_number(out, ",\"startPos\":", row.start_pos as u64)?;
+    out.push_str("}")?;
+    Ok(())
+}
+
+/// Writes a row. The only refusal is want of memory.
+fn push_row(out: &mut String, alloc: Global, pieces: &NamePieces, row: &Row) -> Result<(), Memory>
+    requires { pieces.now ≡ names_of row.now }
+    ensures { OnOk result (string_bytes out.new ≡ string_bytes out.old ++ row_text row.now) }
+{
+    push_front(out, alloc, pieces, row)?;
+    push_samples(out, pieces, row)?;
+    push_back(out, pieces, row)?;
+    Ok(())
+}
+
+/// Writes the next row, behind a comma where one stands before. The only refusal is want of memory.
+fn push_next(
+    out: &mut String,
+    alloc: Global,
+    pieces: &mut NamePieces,
+    later: bool,
+    row: &Row,
+) -> Result<(), Memory>
+    ensures { OnOk result (string_bytes out.new
+        ≡ string_bytes out.old ++ (comma_if later ++ row_text row.now)) }
+{
+    pieces.turn_to(alloc, row)?;
+    push_comma(out, later)?;
+    push_row(out, alloc, pieces, row)?;
+    Ok(())
+}
+
+/// Writes rows with a comma between each two. The only refusal is want of memory.
+fn push_rows(out: &mut String, alloc: Global, rows: &[Row]) -> Result<(), Memory>
+    ensures { OnOk result (string_bytes out.new
+        ≡ string_bytes out.old ++ row_texts false rows.now) }
+{
+    let Some(first) = rows.first() else {
+        return Ok(());
+    };
+    let mut pieces = NamePieces::new(alloc, first)?;
+    for (place, row) in rows.iter().enumerate() {
+        push_next(out, alloc, &mut pieces, place > 0, row)?;
+    }
+    Ok(())
+}
+
+/// The text of a segment list: a list of JSON objects (RFC 8259), one for each row, with no white space
+/// and no line feed, the members of each in the order of their names. Times are whole microseconds or
+/// `null`. The only refusal is want of memory.
+pub fn print_rows(alloc: Global, list: &SegmentList) -> Result<Text, Memory>
+    ensures { IfOk result (λ text. text ≡ rows_text list.now) }
+{
+    let mut out = String::new(alloc);
+    out.push_str("[")?;
+    push_rows(&mut out, alloc, list.as_slice())?;
+    out.push_str("]")?;
+    Ok(Text::from_string(out))
+}

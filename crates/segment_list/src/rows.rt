@@ -1,0 +1,35 @@
+//! The rows of results in an indexed bundle.
+ghost use Rattle.std.specs.Prelude.{◌≡◌, IfOk, map};
+ghost use Rattle.bundle_state.specs.Built.{FitsConfig};
+ghost use Rattle.eql_resolve.specs.Asked.{result_level};
+ghost use Rattle.eql_resolve.specs.Sound.{IsResolvedBy};
+ghost use Rattle.eql_model.specs.Results.{AreThere};
+ghost use Rattle.eql_model.specs.Rows.{row_of};
+
+use bundle_index::Indexed;
+use db_config::Config;
+use emu_names::Memory;
+use eql_model::{SegmentList, Span};
+use eql_resolve::Asked;
+use std::alloc::Global;
+
+/// The rows of results of a query in an indexed bundle, in their order (EMU-SDMS Manual, "The EMU Query
+/// Language (EQL)": segment lists). Times are whole microseconds. The only refusal is want of memory.
+///
+/// The query was resolved by the configuration, whose levels and link definitions the bundle has, and
+/// each result lies on the level of the results.
+pub fn rows_of(
+    alloc: Global,
+    config: &Config,
+    indexed: &Indexed,
+    asked: &Asked,
+    spans: &[Span],
+) -> Result<SegmentList, Memory>
+    requires resolved { IsResolvedBy config.now asked.now }
+    requires fits { FitsConfig config.now indexed.now.bundle }
+    requires spans { AreThere config.now indexed.now.bundle (result_level asked.now.query) spans.now }
+    ensures { IfOk result (λ rows. rows
+        ≡ map (row_of config.now indexed.now.bundle asked.now.time) spans.now) }
+{
+    eql_model::rows_of(alloc, config, indexed.bundle(), asked, spans)
+}
