@@ -67,12 +67,12 @@ pages_of (x ∷ xs) = cut_unless (nat_le (length (x ∷ xs)) PAGE) (x ∷ xs)
 
 -- the pages that a change leaves: its bundles stand in the place of some pages
 abbrev pub pages_behind : List (List IndexParts) → Change → List (List IndexParts)
-pages_behind pages change = take change.from pages ++ pages_of change.bundles ++ drop change.to pages
+pages_behind pages change = take change.from pages ++ (pages_of change.bundles ++ drop change.to pages)
 
 -- the bundles that a change leaves
 abbrev pub bundles_behind : List (List IndexParts) → Change → List IndexParts
 bundles_behind pages change =
-    bundles_on (take change.from pages) ++ change.bundles ++ bundles_on (drop change.to pages)
+    bundles_on (take change.from pages) ++ (change.bundles ++ bundles_on (drop change.to pages))
 
 -- a change of these pages can be made: its bundles fill at most two pages, and behind it any two
 -- neighbouring pages have more than 64 bundles together

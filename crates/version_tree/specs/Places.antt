@@ -64,4 +64,4 @@ pub record AreOneLess (pages : List (List IndexParts)) (place : ℕ) (left : Lis
 -- the bundles of these pages with others in the place of those of one page
 abbrev pub bundles_but : List (List IndexParts) → ℕ → List IndexParts → List IndexParts
 bundles_but pages place left =
-    bundles_on (take place pages) ++ left ++ bundles_on (drop (suc place) pages)
+    bundles_on (take place pages) ++ (left ++ bundles_on (drop (suc place) pages))

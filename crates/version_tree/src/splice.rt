@@ -40,7 +40,8 @@ pub(crate) fn spliced<T: PlainData>(
 ) -> Result<Series<T>, Memory>
     requires ordered { from ≤ to }
     requires within { to ≤ length list.now }
-    ensures { IfOk result (λ made. made ≡ take from list.now ++ new.now ++ drop to list.now) }
+    ensures { IfOk result (λ made.
+        made ≡ take from list.now ++ (new.now ++ drop to list.now)) }
 {
     let mut made = joined(alloc, &list[..from], new)?;
     append(alloc, &mut made, &list[to..])?;

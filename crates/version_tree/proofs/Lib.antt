@@ -1,0 +1,6 @@
+pub mod Elements
+pub mod Orders
+pub mod Gaps
+pub mod Leaves
+pub mod Fullness
+pub mod States
