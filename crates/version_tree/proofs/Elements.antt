@@ -1,5 +1,5 @@
 -- Lists of anything: what holds of each element, and lists that are cut at a place.
-use Rattle.std.proofs.Common.{◌≡◌, ℕ, zero, suc, ◌<◌, ◌≤◌, Bool, true, false, cond, List, [], ◌∷◌, ◌++◌, length, take, drop, filter, slice_get, Option, Some, None, refl, sym, ◌∙◌, ap, arith}
+use Rattle.std.proofs.Common.{◌≡◌, ℕ, zero, suc, ◌+◌, ◌<◌, ◌≤◌, Bool, true, false, cond, List, [], ◌∷◌, ◌++◌, length, take, drop, filter, slice_get, Option, Some, None, Result, Ok, Err, IfOk, refl, sym, ◌∙◌, ap, subst, arith}
 use Rattle.std.specs.Prelude.{slice_index_or}
 use Rattle.std.specs.List.{AllWithin}
 use Rattle.std.specs.List.Sorted.{IsPartitionedBy}
@@ -117,3 +117,33 @@ pub is_there : {A : Type 0} (xs : List A) (k : ℕ) (x : A) → slice_get xs k �
 is_there [] k x at = absurd cc
 is_there (y ∷ xs) zero x at = omega arith
 is_there (y ∷ xs) (suc k) x at = let lt = is_there xs k x at in omega arith
+
+pub found_at : {A : Type 0} (xs : List A) (k : ℕ) (x : A) → x ≡ slice_index_or xs k x → k < length xs → slice_get xs k ≡ Some x
+found_at [] k x is lt = absurd (omega (arith, lt))
+found_at (y ∷ xs) zero x is lt = ap Some (sym is)
+found_at (y ∷ xs) (suc k) x is lt = found_at xs k x is (omega (arith, lt))
+
+pub get_first : {A : Type 0} (xs ys : List A) (k : ℕ) → k < length xs → slice_get (xs ++ ys) k ≡ slice_get xs k
+get_first [] ys k lt = absurd (omega (arith, lt))
+get_first (x ∷ xs) ys zero lt = refl
+get_first (x ∷ xs) ys (suc k) lt = get_first xs ys k (omega (arith, lt))
+
+pub get_second : {A : Type 0} (xs ys : List A) (j k : ℕ) → k ≡ length xs + j → slice_get (xs ++ ys) k ≡ slice_get ys j
+get_second [] ys j k is = let same : k ≡ j = omega (arith, is) in ap (slice_get ys) same
+get_second (x ∷ xs) ys j zero is = absurd (omega (arith, is))
+get_second (x ∷ xs) ys j (suc k) is = get_second xs ys j k (omega (arith, is))
+
+pub drop_end : {A : Type 0} (xs : List A) → drop (length xs) xs ≡ []
+drop_end [] = refl
+drop_end (x ∷ xs) = drop_end xs
+
+-- the element at a place that is in range
+pub has_one : {A : Type 0} (xs : List A) (k : ℕ) → k < length xs → (x : A) × (slice_get xs k ≡ Some x)
+has_one [] k lt = absurd (omega (arith, lt))
+has_one (x ∷ xs) zero lt = (x, refl)
+has_one (x ∷ xs) (suc k) lt = has_one xs k (omega (arith, lt))
+
+-- what follows for each value that an answer may have
+pub if_ok : {A E : Type 0} (P Q : A → Type 0) → ((x : A) → P x → Q x) → (r : Result A E) → IfOk r P → IfOk r Q
+if_ok P Q f (Ok x) is = f x is
+if_ok P Q f (Err e) is = is

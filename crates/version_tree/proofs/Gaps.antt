@@ -1,5 +1,5 @@
 -- Where the bundle of a key stands in a list, found by halving.
-use Rattle.std.proofs.Common.{◌≡◌, ℕ, zero, suc, ◌<◌, ◌≤◌, Bool, true, false, cond, not, List, [], ◌∷◌, ◌++◌, length, take, drop, slice_get, Option, Some, None, refl, sym, ◌∙◌, ap, subst, arith, length-append, length-take, length-drop}
+use Rattle.std.proofs.Common.{◌≡◌, ℕ, zero, suc, ◌<◌, ◌≤◌, Bool, true, false, cond, not, nat_lt, ltb-true, ltb-false, List, [], ◌∷◌, ◌++◌, length, take, drop, slice_get, Option, Some, None, refl, sym, ◌∙◌, ap, subst, arith, length-append, length-take, length-drop}
 use Rattle.std.specs.List.{AllWithin}
 use Rattle.std.specs.List.Sorted.{IsPartitionedBy}
 use Rattle.std.proofs.lemmas.Bool.{true≢false}
@@ -109,3 +109,21 @@ taken_size key xs from to gap there =
     by : (b : Bool) → nat_lt from to ≡ b → from < to
     by true is = ltb-true from to is
     by false is = absurd (there (gap.absent (ltb-false from to is)))
+
+-- From the place that halving gives.
+
+pub gap_there : (key : BundleKey) (xs : List IndexParts) (n to : ℕ) → to ≡ suc n → AreRising xs →
+    AllWithin (λ x. is_before x.bundle.key key ≡ true) xs 0 n → has_key_at key xs n ≡ true → IsGap key xs n to
+gap_there key xs n to next up low is = subst (IsGap key xs n) (sym next) (by (slice_get xs n) refl)
+  where
+    by : (o : Option IndexParts) → slice_get xs n ≡ o → IsGap key xs n (suc n)
+    by None at = absurd (true≢false (sym is ∙ ap (is_of_key key) at))
+    by (Some x) at =
+        gap_taken key xs n x up (each_low (λ (y : IndexParts). is_before y.bundle.key key ≡ true) xs n low) at (sym (ap (is_of_key key) at) ∙ is)
+
+pub gap_none : (key : BundleKey) (xs : List IndexParts) (n : ℕ) → AreRising xs → n ≤ length xs →
+    AllWithin (λ x. is_before x.bundle.key key ≡ true) xs 0 n → AllWithin (λ x. is_before x.bundle.key key ≡ false) xs n (length xs) →
+    has_key_at key xs n ≡ false → IsGap key xs n n
+gap_none key xs n up le low high is =
+    gap_free key xs n up le (each_low (λ (y : IndexParts). is_before y.bundle.key key ≡ true) xs n low)
+    (each_high (λ (y : IndexParts). is_before y.bundle.key key ≡ false) xs n high) is

@@ -1,7 +1,7 @@
 -- Pages: on which of them a key stands, and what they hold when one is changed.
-use Rattle.std.proofs.Common.{◌≡◌, ℕ, zero, suc, ◌-◌, ◌+◌, ◌<◌, ◌≤◌, Bool, true, false, cond, not, nat_le, List, [], ◌∷◌, ◌++◌, length, take, drop, slice_get, Option, Some, None, refl, sym, ◌∙◌, ap, subst, arith, append_assoc, leb-true, leb-false, length-take, length-drop, le-leb}
+use Rattle.std.proofs.Common.{◌≡◌, ℕ, zero, suc, ◌-◌, ◌+◌, ◌<◌, ◌≤◌, Bool, true, false, cond, not, nat_le, List, [], ◌∷◌, ◌++◌, length, take, drop, slice_get, Option, Some, None, refl, sym, ◌∙◌, ap, subst, arith, append_assoc, leb-true, leb-false, length-take, length-drop, length-append, le-leb}
 use Rattle.std.specs.List.Sorted.{IsPartitionedBy}
-use Rattle.std.proofs.lemmas.Bool.{true≢false, false≢true, not-true, not_from_false}
+use Rattle.std.proofs.lemmas.Bool.{true≢false, false≢true, not-true}
 use Rattle.std.proofs.lemmas.List.{append-nil}
 use Rattle.emu_names.specs.declared.names.BundleKey.{BundleKey}
 use Rattle.bundle_index.specs.Index.{IndexParts}
@@ -11,7 +11,7 @@ use Rattle.version_tree.specs.declared.change.Change.{Change}
 use Rattle.version_tree.specs.Version.{indexed_with, others, put_indexed}
 use Rattle.version_tree.specs.Pages.{Each, AreBefore, AreBehind, AreRising, IsPage, bundles_on, starts_by, pages_of, cut_unless, bundles_behind, pages_behind, KeepPages, IsChangeOf}
 use Rattle.version_tree.specs.Places.{IsPageFor}
-use Rattle.version_tree.proofs.Elements.{each_append, each_parts, each_map, each_take, each_drop, each_at, Pairs, split_by, split_at, take_next, drop_next, whole}
+use Rattle.version_tree.proofs.Elements.{each_append, each_parts, each_map, each_take, each_drop, each_at, Pairs, split_by, split_at, take_next, drop_next, whole, get_first, get_second, drop_end}
 use Rattle.version_tree.proofs.Orders.{AreParts, below, behind_of, rising_parts, others_between, put_between, found_between}
 
 -- What pages hold.
@@ -119,13 +119,17 @@ front_before key (p ∷ q ∷ qs) (suc m) turns lt starts =
     (low_before key p q starts.1.0 turns.0.0.1)
     (front_before key (q ∷ qs) m turns.1 (omega (arith, lt)) starts.1)
 
+true_of : (b : Bool) → not b ≡ false → b ≡ true
+true_of true is = refl
+true_of false is = absurd (true≢false is)
+
 -- where no page starts by a key, all bundles have keys behind it
 back_behind : (key : BundleKey) (pages : List (List IndexParts)) → AreRising (bundles_on pages) →
     Each IsPage pages → Each (λ p. starts_by key p ≡ false) pages → AreBehind key (bundles_on pages)
 back_behind key [] up sizes starts = tt
 back_behind key ([] ∷ ps) up sizes starts = let low = sizes.0.some in absurd (omega (arith, low))
 back_behind key ((x ∷ xs) ∷ ps) up sizes starts =
-    let own : is_before key x.bundle.key ≡ true = not_from_false (is_before key x.bundle.key) starts.0 in
+    let own : is_before key x.bundle.key ≡ true = true_of (is_before key x.bundle.key) starts.0 in
     (own, behind_of key x (xs ++ bundles_on ps) own up.0)
 
 rising_drop : (n : ℕ) (pages : List (List IndexParts)) → AreRising (bundles_on pages) → AreRising (bundles_on (drop n pages))
@@ -199,3 +203,38 @@ joined_behind pages k next left front at =
     ap (λ (zs : List IndexParts). front ++ zs)
     (append_assoc left next (bundles_on (drop (suc k) pages))
     ∙ ap (λ (zs : List (List IndexParts)). left ++ bundles_on zs) (sym (drop_next pages k next at)))
+
+-- A walk over the pages to the bundle at a place.
+
+-- the bundle is that at the place `left` of the pages from `index` on
+pub record IsLeft (pages : List (List IndexParts)) (place index left : ℕ) : Type 0 where
+  pub same : slice_get (bundles_on pages) place ≡ slice_get (bundles_on (drop index pages)) left
+  pub within : left < length (bundles_on (drop index pages))
+
+pub left_found : (pages : List (List IndexParts)) (place index left : ℕ) (page : List IndexParts) → IsLeft pages place index left →
+    slice_get pages index ≡ Some page → left < length page → slice_get (bundles_on pages) place ≡ slice_get page left
+left_found pages place index left page is at low =
+    is.same ∙ ap (λ (ps : List (List IndexParts)). slice_get (bundles_on ps) left) (drop_next pages index page at)
+    ∙ get_first page (bundles_on (drop (suc index) pages)) left low
+
+pub left_next : (pages : List (List IndexParts)) (place index left next less : ℕ) (page : List IndexParts) → IsLeft pages place index left →
+    slice_get pages index ≡ Some page → length page ≤ left → next ≡ suc index → length page + less ≡ left → IsLeft pages place next less
+left_next pages place index left next less page is at high more rest =
+    subst (λ (n : ℕ). IsLeft pages place n less) (sym more) record {
+      same = is.same ∙ ap (λ (ps : List (List IndexParts)). slice_get (bundles_on ps) left) (drop_next pages index page at)
+          ∙ get_second page (bundles_on (drop (suc index) pages)) less left (sym rest);
+      within = low;
+    }
+  where
+    low : less < length (bundles_on (drop (suc index) pages))
+    low =
+        let long = length-append page (bundles_on (drop (suc index) pages)) in
+        let all : left < length (page ++ bundles_on (drop (suc index) pages)) =
+        subst (λ (ps : List (List IndexParts)). left < length (bundles_on ps)) (drop_next pages index page at) is.within in
+        omega (arith, long, all, rest)
+
+pub left_end : (pages : List (List IndexParts)) (place index left : ℕ) → index ≡ length pages → IsLeft pages place index left → ⊥
+left_end pages place index left all is =
+    let none : drop index pages ≡ [] = ap (λ (n : ℕ). drop n pages) all ∙ drop_end pages in
+    let low : left < 0 = subst (λ (ps : List (List IndexParts)). left < length (bundles_on ps)) none is.within in
+    omega (arith, low)

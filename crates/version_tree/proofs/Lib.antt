@@ -3,4 +3,5 @@ pub mod Orders
 pub mod Gaps
 pub mod Leaves
 pub mod Fullness
+pub mod Changes
 pub mod States

@@ -1,11 +1,12 @@
 //! Pages of bundles in the order of their keys: on which of them a key stands, and the pages with a bundle
 //! put at its place or taken out.
-ghost use Rattle.std.specs.Prelude.{◌≡◌, ◌≢◌, ◌≤◌, ◌<◌, true, false, suc, [], ◌∷◌, length, take, drop, IfOk, option_copied, Some, None};
+ghost use Rattle.std.specs.Prelude.{◌≡◌, ◌≢◌, ◌≤◌, ◌<◌, ◌+◌, ◌-◌, true, false, suc, [], ◌∷◌, length, take, drop, IfOk, option_copied, Some, None};
 ghost use Rattle.std.specs.List.{slice_get};
 ghost use Rattle.std.specs.List.Sorted.{IsPartitionPoint};
 ghost use Rattle.version_tree.specs.declared.sizes.TheConstants.{HALF, PAGE};
+ghost use Rattle.version_tree.specs.declared.pages.Neighbour.TheVariants as Neighbour;
 ghost use Rattle.version_tree.specs.Version.{indexed_with, others, put_indexed};
-ghost use Rattle.version_tree.specs.Pages.{AreRising, IsChangeOf, KeepPages, bundles_behind, bundles_on, first_change, pages_behind, pages_of, starts_by};
+ghost use Rattle.version_tree.specs.Pages.{IsChangeOf, IsPage, KeepPages, bundles_behind, bundles_on, first_change, pages_behind, pages_of, starts_by};
 ghost use Rattle.version_tree.specs.Places.{AreOneLess, IsNeighbour, IsPageFor, bundles_but, has_room};
 
 use crate::bundles::{bundle_of, only, with, without};
@@ -48,6 +49,14 @@ fn page_for(pages: &[Shared<Page>], key: &BundleKey) -> usize
     pages_started(pages, key).saturating_sub(1)
 }
 
+/// The bundles of the page at a place.
+fn page_at<'a>(pages: &'a [Shared<Page>], place: usize) -> &'a [Shared<Indexed>]
+    requires { place < length pages.now }
+    ensures { slice_get pages.now place ≡ Some result.now }
+{
+    pages[place].as_ref().as_slice()
+}
+
 /// The bundle of a key.
 pub(crate) fn bundle_on<'a>(pages: &'a [Shared<Page>], key: &BundleKey) -> Option<&'a Indexed>
     requires { KeepPages pages.now }
@@ -57,7 +66,7 @@ pub(crate) fn bundle_on<'a>(pages: &'a [Shared<Page>], key: &BundleKey) -> Optio
         return None;
     }
     let place = page_for(pages, key);
-    bundle_of(pages[place].as_ref().as_slice(), key)
+    bundle_of(page_at(pages, place), key)
 }
 
 /// Whether the page at a place, if there is one, has room for so many bundles more, up to 64.
@@ -86,6 +95,68 @@ fn neighbour_for(pages: &[Shared<Page>], place: usize, count: usize) -> Neighbou
     Neighbour::Neither
 }
 
+/// The bundles of the page before a place, and these behind them, in the place of the two pages. The only
+/// refusal is want of memory.
+fn change_before(
+    alloc: Global,
+    pages: &[Shared<Page>],
+    place: usize,
+    left: &[Shared<Indexed>],
+) -> Result<Change, Memory>
+    requires keeps { KeepPages pages.now }
+    requires size { AreOneLess pages.now place left.now }
+    requires first { 0 < place }
+    requires room { has_room (length left.now) (slice_get pages.now (place - 1)) ≡ true }
+    ensures change { IfOk result (λ change. IsChangeOf pages.now change) }
+    ensures bundles { IfOk result (λ change.
+        bundles_behind pages.now change ≡ bundles_but pages.now place left.now) }
+{
+    let bundles = joined(alloc, page_at(pages, place - 1), left)?;
+    Ok(Change {
+        from: place - 1,
+        to: place + 1,
+        bundles,
+    })
+}
+
+/// These bundles, and those of the page behind a place behind them, in the place of the two pages. The only
+/// refusal is want of memory.
+fn change_behind(
+    alloc: Global,
+    pages: &[Shared<Page>],
+    place: usize,
+    left: &[Shared<Indexed>],
+) -> Result<Change, Memory>
+    requires keeps { KeepPages pages.now }
+    requires size { AreOneLess pages.now place left.now }
+    requires room { has_room (length left.now) (slice_get pages.now (place + 1)) ≡ true }
+    ensures change { IfOk result (λ change. IsChangeOf pages.now change) }
+    ensures bundles { IfOk result (λ change.
+        bundles_behind pages.now change ≡ bundles_but pages.now place left.now) }
+{
+    let bundles = joined(alloc, left, page_at(pages, place + 1))?;
+    Ok(Change {
+        from: place,
+        to: place + 2,
+        bundles,
+    })
+}
+
+/// These bundles in the place of a page, with which no neighbour is joined.
+fn change_alone(pages: &[Shared<Page>], place: usize, left: Series<Shared<Indexed>>) -> Change
+    requires keeps { KeepPages pages.now }
+    requires size { AreOneLess pages.now place left }
+    requires alone { IsNeighbour pages.now place (length left) Neighbour.Neither }
+    ensures change { IsChangeOf pages.now result }
+    ensures bundles { bundles_behind pages.now result ≡ bundles_but pages.now place left }
+{
+    Change {
+        from: place,
+        to: place + 1,
+        bundles: left,
+    }
+}
+
 /// These bundles in the place of a page, or of that page and the neighbour with which they are joined. The
 /// only refusal is want of memory.
 fn change_at(
@@ -101,21 +172,9 @@ fn change_at(
         bundles_behind pages.now change ≡ bundles_but pages.now place left) }
 {
     match neighbour_for(pages, place, left.len()) {
-        Neighbour::Before => Ok(Change {
-            from: place - 1,
-            to: place + 1,
-            bundles: joined(alloc, pages[place - 1].as_ref().as_slice(), left.as_slice())?,
-        }),
-        Neighbour::Behind => Ok(Change {
-            from: place,
-            to: place + 2,
-            bundles: joined(alloc, left.as_slice(), pages[place + 1].as_ref().as_slice())?,
-        }),
-        Neighbour::Neither => Ok(Change {
-            from: place,
-            to: place + 1,
-            bundles: left,
-        }),
+        Neighbour::Before => change_before(alloc, pages, place, left.as_slice()),
+        Neighbour::Behind => change_behind(alloc, pages, place, left.as_slice()),
+        Neighbour::Neither => Ok(change_alone(pages, place, left)),
     }
 }
 
@@ -143,7 +202,7 @@ fn change_with(alloc: Global, pages: &[Shared<Page>], new: Indexed) -> Result<Ch
         return first_change(alloc, new);
     }
     let place = page_for(pages, new.bundle().key());
-    let bundles = with(alloc, pages[place].as_ref().as_slice(), new)?;
+    let bundles = with(alloc, page_at(pages, place), new)?;
     Ok(Change {
         from: place,
         to: place + 1,
@@ -164,8 +223,17 @@ fn change_without(
         bundles_behind pages.now change ≡ others key.now (bundles_on pages.now)) }
 {
     let place = page_for(pages, key);
-    let left = without(alloc, pages[place].as_ref().as_slice(), key)?;
+    let left = without(alloc, page_at(pages, place), key)?;
     change_at(alloc, pages, place, left)
+}
+
+/// The page of these bundles. The only refusal is want of memory.
+fn page_of(alloc: Global, bundles: &[Shared<Indexed>]) -> Result<Shared<Page>, Memory>
+    requires { IsPage bundles.now }
+    ensures { IfOk result (λ made. made ≡ bundles.now) }
+{
+    let bundles = joined(alloc, bundles, &[])?;
+    Shared::new(alloc, Page::new(bundles))
 }
 
 /// The first half of bundles that one page cannot hold, and the others. The only refusal is want of memory.
@@ -178,18 +246,24 @@ fn two_pages(
     ensures { IfOk result (λ made.
         made ≡ take HALF bundles.now ∷ drop HALF bundles.now ∷ []) }
 {
-    let first = Page::new(joined(alloc, &bundles[..HALF], &[])?);
-    let mut made = one_page(alloc, first)?;
-    let second = Page::new(joined(alloc, &bundles[HALF..], &[])?);
-    made.push(Shared::new(alloc, second)?)?;
+    let (first, second) = bundles.split_at(HALF);
+    let first = page_of(alloc, first)?;
+    let second = page_of(alloc, second)?;
+    let mut made = Series::new(alloc);
+    made.push(first)?;
+    made.push(second)?;
     Ok(made)
 }
 
 /// The list of one page. The only refusal is want of memory.
-fn one_page(alloc: Global, page: Page) -> Result<Series<Shared<Page>>, Memory>
-    ensures { IfOk result (λ made. made ≡ page ∷ []) }
+fn one_page(
+    alloc: Global,
+    bundles: Series<Shared<Indexed>>,
+) -> Result<Series<Shared<Page>>, Memory>
+    requires { IsPage bundles }
+    ensures { IfOk result (λ made. made ≡ bundles ∷ []) }
 {
-    let page = Shared::new(alloc, page)?;
+    let page = Shared::new(alloc, Page::new(bundles))?;
     let mut made = Series::new(alloc);
     made.push(page)?;
     Ok(made)
@@ -208,7 +282,7 @@ fn cut(
         return Ok(Series::new(alloc));
     }
     if bundles.len() <= PAGE {
-        return one_page(alloc, Page::new(bundles));
+        return one_page(alloc, bundles);
     }
     two_pages(alloc, bundles.as_slice())
 }
