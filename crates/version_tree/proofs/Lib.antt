@@ -5,3 +5,4 @@ pub mod Leaves
 pub mod Fullness
 pub mod Changes
 pub mod States
+pub mod Versions

@@ -11,6 +11,7 @@ use Rattle.edit_rules.specs.declared.bundle_change.Counts.{Counts}
 use Rattle.edit_rules.specs.Database.{IsBundleOf, is_before, same_key, bundle_with, without, put_in_order, put_for, all_items, are_keys_rising}
 use Rattle.edit_rules.proofs.KeyPlaces.{key_same}
 use Rattle.version_tree.specs.Version.{bundles_of, has_key, indexed_with, others, placed, put_indexed}
+use Rattle.version_tree.specs.Kept.{counts_in}
 use Rattle.version_tree.specs.Pages.{Each, AreBehind, AreRising}
 use Rattle.version_tree.proofs.Elements.{each_filter}
 use Rattle.version_tree.proofs.Orders.{apart_back, others_apart, each_put}
@@ -81,13 +82,11 @@ counts_same a b one two =
 
 -- how many items the bundle has, if there is one
 abbrev pub items_in : Option IndexParts → ℕ
-items_in None = 0
-items_in (Some x) = item_count x.bundle.levels
+items_in found = (counts_in found).items
 
 -- 1 if there is a bundle
 abbrev pub one_if : Option IndexParts → ℕ
-one_if None = 0
-one_if (Some x) = 1
+one_if found = (counts_in found).bundles
 
 abbrev items_of : List IndexParts → ℕ
 items_of xs = all_items (bundles_of xs)

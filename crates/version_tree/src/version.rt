@@ -6,6 +6,8 @@ ghost use Rattle.emu_names.specs.declared.limits.TheConstants.{BUNDLES};
 ghost use Rattle.bundle_state.specs.Built.{FitsConfig};
 ghost use Rattle.bundle_state.specs.Valid.{KeepsBundleRules};
 ghost use Rattle.edit_rules.specs.Database.{bundle_with, counts_of, empty_database};
+ghost use Rattle.version_tree.specs.Kept.{counts_in};
+ghost use Rattle.version_tree.specs.Pages.{AreRising};
 ghost use Rattle.version_tree.specs.Version.{KeepsVersionRules, bundles_of, first_version, indexed_with, others, put_indexed, state_of, state_put, version_with, version_without};
 
 use crate::tree::Tree;
@@ -164,36 +166,48 @@ impl Version {
         })
     }
 
+    /// The counts of the one bundle of a key, if there is one.
+    fn counts_at(&self, key: &BundleKey) -> Counts
+        ensures counts { result ≡ counts_in (indexed_with key.now self.now.bundles) }
+        ensures rising { AreRising self.now.bundles }
+    {
+        match self.bundles.get(key) {
+            Some(old) => Counts {
+                bundles: 1,
+                items: old.bundle().item_count() as u32,
+            },
+            None => Counts {
+                bundles: 0,
+                items: 0,
+            },
+        }
+    }
+
     /// The counts with this bundle in the place of that of its key.
     fn counts_with(&self, new: &Indexed) -> Counts
         requires room { indexed_with new.now.bundle.key self.now.bundles ≡ None
             → length self.now.bundles < BUNDLES }
         ensures counts { result ≡ counts_of (bundles_of (put_indexed new.now self.now.bundles)) }
+        ensures rising { AreRising self.now.bundles }
         ensures rules { KeepsBundleRules new.now.bundle }
     {
+        let old = self.counts_at(new.bundle().key());
         let more = new.bundle().item_count() as u32;
-        match self.bundles.get(new.bundle().key()) {
-            Some(old) => Counts {
-                bundles: self.counts.bundles,
-                items: self.counts.items - old.bundle().item_count() as u32 + more,
-            },
-            None => Counts {
-                bundles: self.counts.bundles + 1,
-                items: self.counts.items + more,
-            },
+        Counts {
+            bundles: self.counts.bundles - old.bundles + 1,
+            items: self.counts.items - old.items + more,
         }
     }
 
     /// The counts without the bundle of a key.
     fn counts_without(&self, key: &BundleKey) -> Counts
-        ensures { result ≡ counts_of (bundles_of (others key.now self.now.bundles)) }
+        ensures counts { result ≡ counts_of (bundles_of (others key.now self.now.bundles)) }
+        ensures rising { AreRising self.now.bundles }
     {
-        match self.bundles.get(key) {
-            Some(old) => Counts {
-                bundles: self.counts.bundles - 1,
-                items: self.counts.items - old.bundle().item_count() as u32,
-            },
-            None => self.counts,
+        let old = self.counts_at(key);
+        Counts {
+            bundles: self.counts.bundles - old.bundles,
+            items: self.counts.items - old.items,
         }
     }
 }

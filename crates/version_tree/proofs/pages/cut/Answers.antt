@@ -1,4 +1,4 @@
-use Rattle.std.proofs.Common.{◌≡◌, ◌∷◌, [], List, ◌∙◌, length, take, drop, sym, subst, arith, eqb-true, eqb-false}
+use Rattle.std.proofs.Common.{◌≡◌, ◌∷◌, [], List, ◌∙◌, length, take, drop, sym, subst, arith, eqb-true}
 use Rattle.bundle_index.specs.Index.{IndexParts}
 use Rattle.version_tree.specs.Pages.{pages_of}
 use Rattle.version_tree.proofs.Elements.{if_ok}
