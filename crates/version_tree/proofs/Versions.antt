@@ -7,13 +7,13 @@ use Rattle.bundle_state.specs.Bundle.{BundleParts, item_count}
 use Rattle.bundle_state.specs.Built.{FitsConfig}
 use Rattle.bundle_index.specs.Index.{IndexParts}
 use Rattle.edit_rules.specs.declared.bundle_change.Counts.{Counts}
-use Rattle.edit_rules.specs.Database.{IsBundleOf, all_items, are_keys_rising, counts_of}
-use Rattle.version_tree.specs.Version.{VersionParts, KeepsVersionRules, bundles_of, has_key, indexed_with, others, put_indexed}
+use Rattle.edit_rules.specs.Database.{DatabaseParts, IsBundleOf, all_items, are_keys_rising, counts_of}
+use Rattle.version_tree.specs.Version.{VersionParts, KeepsVersionRules, bundles_of, has_key, indexed_with, next_number, others, put_indexed, state_of, state_put, version_with, version_without}
 use Rattle.version_tree.specs.Kept.{IsKept, counts_in}
 use Rattle.version_tree.specs.Pages.{AreRising}
 use Rattle.version_tree.proofs.Elements.{some_same}
 use Rattle.version_tree.proofs.Orders.{rising_put, rising_others}
-use Rattle.version_tree.proofs.States.{all_with, all_without, counts_same, items_others, items_put, length_others, length_put, length_bundles, items_few, state_rising}
+use Rattle.version_tree.proofs.States.{all_with, all_without, counts_same, items_others, items_put, length_others, length_put, length_bundles, items_few, state_others, state_rising, state_with}
 
 abbrev pub counts_as : ℕ → ℕ → Counts
 counts_as bundles items = record { bundles = bundles; items = items }
@@ -132,13 +132,12 @@ kept_without v next key counts rules up config bundles count = record {
 found_of : (config : ConfigParts) (xs : List IndexParts) (key : BundleKey) (x : IndexParts) → indexed_with key xs ≡ Some x → All (IsBundleOf config) (bundles_of xs) →
     IsBundleOf config x.bundle
 found_of config [] key x is all = absurd cc
-found_of config (y ∷ xs) key x is all = by (has_key key y) is
+found_of config (y ∷ xs) key x is all =
+    by (has_key key y) is (λ e. found_of config xs key x e (All-tail (IsBundleOf config) y.bundle (bundles_of xs) all))
   where
-    rest : indexed_with key xs ≡ Some x → IsBundleOf config x.bundle
-    rest e = found_of config xs key x e (All-tail (IsBundleOf config) y.bundle (bundles_of xs) all)
-    by : (b : Bool) → cond b (Some y) (indexed_with key xs) ≡ Some x → IsBundleOf config x.bundle
-    by true e = subst (λ (z : IndexParts). IsBundleOf config z.bundle) (some_same y x e) (All-head (IsBundleOf config) y.bundle (bundles_of xs) all)
-    by false e = rest e
+    by : (b : Bool) → cond b (Some y) (indexed_with key xs) ≡ Some x → (indexed_with key xs ≡ Some x → IsBundleOf config x.bundle) → IsBundleOf config x.bundle
+    by true e rest = subst (λ (z : IndexParts). IsBundleOf config z.bundle) (some_same y x e) (All-head (IsBundleOf config) y.bundle (bundles_of xs) all)
+    by false e rest = rest e
 
 pub fits_found : (v : VersionParts) (key : BundleKey) (o : Option IndexParts) → KeepsVersionRules v → o ≡ indexed_with key v.bundles →
     IfSome o (λ x. FitsConfig v.config x.bundle)
@@ -152,3 +151,35 @@ at_of config (y ∷ xs) (suc k) x at all = at_of config xs k x at (All-tail (IsB
 
 pub fits_at : (v : VersionParts) (k : ℕ) (x : IndexParts) → KeepsVersionRules v → slice_get v.bundles k ≡ Some x → FitsConfig v.config x.bundle
 fits_at v k x rules at = (at_of v.config v.bundles k x at rules.bundles).fits
+
+-- the next versions as records, and their databases
+
+abbrev pub version_as : ConfigParts → List IndexParts → ℕ → VersionParts
+version_as config bundles number = record { config = config; bundles = bundles; number = number }
+
+pub is_with : (v next : VersionParts) (new : IndexParts) → next.config ≡ v.config → next.bundles ≡ put_indexed new v.bundles → next.number ≡ next_number v.number →
+    next ≡ version_with new v
+is_with v next new config bundles number =
+    ap (λ (c : ConfigParts). version_as c next.bundles next.number) config
+    ∙ ap (λ (xs : List IndexParts). version_as v.config xs next.number) bundles
+    ∙ ap (λ (n : ℕ). version_as v.config (put_indexed new v.bundles) n) number
+
+pub is_without : (v next : VersionParts) (key : BundleKey) → next.config ≡ v.config → next.bundles ≡ others key v.bundles → next.number ≡ next_number v.number →
+    next ≡ version_without key v
+is_without v next key config bundles number =
+    ap (λ (c : ConfigParts). version_as c next.bundles next.number) config
+    ∙ ap (λ (xs : List IndexParts). version_as v.config xs next.number) bundles
+    ∙ ap (λ (n : ℕ). version_as v.config (others key v.bundles) n) number
+
+abbrev database_as : ConfigParts → List BundleParts → DatabaseParts
+database_as config bundles = record { config = config; bundles = bundles }
+
+pub state_is_with : (v next : VersionParts) (new : IndexParts) → next ≡ version_with new v → state_of next ≡ state_put new.bundle.key (Some new.bundle) v
+state_is_with v next new is = ap state_of is ∙ ap (λ (bs : List BundleParts). database_as v.config bs) (state_with new v.bundles)
+
+pub state_is_without : (v next : VersionParts) (key : BundleKey) → next ≡ version_without key v → state_of next ≡ state_put key None v
+state_is_without v next key is = ap state_of is ∙ ap (λ (bs : List BundleParts). database_as v.config bs) (state_others key v.bundles)
+
+-- the same, by what the type keeps
+pub kept_as : (v seen : VersionParts) (counts : Counts) → seen ≡ v → IsKept seen counts → IsKept v counts
+kept_as v seen counts is kept = subst (λ (w : VersionParts). IsKept w counts) is kept
