@@ -183,3 +183,11 @@ state_is_without v next key is = ap state_of is ∙ ap (λ (bs : List BundlePart
 -- the same, by what the type keeps
 pub kept_as : (v seen : VersionParts) (counts : Counts) → seen ≡ v → IsKept seen counts → IsKept v counts
 kept_as v seen counts is kept = subst (λ (w : VersionParts). IsKept w counts) is kept
+
+-- the counts with a bundle, from what the calls tell
+pub counts_told : (v seen : VersionParts) (new : IndexParts) (counts old : Counts) (key : BundleKey) → seen ≡ v → IsKept seen counts → AreRising v.bundles →
+    key ≡ new.bundle.key → old ≡ counts_in (indexed_with key v.bundles) → (b : BundleParts) → b ≡ new.bundle → KeepsBundleRules b →
+    (indexed_with new.bundle.key v.bundles ≡ None → length v.bundles < 10000) → AreCountsWith v new counts old
+counts_told v seen new counts old key is kept up own there b same rules room =
+    counts_with v new counts old (kept_as v seen counts is kept) up (there ∙ ap (λ (k : BundleKey). counts_in (indexed_with k v.bundles)) own)
+    (subst (λ (x : BundleParts). item_count x.levels ≤ 65536) same rules.few_items) room
