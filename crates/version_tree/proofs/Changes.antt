@@ -34,6 +34,7 @@ put_made pages k to page bundles at keeps next size = subst (λ (n : ℕ). IsCha
         let most = (each_at IsPage pages k page at keeps.sizes).most in
         let high = size.high in
         omega (arith, most, high)
+
     made : IsChangeOf pages (change_of k (suc k) bundles)
     made =
         let lt = is_there pages k page at in
@@ -58,10 +59,13 @@ before_made pages place from to prev left bundles keeps size at room own next sa
   where
     page : (x : List IndexParts) × (slice_get pages (suc from) ≡ Some x)
     page = has_one pages (suc from) (subst (λ (p : ℕ). p < length pages) own size.within)
+
     less : suc (length left) ≡ length page.0
     less = size.less page.0 (subst (λ (p : ℕ). slice_get pages p ≡ Some page.0) (sym own) page.1)
+
     few : length prev + length left ≤ 64
     few = leb-true (length prev + length left) 64 (sym (ap (has_room (length left)) at) ∙ room)
+
     made : IsMade pages (suc from) left (change_of from (suc (suc from)) (prev ++ left))
     made =
         let lt = is_there pages (suc from) page.0 page.1 in
@@ -85,10 +89,13 @@ behind_made pages place after to next left bundles keeps size there room own mor
   where
     at : slice_get pages (suc place) ≡ Some next
     at = subst (λ (p : ℕ). slice_get pages p ≡ Some next) own there
+
     page : (x : List IndexParts) × (slice_get pages place ≡ Some x)
     page = has_one pages place size.within
+
     few : length next + length left ≤ 64
     few = leb-true (length next + length left) 64 (sym (ap (has_room (length left)) there) ∙ room)
+
     made : IsMade pages place left (change_of place (suc (suc place)) (left ++ next))
     made =
         let lt = is_there pages (suc place) next at in
@@ -111,12 +118,15 @@ alone_made pages place after to left keeps size own more before behind =
   where
     page : (x : List IndexParts) × (slice_get pages place ≡ Some x)
     page = has_one pages place size.within
+
     less : suc (length left) ≡ length page.0
     less = size.less page.0 page.1
+
     first : (j : ℕ) → place ≡ suc j → has_room (length left) (slice_get pages j) ≡ false
     first j is =
         let same : place - 1 ≡ j = omega (arith, is) in
         subst (λ (k : ℕ). has_room (length left) (slice_get pages k) ≡ false) same (before (omega (arith, is)))
+
     made : IsMade pages place left (change_of place (suc place) left)
     made =
         let lt = size.within in

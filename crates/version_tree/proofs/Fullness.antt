@@ -44,19 +44,25 @@ full_put pages k page bundles at sizes full low few = by (nat_le (length bundles
   where
     front : Each IsPage (take k pages)
     front = each_take IsPage k pages sizes
+
     back : Each IsPage (drop (suc k) pages)
     back = each_drop IsPage (suc k) pages sizes
+
     some : 1 ≤ length page
     some = (each_at IsPage pages k page at sizes).some
+
     before : AreFull (take k pages ++ (page ∷ drop (suc k) pages))
     before = subst AreFull (split_at pages k page at) full
+
     one : AreFull (take k pages ++ ((bundles ∷ []) ++ drop (suc k) pages))
     one = full_behind (take k pages) (page ∷ drop (suc k) pages) (bundles ∷ drop (suc k) pages) front
         (λ p size is. omega (arith, low, is))
         (λ is. (beside_more page bundles (drop (suc k) pages) low is.0, is.1)) before
+
     last : (many : 128 < length bundles) (rest : List (List IndexParts)) → Each IsPage rest → IsFullBeside (drop 64 bundles) rest
     last many [] sized = tt
     last many (a ∷ rest) sized = let size = length-drop 64 bundles in let more = sized.0.some in omega (arith, many, size, more)
+
     two : 128 < length bundles → AreFull (take k pages ++ ((take 64 bundles ∷ drop 64 bundles ∷ []) ++ drop (suc k) pages))
     two many =
         let first = length-take 64 bundles in
@@ -64,6 +70,7 @@ full_put pages k page bundles at sizes full low few = by (nat_le (length bundles
         full_behind (take k pages) (page ∷ drop (suc k) pages) (take 64 bundles ∷ drop 64 bundles ∷ drop (suc k) pages) front
         (λ p size is. let more = size.some in omega (arith, many, first, more))
         (λ is. (omega (arith, many, first, second), (last many (drop (suc k) pages) back, is.1))) before
+
     by : (b : Bool) → nat_le (length bundles) 128 ≡ b → AreFull (take k pages ++ (pages_of bundles ++ drop (suc k) pages))
     by true is =
         subst (λ (ps : List (List IndexParts)). AreFull (take k pages ++ (ps ++ drop (suc k) pages)))
@@ -86,6 +93,7 @@ full_before pages j prev page left at there sizes full less room =
   where
     some : 1 ≤ length prev
     some = (each_at IsPage pages j prev at sizes).some
+
     before : AreFull (take j pages ++ (prev ∷ page ∷ drop (suc (suc j)) pages))
     before = subst AreFull (split_at pages j prev at ∙ ap (λ (ps : List (List IndexParts)). take j pages ++ prev ∷ ps) (drop_next pages (suc j) page there)) full
 
@@ -103,6 +111,7 @@ full_after pages k page next left at there sizes full less room =
   where
     some : 1 ≤ length next
     some = (each_at IsPage pages (suc k) next there sizes).some
+
     before : AreFull (take k pages ++ (page ∷ next ∷ drop (suc (suc k)) pages))
     before = subst AreFull (split_at pages k page at ∙ ap (λ (ps : List (List IndexParts)). take k pages ++ page ∷ ps) (drop_next pages (suc k) next there)) full
 
@@ -143,14 +152,18 @@ full_alone pages (suc j) page left at sizes full less first second = by (slice_g
   where
     few : length left ≤ 128
     few = let most = (each_at IsPage pages (suc j) page at sizes).most in omega (arith, most, less)
+
     back : List (List IndexParts)
     back = drop (suc (suc j)) pages
+
     after : Each IsPage back
     after = each_drop IsPage (suc (suc j)) pages sizes
+
     none_there : (ps : List (List IndexParts)) (m : ℕ) → slice_get ps (suc m) ≡ Some page → slice_get ps m ≡ None → ⊥
     none_there [] m there is = cc
     none_there (p ∷ ps) zero there is = cc
     none_there (p ∷ ps) (suc m) there is = none_there ps m there is
+
     with_prev : (prev : List IndexParts) → slice_get pages j ≡ Some prev → AreFull (take (suc j) pages ++ (pages_of left ++ back))
     with_prev prev is =
         let room : has_room (length left) (Some prev) ≡ false = ap (has_room (length left)) (sym is) ∙ first j refl in
@@ -162,6 +175,7 @@ full_alone pages (suc j) page left at sizes full less first second = by (slice_g
         (λ old. (beside_left prev left back few after more, full_left left back few (beside_no_room left pages (suc (suc j)) second) old.1.1)) before in
         subst AreFull (sym (ap (λ (ps : List (List IndexParts)). ps ++ (pages_of left ++ back)) (take_next pages j prev is)
         ∙ append_assoc (take j pages) (prev ∷ []) (pages_of left ++ back))) made
+
     by : (o : Option (List IndexParts)) → slice_get pages j ≡ o → AreFull (take (suc j) pages ++ (pages_of left ++ back))
     by None is = absurd (none_there pages j at is)
     by (Some prev) is = with_prev prev is

@@ -76,11 +76,15 @@ AreInTurn p q = (1 ≤ length p) × Each (λ x. AreBehind x.bundle.key q) p
 
 spread : (p : List IndexParts) (ps : List (List IndexParts)) → 1 ≤ length p → Each (λ x. AreBehind x.bundle.key (bundles_on ps)) p → Each (AreInTurn p) ps
 spread p [] some each = tt
-spread p (q ∷ qs) some each =
-    ((some, each_map (λ (x : IndexParts). AreBehind x.bundle.key (q ++ bundles_on qs)) (λ (x : IndexParts). AreBehind x.bundle.key q)
-    (λ x all. (each_parts (λ (y : IndexParts). is_before x.bundle.key y.bundle.key ≡ true) q (bundles_on qs) all).0) p each),
-    spread p qs some (each_map (λ (x : IndexParts). AreBehind x.bundle.key (q ++ bundles_on qs)) (λ (x : IndexParts). AreBehind x.bundle.key (bundles_on qs))
-    (λ x all. (each_parts (λ (y : IndexParts). is_before x.bundle.key y.bundle.key ≡ true) q (bundles_on qs) all).1) p each))
+spread p (q ∷ qs) some each = (
+  (
+    some,
+    each_map (λ (x : IndexParts). AreBehind x.bundle.key (q ++ bundles_on qs)) (λ (x : IndexParts). AreBehind x.bundle.key q)
+        (λ x all. (each_parts (λ (y : IndexParts). is_before x.bundle.key y.bundle.key ≡ true) q (bundles_on qs) all).0) p each,
+  ),
+  spread p qs some (each_map (λ (x : IndexParts). AreBehind x.bundle.key (q ++ bundles_on qs)) (λ (x : IndexParts). AreBehind x.bundle.key (bundles_on qs))
+      (λ x all. (each_parts (λ (y : IndexParts). is_before x.bundle.key y.bundle.key ≡ true) q (bundles_on qs) all).1) p each),
+)
 
 in_turn : (pages : List (List IndexParts)) → Each IsPage pages → AreRising (bundles_on pages) → Pairs AreInTurn pages
 in_turn [] sizes up = tt

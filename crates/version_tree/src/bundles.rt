@@ -66,10 +66,7 @@ fn gap_for(bundles: &[Shared<Indexed>], key: &BundleKey) -> Gap
 }
 
 /// The bundle of a key.
-pub(crate) fn bundle_of<'a>(
-    bundles: &'a [Shared<Indexed>],
-    key: &BundleKey,
-) -> Option<&'a Indexed>
+pub(crate) fn bundle_of<'a>(bundles: &'a [Shared<Indexed>], key: &BundleKey) -> Option<&'a Indexed>
     requires { AreRising bundles.now }
     ensures { option_copied result ≡ indexed_with key.now bundles.now }
 {

@@ -211,11 +211,7 @@ fn change_with(alloc: Global, pages: &[Shared<Page>], new: Indexed) -> Result<Ch
 }
 
 /// The change that takes the bundle of a key out, which is there. The only refusal is want of memory.
-fn change_without(
-    alloc: Global,
-    pages: &[Shared<Page>],
-    key: &BundleKey,
-) -> Result<Change, Memory>
+fn change_without(alloc: Global, pages: &[Shared<Page>], key: &BundleKey) -> Result<Change, Memory>
     requires keeps { KeepPages pages.now }
     requires there { indexed_with key.now (bundles_on pages.now) ≢ None }
     ensures change { IfOk result (λ change. IsChangeOf pages.now change) }
@@ -237,10 +233,7 @@ fn page_of(alloc: Global, bundles: &[Shared<Indexed>]) -> Result<Shared<Page>, M
 }
 
 /// The first half of bundles that one page cannot hold, and the others. The only refusal is want of memory.
-fn two_pages(
-    alloc: Global,
-    bundles: &[Shared<Indexed>],
-) -> Result<Series<Shared<Page>>, Memory>
+fn two_pages(alloc: Global, bundles: &[Shared<Indexed>]) -> Result<Series<Shared<Page>>, Memory>
     requires many { PAGE < length bundles.now }
     requires few { length bundles.now ≤ suc PAGE }
     ensures { IfOk result (λ made.
@@ -256,10 +249,7 @@ fn two_pages(
 }
 
 /// The list of one page. The only refusal is want of memory.
-fn one_page(
-    alloc: Global,
-    bundles: Series<Shared<Indexed>>,
-) -> Result<Series<Shared<Page>>, Memory>
+fn one_page(alloc: Global, bundles: Series<Shared<Indexed>>) -> Result<Series<Shared<Page>>, Memory>
     requires { IsPage bundles }
     ensures { IfOk result (λ made. made ≡ bundles ∷ []) }
 {
@@ -271,10 +261,7 @@ fn one_page(
 
 /// Bundles as pages: none for no bundle, one, or two where one cannot hold them. The only refusal is want
 /// of memory.
-fn cut(
-    alloc: Global,
-    bundles: Series<Shared<Indexed>>,
-) -> Result<Series<Shared<Page>>, Memory>
+fn cut(alloc: Global, bundles: Series<Shared<Indexed>>) -> Result<Series<Shared<Page>>, Memory>
     requires { length bundles ≤ suc PAGE }
     ensures { IfOk result (λ made. made ≡ pages_of bundles) }
 {
