@@ -1,0 +1,4 @@
+pub mod Version
+pub mod Pages
+pub mod Places
+pub mod Kept
