@@ -1,0 +1,7 @@
+//! The results of a query in a bundle with its columns, worked out by label numbers, rows of bits and
+//! sets of tuples in order (EMU-SDMS Manual, "The EMU Query Language (EQL)").
+#![tactic(auto)]
+
+mod bundle;
+
+pub use bundle::match_bundle;
