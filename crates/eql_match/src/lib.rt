@@ -3,5 +3,14 @@
 #![tactic(auto)]
 
 mod bundle;
+mod conditions;
+mod evaluate;
+mod labels;
+mod patterns;
+mod positions;
+mod reach;
+mod rows;
+mod runs;
+mod ways;
 
 pub use bundle::match_bundle;
