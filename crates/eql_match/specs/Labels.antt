@@ -1,5 +1,5 @@
 -- Labels of items by rows and by numbers.
-use Rattle.std.specs.Prelude.{◌≡◌, ℕ, ◌<◌, Bool, List, [], Option, None, Some, length, get_or, map, unwrap_or}
+use Rattle.std.specs.Prelude.{◌≡◌, ℕ, ◌<◌, Bool, List, [], Option, Some, length, get_or, map}
 use Rattle.level_items.specs.declared.items.Item.{Item}
 use Rattle.std.specs.List.{slice_get}
 use Rattle.db_config.specs.declared.parts.AttributePlace.{AttributePlace}
@@ -30,10 +30,6 @@ pub record AreNumbersOf (column : List ℕ) (labels : List (List ℕ)) : Type 0 
 pub record AreAnswers (pattern : List ℕ) (column : List ℕ) (labels : List (List ℕ)) (answers : List (Option Bool)) : Type 0 where
   pub right : (k : ℕ) (is : Bool) → k < length labels →
       slice_get answers (get_or column k 0) ≡ Some (Some is) → is ≡ matches_label pattern (get_or labels k [])
-
--- what is noted at a number, where something is
-abbrev pub noted : List (Option Bool) → ℕ → Option Bool
-noted answers number = unwrap_or (slice_get answers number) None
 
 -- the label of the item at a position
 abbrev pub label_at : ℕ → List Item → ℕ → List ℕ

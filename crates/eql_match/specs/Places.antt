@@ -7,10 +7,10 @@ use Rattle.eql_model.specs.Flags.{flag_at}
 use Rattle.eql_model.specs.Bits.{row_stands, rows_place}
 
 -- a row is the one of a test of positions, for any items of so many different ids
-abbrev pub IsByIds : ℕ → (List ℕ → ℕ → Bool) → List Bool → Type 0
-IsByIds width test row =
-    (ids : List ℕ) → are_different ids ≡ true → length ids ≡ width →
-    row ≡ map (test ids) (range_with_len 0 width)
+pub record IsByIds (width : ℕ) (test : List ℕ → ℕ → Bool) (row : List Bool) : Type 0 where
+  pub long : length row ≡ width
+  pub is : (ids : List ℕ) → are_different ids ≡ true → length ids ≡ width →
+      row ≡ map (test ids) (range_with_len 0 width)
 
 -- the bits of the items that stand at the place among those with a bit of the row were set
 abbrev pub AddsPlaced : Place → List Bool → List Bool → List Bool → Type 0

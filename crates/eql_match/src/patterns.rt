@@ -26,20 +26,10 @@ fn label_of(item: &Item, attribute: usize) -> &str
     }
 }
 
-/// What is noted at a number, where something is.
-fn noted(answers: &[Option<bool>], number: usize) -> Option<bool>
-    ensures { result ≡ noted answers.now number }
-{
-    match answers.get(number) {
-        Some(answer) => *answer,
-        None => None,
-    }
-}
-
 /// Whether the pattern matches the label of the item at a position: as it is noted at the label's
 /// number, else as the pattern answers, which is noted then.
 fn answer_at(
-    answers: &mut [Option<bool>],
+    answers: &mut Series<Option<bool>>,
     matching: &mut Matching,
     column: &[u32],
     attribute: usize,
@@ -52,14 +42,15 @@ fn answer_at(
     requires answers { AreAnswers matching.old column.now (map (label_of attribute) items.now) answers.old }
     ensures answer { result ≡ matches_label matching.old (label_at attribute items.now at) }
     ensures answers { AreAnswers matching.old column.now (map (label_of attribute) items.now) answers.new }
+    ensures count { length answers.new ≡ length answers.old }
     ensures same { matching.new ≡ matching.old }
 {
     let number = column[at] as usize;
-    if let Some(is) = noted(answers, number) {
+    if let Some(is) = *answers.get(number) {
         return is;
     }
     let is = matching.matches(label_of(&items[at], attribute));
-    answers[number] = Some(is);
+    answers.set(number, Some(is));
     is
 }
 
@@ -85,10 +76,10 @@ fn matched_bits(
     requires numbers { AreNumbersOf column.now (map (label_of attribute) items.now) }
     ensures { IfOk result (λ row. row ≡ matched_row attribute items.now matching.old) }
 {
-    let mut answers = vec![in alloc; None; numbers_within(column)]?;
+    let mut answers = Series::from_vec(vec![in alloc; None; numbers_within(column)]?);
     let mut row = none_set(alloc, items.len())?;
     for at in 0..items.len() {
-        let is = answer_at(answers.as_mut_slice(), matching, column, attribute, items, at);
+        let is = answer_at(&mut answers, matching, column, attribute, items, at);
         row.set(at, is);
     }
     Ok(row)

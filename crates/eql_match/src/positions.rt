@@ -108,9 +108,10 @@ fn place_bits(
     if wanted {
         return Ok(placed);
     }
-    let mut others = turned(alloc, &placed)?;
-    and_into(&mut others, &bits_below(alloc, rows, count, width)?);
-    Ok(others)
+    let others = turned(alloc, &placed)?;
+    let mut below = bits_below(alloc, rows, count, width)?;
+    and_into(&mut below, &others);
+    Ok(below)
 }
 
 /// For each item of the lower level whether it passes a test of its place. The only refusal is want of

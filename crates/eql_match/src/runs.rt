@@ -12,7 +12,7 @@ fn begun_from(tuples: &[Tuple], low: usize) -> &[Tuple]
     ensures rise { Rise result.now }
 {
     let count = tuples.partition_point(|tuple| (tuple.first as usize) < low);
-    &tuples[count..]
+    tuples.split_at(count).1
 }
 
 /// The tuples that begin before a position.
@@ -21,7 +21,7 @@ fn begun_before(tuples: &[Tuple], high: usize) -> &[Tuple]
     ensures { result.now ≡ filter (λ t. nat_lt t.first high) tuples.now }
 {
     let count = tuples.partition_point(|tuple| (tuple.first as usize) < high);
-    &tuples[..count]
+    tuples.split_at(count).0
 }
 
 /// The tuples that begin from the first of two positions to before the second.
