@@ -1,15 +1,16 @@
 -- Rows of bits that are turned and joined.
-use Rattle.std.proofs.Common.{◌≡◌, ℕ, zero, suc, ◌+◌, ◌<◌, Bool, true, false, ◌||◌, ◌&&◌, List, [], ◌∷◌, ◌++◌, length, map, take, get_or, Some, refl, sym, ap, ◌∙◌, arith}
-use Rattle.std.specs.Prelude.{All, not, replicate, slice_set}
+use Rattle.std.proofs.Common.{◌≡◌, ℕ, zero, suc, ◌+◌, ◌<◌, Bool, true, false, ◌||◌, ◌&&◌, List, [], ◌∷◌, ◌++◌, length, map, take, get_or, Result, Ok, Err, Some, refl, sym, ap, ◌∙◌, arith}
+use Rattle.std.specs.Prelude.{All, IfOk, not, replicate, slice_set}
 use Rattle.std.specs.List.{slice_get, list_all, list_any, range_with_len}
 use Rattle.std.specs.Simd.Lanes.{zip2}
-use Rattle.std.proofs.lemmas.List.{ext_get_or, get_or-map, get_or-replicate, length-map, length-set, map-id, take_more}
+use Rattle.std.proofs.lemmas.List.{ext_get_or, get_or-map, get_or-replicate, length-map, length-replicate, length-set, map-id, take_more}
 use Rattle.std.proofs.lemmas.List.Edits.{fill_by_more}
 use Rattle.std.proofs.lemmas.List.Elements.{All-get_or, All-nil, All-cons}
 use Rattle.std.proofs.lemmas.List.Folds.{list_any-append, list_all-append}
 use Rattle.std.proofs.lemmas.List.FromFn.{fill_by_all, length-map-range_with_len}
 use Rattle.std.proofs.lemmas.Option.{get_or_from_slice_get, slice_get_within, unwrap_or-slice_get}
 use Rattle.std.proofs.lemmas.Simd.{zip2-map}
+use Rattle.emu_names.specs.declared.shortage.Memory.{Memory}
 use Rattle.eql_model.specs.Flags.{flag_at}
 use Rattle.eql_model.specs.Labels.{is_as}
 use Rattle.eql_model.proofs.MadeRows.{any_of_maps, all_of_maps}
@@ -24,13 +25,9 @@ pub record IsFilled (f : ℕ → Bool) (made : List Bool) (n at : ℕ) : Type 0 
 
 pub filled_none : (f : ℕ → Bool) (made : List Bool) (n m : ℕ) → made ≡ replicate n false → n ≡ m → IsFilled f made m 0
 filled_none f made n m is same = record {
-  count = ap length is ∙ long n ∙ same;
+  count = ap length is ∙ length-replicate n false ∙ same;
   each = λ k below. absurd (omega arith);
 }
-  where
-    long : (n : ℕ) → length (replicate n false) ≡ n
-    long zero = refl
-    long (suc n) = ap suc (long n)
 
 pub filled_more : (f : ℕ → Bool) (made more : List Bool) (n at : ℕ) (bit : Bool) → IsFilled f made n at → at < n → bit ≡ f at →
     more ≡ slice_set made at bit → IsFilled f more n (at + 1)
@@ -58,12 +55,32 @@ turned_all row made n at so_far long end =
     by_turn row made (filled_all (λ k. not (get_or row k false)) made n at so_far end
     ∙ ap (λ m. map (λ k. not (get_or row k false)) (range_with_len 0 m)) long)
 
-pub turned_none : (n : ℕ) → map not (replicate n false) ≡ replicate n true
-turned_none zero = refl
-turned_none (suc n) = ap (λ row. true ∷ row) (turned_none n)
+pub turned_more : (row made more : List Bool) (n at : ℕ) (bit : Bool) → IsFilled (λ k. not (get_or row k false)) made n at → n ≡ length row →
+    slice_get row at ≡ Some bit → more ≡ slice_set made at (not bit) → IsFilled (λ k. not (get_or row k false)) more n (at + 1)
+turned_more row made more n at bit so_far long here put =
+    filled_more (λ k. not (get_or row k false)) made more n at (not bit) so_far
+    (let within = slice_get_within row at bit here in omega arith)
+    (ap not (sym (get_or_from_slice_get row at bit false here))) put
 
-pub found_is : (row : List Bool) → row ≡ map (is_as true) row
-found_is row = sym (map-id row)
+pub turned_none : (n : ℕ) → map not (replicate n false) ≡ replicate n true
+turned_none n =
+    ext_get_or true (map not (replicate n false)) (replicate n true)
+    (long ∙ sym (length-replicate n true))
+    (λ k below.
+    get_or-map not (replicate n false) k false true (omega (arith, length-replicate n false, long))
+    ∙ ap not (get_or-replicate n k false false (omega (arith, long)))
+    ∙ sym (get_or-replicate n k true true (omega (arith, long))))
+  where
+    long : length (map not (replicate n false)) ≡ n
+    long = length-map (replicate n false) not ∙ length-replicate n false
+
+pub found_exit : (found : Bool) (row : List Bool) → found ≡ true → row ≡ map (is_as found) row
+found_exit found row is = sym (ap (λ b. map (is_as b) row) is ∙ map-id row)
+
+pub turned_exit : (found : Bool) (row : List Bool) (r : Result (List Bool) Memory) → found ≡ false →
+    IfOk r (λ made. made ≡ map not row) → IfOk r (λ made. made ≡ map (is_as found) row)
+turned_exit found row (Err e) is told = tt
+turned_exit found row (Ok made) is told = told ∙ sym (ap (λ b. map (is_as b) row) is)
 
 -- ---- the bits of several rows
 
@@ -112,11 +129,7 @@ all_step n rows i row all more so_far h here wide put =
 
 replicated : (n : ℕ) (b : Bool) → replicate n b ≡ map (λ k. b) (range_with_len 0 n)
 replicated n b =
-    fill_by_all (λ k. b) (replicate n b) n b (long n) (λ k below. get_or-replicate n k b b below)
-  where
-    long : (n : ℕ) → length (replicate n b) ≡ n
-    long zero = refl
-    long (suc n) = ap suc (long n)
+    fill_by_all (λ k. b) (replicate n b) n b (length-replicate n b) (λ k below. get_or-replicate n k b b below)
 
 pub any_none : (n : ℕ) (any : List Bool) (rows : List (List Bool)) → any ≡ replicate n false → any ≡ any_bits n (take 0 rows)
 any_none n any rows is = is ∙ replicated n false
@@ -161,3 +174,8 @@ any_rows_are p xs d n ys long =
     (λ k below.
     get_or-map (λ x. list_any (λ y. p y x) ys) xs k d false (omega arith)
     ∙ sym (any_of_maps p xs k d ys (omega arith))))
+
+pub set_exit : (n : ℕ) (none : List Bool) (r : Result (List Bool) Memory) → none ≡ replicate n false →
+    IfOk r (λ made. made ≡ map not none) → IfOk r (λ row. row ≡ replicate n true)
+set_exit n none (Err e) is told = tt
+set_exit n none (Ok made) is told = told ∙ ap (map not) is ∙ turned_none n

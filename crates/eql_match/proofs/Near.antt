@@ -83,11 +83,11 @@ near_all p q (x ∷ xs) all =
 lt_test : (a b : ℕ) → a < b → nat_lt a b ≡ true
 lt_test a b h = grind (arith, nat_tests)
 
+not_below : (a b : ℕ) → b ≤ a → nat_lt a b ≡ false
+not_below a b h = grind (arith, nat_tests)
+
 from_test : (a b : ℕ) → b ≤ a → not (nat_lt a b) ≡ true
-from_test a b h = ap not below
-  where
-    below : nat_lt a b ≡ false
-    below = grind (arith, nat_tests)
+from_test a b h = ap not (not_below a b h)
 
 -- what a tuple makes with those within its reach is what it makes with all
 pub pairs_near : (way : Way) (one : Tuple) (reach : ℕ × ℕ) (others near : List Tuple) → ReachesAll way one reach →

@@ -5,7 +5,7 @@ use Rattle.std.specs.List.{items_where_true, list_any, range_with_len, slice_get
 use Rattle.std.specs.Simd.Lanes.{zip2}
 use Rattle.std.proofs.lemmas.Bool.{and_parts, cases_Bool, cases_eq, eqb-true, not-true}
 use Rattle.std.proofs.lemmas.Bool.Decides.{nat_tests}
-use Rattle.std.proofs.lemmas.List.{get_or-map, get_or-set_other, get_or-set_same, length-map, length-set, take_more}
+use Rattle.std.proofs.lemmas.List.{get_or-map, get_or-replicate, get_or-set_other, get_or-set_same, length-map, length-replicate, length-set, take_more}
 use Rattle.std.proofs.lemmas.List.Elements.{All-get_or}
 use Rattle.std.proofs.lemmas.List.Folds.{list_any-append}
 use Rattle.std.proofs.lemmas.List.FromFn.{fill_by_all, get_or-map-range_with_len, length-map-range_with_len}
@@ -16,7 +16,7 @@ use Rattle.emu_names.specs.declared.shortage.Memory.{Memory}
 use Rattle.level_items.specs.declared.items.Item.{Item}
 use Rattle.level_items.specs.Levels.{Level, are_different, ids_of}
 use Rattle.bundle_state.specs.Bundle.{BundleParts, all_ids}
-use Rattle.hier_closure.specs.Dominance.{ids_at}
+use Rattle.hier_closure.specs.Dominance.{ids_at, closure_of}
 use Rattle.hier_closure.proofs.Ids.{ids_different}
 use Rattle.eql_syntax.specs.declared.query.Compare.{Compare}
 use Rattle.eql_syntax.specs.declared.query.Place.{Place}
@@ -25,11 +25,11 @@ use Rattle.eql_model.specs.Flags.{flag_at}
 use Rattle.eql_model.specs.Positions.{is_first, is_last, stands}
 use Rattle.eql_model.specs.Bits.{row_counts, row_stands, rows_place}
 use Rattle.eql_model.specs.Meaning.{items_at}
-use Rattle.eql_model.proofs.Between.{ids_are}
+use Rattle.eql_model.proofs.Between.{ids_are, rows_wide}
 use Rattle.eql_model.proofs.Places.{first_is, last_is, none_true}
 use Rattle.eql_match.specs.Rows.{any_bits}
 use Rattle.eql_match.specs.Places.{IsByIds, AddsPlaced, ArePlaced, PassPlace}
-use Rattle.eql_match.proofs.Bits.{IsFilled, filled_all}
+use Rattle.eql_match.proofs.Bits.{IsFilled, filled_all, filled_more}
 
 -- ---- ids that differ
 
@@ -95,8 +95,12 @@ and_both : (a b c : Bool) → ((a && b) && c) ≡ (a && (b && c))
 and_both true b c = refl
 and_both false b c = refl
 
+eq_other_by : (p k : ℕ) → (k ≡ p → ⊥) → (nat_eq p k ≡ true) ⊎ (nat_eq p k ≡ false) → nat_eq p k ≡ false
+eq_other_by p k other (inl same) = absurd (other (sym (eqb-true p k same)))
+eq_other_by p k other (inr apart) = apart
+
 eq_other : (p k : ℕ) → (k ≡ p → ⊥) → nat_eq p k ≡ false
-eq_other p k other = grind (arith, nat_tests, other)
+eq_other p k other = eq_other_by p k other (cases_Bool (nat_eq p k))
 
 set_by : (row : List Bool) (p k : ℕ) → p < length row → (k ≡ p) ⊎ (k ≡ p → ⊥) →
     get_or (slice_set row p true) k false ≡ (get_or row k false || nat_eq p k)
@@ -246,22 +250,10 @@ any_push p rows i row here =
 pub placed_none : (place : Place) (rows : List (List Bool)) (n : ℕ) (placed : List Bool) → placed ≡ replicate n false →
     ArePlaced place (take 0 rows) n placed
 placed_none place rows n placed is = record {
-  long = ap length is ∙ replicate_long n;
-  is = λ ids apart wide. is ∙ replicate_map n;
+  long = ap length is ∙ length-replicate n false;
+  is = λ ids apart wide.
+      is ∙ fill_by_all (λ k. false) (replicate n false) n false (length-replicate n false) (λ k h. get_or-replicate n k false false h);
 }
-  where
-    replicate_long : (n : ℕ) → length (replicate n false) ≡ n
-    replicate_long zero = refl
-    replicate_long (suc n) = ap suc (replicate_long n)
-
-    replicate_map : (n : ℕ) → replicate n false ≡ map (λ k. false) (range_with_len 0 n)
-    replicate_map n =
-        fill_by_all (λ k. false) (replicate n false) n false (replicate_long n) (λ k h. each n k)
-
-    each : (n k : ℕ) → get_or (replicate n false) k false ≡ false
-    each zero k = refl
-    each (suc n) zero = refl
-    each (suc n) (suc k) = each n k
 
 pub placed_more : (place : Place) (rows : List (List Bool)) (n i : ℕ) (row old new : List Bool) → ArePlaced place (take i rows) n old →
     slice_get rows i ≡ Some row → length row ≡ n → AddsPlaced place row old new → ArePlaced place (take (i + 1) rows) n new
@@ -332,3 +324,17 @@ counts_all compare number rows made n at so_far long end =
     ∙ sym (fill_by_all (λ k. row_counts compare number (get_or rows k [])) (map (row_counts compare number) rows) n false
     (length-map rows (row_counts compare number) ∙ sym long)
     (λ k h. get_or-map (row_counts compare number) rows k [] false (omega arith)))
+
+pub counts_more : (compare : Compare) (number : ℕ) (rows : List (List Bool)) (made more : List Bool) (n at : ℕ) (row : List Bool) (bit : Bool) →
+    IsFilled (λ k. row_counts compare number (get_or rows k [])) made n at → at < n → slice_get rows at ≡ Some row →
+    bit ≡ row_counts compare number row → more ≡ slice_set made at bit →
+    IsFilled (λ k. row_counts compare number (get_or rows k [])) more n (at + 1)
+counts_more compare number rows made more n at row bit so_far h here is put =
+    filled_more (λ k. row_counts compare number (get_or rows k [])) made more n at bit so_far h
+    (is ∙ ap (row_counts compare number) (sym (get_or_from_slice_get rows at row [] here))) put
+
+pub width_at : (b : BundleParts) (upper lower : ℕ) (rows : List (List Bool)) (n : ℕ) → rows ≡ closure_of b lower upper →
+    n ≡ length (items_at b.levels lower) → All (λ row. length row ≡ n) rows
+width_at b upper lower rows n made long =
+    subst (λ (rs : List (List Bool)). All (λ row. length row ≡ n) rs) (sym made)
+    (subst (λ (m : ℕ). All (λ row. length row ≡ m) (closure_of b lower upper)) (sym long) (rows_wide b lower upper))

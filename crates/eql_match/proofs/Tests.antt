@@ -7,7 +7,7 @@ use Rattle.std.specs.Str.{bytes_eq}
 use Rattle.std.proofs.lemmas.Bool.{cases_eq}
 use Rattle.std.proofs.lemmas.Bool.Decides.{nat_tests}
 use Rattle.std.proofs.lemmas.Grind.{flat_map-append}
-use Rattle.std.proofs.lemmas.List.{append-nil, get_or-map, get_or-replicate, get_or-set_other, get_or-set_same, length-map, length-set, map-append, take_more}
+use Rattle.std.proofs.lemmas.List.{append-nil, get_or-map, get_or-replicate, get_or-set_other, get_or-set_same, length-map, length-replicate, length-set, map-append, take_more}
 use Rattle.std.proofs.lemmas.List.Concat.{flat_map-cons}
 use Rattle.std.proofs.lemmas.List.FromFn.{fill_by_all, get_or-range_with_len, length-range_with_len}
 use Rattle.std.proofs.lemmas.Option.{get_or_from_slice_get, same_Some, slice_get-get_or, slice_get_within, unwrap_or-slice_get}
@@ -127,80 +127,77 @@ numbered_at numbered column labels is i h same =
     sym (get_or-map (slice_get numbered) column i 0 None (omega arith)) ∙ ap (λ os. get_or os i None) is
     ∙ get_or-map (λ l. Some l) labels i [] None h
 
+numbers_by : (numbered : List (List ℕ)) (column : List ℕ) (labels : List (List ℕ)) → IsColumnOf numbered column labels →
+    AreNumbersOf column labels
+numbers_by numbered column labels is = record {
+  count = count;
+  alike = λ i j here there same.
+      same_Some (get_or labels i []) (get_or labels j [])
+      (sym (numbered_at numbered column labels is i here count) ∙ ap (slice_get numbered) same
+      ∙ numbered_at numbered column labels is j there count);
+}
+  where
+    count : length column ≡ length labels
+    count = sym (length-map column (slice_get numbered)) ∙ ap length is ∙ length-map labels some_label
+
 pub numbers_of : (numbered : List (List ℕ)) (column : List ℕ) (attribute : ℕ) (items : List Item) →
     IsColumnOf numbered column (map (index_label attribute) items) → AreNumbersOf column (map (label_of attribute) items)
 numbers_of numbered column attribute items is =
-    subst (AreNumbersOf column) (labels_are attribute items) (record {
-      count = count;
-      alike = λ i j here there same.
-          same_Some (get_or labels i []) (get_or labels j [])
-          (sym (numbered_at numbered column labels is i here count) ∙ ap (slice_get numbered) same
-          ∙ numbered_at numbered column labels is j there count);
-    })
-  where
-    abbrev labels : List (List ℕ)
-    labels = map (index_label attribute) items
-
-    count : length column ≡ length labels
-    count =
-        sym (length-map column (slice_get numbered)) ∙ ap length is ∙ length-map labels some_label
+    subst (AreNumbersOf column) (labels_are attribute items)
+    (numbers_by numbered column (map (index_label attribute) items) is)
 
 -- ---- answers at numbers
 
 abbrev pub no_answer : Option Bool
 no_answer = None
 
-no_answers_long : (n : ℕ) → length (replicate n no_answer) ≡ n
-no_answers_long zero = refl
-no_answers_long (suc n) = ap suc (no_answers_long n)
-
-none_noted : {A : Type 0} (n k : ℕ) (yes : Bool) → slice_get (replicate n no_answer) k ≡ Some (Some yes) → A
-none_noted n k yes noted =
-    let within = slice_get_within (replicate n no_answer) k (Some yes) noted in
-    let there : get_or (replicate n no_answer) k no_answer ≡ Some yes =
-    get_or_from_slice_get (replicate n no_answer) k (Some yes) no_answer noted in
+none_noted : {A : Type 0} (n k : ℕ) (bit : Bool) → slice_get (replicate n no_answer) k ≡ Some (Some bit) → A
+none_noted n k bit noted =
+    let within = slice_get_within (replicate n no_answer) k (Some bit) noted in
+    let there : get_or (replicate n no_answer) k no_answer ≡ Some bit =
+    get_or_from_slice_get (replicate n no_answer) k (Some bit) no_answer noted in
     let out : get_or (replicate n no_answer) k no_answer ≡ no_answer =
-    get_or-replicate n k no_answer no_answer (omega (arith, within, no_answers_long n)) in
+    get_or-replicate n k no_answer no_answer (omega (arith, within, length-replicate n no_answer)) in
     absurd cc
 
 pub answers_none : (pattern : List ℕ) (column : List ℕ) (labels : List (List ℕ)) (n : ℕ) (answers : List (Option Bool)) →
     answers ≡ replicate n no_answer → AreAnswers pattern column labels answers
 answers_none pattern column labels n answers is = record {
-  right = λ k yes h noted. none_noted n (get_or column k 0) yes (ap (λ os. slice_get os (get_or column k 0)) (sym is) ∙ noted);
+  right = λ k bit h noted. none_noted n (get_or column k 0) bit (ap (λ os. slice_get os (get_or column k 0)) (sym is) ∙ noted);
 }
 
 pub answers_within : (column : List ℕ) (n : ℕ) (answers : List (Option Bool)) → answers ≡ replicate n no_answer → All (λ m. m < n) column →
     All (λ m. m < length answers) column
 answers_within column n answers is all =
-    subst (λ (k : ℕ). All (λ m. m < k) column) (sym (ap length is ∙ no_answers_long n)) all
+    subst (λ (k : ℕ). All (λ m. m < k) column) (sym (ap length is ∙ length-replicate n no_answer)) all
 
 pub answers_more : (pattern : List ℕ) (column : List ℕ) (labels : List (List ℕ)) (answers more : List (Option Bool)) (at number : ℕ)
     (is : Bool) → AreNumbersOf column labels → AreAnswers pattern column labels answers → get_or column at 0 ≡ number →
     at < length labels → is ≡ matches_label pattern (get_or labels at []) → more ≡ slice_set answers number (Some is) →
     AreAnswers pattern column labels more
 answers_more pattern column labels answers more at number is numbers right here h own put = record {
-  right = λ k yes below noted. by k yes below noted (cases_eq (get_or column k 0) number);
+  right = λ k bit below noted. by k bit below noted (cases_eq (get_or column k 0) number);
 }
   where
-    by : (k : ℕ) (yes : Bool) → k < length labels → slice_get more (get_or column k 0) ≡ Some (Some yes) →
-        (get_or column k 0 ≡ number) ⊎ (get_or column k 0 ≡ number → ⊥) → yes ≡ matches_label pattern (get_or labels k [])
-    by k yes below noted (inl same) =
-        let within : get_or column k 0 < length more = slice_get_within more (get_or column k 0) (Some yes) noted in
+    by : (k : ℕ) (bit : Bool) → k < length labels → slice_get more (get_or column k 0) ≡ Some (Some bit) →
+        (get_or column k 0 ≡ number) ⊎ (get_or column k 0 ≡ number → ⊥) → bit ≡ matches_label pattern (get_or labels k [])
+    by k bit below noted (inl same) =
+        let within : get_or column k 0 < length more = slice_get_within more (get_or column k 0) (Some bit) noted in
         let long : length more ≡ length answers = ap length put ∙ length-set answers number (Some is) in
-        let noted_is : get_or (slice_set answers number (Some is)) number None ≡ Some yes =
-        sym (λ i. get_or (put i) (same i) None) ∙ get_or_from_slice_get more (get_or column k 0) (Some yes) None noted in
+        let noted_is : get_or (slice_set answers number (Some is)) number None ≡ Some bit =
+        sym (λ i. get_or (put i) (same i) None) ∙ get_or_from_slice_get more (get_or column k 0) (Some bit) None noted in
         let set_is : get_or (slice_set answers number (Some is)) number None ≡ Some is =
         get_or-set_same answers number (Some is) None (omega (arith, within, long, same)) in
-        let yes_is : yes ≡ is = same_Some yes is (sym noted_is ∙ set_is) in
-        yes_is ∙ own ∙ ap (matches_label pattern) (numbers.alike at k h below (here ∙ sym same))
-    by k yes below noted (inr other) =
-        let within : get_or column k 0 < length more = slice_get_within more (get_or column k 0) (Some yes) noted in
+        let bit_is : bit ≡ is = same_Some bit is (sym noted_is ∙ set_is) in
+        bit_is ∙ own ∙ ap (matches_label pattern) (numbers.alike at k h below (here ∙ sym same))
+    by k bit below noted (inr other) =
+        let within : get_or column k 0 < length more = slice_get_within more (get_or column k 0) (Some bit) noted in
         let long : length more ≡ length answers = ap length put ∙ length-set answers number (Some is) in
-        let there : get_or answers (get_or column k 0) None ≡ Some yes =
+        let there : get_or answers (get_or column k 0) None ≡ Some bit =
         sym (get_or-set_other answers number (get_or column k 0) (Some is) None other)
         ∙ sym (ap (λ os. get_or os (get_or column k 0) None) put)
-        ∙ get_or_from_slice_get more (get_or column k 0) (Some yes) None noted in
-        right.right k yes below
+        ∙ get_or_from_slice_get more (get_or column k 0) (Some bit) None noted in
+        right.right k bit below
         (slice_get-get_or answers (get_or column k 0) None (omega (arith, within, long)) ∙ ap (λ o. Some o) there)
 
 -- the pattern is the same, what is noted is right, and the first bits are the answers

@@ -43,14 +43,15 @@ fn sequence_tuples(
     alloc: Global,
     config: &Config,
     indexed: &Indexed,
-    sides: (&AskedQuery, &AskedQuery),
+    left: &AskedQuery,
+    right: &AskedQuery,
     lefts: &[Tuple],
     rights: &[Tuple],
 ) -> Result<Tuples, MatchFault>
-    requires lefts { lefts.now ≡ tuples config.now indexed.now.bundle (query_in sides.0.now) }
-    requires rights { rights.now ≡ tuples config.now indexed.now.bundle (query_in sides.1.now) }
+    requires lefts { lefts.now ≡ tuples config.now indexed.now.bundle (query_in left.now) }
+    requires rights { rights.now ≡ tuples config.now indexed.now.bundle (query_in right.now) }
     ensures { GivesSet result (tuples config.now indexed.now.bundle
-        (sequence (query_in sides.0.now) (query_in sides.1.now))) }
+        (sequence (query_in left.now) (query_in right.now))) }
 {
     sequence(alloc, lefts, rights)
 }
@@ -60,21 +61,22 @@ fn dominance_tuples(
     alloc: Global,
     config: &Config,
     indexed: &Indexed,
-    sides: (&AskedQuery, &AskedQuery),
+    left: &AskedQuery,
+    right: &AskedQuery,
     lefts: &[Tuple],
     rights: &[Tuple],
 ) -> Result<Tuples, MatchFault>
     requires fits { FitsConfig config.now indexed.now.bundle }
-    requires left { IsQueryOf config.now (query_in sides.0.now) }
-    requires right { IsQueryOf config.now (query_in sides.1.now) }
-    requires left_level { AreOnOneLevel (query_in sides.0.now) }
-    requires right_level { AreOnOneLevel (query_in sides.1.now) }
-    requires lefts { lefts.now ≡ tuples config.now indexed.now.bundle (query_in sides.0.now) }
-    requires rights { rights.now ≡ tuples config.now indexed.now.bundle (query_in sides.1.now) }
+    requires left { IsQueryOf config.now (query_in left.now) }
+    requires right { IsQueryOf config.now (query_in right.now) }
+    requires left_level { AreOnOneLevel (query_in left.now) }
+    requires right_level { AreOnOneLevel (query_in right.now) }
+    requires lefts { lefts.now ≡ tuples config.now indexed.now.bundle (query_in left.now) }
+    requires rights { rights.now ≡ tuples config.now indexed.now.bundle (query_in right.now) }
     ensures { GivesSet result (tuples config.now indexed.now.bundle
-        (dominance (query_in sides.0.now) (query_in sides.1.now))) }
+        (dominance (query_in left.now) (query_in right.now))) }
 {
-    let levels = (sides.0.level(), sides.1.level());
+    let levels = (left.level(), right.level());
     dominance(alloc, config, indexed.bundle(), levels, lefts, rights)
 }
 
@@ -106,8 +108,15 @@ pub(crate) fn evaluate(
                 Ok(found) => found,
                 Err(fault) => return Err(fault),
             };
-            let sides = (&**left, &**right);
-            sequence_tuples(alloc, config, indexed, sides, lefts.as_slice(), rights.as_slice())
+            sequence_tuples(
+                alloc,
+                config,
+                indexed,
+                left,
+                right,
+                lefts.as_slice(),
+                rights.as_slice(),
+            )
         }
         AskedQuery::Dominance(left, right) => {
             let lefts = match evaluate(alloc, config, indexed, left) {
@@ -118,8 +127,15 @@ pub(crate) fn evaluate(
                 Ok(found) => found,
                 Err(fault) => return Err(fault),
             };
-            let sides = (&**left, &**right);
-            dominance_tuples(alloc, config, indexed, sides, lefts.as_slice(), rights.as_slice())
+            dominance_tuples(
+                alloc,
+                config,
+                indexed,
+                left,
+                right,
+                lefts.as_slice(),
+                rights.as_slice(),
+            )
         }
     }
 }

@@ -35,12 +35,7 @@ fn inner_bits(alloc: Global, row: &BitRow, first: usize, last: usize) -> Result<
 
 /// Sets the bits of the items that stand at a place among those with a bit of the row. The only refusal
 /// is want of memory.
-fn add_placed(
-    alloc: Global,
-    placed: &mut BitRow,
-    row: &BitRow,
-    place: Place,
-) -> Result<(), Memory>
+fn add_placed(alloc: Global, placed: &mut BitRow, row: &BitRow, place: Place) -> Result<(), Memory>
     requires { length placed.old ≡ length row.now }
     ensures { OnOk result (AddsPlaced place row.now placed.old placed.new) }
 {

@@ -107,12 +107,7 @@ impl Way {
 }
 
 /// Puts in what a tuple makes with another, where it is joined with it.
-fn put_pair(
-    gathered: &mut Gathered,
-    way: &Way,
-    one: Tuple,
-    other: Tuple,
-) -> Result<(), MatchFault>
+fn put_pair(gathered: &mut Gathered, way: &Way, one: Tuple, other: Tuple) -> Result<(), MatchFault>
     requires room { is_over gathered.old ≡ false }
     requires one { IsOne way.now one }
     requires other { IsOther way.now other }
@@ -236,22 +231,22 @@ fn put_covering(
     bundle: &Bundle,
     levels: (usize, usize),
     gathered: &mut Gathered,
-    sides: (&[Tuple], &[Tuple]),
+    lefts: &[Tuple],
+    rights: &[Tuple],
 ) -> Result<(), MatchFault>
     requires fits { FitsConfig config.now bundle.now }
     requires left { levels.0 < length bundle.now.levels }
     requires right { levels.1 < length bundle.now.levels }
     requires room { is_over gathered.old ≡ false }
-    requires lefts { LieOn bundle.now.levels levels.0 sides.0.now }
-    requires rights { LieOn bundle.now.levels levels.1 sides.1.now }
-    requires rise { Rise sides.1.now }
+    requires lefts { LieOn bundle.now.levels levels.0 lefts.now }
+    requires rights { LieOn bundle.now.levels levels.1 rights.now }
+    requires rise { Rise rights.now }
     ensures ok { OnOk result (gathered.new
-        ≡ put_all gathered.old (covering_pairs bundle.now levels sides.0.now sides.1.now)) }
+        ≡ put_all gathered.old (covering_pairs bundle.now levels lefts.now rights.now)) }
     ensures fits { OnOk result (is_over gathered.new ≡ false) }
     ensures over { result ≡ Err MatchFault.TooManyTuples → is_over (put_all gathered.old
-        (covering_pairs bundle.now levels sides.0.now sides.1.now)) ≡ true }
+        (covering_pairs bundle.now levels lefts.now rights.now)) ≡ true }
 {
-    let (lefts, rights) = sides;
     match Closure::between(alloc, config, bundle, levels.0, levels.1) {
         Ok(rows) => put_pairs(gathered, &Way::Covers(rows), lefts, rights),
         Err(_) => Err(MatchFault::Memory),
@@ -265,22 +260,22 @@ fn put_covered(
     bundle: &Bundle,
     levels: (usize, usize),
     gathered: &mut Gathered,
-    sides: (&[Tuple], &[Tuple]),
+    lefts: &[Tuple],
+    rights: &[Tuple],
 ) -> Result<(), MatchFault>
     requires fits { FitsConfig config.now bundle.now }
     requires left { levels.0 < length bundle.now.levels }
     requires right { levels.1 < length bundle.now.levels }
     requires room { is_over gathered.old ≡ false }
-    requires lefts { LieOn bundle.now.levels levels.0 sides.0.now }
-    requires rights { LieOn bundle.now.levels levels.1 sides.1.now }
-    requires rise { Rise sides.0.now }
+    requires lefts { LieOn bundle.now.levels levels.0 lefts.now }
+    requires rights { LieOn bundle.now.levels levels.1 rights.now }
+    requires rise { Rise lefts.now }
     ensures ok { OnOk result (gathered.new
-        ≡ put_all gathered.old (covered_pairs bundle.now levels sides.0.now sides.1.now)) }
+        ≡ put_all gathered.old (covered_pairs bundle.now levels lefts.now rights.now)) }
     ensures fits { OnOk result (is_over gathered.new ≡ false) }
     ensures over { result ≡ Err MatchFault.TooManyTuples → is_over (put_all gathered.old
-        (covered_pairs bundle.now levels sides.0.now sides.1.now)) ≡ true }
+        (covered_pairs bundle.now levels lefts.now rights.now)) ≡ true }
 {
-    let (lefts, rights) = sides;
     match Closure::between(alloc, config, bundle, levels.1, levels.0) {
         Ok(rows) => put_pairs(gathered, &Way::CoversLeft(rows), rights, lefts),
         Err(_) => Err(MatchFault::Memory),
@@ -309,11 +304,11 @@ pub(crate) fn dominance(
         (ids_at bundle.now.levels levels.1)) left_with lefts.now rights.now) }
 {
     let mut gathered = Gathered::new(alloc);
-    match put_covering(alloc, config, bundle, levels, &mut gathered, (lefts, rights)) {
+    match put_covering(alloc, config, bundle, levels, &mut gathered, lefts, rights) {
         Ok(()) => {}
         Err(fault) => return Err(fault),
     }
-    match put_covered(alloc, config, bundle, levels, &mut gathered, (lefts, rights)) {
+    match put_covered(alloc, config, bundle, levels, &mut gathered, lefts, rights) {
         Ok(()) => {}
         Err(fault) => return Err(fault),
     }

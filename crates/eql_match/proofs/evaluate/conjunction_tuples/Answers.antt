@@ -10,4 +10,4 @@ conjunction-requires-clause-terms c =
 pub returns-in-Ok : goal.returns-in-Ok
 returns-in-Ok c =
     conjunction_finds c.args.config.now c.args.indexed.now.bundle (map term_in c.args.conditions.now) c.args.level c.in-Ok.made
-    c.requires.level _ c.in-Ok.ensures
+    c.requires.level c.item_count-items.ensures.rules c.in-Ok.ensures
