@@ -246,3 +246,6 @@ pub reaches_left : (rows : List (List Bool)) (one : Tuple) (reach : ℕ × ℕ) 
 reaches_left rows one reach reaches fits = record {
   each = λ other are goes. reaches_by rows one other reach reaches fits are goes;
 }
+
+pub fits_rises : (n : ℕ) (t : Tuple) → fits_in n t ≡ true → t.first ≤ t.last
+fits_rises n t fits = leb-true t.first t.last (and_parts (nat_le t.first t.last) (nat_lt t.last n) fits).0

@@ -28,7 +28,7 @@ use Rattle.bundle_index.proofs.Callers.{attributes_asked}
 use Rattle.label_match.specs.Pattern.{matches_label}
 use Rattle.eql_model.specs.declared.tuple.Tuple.{Tuple}
 use Rattle.eql_model.specs.Flags.{flag_at}
-use Rattle.eql_model.specs.Labels.{label_of, matched_row}
+use Rattle.eql_model.specs.Labels.{is_as, label_of, matched_row}
 use Rattle.eql_model.specs.Meaning.{items_at, single}
 use Rattle.eql_model.proofs.MadeRows.{flag_of_map, no_item}
 use Rattle.eql_match.specs.Labels.{label_row, label_at, HasColumn, AreNumbersOf, AreAnswers}
@@ -250,3 +250,14 @@ singles_exit marked rows met n items (Ok made) is long told =
 
     zero_more : (k : ℕ) → 0 + k ≡ k
     zero_more k = omega arith
+
+-- ---- what is found, or not
+
+map_map : {X Y Z : Type 0} (f : Y → Z) (g : X → Y) (xs : List X) → map f (map g xs) ≡ map (λ x. f (g x)) xs
+map_map f g [] = refl
+map_map f g (x ∷ xs) = ap (λ ys. f (g x) ∷ ys) (map_map f g xs)
+
+pub found_map : (found : Bool) (p : Item → Bool) (items : List Item) (row : List Bool) (r : Result (List Bool) Memory) → row ≡ map p items →
+    IfOk r (λ made. made ≡ map (is_as found) row) → IfOk r (λ made. made ≡ map (λ item. is_as found (p item)) items)
+found_map found p items row (Err e) is told = tt
+found_map found p items row (Ok made) is told = told ∙ ap (map (is_as found)) is ∙ map_map (is_as found) p items

@@ -1,4 +1,5 @@
-use Rattle.std.proofs.Common.{map}
+use Rattle.std.proofs.Common.{map, subst}
+use Rattle.bundle_state.specs.Valid.{KeepsBundleRules}
 use Rattle.eql_resolve.specs.View.{term_in}
 use Rattle.eql_model.proofs.Fitting.{conditions_on, conjunction_finds}
 use Rattle.eql_match.proofs.evaluate.conjunction_tuples.Goals as goal
@@ -10,4 +11,4 @@ conjunction-requires-clause-terms c =
 pub returns-in-Ok : goal.returns-in-Ok
 returns-in-Ok c =
     conjunction_finds c.args.config.now c.args.indexed.now.bundle (map term_in c.args.conditions.now) c.args.level c.in-Ok.made
-    c.requires.level c.item_count-items.ensures.rules c.in-Ok.ensures
+    c.requires.level (subst KeepsBundleRules c.bundle.ensures c.item_count-items.ensures.rules) c.in-Ok.ensures
