@@ -1,5 +1,5 @@
 -- Rows of bits that are turned and joined.
-use Rattle.std.proofs.Common.{◌≡◌, ℕ, zero, suc, ◌+◌, ◌<◌, Bool, true, false, ◌||◌, ◌&&◌, List, [], ◌∷◌, ◌++◌, length, map, take, get_or, Result, Ok, Err, Some, refl, sym, ap, ◌∙◌, arith}
+use Rattle.std.proofs.Common.{◌≡◌, ℕ, ◌+◌, ◌<◌, Bool, true, false, ◌||◌, ◌&&◌, List, [], ◌∷◌, ◌++◌, length, map, take, get_or, Result, Ok, Err, Some, refl, sym, ap, ◌∙◌, arith}
 use Rattle.std.specs.Prelude.{All, IfOk, not, replicate, slice_set}
 use Rattle.std.specs.List.{slice_get, list_all, list_any, range_with_len}
 use Rattle.std.specs.Simd.Lanes.{zip2}
@@ -13,7 +13,7 @@ use Rattle.std.proofs.lemmas.Simd.{zip2-map}
 use Rattle.emu_names.specs.declared.shortage.Memory.{Memory}
 use Rattle.eql_model.specs.Flags.{flag_at}
 use Rattle.eql_model.specs.Labels.{is_as}
-use Rattle.eql_model.proofs.MadeRows.{any_of_maps, all_of_maps}
+use Rattle.eql_model.proofs.MadeRows.{any_of_maps}
 use Rattle.eql_match.specs.Rows.{any_bits, all_bits}
 
 -- ---- a row that is filled place by place

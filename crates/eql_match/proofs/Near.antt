@@ -1,9 +1,9 @@
 -- Tuples that a tuple can be joined with begin within its reach, and stand side by side.
-use Rattle.std.proofs.Common.{◌≡◌, ◌⊎◌, inl, inr, ℕ, zero, suc, ◌+◌, ◌-◌, ◌<◌, ◌≤◌, Bool, true, false, cond, not, ◌||◌, ◌&&◌, List, [], ◌∷◌, ◌++◌, length, map, take, drop, get_or, nat_lt, nat_le, Option, None, Some, refl, sym, ap, subst, ◌∙◌, arith}
+use Rattle.std.proofs.Common.{◌≡◌, ◌⊎◌, inl, inr, ℕ, zero, suc, ◌+◌, ◌-◌, ◌<◌, ◌≤◌, Bool, true, false, cond, not, ◌||◌, List, [], ◌∷◌, ◌++◌, length, map, take, drop, get_or, nat_lt, nat_le, Option, None, Some, refl, sym, ap, subst, ◌∙◌, arith}
 use Rattle.std.specs.Prelude.{All, min, max, unwrap_or}
 use Rattle.std.specs.List.{filter, list_all, list_any, range_with_len, slice_get}
 use Rattle.std.specs.List.Sorted.{IsPartitionPoint}
-use Rattle.std.proofs.lemmas.Bool.{and_parts, cases_Bool, cases_lt, eqb-true, leb-true, ltb-true}
+use Rattle.std.proofs.lemmas.Bool.{and_parts, eqb-true, leb-true, ltb-true}
 use Rattle.std.proofs.lemmas.Bool.Decides.{nat_tests}
 use Rattle.std.proofs.lemmas.List.{map-id}
 use Rattle.std.proofs.lemmas.List.FromFn.{map-range_with_len_more}
@@ -13,12 +13,12 @@ use Rattle.std.proofs.lemmas.Option.{slice_get_within, get_or_from_slice_get, un
 use Rattle.lane_bits.specs.Row.{NoneWhere, IsFirst, IsLast}
 use Rattle.eql_model.specs.declared.tuple.Tuple.{Tuple}
 use Rattle.eql_model.specs.Flags.{flag_at}
-use Rattle.eql_model.specs.Tuples.{fits_in, follows, pairs_with}
-use Rattle.eql_model.specs.Joins.{positions, bit_at, is_under, bits_cover}
+use Rattle.eql_model.specs.Tuples.{fits_in, pairs_with}
+use Rattle.eql_model.specs.Joins.{bit_at, is_under, bits_cover}
 use Rattle.eql_match.specs.declared.ways.Way.{Way}
 use Rattle.eql_match.specs.declared.ways.Way.TheVariants.{Behind, Covers, CoversLeft}
 use Rattle.eql_match.specs.Reach.{IsWithin, Widens, Reaches, ReachesTo}
-use Rattle.eql_match.specs.Ways.{joins, makes, IsOne, IsOther, ReachesAll, Rise}
+use Rattle.eql_match.specs.Ways.{joins, makes, IsOther, ReachesAll}
 
 -- ---- halves of a list in which a test holds first of all and then of none
 

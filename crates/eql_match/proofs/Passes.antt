@@ -1,5 +1,5 @@
 -- What two passes put together, one for each side that may cover the other.
-use Rattle.std.proofs.Common.{◌≡◌, ℕ, Bool, true, false, ◌||◌, ◌&&◌, List, [], ◌∷◌, ◌++◌, length, Result, Ok, Err, refl, sym, ap, subst, ◌∙◌}
+use Rattle.std.proofs.Common.{◌≡◌, ℕ, Bool, true, false, ◌||◌, ◌&&◌, List, [], ◌∷◌, ◌++◌, length, Result, Err, refl, sym, ap, subst, ◌∙◌}
 use Rattle.std.specs.Prelude.{All}
 use Rattle.std.specs.List.{flat_map, list_any}
 use Rattle.std.specs.BTreeMap.{is_at}
@@ -10,7 +10,7 @@ use Rattle.hier_closure.specs.Dominance.{ids_at, closure_of}
 use Rattle.eql_model.specs.declared.tuple.Tuple.{Tuple}
 use Rattle.eql_model.specs.declared.faults.MatchFault.{MatchFault}
 use Rattle.eql_model.specs.declared.faults.MatchFault.TheVariants.{TooManyTuples, Memory}
-use Rattle.eql_model.specs.Sets.{tuple_cmp, has, put_all, each_once, is_over, GivesSet}
+use Rattle.eql_model.specs.Sets.{tuple_cmp, has, put_all, is_over, GivesSet}
 use Rattle.eql_model.specs.Tuples.{fits_in, left_with, one_covers, pairs_with, joined}
 use Rattle.eql_model.specs.Joins.{bits_cover}
 use Rattle.eql_model.specs.Meaning.{items_at, LieOn}

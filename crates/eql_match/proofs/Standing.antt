@@ -1,6 +1,6 @@
 -- Positions and numbers by the first bit, the last bit and the bits of rows.
-use Rattle.std.proofs.Common.{◌≡◌, ◌⊎◌, inl, inr, ℕ, zero, suc, ◌+◌, ◌<◌, Bool, true, false, not, ◌||◌, ◌&&◌, List, [], ◌∷◌, ◌++◌, length, map, take, get_or, nat_eq, Option, None, Some, Result, Ok, Err, refl, sym, ap, subst, ◌∙◌, arith}
-use Rattle.std.specs.Prelude.{◌==◌, All, IfOk, replicate, slice_set}
+use Rattle.std.proofs.Common.{◌≡◌, ◌⊎◌, inl, inr, ℕ, zero, suc, ◌+◌, ◌<◌, Bool, true, false, not, ◌||◌, ◌&&◌, List, [], ◌∷◌, ◌++◌, length, map, take, get_or, nat_eq, Some, Result, Ok, Err, refl, sym, ap, subst, ◌∙◌, arith}
+use Rattle.std.specs.Prelude.{All, IfOk, replicate, slice_set}
 use Rattle.std.specs.List.{items_where_true, list_any, range_with_len, slice_get}
 use Rattle.std.specs.Simd.Lanes.{zip2}
 use Rattle.std.proofs.lemmas.Bool.{and_parts, cases_Bool, cases_eq, eqb-true, not-true}
@@ -14,9 +14,9 @@ use Rattle.std.proofs.lemmas.Simd.{get_or-zip2, length-zip2, zip2-map}
 use Rattle.lane_bits.specs.Row.{NoneWhere, IsFirst, IsLast}
 use Rattle.emu_names.specs.declared.shortage.Memory.{Memory}
 use Rattle.level_items.specs.declared.items.Item.{Item}
-use Rattle.level_items.specs.Levels.{Level, are_different, ids_of}
+use Rattle.level_items.specs.Levels.{are_different, ids_of}
 use Rattle.bundle_state.specs.Bundle.{BundleParts, all_ids}
-use Rattle.hier_closure.specs.Dominance.{ids_at, closure_of}
+use Rattle.hier_closure.specs.Dominance.{closure_of}
 use Rattle.hier_closure.proofs.Ids.{ids_different}
 use Rattle.eql_syntax.specs.declared.query.Compare.{Compare}
 use Rattle.eql_syntax.specs.declared.query.Place.{Place}
@@ -26,9 +26,9 @@ use Rattle.eql_model.specs.Positions.{is_first, is_last, stands}
 use Rattle.eql_model.specs.Bits.{row_counts, row_stands, rows_place}
 use Rattle.eql_model.specs.Meaning.{items_at}
 use Rattle.eql_model.proofs.Between.{ids_are, rows_wide}
-use Rattle.eql_model.proofs.Places.{first_is, last_is, none_true}
+use Rattle.eql_model.proofs.Places.{first_is, last_is}
 use Rattle.eql_match.specs.Rows.{any_bits}
-use Rattle.eql_match.specs.Places.{IsByIds, AddsPlaced, ArePlaced, PassPlace}
+use Rattle.eql_match.specs.Places.{AddsPlaced, ArePlaced, PassPlace}
 use Rattle.eql_match.proofs.Bits.{IsFilled, filled_all, filled_more}
 
 -- ---- ids that differ

@@ -1,4 +1,4 @@
-use Rattle.std.proofs.Common.{◌≡◌, length, ap, ◌∙◌, arith, rules}
+use Rattle.std.proofs.Common.{length, ap, ◌∙◌, arith, rules}
 use Rattle.bundle_state.specs.Bundle.{BundleParts}
 use Rattle.eql_model.specs.Labels.{wanted_labels}
 use Rattle.eql_model.specs.Meaning.{items_at}

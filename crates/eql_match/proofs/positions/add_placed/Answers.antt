@@ -1,4 +1,4 @@
-use Rattle.std.proofs.Common.{◌≡◌, ◌<◌, length, true, Some, sym, subst, arith}
+use Rattle.std.proofs.Common.{true, Some, sym, subst, arith}
 use Rattle.std.proofs.lemmas.Option.{slice_get_within}
 use Rattle.lane_bits.specs.Row.{IsFirst, IsLast}
 use Rattle.eql_syntax.specs.declared.query.Place.{Place}

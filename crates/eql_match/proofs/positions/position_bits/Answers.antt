@@ -1,7 +1,5 @@
-use Rattle.std.proofs.Common.{◌≡◌, length, List, Bool, sym, ap, subst, arith}
-use Rattle.std.specs.Prelude.{All}
-use Rattle.eql_model.specs.Meaning.{items_at}
-use Rattle.eql_model.proofs.Between.{position_exit, wide_exit}
+use Rattle.std.proofs.Common.{length, ap, arith}
+use Rattle.eql_model.proofs.Between.{position_exit}
 use Rattle.eql_match.proofs.Standing.{by_items, width_at}
 use Rattle.eql_match.proofs.positions.position_bits.Goals as goal
 

@@ -1,4 +1,3 @@
-use Rattle.std.proofs.Common.{rules}
 use Rattle.eql_match.proofs.Bits.{set_exit}
 use Rattle.eql_match.proofs.rows.all_set.Goals as goal
 

@@ -1,4 +1,4 @@
-use Rattle.std.proofs.Common.{◌≡◌, [], ◌∷◌, Err, None, ap}
+use Rattle.std.proofs.Common.{◌≡◌, [], ◌∷◌, Err, ap}
 use Rattle.eql_model.specs.declared.faults.MatchFault.TheVariants.{TooManyTuples}
 use Rattle.eql_model.specs.Tuples.{pairs_with}
 use Rattle.eql_model.proofs.Gathers.{gather_over, pairs_in_turn}

@@ -1,4 +1,4 @@
-use Rattle.std.proofs.Common.{◌≡◌, List, true, sym, subst}
+use Rattle.std.proofs.Common.{◌≡◌, List, true, subst}
 use Rattle.std.specs.Prelude.{OnOk}
 use Rattle.eql_model.specs.declared.tuple.Tuple.{Tuple}
 use Rattle.eql_model.specs.Sets.{put_all, is_over}
