@@ -22,7 +22,7 @@ use eql_resolve::Asked;
 use std::alloc::Global;
 
 /// Stretches on the level of an attribute of the configuration. The only refusal is want of memory.
-fn spans_of(
+pub fn spans_of(
     alloc: Global,
     config: &Config,
     place: AttributePlace,

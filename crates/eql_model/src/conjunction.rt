@@ -58,7 +58,7 @@ fn met_rows(
 }
 
 /// The tuple of the item at a position, which is marked or is not.
-fn single(marked: bool, at: usize) -> Tuple
+pub fn single(marked: bool, at: usize) -> Tuple
     requires { at < BUNDLE_ITEMS }
     ensures { result ≡ single marked at }
 {

@@ -46,7 +46,7 @@ pub(crate) fn is_under(rows: &Closure, upper: Tuple, place: usize) -> bool
 }
 
 /// Whether each place of the lower stretch has its bit in some row of the upper one.
-fn bits_cover(rows: &Closure, upper: Tuple, lower: Tuple) -> bool
+pub fn bits_cover(rows: &Closure, upper: Tuple, lower: Tuple) -> bool
     requires upper { fits_in (length rows.now) upper ≡ true }
     requires lower { All (λ row. fits_in (length row) lower ≡ true) rows.now }
     ensures { result ≡ bits_cover rows.now upper lower }

@@ -20,14 +20,19 @@ mod terms;
 mod times;
 mod tuple;
 
-pub use answer::{answer_plain, match_plain};
+pub use answer::{answer_plain, match_plain, spans_of};
+pub use conjunction::single;
 pub use faults::MatchFault;
 pub use gathered::Gathered;
+pub use joins::bits_cover;
 pub use laws::{
     edges_are_not_medial, joins_are_pairs, medial_is_no_edge, mirrors_agree, places_are_told_below,
     queries_are_opposite, results_are_there, sets_are_in_order, sets_have_their_tuples,
     tests_are_opposite, tuples_lie_on_level,
 };
+pub use positions::row_counts;
+pub use results::shown_once;
 pub use row::{Row, SegmentList};
 pub use rows::rows_of;
+pub use terms::items_at;
 pub use tuple::{Span, Spans, Tuple, Tuples};

@@ -160,7 +160,7 @@ fn compares(compare: Compare, count: usize, number: usize) -> bool
 }
 
 /// Whether the number of a row's bits compares so with a number.
-fn row_counts(row: &BitRow, compare: Compare, number: u32) -> bool
+pub fn row_counts(row: &BitRow, compare: Compare, number: u32) -> bool
     ensures { result ≡ row_counts compare number row.now }
 {
     compares(compare, row.count(), number as usize)

@@ -59,7 +59,7 @@ fn gather_shown(gathered: &mut Gathered, marked: bool, tuples: &[Tuple]) -> Resu
 }
 
 /// The set of what these tuples show.
-pub(crate) fn shown_once(
+pub fn shown_once(
     alloc: Global,
     marked: bool,
     tuples: &[Tuple],

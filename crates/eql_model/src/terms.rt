@@ -24,7 +24,7 @@ use level_items::Item;
 use std::alloc::Global;
 
 /// The items of a level.
-pub(crate) fn items_at(bundle: &Bundle, level: usize) -> &[Item]
+pub fn items_at(bundle: &Bundle, level: usize) -> &[Item]
     requires { level < length bundle.now.levels }
     ensures { result.now ≡ items_at bundle.now.levels level }
 {

@@ -1,0 +1,6 @@
+pub mod Bits
+pub mod Near
+pub mod Order
+pub mod Passes
+pub mod Standing
+pub mod Tests

@@ -1,0 +1,262 @@
+-- Tests of labels by rows of bits and by numbers.
+use Rattle.std.proofs.Common.{◌≡◌, ◌⊎◌, inl, inr, ℕ, zero, suc, ◌+◌, ◌<◌, ◌≤◌, Bool, false, cond, ◌&&◌, List, [], ◌∷◌, ◌++◌, length, map, take, get_or, nat_eq, Option, None, Some, Result, Ok, Err, refl, sym, ap, subst, ◌∙◌, arith}
+use Rattle.std.specs.Prelude.{All, IfOk, IsSome, replicate, slice_set}
+use Rattle.std.specs.List.{filter, flat_map, list_any, list_all, range_with_len, slice_get}
+use Rattle.std.specs.Option.{option_and_then}
+use Rattle.std.specs.Str.{bytes_eq}
+use Rattle.std.proofs.lemmas.Bool.{cases_eq}
+use Rattle.std.proofs.lemmas.Bool.Decides.{nat_tests}
+use Rattle.std.proofs.lemmas.Grind.{flat_map-append}
+use Rattle.std.proofs.lemmas.List.{append-nil, get_or-map, get_or-replicate, get_or-set_other, get_or-set_same, length-map, length-replicate, length-set, map-append, take_more}
+use Rattle.std.proofs.lemmas.List.Concat.{flat_map-cons}
+use Rattle.std.proofs.lemmas.List.FromFn.{fill_by_all, get_or-range_with_len, length-range_with_len}
+use Rattle.std.proofs.lemmas.Option.{get_or_from_slice_get, same_Some, slice_get-get_or, slice_get_within, unwrap_or-slice_get}
+use Rattle.emu_names.specs.declared.shortage.Memory.{Memory}
+use Rattle.level_items.specs.declared.items.Item.{Item}
+use Rattle.db_config.specs.declared.parts.AttributePlace.{AttributePlace}
+use Rattle.db_config.specs.declared.parts.ConfigParts.{ConfigParts}
+use Rattle.db_config.specs.declared.parts.LevelDef.{LevelDef}
+use Rattle.db_config.specs.Lookups.{attribute_at}
+use Rattle.db_config.specs.Names.{same_text}
+use Rattle.bundle_state.specs.Bundle.{BundleParts}
+use Rattle.bundle_state.specs.Built.{FitsConfig}
+use Rattle.bundle_state.proofs.Calling.{level_within}
+use Rattle.bundle_index.specs.Index.{attributes_on, has_label, items_on, label_at as index_label}
+use Rattle.bundle_index.specs.Numbered.{IsColumnOf}
+use Rattle.bundle_index.proofs.Callers.{attributes_asked}
+use Rattle.label_match.specs.Pattern.{matches_label}
+use Rattle.eql_model.specs.declared.tuple.Tuple.{Tuple}
+use Rattle.eql_model.specs.Flags.{flag_at}
+use Rattle.eql_model.specs.Labels.{is_as, label_of, matched_row}
+use Rattle.eql_model.specs.Meaning.{items_at, single}
+use Rattle.eql_model.proofs.MadeRows.{flag_of_map, no_item}
+use Rattle.eql_match.specs.Labels.{label_row, label_at, HasColumn, AreNumbersOf, AreAnswers}
+use Rattle.eql_match.specs.Rows.{any_bits, all_bits}
+use Rattle.eql_match.proofs.Bits.{IsFilled, filled_all, any_rows_are, rows_wide, all_long}
+
+-- ---- columns that are there
+
+some_within : {X : Type 0} (xs : List X) (i : ℕ) (o : Option X) → slice_get xs i ≡ o → IsSome o → i < length xs
+some_within xs i None is there = absurd cc
+some_within xs i (Some x) is there = slice_get_within xs i x is
+
+pub has_column : (c : ConfigParts) (b : BundleParts) (place : AttributePlace) → FitsConfig c b → IsSome (attribute_at place c.levels) →
+    HasColumn b place
+has_column c b place fits there = by (slice_get c.levels place.level) refl there
+  where
+    by : (o : Option LevelDef) → slice_get c.levels place.level ≡ o →
+        IsSome (option_and_then (λ (d : LevelDef). slice_get d.attributes place.attribute) o) → HasColumn b place
+    by None is some = absurd cc
+    by (Some d) is some = record {
+      level = level_within c b place.level d fits is;
+      attribute =
+          let count : attributes_on b place.level ≡ length d.attributes = attributes_asked c b place.level d fits is in
+          let within : place.attribute < length d.attributes =
+          some_within d.attributes place.attribute (slice_get d.attributes place.attribute) refl some in
+          omega arith;
+    }
+
+-- ---- one label
+
+nat_swap : (x y : ℕ) → nat_eq x y ≡ nat_eq y x
+nat_swap x y = grind (arith, nat_tests)
+
+text_swap : (xs ys : List ℕ) → bytes_eq xs ys ≡ same_text ys xs
+text_swap [] [] = refl
+text_swap [] (y ∷ ys) = refl
+text_swap (x ∷ xs) [] = refl
+text_swap (x ∷ xs) (y ∷ ys) = λ i. nat_swap x y i && text_swap xs ys i
+
+label_is : (attribute : ℕ) (item : Item) → index_label attribute item ≡ label_of attribute item
+label_is attribute item = sym (unwrap_or-slice_get item.labels attribute [])
+
+same_label : (attribute : ℕ) (label : List ℕ) (item : Item) → has_label attribute label item ≡ same_text (label_of attribute item) label
+same_label attribute label item =
+    text_swap label (index_label attribute item) ∙ ap (λ l. same_text l label) (label_is attribute item)
+
+pub label_exit : (b : BundleParts) (place : AttributePlace) (label : List ℕ) (r : Result (List Bool) Memory) →
+    IfOk r (λ row. row ≡ map (has_label place.attribute label) (items_on b place.level)) → IfOk r (λ row. row ≡ label_row b place label)
+label_exit b place label (Err e) told = tt
+label_exit b place label (Ok row) told =
+    told ∙ (λ i. map (λ item. same_label place.attribute label item i) (items_at b.levels place.level))
+
+-- ---- rows of several labels
+
+pub flat_step : {X Y Z : Type 0} (f : Y → Z) (g : X → List Y) (xs : List X) (i : ℕ) (x : X) (rows more : List Z) →
+    rows ≡ map f (flat_map g (take i xs)) → i < length xs → x ≡ get_or xs i x → more ≡ rows ++ map f (g x) →
+    more ≡ map f (flat_map g (take (i + 1) xs))
+flat_step f g xs i x rows more so_far h here put =
+    put ∙ ap (λ rs. rs ++ map f (g x)) so_far
+    ∙ sym (ap (λ ys. map f (flat_map g ys)) (take_more xs i x h ∙ ap (λ y. take i xs ++ y ∷ []) (sym here))
+    ∙ ap (map f) (flat_map-append g (take i xs) (x ∷ []) ∙ ap (λ ys. flat_map g (take i xs) ++ ys) one)
+    ∙ map-append f (flat_map g (take i xs)) (g x))
+  where
+    one : flat_map g (x ∷ []) ≡ g x
+    one = flat_map-cons g x [] ∙ append-nil (g x)
+
+pub any_exit : {X Y : Type 0} (p : Y → X → Bool) (xs : List X) (d : X) (n : ℕ) (ys : List Y) (rows : List (List Bool))
+    (r : Result (List Bool) Memory) → rows ≡ map (λ y. map (p y) xs) ys → n ≡ length xs → IfOk r (λ any. any ≡ any_bits n rows) →
+    IfOk r (λ any. any ≡ map (λ x. list_any (λ y. p y x) ys) xs)
+any_exit p xs d n ys rows (Err e) are long told = tt
+any_exit p xs d n ys rows (Ok any) are long told = told ∙ ap (any_bits n) are ∙ any_rows_are p xs d n ys long
+
+pub wide_rows : {X Y : Type 0} (p : Y → X → Bool) (xs : List X) (n : ℕ) (ys : List Y) (rows : List (List Bool)) →
+    rows ≡ map (λ y. map (p y) xs) ys → n ≡ length xs → All (λ row. length row ≡ n) rows
+wide_rows p xs n ys rows are long =
+    subst (λ (rs : List (List Bool)). All (λ row. length row ≡ n) rs) (sym are) (rows_wide p xs n long ys)
+
+-- whether an item's label is this one; whether a pattern matches it
+abbrev pub is_label : ℕ → List ℕ → Item → Bool
+is_label attribute label item = same_text (label_of attribute item) label
+
+abbrev pub is_match : ℕ → List ℕ → Item → Bool
+is_match attribute pattern item = matches_label pattern (label_of attribute item)
+
+-- ---- numbers of labels
+
+labels_are : (attribute : ℕ) (items : List Item) → map (index_label attribute) items ≡ map (label_of attribute) items
+labels_are attribute items = λ i. map (λ item. label_is attribute item i) items
+
+abbrev some_label : List ℕ → Option (List ℕ)
+some_label l = Some l
+
+numbered_at : (numbered : List (List ℕ)) (column : List ℕ) (labels : List (List ℕ)) → IsColumnOf numbered column labels →
+    (i : ℕ) → i < length labels → length column ≡ length labels → slice_get numbered (get_or column i 0) ≡ Some (get_or labels i [])
+numbered_at numbered column labels is i h same =
+    sym (get_or-map (slice_get numbered) column i 0 None (omega arith)) ∙ ap (λ os. get_or os i None) is
+    ∙ get_or-map (λ l. Some l) labels i [] None h
+
+numbers_by : (numbered : List (List ℕ)) (column : List ℕ) (labels : List (List ℕ)) → IsColumnOf numbered column labels →
+    AreNumbersOf column labels
+numbers_by numbered column labels is = record {
+  count = count;
+  alike = λ i j here there same.
+      same_Some (get_or labels i []) (get_or labels j [])
+      (sym (numbered_at numbered column labels is i here count) ∙ ap (slice_get numbered) same
+      ∙ numbered_at numbered column labels is j there count);
+}
+  where
+    count : length column ≡ length labels
+    count = sym (length-map column (slice_get numbered)) ∙ ap length is ∙ length-map labels some_label
+
+pub numbers_of : (numbered : List (List ℕ)) (column : List ℕ) (attribute : ℕ) (items : List Item) →
+    IsColumnOf numbered column (map (index_label attribute) items) → AreNumbersOf column (map (label_of attribute) items)
+numbers_of numbered column attribute items is =
+    subst (AreNumbersOf column) (labels_are attribute items)
+    (numbers_by numbered column (map (index_label attribute) items) is)
+
+-- ---- answers at numbers
+
+abbrev pub no_answer : Option Bool
+no_answer = None
+
+none_noted : {A : Type 0} (n k : ℕ) (bit : Bool) → slice_get (replicate n no_answer) k ≡ Some (Some bit) → A
+none_noted n k bit noted =
+    let within = slice_get_within (replicate n no_answer) k (Some bit) noted in
+    let there : get_or (replicate n no_answer) k no_answer ≡ Some bit =
+    get_or_from_slice_get (replicate n no_answer) k (Some bit) no_answer noted in
+    let out : get_or (replicate n no_answer) k no_answer ≡ no_answer =
+    get_or-replicate n k no_answer no_answer (omega (arith, within, length-replicate n no_answer)) in
+    absurd cc
+
+pub answers_none : (pattern : List ℕ) (column : List ℕ) (labels : List (List ℕ)) (n : ℕ) (answers : List (Option Bool)) →
+    answers ≡ replicate n no_answer → AreAnswers pattern column labels answers
+answers_none pattern column labels n answers is = record {
+  right = λ k bit h noted. none_noted n (get_or column k 0) bit (ap (λ os. slice_get os (get_or column k 0)) (sym is) ∙ noted);
+}
+
+pub answers_within : (column : List ℕ) (n : ℕ) (answers : List (Option Bool)) → answers ≡ replicate n no_answer → All (λ m. m < n) column →
+    All (λ m. m < length answers) column
+answers_within column n answers is all =
+    subst (λ (k : ℕ). All (λ m. m < k) column) (sym (ap length is ∙ length-replicate n no_answer)) all
+
+pub answers_more : (pattern : List ℕ) (column : List ℕ) (labels : List (List ℕ)) (answers more : List (Option Bool)) (at number : ℕ)
+    (is : Bool) → AreNumbersOf column labels → AreAnswers pattern column labels answers → get_or column at 0 ≡ number →
+    at < length labels → is ≡ matches_label pattern (get_or labels at []) → more ≡ slice_set answers number (Some is) →
+    AreAnswers pattern column labels more
+answers_more pattern column labels answers more at number is numbers right here h own put = record {
+  right = λ k bit below noted. by k bit below noted (cases_eq (get_or column k 0) number);
+}
+  where
+    by : (k : ℕ) (bit : Bool) → k < length labels → slice_get more (get_or column k 0) ≡ Some (Some bit) →
+        (get_or column k 0 ≡ number) ⊎ (get_or column k 0 ≡ number → ⊥) → bit ≡ matches_label pattern (get_or labels k [])
+    by k bit below noted (inl same) =
+        let within : get_or column k 0 < length more = slice_get_within more (get_or column k 0) (Some bit) noted in
+        let long : length more ≡ length answers = ap length put ∙ length-set answers number (Some is) in
+        let noted_is : get_or (slice_set answers number (Some is)) number None ≡ Some bit =
+        sym (λ i. get_or (put i) (same i) None) ∙ get_or_from_slice_get more (get_or column k 0) (Some bit) None noted in
+        let set_is : get_or (slice_set answers number (Some is)) number None ≡ Some is =
+        get_or-set_same answers number (Some is) None (omega (arith, within, long, same)) in
+        let bit_is : bit ≡ is = same_Some bit is (sym noted_is ∙ set_is) in
+        bit_is ∙ own ∙ ap (matches_label pattern) (numbers.alike at k h below (here ∙ sym same))
+    by k bit below noted (inr other) =
+        let within : get_or column k 0 < length more = slice_get_within more (get_or column k 0) (Some bit) noted in
+        let long : length more ≡ length answers = ap length put ∙ length-set answers number (Some is) in
+        let there : get_or answers (get_or column k 0) None ≡ Some bit =
+        sym (get_or-set_other answers number (get_or column k 0) (Some is) None other)
+        ∙ sym (ap (λ os. get_or os (get_or column k 0) None) put)
+        ∙ get_or_from_slice_get more (get_or column k 0) (Some bit) None noted in
+        right.right k bit below
+        (slice_get-get_or answers (get_or column k 0) None (omega (arith, within, long)) ∙ ap (λ o. Some o) there)
+
+-- the pattern is the same, what is noted is right, and the first bits are the answers
+pub record Answered (pattern column : List ℕ) (attribute : ℕ) (items : List Item) (now : List ℕ) (answers : List (Option Bool))
+    (row : List Bool) (at : ℕ) : Type 0 where
+  pub same : now ≡ pattern
+  pub noted : AreAnswers pattern column (map (label_of attribute) items) answers
+  pub within : All (λ n. n < length answers) column
+  pub bits : IsFilled (λ k. matches_label pattern (label_at attribute items k)) row (length items) at
+
+-- the first places of a row are the answers for the items
+pub matched_all : (pattern : List ℕ) (attribute : ℕ) (items : List Item) (row : List Bool) (n at : ℕ) →
+    IsFilled (λ k. matches_label pattern (label_at attribute items k)) row n at → n ≡ length items → n ≡ at →
+    row ≡ matched_row attribute items pattern
+matched_all pattern attribute items row n at so_far long end =
+    filled_all (λ k. matches_label pattern (label_at attribute items k)) row n at so_far end
+    ∙ sym (fill_by_all (λ k. matches_label pattern (label_at attribute items k)) (matched_row attribute items pattern) n false
+    (length-map items (λ item. matches_label pattern (label_of attribute item)) ∙ sym long)
+    (λ k below.
+    get_or-map (λ item. matches_label pattern (label_of attribute item)) items k no_item false (omega arith)
+    ∙ ap (matches_label pattern) (sym (get_or-map (label_of attribute) items k no_item [] (omega arith)))))
+
+-- ---- the tuples of the positions with a bit
+
+kept_in : (a b : Bool) (k : ℕ) (ks ls : List ℕ) → a ≡ b → ks ≡ ls → cond a (k ∷ ks) ks ≡ cond b (k ∷ ls) ls
+kept_in a b k ks ls e rest = λ i. cond (e i) (k ∷ rest i) (rest i)
+
+filter_in : (p q : ℕ → Bool) (n k m : ℕ) → k + m ≤ n → ((i : ℕ) → i < n → p i ≡ q i) →
+    filter p (range_with_len k m) ≡ filter q (range_with_len k m)
+filter_in p q n k zero h same = refl
+filter_in p q n k (suc m) h same =
+    kept_in (p k) (q k) k (filter p (range_with_len (k + 1) m)) (filter q (range_with_len (k + 1) m)) (same k (omega arith))
+    (filter_in p q n (k + 1) m (omega arith) same)
+
+pub singles_exit : (marked : Bool) (rows : List (List Bool)) (met : List Bool) (n : ℕ) (items : List Item) (r : Result (List Tuple) Memory) →
+    met ≡ all_bits n rows → n ≡ length items →
+    IfOk r (λ made. made ≡ map (single marked) (filter (λ k. flag_at k met) (range_with_len 0 (length met)))) →
+    IfOk r (λ made. made ≡ map (single marked) (filter (λ k. list_all (flag_at k) rows) (range_with_len 0 (length items))))
+singles_exit marked rows met n items (Err e) is long told = tt
+singles_exit marked rows met n items (Ok made) is long told =
+    told
+    ∙ ap (λ m. map (single marked) (filter (λ k. flag_at k met) (range_with_len 0 m))) count
+    ∙ ap (map (single marked))
+    (filter_in (λ k. flag_at k met) (λ k. list_all (flag_at k) rows) (length items) 0 (length items) (omega arith)
+    (λ k h. ap (flag_at k) is ∙ flag_of_map (λ j. list_all (flag_at j) rows) (range_with_len 0 n) k 0 (omega (arith, length-range_with_len 0 n))
+    ∙ ap (λ j. list_all (flag_at j) rows) (get_or-range_with_len 0 n k 0 (omega arith) ∙ zero_more k)))
+  where
+    count : length met ≡ length items
+    count = ap length is ∙ all_long n rows ∙ long
+
+    zero_more : (k : ℕ) → 0 + k ≡ k
+    zero_more k = omega arith
+
+-- ---- what is found, or not
+
+map_map : {X Y Z : Type 0} (f : Y → Z) (g : X → Y) (xs : List X) → map f (map g xs) ≡ map (λ x. f (g x)) xs
+map_map f g [] = refl
+map_map f g (x ∷ xs) = ap (λ ys. f (g x) ∷ ys) (map_map f g xs)
+
+pub found_map : (found : Bool) (p : Item → Bool) (items : List Item) (row : List Bool) (r : Result (List Bool) Memory) → row ≡ map p items →
+    IfOk r (λ made. made ≡ map (is_as found) row) → IfOk r (λ made. made ≡ map (λ item. is_as found (p item)) items)
+found_map found p items row (Err e) is told = tt
+found_map found p items row (Ok made) is told = told ∙ ap (map (is_as found)) is ∙ map_map (is_as found) p items

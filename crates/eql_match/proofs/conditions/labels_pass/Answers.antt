@@ -1,0 +1,12 @@
+use Rattle.eql_model.specs.Labels.{is_wanted, label_of}
+use Rattle.eql_model.specs.Meaning.{items_at}
+use Rattle.eql_match.proofs.Tests.{found_map, has_column}
+use Rattle.eql_match.proofs.conditions.labels_pass.Goals as goal
+
+pub label_bits-requires-clause-column : goal.label_bits-requires-clause-column
+label_bits-requires-clause-column c = has_column c.args.config.now c.args.indexed.now.bundle c.args.place c.requires.fits c.requires.place
+
+pub returns : goal.returns
+returns c =
+    found_map c.args.found (λ item. is_wanted c.args.config.now c.args.place c.args.labels.now (label_of c.args.place.attribute item))
+    (items_at c.args.indexed.now.bundle.levels c.args.place.level) c.in_ok-row.row c.as_found.result c.in_ok-row.ensures c.as_found.ensures

@@ -1,0 +1,12 @@
+use Rattle.eql_model.specs.Labels.{is_matched, label_of}
+use Rattle.eql_model.specs.Meaning.{items_at}
+use Rattle.eql_match.proofs.Tests.{found_map, has_column}
+use Rattle.eql_match.proofs.conditions.patterns_pass.Goals as goal
+
+pub pattern_bits-requires : goal.pattern_bits-requires
+pattern_bits-requires c = has_column c.args.config.now c.args.indexed.now.bundle c.args.place c.requires.fits c.requires.place
+
+pub returns : goal.returns
+returns c =
+    found_map c.args.found (λ item. is_matched c.args.patterns.now (label_of c.args.place.attribute item))
+    (items_at c.args.indexed.now.bundle.levels c.args.place.level) c.in_ok-row.row c.as_found.result c.in_ok-row.ensures c.as_found.ensures

@@ -1,0 +1,12 @@
+-- What is asked of several rows of bits at each place.
+use Rattle.std.specs.Prelude.{ℕ, Bool, List, map}
+use Rattle.std.specs.List.{list_all, list_any, range_with_len}
+use Rattle.eql_model.specs.Flags.{flag_at}
+
+-- for each of so many places whether some row has its bit
+abbrev pub any_bits : ℕ → List (List Bool) → List Bool
+any_bits count rows = map (λ k. list_any (flag_at k) rows) (range_with_len 0 count)
+
+-- for each of so many places whether all rows have its bit
+abbrev pub all_bits : ℕ → List (List Bool) → List Bool
+all_bits count rows = map (λ k. list_all (flag_at k) rows) (range_with_len 0 count)

@@ -1,0 +1,103 @@
+//! Tests of labels: each wanted label is looked up once, and its number is compared with a whole column.
+ghost use Rattle.std.specs.Prelude.{◌≡◌, ◌++◌, map, IfOk, OnOk, IsSome};
+ghost use Rattle.db_config.specs.Lookups.{attribute_at};
+ghost use Rattle.eql_model.specs.Labels.{is_wanted, label_of, stands_for, wanted_labels};
+ghost use Rattle.eql_model.specs.Meaning.{items_at};
+ghost use Rattle.eql_match.specs.Labels.{label_row, HasColumn};
+
+use crate::rows::any_bits;
+use bundle_index::Indexed;
+use db_config::{AttributePlace, Config};
+use emu_lists::Series;
+use emu_names::{Memory, Text};
+use lane_bits::BitRow;
+use std::alloc::Global;
+
+/// For each item of a level whether its label is this one. The only refusal is want of memory.
+fn label_row(
+    alloc: Global,
+    indexed: &Indexed,
+    place: AttributePlace,
+    label: &str,
+) -> Result<BitRow, Memory>
+    requires { HasColumn indexed.now.bundle place }
+    ensures { IfOk result (λ row. row ≡ label_row indexed.now.bundle place label.now) }
+{
+    indexed.label_bits(alloc, place.level, place.attribute, label)
+}
+
+/// Puts the row of each of these labels last. The only refusal is want of memory.
+fn put_label_rows(
+    alloc: Global,
+    rows: &mut Series<BitRow>,
+    indexed: &Indexed,
+    place: AttributePlace,
+    labels: &[Text],
+) -> Result<(), Memory>
+    requires { HasColumn indexed.now.bundle place }
+    ensures { OnOk result (rows.new
+        ≡ rows.old ++ map (label_row indexed.now.bundle place) labels.now) }
+{
+    for label in labels {
+        rows.push(label_row(alloc, indexed, place, label.as_str())?)?;
+    }
+    Ok(())
+}
+
+/// Puts the row of each label last that a written one stands for. The only refusal is want of memory.
+fn put_wanted_rows(
+    alloc: Global,
+    rows: &mut Series<BitRow>,
+    config: &Config,
+    indexed: &Indexed,
+    place: AttributePlace,
+    written: &Text,
+) -> Result<(), Memory>
+    requires place { IsSome (attribute_at place config.now.levels) }
+    requires column { HasColumn indexed.now.bundle place }
+    ensures { OnOk result (rows.new
+        ≡ rows.old ++ map (label_row indexed.now.bundle place) (stands_for config.now place written.now)) }
+{
+    match config.group(place, written.as_str()) {
+        Some(values) => put_label_rows(alloc, rows, indexed, place, values.as_slice()),
+        None => rows.push(label_row(alloc, indexed, place, written.as_str())?),
+    }
+}
+
+/// The row of each label that is wanted. The only refusal is want of memory.
+fn wanted_rows(
+    alloc: Global,
+    config: &Config,
+    indexed: &Indexed,
+    place: AttributePlace,
+    written: &[Text],
+) -> Result<Series<BitRow>, Memory>
+    requires place { IsSome (attribute_at place config.now.levels) }
+    requires column { HasColumn indexed.now.bundle place }
+    ensures { IfOk result (λ rows. rows
+        ≡ map (label_row indexed.now.bundle place) (wanted_labels config.now place written.now)) }
+{
+    let mut rows = Series::new(alloc);
+    for one in written {
+        put_wanted_rows(alloc, &mut rows, config, indexed, place, one)?;
+    }
+    Ok(rows)
+}
+
+/// For each item of a level whether its label is wanted. The only refusal is want of memory.
+pub(crate) fn label_bits(
+    alloc: Global,
+    config: &Config,
+    indexed: &Indexed,
+    place: AttributePlace,
+    written: &[Text],
+) -> Result<BitRow, Memory>
+    requires place { IsSome (attribute_at place config.now.levels) }
+    requires column { HasColumn indexed.now.bundle place }
+    ensures { IfOk result (λ row. row ≡ map (λ item. is_wanted config.now place written.now
+        (label_of place.attribute item)) (items_at indexed.now.bundle.levels place.level)) }
+{
+    let rows = wanted_rows(alloc, config, indexed, place, written)?;
+    let count = eql_model::items_at(indexed.bundle(), place.level).len();
+    any_bits(alloc, count, rows.as_slice())
+}

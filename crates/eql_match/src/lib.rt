@@ -1,0 +1,16 @@
+//! The results of a query in a bundle with its columns, worked out by label numbers, rows of bits and
+//! sets of tuples in order (EMU-SDMS Manual, "The EMU Query Language (EQL)").
+#![tactic(auto)]
+
+mod bundle;
+mod conditions;
+mod evaluate;
+mod labels;
+mod patterns;
+mod positions;
+mod reach;
+mod rows;
+mod runs;
+mod ways;
+
+pub use bundle::match_bundle;

@@ -1,0 +1,139 @@
+//! Tests by patterns: each pattern is tried once on each label of a column, and the items read the
+//! answers by the numbers of their labels.
+ghost use Rattle.std.specs.Prelude.{◌≡◌, ◌<◌, All, length, map, IfOk};
+ghost use Rattle.eql_model.specs.Labels.{is_matched, label_of, matched_row};
+ghost use Rattle.eql_model.specs.Meaning.{items_at};
+ghost use Rattle.label_match.specs.Pattern.{matches_label};
+ghost use Rattle.eql_match.specs.Labels.{AreAnswers, AreNumbersOf, HasColumn, label_at};
+
+use crate::rows::{any_bits, none_set};
+use bundle_index::Indexed;
+use db_config::AttributePlace;
+use emu_lists::Series;
+use emu_names::Memory;
+use label_match::{Matching, Pattern};
+use lane_bits::BitRow;
+use level_items::Item;
+use std::alloc::Global;
+
+/// The label of an item for an attribute of its level.
+fn label_of(item: &Item, attribute: usize) -> &str
+    ensures { result.now ≡ label_of attribute item.now }
+{
+    match item.labels.as_slice().get(attribute) {
+        Some(label) => label.as_str(),
+        None => "",
+    }
+}
+
+/// Whether the pattern matches the label of the item at a position: as it is noted at the label's
+/// number, else as the pattern answers, which is noted then.
+fn answer_at(
+    answers: &mut Series<Option<bool>>,
+    matching: &mut Matching,
+    column: &[u32],
+    attribute: usize,
+    items: &[Item],
+    at: usize,
+) -> bool
+    requires at { at < length items.now }
+    requires numbers { AreNumbersOf column.now (map (label_of attribute) items.now) }
+    requires within { All (λ n. n < length answers.old) column.now }
+    requires answers { AreAnswers matching.old column.now (map (label_of attribute) items.now) answers.old }
+    ensures answer { result ≡ matches_label matching.old (label_at attribute items.now at) }
+    ensures answers { AreAnswers matching.old column.now (map (label_of attribute) items.now) answers.new }
+    ensures count { length answers.new ≡ length answers.old }
+    ensures same { matching.new ≡ matching.old }
+{
+    let number = column[at] as usize;
+    if let Some(is) = *answers.get(number) {
+        return is;
+    }
+    let is = matching.matches(label_of(&items[at], attribute));
+    answers.set(number, Some(is));
+    is
+}
+
+/// One more than the greatest number of a column, or 0.
+fn numbers_within(column: &[u32]) -> usize
+    ensures { All (λ n. n < result) column.now }
+{
+    let mut most = 0;
+    for number in column {
+        most = most.max(*number as usize + 1);
+    }
+    most
+}
+
+/// For each item whether the pattern matches its label. The only refusal is want of memory.
+fn matched_bits(
+    alloc: Global,
+    matching: &mut Matching,
+    column: &[u32],
+    attribute: usize,
+    items: &[Item],
+) -> Result<BitRow, Memory>
+    requires numbers { AreNumbersOf column.now (map (label_of attribute) items.now) }
+    ensures { IfOk result (λ row. row ≡ matched_row attribute items.now matching.old) }
+{
+    let mut answers = Series::from_vec(vec![in alloc; None; numbers_within(column)]?);
+    let mut row = none_set(alloc, items.len())?;
+    for at in 0..items.len() {
+        let is = answer_at(&mut answers, matching, column, attribute, items, at);
+        row.set(at, is);
+    }
+    Ok(row)
+}
+
+/// For each item of a level whether a pattern matches its label. The only refusal is want of memory.
+fn pattern_row(
+    alloc: Global,
+    indexed: &Indexed,
+    place: AttributePlace,
+    pattern: &Pattern,
+) -> Result<BitRow, Memory>
+    requires { HasColumn indexed.now.bundle place }
+    ensures { IfOk result (λ row. row
+        ≡ matched_row place.attribute (items_at indexed.now.bundle.levels place.level) pattern.now) }
+{
+    let column = indexed.column(place.level, place.attribute);
+    let items = eql_model::items_at(indexed.bundle(), place.level);
+    match pattern.matcher(alloc) {
+        Ok(mut matching) => matched_bits(alloc, &mut matching, column, place.attribute, items),
+        Err(_) => Err(Memory),
+    }
+}
+
+/// For each pattern the row of the items whose label it matches. The only refusal is want of memory.
+fn pattern_rows(
+    alloc: Global,
+    indexed: &Indexed,
+    place: AttributePlace,
+    patterns: &[Pattern],
+) -> Result<Series<BitRow>, Memory>
+    requires { HasColumn indexed.now.bundle place }
+    ensures { IfOk result (λ rows. rows ≡ map (matched_row place.attribute
+        (items_at indexed.now.bundle.levels place.level)) patterns.now) }
+{
+    let mut rows = Series::new(alloc);
+    for pattern in patterns {
+        rows.push(pattern_row(alloc, indexed, place, pattern)?)?;
+    }
+    Ok(rows)
+}
+
+/// For each item of a level whether some pattern matches its label. The only refusal is want of memory.
+pub(crate) fn pattern_bits(
+    alloc: Global,
+    indexed: &Indexed,
+    place: AttributePlace,
+    patterns: &[Pattern],
+) -> Result<BitRow, Memory>
+    requires { HasColumn indexed.now.bundle place }
+    ensures { IfOk result (λ row. row ≡ map (λ item. is_matched patterns.now
+        (label_of place.attribute item)) (items_at indexed.now.bundle.levels place.level)) }
+{
+    let rows = pattern_rows(alloc, indexed, place, patterns)?;
+    let count = eql_model::items_at(indexed.bundle(), place.level).len();
+    any_bits(alloc, count, rows.as_slice())
+}

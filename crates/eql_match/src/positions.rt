@@ -1,0 +1,177 @@
+//! Tests of where items stand below items of an upper level, and of how many items an item dominates:
+//! each row of bits, one for each upper item, is asked for its first bit, its last bit or its count.
+ghost use Rattle.std.specs.Prelude.{◌≡◌, ◌<◌, All, false, length, map, slice_set, IfOk, OnOk};
+ghost use Rattle.bundle_state.specs.Built.{FitsConfig};
+ghost use Rattle.hier_closure.specs.Dominance.{ids_at};
+ghost use Rattle.eql_model.specs.Positions.{has_number, has_place};
+ghost use Rattle.eql_model.specs.Bits.{row_counts};
+ghost use Rattle.eql_model.specs.Meaning.{items_at};
+ghost use Rattle.eql_match.specs.Rows.{any_bits};
+ghost use Rattle.eql_match.specs.Places.{AddsPlaced, ArePlaced, PassPlace};
+
+use crate::rows::{none_set, turned};
+use bundle_state::Bundle;
+use db_config::Config;
+use emu_names::Memory;
+use eql_syntax::{Compare, Place};
+use hier_closure::Closure;
+use lane_bits::{BitRow, and_into, or_into};
+use std::alloc::Global;
+
+/// The row without its first and its last bit. The only refusal is want of memory.
+fn inner_bits(alloc: Global, row: &BitRow, first: usize, last: usize) -> Result<BitRow, Memory>
+    requires first { first < length row.now }
+    requires last { last < length row.now }
+    ensures { IfOk result (λ inner. inner ≡ slice_set (slice_set row.now first false) last false) }
+{
+    let mut inner = match row.copy(alloc) {
+        Ok(inner) => inner,
+        Err(_) => return Err(Memory),
+    };
+    inner.set(first, false);
+    inner.set(last, false);
+    Ok(inner)
+}
+
+/// Sets the bits of the items that stand at a place among those with a bit of the row. The only refusal
+/// is want of memory.
+fn add_placed(alloc: Global, placed: &mut BitRow, row: &BitRow, place: Place) -> Result<(), Memory>
+    requires { length placed.old ≡ length row.now }
+    ensures { OnOk result (AddsPlaced place row.now placed.old placed.new) }
+{
+    let Some(first) = row.first() else {
+        return Ok(());
+    };
+    let Some(last) = row.last() else {
+        return Ok(());
+    };
+    match place {
+        Place::Start => placed.set(first, true),
+        Place::End => placed.set(last, true),
+        Place::Medial => or_into(placed, &inner_bits(alloc, row, first, last)?),
+    }
+    Ok(())
+}
+
+/// For each lower item whether it stands at a place among those with a bit of some row. The only refusal
+/// is want of memory.
+fn placed_bits(
+    alloc: Global,
+    rows: &Closure,
+    count: usize,
+    width: usize,
+    place: Place,
+) -> Result<BitRow, Memory>
+    requires count { count ≡ length rows.now }
+    requires wide { All (λ row. length row ≡ width) rows.now }
+    ensures { IfOk result (ArePlaced place rows.now width) }
+{
+    let mut placed = none_set(alloc, width)?;
+    for upper in 0..count {
+        add_placed(alloc, &mut placed, rows.row(upper), place)?;
+    }
+    Ok(placed)
+}
+
+/// For each lower item whether some row has its bit. The only refusal is want of memory.
+fn bits_below(alloc: Global, rows: &Closure, count: usize, width: usize) -> Result<BitRow, Memory>
+    requires count { count ≡ length rows.now }
+    requires wide { All (λ row. length row ≡ width) rows.now }
+    ensures { IfOk result (λ any. any ≡ any_bits width rows.now) }
+{
+    let mut any = none_set(alloc, width)?;
+    for upper in 0..count {
+        or_into(&mut any, rows.row(upper));
+    }
+    Ok(any)
+}
+
+/// For each lower item whether it passes a test of its place. The only refusal is want of memory.
+fn place_bits(
+    alloc: Global,
+    rows: &Closure,
+    count: usize,
+    width: usize,
+    place: Place,
+    wanted: bool,
+) -> Result<BitRow, Memory>
+    requires count { count ≡ length rows.now }
+    requires wide { All (λ row. length row ≡ width) rows.now }
+    ensures { IfOk result (PassPlace place wanted rows.now width) }
+{
+    let placed = placed_bits(alloc, rows, count, width, place)?;
+    if wanted {
+        return Ok(placed);
+    }
+    let others = turned(alloc, &placed)?;
+    let mut below = bits_below(alloc, rows, count, width)?;
+    and_into(&mut below, &others);
+    Ok(below)
+}
+
+/// For each item of the lower level whether it passes a test of its place. The only refusal is want of
+/// memory.
+pub(crate) fn position_bits(
+    alloc: Global,
+    config: &Config,
+    bundle: &Bundle,
+    levels: (usize, usize),
+    place: Place,
+    wanted: bool,
+) -> Result<BitRow, Memory>
+    requires fits { FitsConfig config.now bundle.now }
+    requires upper { levels.0 < length bundle.now.levels }
+    requires lower { levels.1 < length bundle.now.levels }
+    ensures { IfOk result (λ row. row ≡ map (λ item. has_place bundle.now.links
+        (ids_at bundle.now.levels levels.0) (ids_at bundle.now.levels levels.1) place wanted item.id.0)
+        (items_at bundle.now.levels levels.1)) }
+{
+    let (upper, lower) = levels;
+    let _items = bundle.item_count();
+    let rows = Closure::between(alloc, config, bundle, upper, lower)?;
+    let count = eql_model::items_at(bundle, upper).len();
+    let width = eql_model::items_at(bundle, lower).len();
+    place_bits(alloc, &rows, count, width, place, wanted)
+}
+
+/// For each row how the number of its bits compares with a number. The only refusal is want of memory.
+fn count_bits(
+    alloc: Global,
+    rows: &Closure,
+    count: usize,
+    compare: Compare,
+    number: u32,
+) -> Result<BitRow, Memory>
+    requires { count ≡ length rows.now }
+    ensures { IfOk result (λ made. made ≡ map (row_counts compare number) rows.now) }
+{
+    let mut made = none_set(alloc, count)?;
+    for upper in 0..count {
+        let is = eql_model::row_counts(rows.row(upper), compare, number);
+        made.set(upper, is);
+    }
+    Ok(made)
+}
+
+/// For each item of the upper level whether it passes a test of the number of items that it dominates.
+/// The only refusal is want of memory.
+pub(crate) fn number_bits(
+    alloc: Global,
+    config: &Config,
+    bundle: &Bundle,
+    levels: (usize, usize),
+    compare: Compare,
+    number: u32,
+) -> Result<BitRow, Memory>
+    requires fits { FitsConfig config.now bundle.now }
+    requires upper { levels.0 < length bundle.now.levels }
+    requires lower { levels.1 < length bundle.now.levels }
+    ensures { IfOk result (λ row. row ≡ map (λ item. has_number bundle.now.links
+        (ids_at bundle.now.levels levels.1) compare number item.id.0)
+        (items_at bundle.now.levels levels.0)) }
+{
+    let (upper, lower) = levels;
+    let rows = Closure::between(alloc, config, bundle, upper, lower)?;
+    let count = eql_model::items_at(bundle, upper).len();
+    count_bits(alloc, &rows, count, compare, number)
+}

@@ -1,0 +1,73 @@
+//! Rows of bits, one bit for each item of a level, and what is asked of several of them at each place.
+ghost use Rattle.std.specs.Prelude.{◌≡◌, All, false, true, length, map, not, replicate, IfOk};
+ghost use Rattle.eql_model.specs.Labels.{is_as};
+ghost use Rattle.eql_match.specs.Rows.{any_bits, all_bits};
+
+use emu_names::Memory;
+use lane_bits::{BitRow, and_into, or_into};
+use std::alloc::Global;
+
+/// A row of bits, none of which is set. The only refusal is want of memory.
+pub(crate) fn none_set(alloc: Global, count: usize) -> Result<BitRow, Memory>
+    ensures { IfOk result (λ row. row ≡ replicate count false) }
+{
+    match BitRow::new(alloc, count) {
+        Ok(row) => Ok(row),
+        Err(_) => Err(Memory),
+    }
+}
+
+/// The row with each bit turned. The only refusal is want of memory.
+pub(crate) fn turned(alloc: Global, row: &BitRow) -> Result<BitRow, Memory>
+    ensures { IfOk result (λ made. made ≡ map not row.now) }
+{
+    let mut made = none_set(alloc, row.len())?;
+    for at in 0..row.len() {
+        let bit = row.get(at);
+        made.set(at, !bit);
+    }
+    Ok(made)
+}
+
+/// A row of bits, all of which are set. The only refusal is want of memory.
+fn all_set(alloc: Global, count: usize) -> Result<BitRow, Memory>
+    ensures { IfOk result (λ row. row ≡ replicate count true) }
+{
+    let none = none_set(alloc, count)?;
+    turned(alloc, &none)
+}
+
+/// The row itself where a test is to find, else the row with each bit turned. The only refusal is want
+/// of memory.
+pub(crate) fn as_found(alloc: Global, found: bool, row: BitRow) -> Result<BitRow, Memory>
+    ensures { IfOk result (λ made. made ≡ map (is_as found) row) }
+{
+    if found {
+        return Ok(row);
+    }
+    turned(alloc, &row)
+}
+
+/// For each place whether some of these rows has its bit. The only refusal is want of memory.
+pub(crate) fn any_bits(alloc: Global, count: usize, rows: &[BitRow]) -> Result<BitRow, Memory>
+    requires { All (λ row. length row ≡ count) rows.now }
+    ensures { IfOk result (λ any. any ≡ any_bits count rows.now) }
+{
+    let mut any = none_set(alloc, count)?;
+    for row in rows {
+        or_into(&mut any, row);
+    }
+    Ok(any)
+}
+
+/// For each place whether all of these rows have its bit. The only refusal is want of memory.
+pub(crate) fn all_bits(alloc: Global, count: usize, rows: &[BitRow]) -> Result<BitRow, Memory>
+    requires { All (λ row. length row ≡ count) rows.now }
+    ensures { IfOk result (λ all. all ≡ all_bits count rows.now) }
+{
+    let mut all = all_set(alloc, count)?;
+    for row in rows {
+        and_into(&mut all, row);
+    }
+    Ok(all)
+}
