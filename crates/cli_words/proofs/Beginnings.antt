@@ -1,6 +1,8 @@
 -- What stands behind the beginning of a word.
-use Rattle.std.proofs.Common.{◌≡◌, ◌≢◌, ℕ, Bool, true, false, cond, ◌==◌, List, [], ◌∷◌, ◌++◌, Option, None, Some, refl, sym, ◌∙◌, ap, eqb-true, arith}
+use Rattle.std.proofs.Common.{◌≡◌, ◌≢◌, ℕ, Bool, true, false, cond, ◌==◌, List, [], ◌∷◌, ◌++◌, Option, None, Some, MatchOption, refl, sym, ◌∙◌, ap, eqb-true, arith}
 use Rattle.std.proofs.lemmas.Bool.Decides.{nat_tests}
+use Rattle.std.specs.Str.Pattern.{FindsTextPrefix, StripsPrefix}
+use denote.Ref.{Bor}
 use Rattle.cli_words.specs.Forms.{behind}
 
 equal_self : (x : ℕ) → (x == x) ≡ true
@@ -25,3 +27,11 @@ behind_none [] word lacks = absurd (lacks word refl)
 behind_none (x ∷ beginning) [] lacks = refl
 behind_none (x ∷ beginning) (y ∷ word) lacks =
     none_if x y beginning word lacks (behind_none beginning word) (x == y) refl
+
+-- what is left without a beginning stands behind it
+pub behind_from : (beginning word : List ℕ) (r : Option (Bor (List ℕ)))
+    → MatchOption r (FindsTextPrefix beginning word None) (λ x. StripsPrefix (FindsTextPrefix beginning) word x.now)
+    → MatchOption r (behind beginning word ≡ None) (λ x. behind beginning word ≡ Some x.now)
+behind_from beginning word None lacks = behind_none beginning word lacks
+behind_from beginning word (Some x) cut =
+    ap (behind beginning) (cut.1.1 ∙ ap (λ rest. beginning ++ rest) (sym cut.2)) ∙ behind_append beginning x.now

@@ -8,5 +8,5 @@ mod places;
 mod read;
 mod words;
 
-pub use read::read_words;
+pub use read::{read_words, run_alone};
 pub use words::{WORKERS, WORKERS_UNASKED, Words, WordsFault};

@@ -26,17 +26,13 @@ fn is_number(text: &str) -> bool
 }
 
 /// The number of the text, where it is one and below 2^64.
-#[tactic(auto, using(crate::proofs::Parsed::parsed, crate::proofs::Parsed::unparsed))]
 pub(crate) fn number_of(text: &str) -> Option<u64>
     ensures { result ≡ number_of text.now }
 {
     if !is_number(text) {
         return None;
     }
-    match text.parse::<u64>() {
-        Ok(number) => Some(number),
-        Err(_) => None,
-    }
+    text.parse::<u64>().ok()
 }
 
 /// The number of the text, where it is one from `low` to `high`.

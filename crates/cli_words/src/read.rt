@@ -1,7 +1,8 @@
 //! The words of a command line, read.
-ghost use Rattle.std.specs.Prelude.{◌≡◌, map, string_bytes};
+ghost use Rattle.std.specs.Prelude.{◌≡◌, ◌∷◌, [], Some, codes, false, map, string_bytes};
 ghost use Rattle.cli_words.specs.Forms.{behind_command, export_words, history_words, import_of, import_words, load_words, words_of, work_of, work_words};
 ghost use Rattle.cli_words.specs.Gives.{ReadsWords};
+ghost use Rattle.cli_words.specs.declared.words.Words.TheVariants.{Run};
 
 use crate::ask::ask_words;
 use crate::live::{live_words, run_words};
@@ -178,4 +179,10 @@ pub fn read_words(alloc: Global, words: &[String]) -> Result<Words, WordsFault>
         Some((command, rest)) => behind_command(alloc, command, rest),
         None => Err(WordsFault::Usage),
     }
+}
+
+/// A law: the one word `run` asks for a run without a store.
+pub fn run_alone()
+    ensures { words_of (codes "run" ∷ []) ≡ Some (Run false) }
+{
 }
