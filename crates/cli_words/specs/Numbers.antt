@@ -1,5 +1,5 @@
 -- Which texts are numbers on a command line, and which number each of them is.
-use Rattle.std.specs.Prelude.{ℕ, ◌^◌, Bool, true, ◌&&◌, ◌||◌, ◌==◌, not, cond, List, length, nat_le, nat_lt, slice_index, Option, Some, None}
+use Rattle.std.specs.Prelude.{ℕ, ◌^◌, Bool, ◌&&◌, ◌||◌, ◌==◌, not, cond, List, length, nat_le, nat_lt, slice_index, Option, Some, None}
 use Rattle.std.specs.Str.{all_ascii_digits}
 use Rattle.std.specs.Str.Parse.{digits_value}
 

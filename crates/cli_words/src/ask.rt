@@ -58,12 +58,7 @@ fn ask_two(alloc: Global, first: &str, second: &str) -> Result<Words, WordsFault
 }
 
 /// `ask` with three words.
-fn ask_three(
-    alloc: Global,
-    first: &str,
-    second: &str,
-    third: &str,
-) -> Result<Words, WordsFault>
+fn ask_three(alloc: Global, first: &str, second: &str, third: &str) -> Result<Words, WordsFault>
     ensures { ReadsWords result (ask_three first.now second.now third.now) }
 {
     if first == "--time" {

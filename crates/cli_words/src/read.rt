@@ -184,5 +184,4 @@ pub fn read_words(alloc: Global, words: &[String]) -> Result<Words, WordsFault>
 /// A law: the one word `run` asks for a run without a store.
 pub fn run_alone()
     ensures { words_of (codes "run" ∷ []) ≡ Some (Run false) }
-{
-}
+{}
