@@ -10,7 +10,7 @@ use Rattle.eql_match.proofs.patterns.pattern_row.Goals as goal
 pub matched_bits-requires : goal.matched_bits-requires
 matched_bits-requires c = record {
   numbers = subst (λ (items : List Item). AreNumbersOf c.column-column.result.now (map (label_of c.args.place.attribute) items))
-    (sym (c.items_at-items.ensures ∙ ap (λ (b : BundleParts). items_at b.levels c.args.place.level) c.bundle.ensures))
-    (numbers_of c.args.indexed.now.labels c.column-column.result.now c.args.place.attribute
-    (items_at c.args.indexed.now.bundle.levels c.args.place.level) c.column-column.ensures);
+      (sym (c.items_at-items.ensures ∙ ap (λ (b : BundleParts). items_at b.levels c.args.place.level) c.bundle.ensures))
+      (numbers_of c.args.indexed.now.labels c.column-column.result.now c.args.place.attribute
+      (items_at c.args.indexed.now.bundle.levels c.args.place.level) c.column-column.ensures);
 }
