@@ -11,20 +11,11 @@ use bundle_index::Indexed;
 use db_config::AttributePlace;
 use emu_lists::Series;
 use emu_names::Memory;
+use eql_model::label_of;
 use label_match::{Matching, Pattern};
 use lane_bits::BitRow;
 use level_items::Item;
 use std::alloc::Global;
-
-/// The label of an item for an attribute of its level.
-fn label_of(item: &Item, attribute: usize) -> &str
-    ensures { result.now ≡ label_of attribute item.now }
-{
-    match item.labels.as_slice().get(attribute) {
-        Some(label) => label.as_str(),
-        None => "",
-    }
-}
 
 /// Whether the pattern matches the label of the item at a position: as it is noted at the label's
 /// number, else as the pattern answers, which is noted then.

@@ -14,7 +14,7 @@ use level_items::Item;
 use std::alloc::Global;
 
 /// The label of an item for an attribute of its level.
-pub(crate) fn label_of(item: &Item, attribute: usize) -> &str
+pub fn label_of(item: &Item, attribute: usize) -> &str
     ensures { result.now ≡ label_of attribute item.now }
 {
     match item.labels.as_ref().as_slice().get(attribute) {

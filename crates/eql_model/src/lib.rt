@@ -25,6 +25,7 @@ pub use conjunction::single;
 pub use faults::MatchFault;
 pub use gathered::Gathered;
 pub use joins::bits_cover;
+pub use labels::label_of;
 pub use laws::{
     edges_are_not_medial, joins_are_pairs, medial_is_no_edge, mirrors_agree, places_are_told_below,
     queries_are_opposite, results_are_there, sets_are_in_order, sets_have_their_tuples,

@@ -59,11 +59,7 @@ fn gather_shown(gathered: &mut Gathered, marked: bool, tuples: &[Tuple]) -> Resu
 }
 
 /// The set of what these tuples show.
-pub fn shown_once(
-    alloc: Global,
-    marked: bool,
-    tuples: &[Tuple],
-) -> Result<Tuples, MatchFault>
+pub fn shown_once(alloc: Global, marked: bool, tuples: &[Tuple]) -> Result<Tuples, MatchFault>
     ensures { GivesSet result (each_once (flat_map (shown marked) tuples.now)) }
 {
     let mut gathered = Gathered::new(alloc);
