@@ -1,8 +1,8 @@
 //! What no clause of folders and gates says: that calls succeed where memory is ample, the real
 //! folder on what is not there, and what a gate that holds notes.
 use emu_io::{
-    Folder, FolderEntries, FolderFault, Gate, Hold, HoldGate, LineMoment, MapFolder, Memory, Moment,
-    OpenGate, RealFolder, Stored, SureFolder,
+    Folder, FolderEntries, FolderFault, Gate, Hold, HoldGate, LineMoment, MapFolder, Memory,
+    Moment, OpenGate, RealFolder, Stored, SureFolder,
 };
 use std::alloc::Global;
 use std::process::Abort;
@@ -72,7 +72,13 @@ type Reading = (&'static str, &'static str, Option<FolderFault>, u64, u64);
 
 static READINGS: [Reading; 6] = [
     ("t_emuDB/t_DBconfig.json", "{}", None, 0, 0),
-    ("t_emuDB/t_DBconfig.json", "", Some(FolderFault::Failed), 1, 0),
+    (
+        "t_emuDB/t_DBconfig.json",
+        "",
+        Some(FolderFault::Failed),
+        1,
+        0,
+    ),
     ("t_emuDB/none", "", Some(FolderFault::Absent), 1, 1),
     ("t_emuDB/none", "", Some(FolderFault::Failed), 2, 1),
     ("t_emuDB/s0_ses", "", Some(FolderFault::Absent), 2, 2),
