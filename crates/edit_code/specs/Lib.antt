@@ -1,0 +1,5 @@
+pub mod Annots
+pub mod Edits
+pub mod Heads
+pub mod Names
+pub mod Codes
