@@ -1,10 +1,10 @@
 -- The laws of bytes and of numbers.
-use Rattle.std.proofs.Common.{◌≡◌, ℕ, zero, suc, ◌+◌, ◌-◌, ◌<◌, ◌≤◌, ◌^◌, Bool, true, false, List, [], ◌∷◌, ◌++◌, length, take, drop, get_or, refl, sym, ap, subst, ◌∙◌, inl, inr, ⊎_elim, arith, append_assoc, append-nil, length-append, length-take, length-drop}
+use Rattle.std.proofs.Common.{◌≡◌, ℕ, zero, suc, ◌+◌, ◌-◌, ◌<◌, ◌≤◌, ◌^◌, Bool, true, false, List, [], ◌∷◌, ◌++◌, length, take, drop, get_or, refl, sym, ap, subst, ◌∙◌, inl, inr, ⊎_elim, arith, append_assoc, append-nil, length-append, length-drop}
 use Rattle.std.specs.Prelude.{Result, Ok, Err, nat_lt, nat_le, if◌then◌else◌}
 use Rattle.std.specs.Int.{w32, w64, to_be_bytes, from_be_bytes}
 use Rattle.std.proofs.lemmas.Bool.{cases_Bool, cases_lt}
 use Rattle.std.proofs.lemmas.Bool.Decides.{nat_tests}
-use Rattle.std.proofs.lemmas.List.{take_at, drop_at, take-append-drop, get_or-drop, get_or-replicate}
+use Rattle.std.proofs.lemmas.List.{take_at, drop_at, take-append-drop, get_or-drop, length-take-le}
 use Rattle.std.proofs.lemmas.Nat.{be_bytes_4, be_bytes_8, from_be_bytes-to_be_bytes_4, from_be_bytes-to_be_bytes_8}
 use Rattle.code_forms.specs.Forms.{Form, AreBytes, IsStuck, IsForm}
 use Rattle.code_forms.specs.Parts.{byte_in, byte_at, number_in, u32_form, u64_form}
@@ -86,7 +86,7 @@ zeros_are_bytes (suc n) zero = omega arith
 zeros_are_bytes (suc n) (suc i) = zeros_are_bytes n i
 
 bytes_then : (front back : List ℕ) → AreBytes front → AreBytes back → AreBytes (front ++ back)
-bytes_then [] back f b = b
+bytes_then [] back f b i = b i
 bytes_then (x ∷ front) back f b zero = f 0
 bytes_then (x ∷ front) back f b (suc i) = bytes_then front back (λ j. f (suc j)) b i
 
@@ -121,7 +121,7 @@ module _ (count limit : ℕ) (to : ℕ → List ℕ) (from : List ℕ → ℕ) (
     | inr many ↦
         let t = enough bytes many in
         let same : (from (take count bytes), drop count bytes) ≡ x = cc in
-        let h = here (take count bytes) (length-take count bytes many) (first_bytes count bytes b) in
+        let h = here (take count bytes) (length-take-le count bytes many) (first_bytes count bytes b) in
         subst (λ (y : ℕ × List ℕ). (y.0 < limit) × (bytes ≡ to y.0 ++ y.1) × AreBytes y.1) same
         (h.0, sym (ap (λ l. l ++ drop count bytes) h.1 ∙ take-append-drop count bytes), bytes_after count bytes b)
   ]

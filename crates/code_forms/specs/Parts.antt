@@ -1,5 +1,5 @@
 -- The forms of which every code is made: numbers, one form behind another, records, and variants by their tag.
-use Rattle.std.specs.Prelude.{◌≡◌, ℕ, zero, suc, ◌<◌, ◌^◌, Bool, true, if◌then◌else◌, List, [], ◌∷◌, ◌++◌, length, take, drop, nat_le, nat_lt, Option, Some, None, Result, Ok, Err}
+use Rattle.std.specs.Prelude.{◌≡◌, ℕ, zero, suc, ◌<◌, ◌^◌, Bool, true, ◌&&◌, ◌==◌, if◌then◌else◌, List, [], ◌∷◌, ◌++◌, length, take, drop, nat_le, nat_lt, Option, Some, None, Result, Ok, Err}
 use Rattle.std.specs.Int.{w32, w64, to_be_bytes, from_be_bytes}
 use Rattle.code_forms.specs.Forms.{Form, ◌>>=◌}
 
@@ -30,6 +30,14 @@ byte_in test = record { fits = λ b. (b < 256) × (test b ≡ true); code = λ b
 -- a byte below a number
 abbrev pub byte_below : ℕ → Form ℕ
 byte_below count = byte_in (λ b. nat_lt b count)
+
+-- a byte from one number to another
+abbrev pub byte_from_to : ℕ → ℕ → Form ℕ
+byte_from_to low high = byte_in (λ b. nat_le low b && nat_le b high)
+
+-- one byte
+abbrev pub byte_is : ℕ → Form ℕ
+byte_is n = byte_in (λ b. b == n)
 
 -- Values of other types.
 

@@ -1,6 +1,6 @@
 //! How numbers and texts are read from their bytes.
-ghost use Rattle.std.specs.Prelude.{◌≡◌, ◌<◌, ◌≤◌, ◌≤◌, ℕ, List, length, take, drop, Result, Ok, Err, IsUtf8, MatchOption};
-ghost use Rattle.code_forms.specs.Parts.{u32_form, u64_form, byte_below};
+ghost use Rattle.std.specs.Prelude.{◌≡◌, ◌<◌, ◌≤◌, length, take, IfOk, IsUtf8, MatchOption};
+ghost use Rattle.code_forms.specs.Parts.{u32_form, u64_form, byte_below, byte_from_to, byte_is};
 ghost use Rattle.code_forms.specs.Reading.{Gives};
 ghost use Rattle.code_forms.specs.Utf8.{text_form, utf8_form};
 
@@ -28,13 +28,53 @@ fn text_in(bytes: &[u8], len: usize) -> Option<&str>
 impl Rest<'_> {
     /// Reads a byte that is below `count`.
     #[tactic(auto, unfolding(crate::specs::Parts::byte_in))]
-    pub fn read_byte(&mut self, count: u8) -> Result<u8, ReadFault>
-        ensures { Gives result self.new ((byte_below count).read self.old) }
+    pub fn read_byte_below(&mut self, count: u8) -> Result<u8, ReadFault>
+        ensures byte { Gives result self.new ((byte_below count).read self.old) }
+        ensures below { IfOk result (λ byte. byte < count) }
     {
         match self.bytes {
             [byte, rest @ ..] => {
                 let byte = *byte;
                 if byte < count {
+                    self.bytes = rest;
+                    return Ok(byte);
+                }
+                Err(ReadFault::Left(self.bytes.len()))
+            }
+            [] => Err(ReadFault::Left(0)),
+        }
+    }
+
+    /// Reads a byte that is `low` to `high`.
+    #[tactic(auto, unfolding(crate::specs::Parts::byte_in))]
+    pub fn read_byte_from_to(&mut self, low: u8, high: u8) -> Result<u8, ReadFault>
+        ensures byte { Gives result self.new ((byte_from_to low high).read self.old) }
+        ensures least { IfOk result (λ byte. low ≤ byte) }
+        ensures most { IfOk result (λ byte. byte ≤ high) }
+    {
+        match self.bytes {
+            [byte, rest @ ..] => {
+                let byte = *byte;
+                if low <= byte && byte <= high {
+                    self.bytes = rest;
+                    return Ok(byte);
+                }
+                Err(ReadFault::Left(self.bytes.len()))
+            }
+            [] => Err(ReadFault::Left(0)),
+        }
+    }
+
+    /// Reads this byte.
+    #[tactic(auto, unfolding(crate::specs::Parts::byte_in))]
+    pub fn read_byte_is(&mut self, wanted: u8) -> Result<u8, ReadFault>
+        ensures byte { Gives result self.new ((byte_is wanted).read self.old) }
+        ensures same { IfOk result (λ byte. byte ≡ wanted) }
+    {
+        match self.bytes {
+            [byte, rest @ ..] => {
+                let byte = *byte;
+                if byte == wanted {
                     self.bytes = rest;
                     return Ok(byte);
                 }

@@ -1,5 +1,5 @@
 //! Where a text that is not UTF-8 goes wrong (The Unicode Standard, table 3-7).
-ghost use Rattle.std.specs.Prelude.{◌≡◌, ℕ, List, Ok, Err};
+ghost use Rattle.std.specs.Prelude.{◌≡◌, ◌≤◌, length, take, Err, IsUtf8};
 ghost use Rattle.code_forms.specs.Utf8.{asked, may_stand, then_asked, utf8_form};
 
 /// The bytes from `low` to `high`, both included.
@@ -38,9 +38,7 @@ fn may_stand(ranges: &[Range], after: usize, byte: u8) -> bool
 {
     match ranges {
         [range, ..] => range.low <= byte && byte <= range.high,
-        [] => {
-            (byte < 0x80 || (0xc2 <= byte && byte <= 0xf4)) && asked(byte).len() <= after
-        }
+        [] => (byte < 0x80 || (0xc2 <= byte && byte <= 0xf4)) && asked(byte).len() <= after,
     }
 }
 
@@ -57,7 +55,7 @@ fn then_asked(ranges: &'static [Range], byte: u8) -> &'static [Range]
 /// How many bytes are left from the first one that cannot stand in a text of so many bytes, or 0 where all of them
 /// can and there are too few.
 pub(crate) fn left_at_fault(bytes: &[u8], len: usize) -> usize
-    requires { (x : List ℕ × List ℕ) → (utf8_form len).read bytes.now ≡ Ok x → ⊥ }
+    requires { len ≤ length bytes.now → IsUtf8 (take len bytes.now) → ⊥ }
     ensures { (utf8_form len).read bytes.now ≡ Err result }
 {
     let mut ranges: &'static [Range] = &[];

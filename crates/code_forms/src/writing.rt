@@ -4,7 +4,7 @@ ghost use Rattle.code_forms.specs.Parts.{u32_form, u64_form, byte_below};
 ghost use Rattle.code_forms.specs.Utf8.{text_form};
 
 use crate::bytes::CodeBytes;
-use emu_names::{Memory, Text};
+use emu_names::Memory;
 
 /// The number of bytes that is said of a code that has as many or more, or of none: 2^32.
 pub const CODE_LIMIT: u64 = 4_294_967_296;
@@ -45,10 +45,10 @@ impl CodeBytes {
 
     /// Writes a text: its length in bytes, and its bytes. The only refusal is want of memory.
     #[tactic(auto, unfolding(crate::specs::Utf8::text_form, crate::specs::Utf8::utf8_form, crate::specs::Parts::led))]
-    pub fn put_text(&mut self, text: &Text) -> Result<(), Memory>
+    pub fn put_text(&mut self, text: &str) -> Result<(), Memory>
         ensures { OnOk result (self.new ≡ self.old ++ text_form.code text.now) }
     {
-        let text = text.as_str().as_bytes();
+        let text = text.as_bytes();
         self.put_count(text.len())?;
         self.extend(text)
     }

@@ -1,5 +1,5 @@
 -- The one code of an entry and of a configuration, and how it is read.
-use Rattle.std.specs.Prelude.{◌≡◌, ℕ, ◌-◌, ◌<◌, ◌≤◌, Bool, true, false, if◌then◌else◌, List, [], ◌∷◌, length, Result, Ok, Err}
+use Rattle.std.specs.Prelude.{◌≡◌, ℕ, ◌-◌, ◌<◌, ◌≤◌, Bool, true, false, if◌then◌else◌, List, length, nat_lt, Result, Ok, Err}
 use Rattle.db_config.specs.declared.parts.ConfigParts.{ConfigParts}
 use Rattle.edit_rules.specs.declared.edit.Entry.{Entry}
 use Rattle.code_forms.specs.Forms.{Form, IsCode, StopsAt}
@@ -25,20 +25,24 @@ HasCode e = entry_form.fits e
 unfoldable pub HasHeadCode : ConfigParts → Type 0
 HasHeadCode c = head_form.fits c
 
--- the value that all of the bytes are the code of, if its data pass the test; or the place of the first byte that,
--- with those before it, begins no bytes in the form of a code, or else the length
-abbrev pub whole : {A : Type 0} → (A → Bool) → List ℕ → Result (A × List ℕ) ℕ → Result A ℕ
-whole test bytes (Ok (v, [])) = if test v then Ok v else Err (length bytes)
-whole test bytes (Ok (v, b ∷ rest)) = Err (length bytes - length (b ∷ rest))
-whole test bytes (Err left) = Err (length bytes - left)
+-- the value in whose form all of the bytes are; or the place of the first byte that, with those before it, begins no
+-- bytes in the form, or else the length
+abbrev pub whole : {A : Type 0} → List ℕ → Result (A × List ℕ) ℕ → Result A ℕ
+whole bytes (Ok x) = if nat_lt 0 (length x.1) then Err (length bytes - length x.1) else Ok x.0
+whole bytes (Err left) = Err (length bytes - left)
+
+-- the value, if it passes the test, or else the length as its place
+abbrev pub tested : {A : Type 0} → (A → Bool) → List ℕ → Result A ℕ → Result A ℕ
+tested test bytes (Ok v) = if test v then Ok v else Err (length bytes)
+tested test bytes (Err at) = Err at
 
 -- the entry whose code the bytes are, or the place where they are none
 unfoldable pub entry_of : List ℕ → Result Entry ℕ
-entry_of bytes = whole has_names bytes (entry_form.read bytes)
+entry_of bytes = tested has_names bytes (whole bytes (entry_form.read bytes))
 
 -- the configuration whose code the bytes are, or the place where they are none
 unfoldable pub head_of : List ℕ → Result ConfigParts ℕ
-head_of bytes = whole is_config bytes (head_form.read bytes)
+head_of bytes = tested is_config bytes (whole bytes (head_form.read bytes))
 
 -- the bytes are the code of this entry
 abbrev pub IsEntryCode : List ℕ → Entry → Type 0

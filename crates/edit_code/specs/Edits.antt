@@ -1,5 +1,5 @@
 -- The forms of edits and of entries. An edit is its number, its key, and the fields behind the key in their order.
-use Rattle.std.specs.Prelude.{ℕ, zero, suc, Bool, ◌&&◌, ◌==◌, nat_le, Option, Some, None}
+use Rattle.std.specs.Prelude.{ℕ, zero, suc, List, Option, Some, None}
 use Rattle.emu_names.specs.declared.kinds.ItemId.{ItemId}
 use Rattle.emu_names.specs.declared.kinds.SessionNo.{SessionNo}
 use Rattle.emu_names.specs.declared.names.BundleKey.{BundleKey}
@@ -12,9 +12,8 @@ use Rattle.edit_rules.specs.Edits.{key_of}
 use Rattle.edit_code.specs.declared.fields.Fields.{Fields}
 use Rattle.edit_code.specs.declared.fields.Fields.TheVariants as fields
 use Rattle.code_forms.specs.Forms.{Form}
-use Rattle.code_forms.specs.Parts.{pair, shaped, imaged, led, just, byte_in, option_of, u32_form, u64_form}
+use Rattle.code_forms.specs.Parts.{pair, shaped, imaged, led, just, byte_from_to, byte_is, option_of, u32_form, u64_form}
 use Rattle.code_forms.specs.Utf8.{text_form}
-use Rattle.code_forms.specs.Lists.{list_of}
 use Rattle.edit_code.specs.Annots.{annot_form, id_form, item_form, key_form}
 
 -- The fields behind the key.
@@ -136,17 +135,13 @@ fields_at (suc (suc (suc (suc (suc (suc (suc (suc (suc (suc (suc (suc n)))))))))
 
 -- Edits and entries.
 
--- a number of edits, 1 to 12
-abbrev pub is_number : ℕ → Bool
-is_number n = nat_le 1 n && nat_le n 12
-
 -- an edit behind its number: its key, and its fields
 unfoldable pub keyed_form : ℕ → Form Edit
 keyed_form n = shaped (pair key_form (fields_at n)) (λ p. edit_of p.0 p.1) (λ e. (key_of e, fields_of e))
 
 -- an edit: its number, its key, its fields
 unfoldable pub edit_form : Form Edit
-edit_form = led (byte_in is_number) (λ e. number_of (fields_of e)) keyed_form
+edit_form = led (byte_from_to 1 12) (λ e. number_of (fields_of e)) keyed_form
 
 -- a session's number
 unfoldable pub session_form : Form SessionNo
@@ -159,4 +154,4 @@ body_form = shaped (pair session_form (pair u32_form edit_form))
 
 -- an entry: 1, its session, its line, its edit
 unfoldable pub entry_form : Form Entry
-entry_form = led (byte_in (λ b. b == 1)) (λ e. 1) (λ n. body_form)
+entry_form = led (byte_is 1) (λ e. 1) (λ n. body_form)

@@ -1,5 +1,5 @@
 -- The forms of configurations.
-use Rattle.std.specs.Prelude.{ℕ, zero, suc, ◌==◌}
+use Rattle.std.specs.Prelude.{ℕ, zero, suc}
 use Rattle.emu_names.specs.declared.kinds.LinkKind.{LinkKind}
 use Rattle.emu_names.specs.declared.kinds.LinkKind.TheVariants as link_kinds
 use Rattle.db_config.specs.declared.attributes.AttributeDef.{AttributeDef}
@@ -8,7 +8,7 @@ use Rattle.db_config.specs.declared.parts.ConfigParts.{ConfigParts}
 use Rattle.db_config.specs.declared.parts.LevelDef.{LevelDef}
 use Rattle.db_config.specs.declared.parts.LinkDef.{LinkDef}
 use Rattle.code_forms.specs.Forms.{Form}
-use Rattle.code_forms.specs.Parts.{pair, shaped, led, just, byte_in, byte_below, option_of, u32_form}
+use Rattle.code_forms.specs.Parts.{pair, shaped, led, just, byte_is, byte_below, option_of, u32_form}
 use Rattle.code_forms.specs.Lists.{list_of}
 use Rattle.code_forms.specs.Utf8.{text_form}
 use Rattle.edit_code.specs.Annots.{level_kind_form}
@@ -60,4 +60,4 @@ parts_form = shaped (pair text_form (pair text_form (pair text_form (pair (list_
 
 -- a head: 0, and the configuration
 unfoldable pub head_form : Form ConfigParts
-head_form = led (byte_in (λ b. b == 0)) (λ c. 0) (λ n. parts_form)
+head_form = led (byte_is 0) (λ c. 0) (λ n. parts_form)

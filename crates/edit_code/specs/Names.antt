@@ -1,5 +1,5 @@
 -- What the data of a code must be beside their form: names, and a valid configuration.
-use Rattle.std.specs.Prelude.{ℕ, Bool, true, ◌&&◌, List, length, nat_le, Option, Some, None}
+use Rattle.std.specs.Prelude.{ℕ, Bool, true, ◌&&◌, if◌then◌else◌, List, length, nat_le, Option, Some, None}
 use Rattle.std.specs.List.{list_all}
 use Rattle.emu_names.specs.Name.{is_name}
 use Rattle.emu_names.specs.declared.limits.TheConstants.{ATTRIBUTES, LABEL_GROUPS, LIST_TEXTS}
@@ -11,6 +11,10 @@ use Rattle.db_config.specs.declared.parts.LevelDef.{LevelDef}
 use Rattle.db_config.specs.Valid.{is_valid}
 use Rattle.edit_rules.specs.declared.edit.Entry.{Entry}
 use Rattle.edit_rules.specs.Edits.{key_of}
+
+-- the value, if it passes the test
+abbrev pub if_so : {A : Type 0} → (A → Bool) → A → Option A
+if_so test v = if test v then Some v else None
 
 -- both parts of the key are names
 abbrev pub is_key : BundleKey → Bool
