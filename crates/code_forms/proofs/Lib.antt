@@ -5,3 +5,4 @@ pub mod Lists
 pub mod Ranges
 pub mod Texts
 pub mod TextLaws
+pub mod Stops

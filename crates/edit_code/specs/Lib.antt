@@ -3,3 +3,4 @@ pub mod Edits
 pub mod Heads
 pub mod Names
 pub mod Codes
+pub mod Example

@@ -53,9 +53,13 @@ are_attributes defs = nat_le 1 (length defs) && nat_le (length defs) ATTRIBUTES 
 abbrev pub is_level : LevelDef → Bool
 is_level def = is_name def.name && are_attributes def.attributes
 
+-- each level is one
+abbrev pub are_levels : List LevelDef → Bool
+are_levels levels = list_all is_level levels
+
 -- names are names, and the lists have their lengths
 abbrev pub is_made : ConfigParts → Bool
-is_made parts = is_name parts.name && list_all is_level parts.levels && are_groups parts.groups
+is_made parts = is_name parts.name && are_levels parts.levels && are_groups parts.groups
 
 -- the parts are a configuration, with the limits that the types of its lists keep
 abbrev pub is_config : ConfigParts → Bool

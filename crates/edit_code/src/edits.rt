@@ -96,7 +96,7 @@ fn put_fields(edit: &Edit, out: &mut CodeBytes) -> Result<(), Memory>
 impl Coded for Edit {
     ghost form = { edit_form };
 
-    #[tactic(auto, using(crate::proofs::Kinds::number_is_one), unfolding(crate::specs::Edits::edit_form, crate::specs::Edits::keyed_form, code_forms::specs::Parts::led, code_forms::specs::Parts::byte_in, code_forms::specs::Parts::shaped, code_forms::specs::Parts::pair))]
+    #[tactic(auto, using(crate::proofs::KindPlaces::number_is_one), unfolding(crate::specs::Edits::edit_form, crate::specs::Edits::keyed_form, code_forms::specs::Parts::led, code_forms::specs::Parts::byte_in, code_forms::specs::Parts::shaped, code_forms::specs::Parts::pair))]
     fn size(&self) -> u64 {
         (1 + self.key().size() + fields_size(self)).min(CODE_LIMIT)
     }

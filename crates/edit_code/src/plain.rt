@@ -153,7 +153,7 @@ impl Coded for BundleKey {
 }
 
 /// The kind of levels at a place among the kinds.
-#[tactic(auto, using(crate::proofs::Kinds::last_level_kind))]
+#[tactic(auto, using(crate::proofs::KindPlaces::last_level_kind))]
 fn level_kind_at(place: u8) -> LevelKind
     ensures { result ≡ level_kind_at place }
 {
@@ -195,7 +195,7 @@ impl Readable for LevelKind {
 }
 
 /// The kind of link definitions at a place among the kinds.
-#[tactic(auto, using(crate::proofs::Kinds::last_link_kind))]
+#[tactic(auto, using(crate::proofs::KindPlaces::last_link_kind))]
 fn link_kind_at(place: u8) -> LinkKind
     ensures { result ≡ link_kind_at place }
 {
