@@ -62,16 +62,16 @@ unfolding just imaged
 fields_are zero v low high k = absurd (omega arith)
 fields_are (suc zero) v low high k = ap number_of (made_is annot_form fields.AddBundle v (add_bundle_of v) k).1
 fields_are (suc (suc zero)) v low high k = ap number_of k
-fields_are (suc (suc (suc zero))) v low high k = ap number_of (made_is _ _ v (add_item_of v) k).1
+fields_are (suc (suc (suc zero))) v low high k = ap number_of (made_is (pair text_form (pair (option_of u32_form) item_form)) (λ p. fields.AddItem p.0 p.1.0 p.1.1) v (add_item_of v) k).1
 fields_are (suc (suc (suc (suc zero)))) v low high k = ap number_of (made_is id_form fields.RemoveItem v (remove_item_of v) k).1
-fields_are (suc (suc (suc (suc (suc zero))))) v low high k = ap number_of (made_is _ _ v (set_label_of v) k).1
-fields_are (suc (suc (suc (suc (suc (suc zero)))))) v low high k = ap number_of (made_is _ _ v (set_segment_of v) k).1
-fields_are (suc (suc (suc (suc (suc (suc (suc zero))))))) v low high k = ap number_of (made_is _ _ v (move_boundary_of v) k).1
-fields_are (suc (suc (suc (suc (suc (suc (suc (suc zero)))))))) v low high k = ap number_of (made_is _ _ v (set_point_of v) k).1
-fields_are (suc (suc (suc (suc (suc (suc (suc (suc (suc zero))))))))) v low high k = ap number_of (made_is _ _ v (split_of v) k).1
+fields_are (suc (suc (suc (suc (suc zero))))) v low high k = ap number_of (made_is (pair id_form (pair text_form text_form)) (λ p. fields.SetLabel p.0 p.1.0 p.1.1) v (set_label_of v) k).1
+fields_are (suc (suc (suc (suc (suc (suc zero)))))) v low high k = ap number_of (made_is (pair id_form (pair u64_form u64_form)) (λ p. fields.SetSegment p.0 p.1.0 p.1.1) v (set_segment_of v) k).1
+fields_are (suc (suc (suc (suc (suc (suc (suc zero))))))) v low high k = ap number_of (made_is (pair id_form u64_form) (λ p. fields.MoveBoundary p.0 p.1) v (move_boundary_of v) k).1
+fields_are (suc (suc (suc (suc (suc (suc (suc (suc zero)))))))) v low high k = ap number_of (made_is (pair id_form u64_form) (λ p. fields.SetPoint p.0 p.1) v (set_point_of v) k).1
+fields_are (suc (suc (suc (suc (suc (suc (suc (suc (suc zero))))))))) v low high k = ap number_of (made_is (pair id_form (pair id_form u64_form)) (λ p. fields.Split p.0 p.1.0 p.1.1) v (split_of v) k).1
 fields_are (suc (suc (suc (suc (suc (suc (suc (suc (suc (suc zero)))))))))) v low high k = ap number_of (made_is id_form fields.Merge v (merge_of v) k).1
-fields_are (suc (suc (suc (suc (suc (suc (suc (suc (suc (suc (suc zero))))))))))) v low high k = ap number_of (made_is _ _ v (add_link_of v) k).1
-fields_are (suc (suc (suc (suc (suc (suc (suc (suc (suc (suc (suc (suc zero)))))))))))) v low high k = ap number_of (made_is _ _ v (remove_link_of v) k).1
+fields_are (suc (suc (suc (suc (suc (suc (suc (suc (suc (suc (suc zero))))))))))) v low high k = ap number_of (made_is (pair id_form id_form) (λ p. fields.AddLink p.0 p.1) v (add_link_of v) k).1
+fields_are (suc (suc (suc (suc (suc (suc (suc (suc (suc (suc (suc (suc zero)))))))))))) v low high k = ap number_of (made_is (pair id_form id_form) (λ p. fields.RemoveLink p.0 p.1) v (remove_link_of v) k).1
 fields_are (suc (suc (suc (suc (suc (suc (suc (suc (suc (suc (suc (suc (suc n))))))))))))) v low high k = absurd (omega arith)
 
 -- Edits and entries.
@@ -90,7 +90,15 @@ edit_there (edits.Merge key id) = refl
 edit_there (edits.AddLink key from to) = refl
 edit_there (edits.RemoveLink key from to) = refl
 
-parts_here : (key : BundleKey) (f : Fields) → (key_of (edit_of key f), fields_of (edit_of key f)) ≡ (key, f)
+-- a key and fields, together
+abbrev both : BundleKey → Fields → BundleKey × Fields
+both key f = (key, f)
+
+-- the key and the fields of an edit
+abbrev parts_of : Edit → BundleKey × Fields
+parts_of e = (key_of e, fields_of e)
+
+parts_here : (key : BundleKey) (f : Fields) → parts_of (edit_of key f) ≡ both key f
 parts_here key (fields.AddBundle annot) = refl
 parts_here key fields.DropBundle = refl
 parts_here key (fields.AddItem level position item) = refl
@@ -107,7 +115,7 @@ parts_here key (fields.RemoveLink from to) = refl
 keyed_law : (n : ℕ) → IsForm (keyed_form n)
 unfolding keyed_form
 keyed_law n =
-    shaped_law (pair key_form (fields_at n)) (λ p. edit_of p.0 p.1) (λ e. (key_of e, fields_of e)) edit_there
+    shaped_law (pair key_form (fields_at n)) (λ p. edit_of p.0 p.1) parts_of edit_there
     (λ p. parts_here p.0 p.1) (pair_law key_form (fields_at n) key_law (fields_law n))
 
 number_within : (n : ℕ) → (nat_le 1 n && nat_le n 12) ≡ true → (1 ≤ n) × (n ≤ 12)

@@ -3,6 +3,9 @@ use Rattle.std.proofs.Common.{◌≡◌, ℕ, zero, suc, ◌+◌, ◌-◌, ◌<�
 use Rattle.std.specs.Prelude.{Result, Ok, Err}
 use Rattle.code_forms.specs.Forms.{Form, ◌>>=◌}
 use Rattle.code_forms.specs.Parts.{led, u32_form}
+use Rattle.code_forms.specs.Reading.{Gives}
+use Rattle.code_forms.specs.declared.rest.ReadFault.{ReadFault}
+use Rattle.code_forms.specs.declared.rest.ReadFault.TheVariants as faults
 use Rattle.code_forms.specs.Lists.{ItemsFit, items_code, items_at, consed, times, list_of}
 
 -- the element at a place, and those behind it
@@ -114,3 +117,9 @@ module _ {A : Type 0} (f : Form A) (all : Result (List A × List ℕ) ℕ) where
   read_done items count place from whole h =
       let none : count - place ≡ 0 = omega arith in
       sym whole ∙ ap (λ n. put_front items (items_at f n from)) none ∙ ap (λ l. Ok (l, from)) (append-nil items)
+
+  pub read_fails : (items : List A) (count place : ℕ) (from behind : List ℕ) (fault : ReadFault)
+      → put_front items (items_at f (count - place) from) ≡ all → place < count
+      → Gives {A = A} (Err fault) behind (f.read from) → Gives {A = List A} (Err fault) behind all
+  read_fails items count place from behind (faults.Left n) whole h read = read_stops items count place from n whole h read
+  read_fails items count place from behind faults.Memory whole h read = tt
