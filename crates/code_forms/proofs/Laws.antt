@@ -1,11 +1,9 @@
 -- The law of each part of which forms are made.
-use Rattle.std.proofs.Common.{◌≡◌, ℕ, zero, suc, ◌+◌, ◌-◌, ◌<◌, ◌≤◌, Bool, true, false, List, [], ◌∷◌, ◌++◌, length, take, drop, refl, sym, ap, subst, ◌∙◌, arith, append_assoc, append-nil}
-use Rattle.std.specs.Prelude.{Option, Some, None, Result, Ok, Err, nat_lt}
-use Rattle.std.proofs.lemmas.Bool.{cases_Bool}
-use Rattle.std.proofs.lemmas.Bool.Decides.{nat_tests}
-use Rattle.code_forms.specs.Forms.{Form, ◌>>=◌, AreBytes, Begins, IsShut, IsStuck, IsForm}
-use Rattle.code_forms.specs.Parts.{just, imaged, shaped, pair, led, option_of, read_as, FitsAs, code_as, with_first, second_of, led_on, byte_in, byte_at, presence_of, option_at}
-use Rattle.code_forms.proofs.Steps.{bind_ok, bind_err, bytes_behind, shut_in, shut_behind, begun_behind, alike}
+use Rattle.std.proofs.Common.{◌≡◌, ℕ, List, ◌++◌, refl, sym, ap, subst, ◌∙◌, append_assoc}
+use Rattle.std.specs.Prelude.{Option, Some, None, Result, Ok, Err}
+use Rattle.code_forms.specs.Forms.{Form, ◌>>=◌, AreBytes, IsStuck, IsForm}
+use Rattle.code_forms.specs.Parts.{just, imaged, shaped, pair, led, read_as, FitsAs, code_as, led_on}
+use Rattle.code_forms.proofs.Steps.{bind_ok, shut_in, shut_behind, begun_behind, alike}
 
 -- One value.
 
@@ -15,7 +13,7 @@ just_law x = record {
   some = (x, refl);
   again = λ v rest k. ap (λ w. Ok (w, rest)) (sym k);
   only = λ bytes y b e. (let same : x ≡ y.0 = cc in sym same, cc, let same : bytes ≡ y.1 = cc in subst AreBytes same b);
-  stuck = λ bytes left b e. absurd cc
+  stuck = λ bytes left b e. absurd cc;
 }
 
 -- A variant.
@@ -46,22 +44,22 @@ module _ {A B : Type 0} (f : Form A) (of : A → B) (back : B → Option A) (h :
     some = (of h.some.0, image_fits h.some.0 h.some.1);
     again = λ v rest k. image_again v rest (back v) k;
     only = λ bytes x b e. image_only bytes x b (f.read bytes) refl e;
-    stuck = λ bytes left b e. image_stuck bytes left b (f.read bytes) refl e
+    stuck = λ bytes left b e. image_stuck bytes left b (f.read bytes) refl e;
   }
     where
-    image_stuck : (bytes : List ℕ) (left : ℕ) → AreBytes bytes → (r : Result (A × List ℕ) ℕ) → f.read bytes ≡ r
-        → (r >>= read_as of) ≡ Err left → IsStuck (imaged f of back) bytes left
-    image_stuck bytes left b (Ok y) e made = absurd cc
-    image_stuck bytes left b (Err n) e made =
-        let same : n ≡ left = cc in
-        let s = h.stuck bytes left b (e ∙ ap Err same) in record {
-          front = s.front;
-          back = s.back;
-          split = s.split;
-          len = s.len;
-          begun = (of s.begun.0, s.begun.1, image_fits s.begun.0 s.begun.2, image_code s.begun.0 s.begun.2 ∙ s.begun.3);
-          shut = shut_in f.read (read_as of) s.front s.back s.shut
-        }
+      image_stuck : (bytes : List ℕ) (left : ℕ) → AreBytes bytes → (r : Result (A × List ℕ) ℕ) → f.read bytes ≡ r
+          → (r >>= read_as of) ≡ Err left → IsStuck (imaged f of back) bytes left
+      image_stuck bytes left b (Ok y) e made = absurd cc
+      image_stuck bytes left b (Err n) e made =
+          let same : n ≡ left = cc in
+          let s = h.stuck bytes left b (e ∙ ap Err same) in record {
+            front = s.front;
+            back = s.back;
+            split = s.split;
+            len = s.len;
+            begun = (of s.begun.0, s.begun.1, image_fits s.begun.0 s.begun.2, image_code s.begun.0 s.begun.2 ∙ s.begun.3);
+            shut = shut_in f.read (read_as of) s.front s.back s.shut;
+          }
 
 -- A record.
 
@@ -92,9 +90,12 @@ module _ {X A : Type 0} (head : Form X) (of : A → X) (at : X → Form A) (h : 
       → (head.fits (of x.0) × (at (of x.0)).fits x.0) × (bytes ≡ (head.code (of x.0) ++ (at (of x.0)).code x.0) ++ x.1) × AreBytes x.1
   led_only bytes x b (Ok y) e made =
       let o = h.only bytes y b e in
-      let p = (t y.0 o.0).only y.1 x o.2 made in
-      (led_fits y.0 x.0 o.0 p.0, begun_behind (head.code y.0) ((at y.0).code x.0) x.1 bytes y.1 o.1 p.1
-      ∙ ap (λ c. c ++ x.1) (sym (led_code y.0 x.0 o.0 p.0)), p.2)
+      let p = (t y.0 o.0).only y.1 x o.2 made in (
+        led_fits y.0 x.0 o.0 p.0,
+        begun_behind (head.code y.0) ((at y.0).code x.0) x.1 bytes y.1 o.1 p.1
+            ∙ ap (λ c. c ++ x.1) (sym (led_code y.0 x.0 o.0 p.0)),
+        p.2,
+      )
   led_only bytes x b (Err n) e made = absurd cc
 
   pub led_law : IsForm (led head of at)
@@ -103,36 +104,44 @@ module _ {X A : Type 0} (head : Form X) (of : A → X) (at : X → Form A) (h : 
     some = let x = h.some in let v = (t x.0 x.1).some in (v.0, led_fits x.0 v.0 x.1 v.1);
     again = λ v rest k. led_again v rest k.0 k.1;
     only = λ bytes x b e. led_only bytes x b (head.read bytes) refl e;
-    stuck = λ bytes left b e. led_stuck bytes left b (head.read bytes) refl e
+    stuck = λ bytes left b e. led_stuck bytes left b (head.read bytes) refl e;
   }
     where
-    led_stuck : (bytes : List ℕ) (left : ℕ) → AreBytes bytes → (r : Result (X × List ℕ) ℕ) → head.read bytes ≡ r
-        → (r >>= led_on at) ≡ Err left → IsStuck (led head of at) bytes left
-    led_stuck bytes left b (Ok y) e made =
-        let o = h.only bytes y b e in
-        let s = (t y.0 o.0).stuck y.1 left o.2 made in record {
-          front = head.code y.0 ++ s.front;
-          back = s.back;
-          split = begun_behind (head.code y.0) s.front s.back bytes y.1 o.1 s.split;
-          len = s.len;
-          begun = (s.begun.0, s.begun.1, led_fits y.0 s.begun.0 o.0 s.begun.2,
-              begun_behind (head.code y.0) s.front s.begun.1 _ _ (led_code y.0 s.begun.0 o.0 s.begun.2) s.begun.3);
-          shut = shut_behind head.read (at y.0).read (led_on at) y.0 (head.code y.0) s.front s.back
-              (λ rest. h.again y.0 rest o.0) (λ rest. refl) s.shut
-        }
-    led_stuck bytes left b (Err n) e made =
-        let same : n ≡ left = cc in
-        let s = h.stuck bytes left b (e ∙ ap Err same) in
-        let x = s.begun in
-        let v = (t x.0 x.2).some in record {
-          front = s.front;
-          back = s.back;
-          split = s.split;
-          len = s.len;
-          begun = (v.0, x.1 ++ (at x.0).code v.0, led_fits x.0 v.0 x.2 v.1,
-              led_code x.0 v.0 x.2 v.1 ∙ ap (λ c. c ++ (at x.0).code v.0) x.3 ∙ append_assoc s.front x.1 ((at x.0).code v.0));
-          shut = shut_in head.read (led_on at) s.front s.back s.shut
-        }
+      led_stuck : (bytes : List ℕ) (left : ℕ) → AreBytes bytes → (r : Result (X × List ℕ) ℕ) → head.read bytes ≡ r
+          → (r >>= led_on at) ≡ Err left → IsStuck (led head of at) bytes left
+      led_stuck bytes left b (Ok y) e made =
+          let o = h.only bytes y b e in
+          let s = (t y.0 o.0).stuck y.1 left o.2 made in record {
+            front = head.code y.0 ++ s.front;
+            back = s.back;
+            split = begun_behind (head.code y.0) s.front s.back bytes y.1 o.1 s.split;
+            len = s.len;
+            begun = (
+              s.begun.0,
+              s.begun.1,
+              led_fits y.0 s.begun.0 o.0 s.begun.2,
+              begun_behind (head.code y.0) s.front s.begun.1 _ _ (led_code y.0 s.begun.0 o.0 s.begun.2) s.begun.3,
+            );
+            shut = shut_behind head.read (at y.0).read (led_on at) y.0 (head.code y.0) s.front s.back
+                (λ rest. h.again y.0 rest o.0) (λ rest. refl) s.shut;
+          }
+      led_stuck bytes left b (Err n) e made =
+          let same : n ≡ left = cc in
+          let s = h.stuck bytes left b (e ∙ ap Err same) in
+          let x = s.begun in
+          let v = (t x.0 x.2).some in record {
+            front = s.front;
+            back = s.back;
+            split = s.split;
+            len = s.len;
+            begun = (
+              v.0,
+              x.1 ++ (at x.0).code v.0,
+              led_fits x.0 v.0 x.2 v.1,
+              led_code x.0 v.0 x.2 v.1 ∙ ap (λ c. c ++ (at x.0).code v.0) x.3 ∙ append_assoc s.front x.1 ((at x.0).code v.0),
+            );
+            shut = shut_in head.read (led_on at) s.front s.back s.shut;
+          }
 
 -- Two values, one behind the other.
 

@@ -1,9 +1,9 @@
 -- The laws of lists and of options.
-use Rattle.std.proofs.Common.{◌≡◌, ℕ, zero, suc, ◌+◌, ◌-◌, ◌<◌, ◌≤◌, ◌^◌, Bool, true, false, List, [], ◌∷◌, ◌++◌, length, refl, sym, ap, subst, ◌∙◌, arith}
+use Rattle.std.proofs.Common.{◌≡◌, ℕ, zero, suc, ◌<◌, ◌≤◌, true, List, [], ◌∷◌, length, refl, sym, ap, subst, arith}
 use Rattle.std.specs.Prelude.{Option, Some, None, Result, Ok, Err, nat_lt, nat_le, ◌&&◌, ◌==◌}
 use Rattle.std.proofs.lemmas.Bool.Decides.{nat_tests}
-use Rattle.code_forms.specs.Forms.{Form, ◌>>=◌, AreBytes, IsForm}
-use Rattle.code_forms.specs.Parts.{just, imaged, pair, led, option_of, read_as, FitsAs, code_as, with_first, second_of, led_on, byte_in, byte_below, byte_from_to, byte_is, presence_of, option_at, u32_form}
+use Rattle.code_forms.specs.Forms.{Form, ◌>>=◌, IsForm}
+use Rattle.code_forms.specs.Parts.{just, imaged, pair, option_of, read_as, FitsAs, code_as, with_first, second_of, byte_in, byte_below, byte_from_to, byte_is, presence_of, option_at, u32_form}
 use Rattle.code_forms.specs.Lists.{ItemsFit, items_code, items_at, consed, times, list_of}
 use Rattle.code_forms.proofs.Steps.{alike}
 use Rattle.code_forms.proofs.Laws.{just_law, imaged_law, pair_law, led_law}

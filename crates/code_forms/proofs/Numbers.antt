@@ -1,8 +1,8 @@
 -- The laws of bytes and of numbers.
-use Rattle.std.proofs.Common.{◌≡◌, ℕ, zero, suc, ◌+◌, ◌-◌, ◌<◌, ◌≤◌, ◌^◌, Bool, true, false, List, [], ◌∷◌, ◌++◌, length, take, drop, get_or, refl, sym, ap, subst, ◌∙◌, inl, inr, ⊎_elim, arith, append_assoc, append-nil, length-append, length-drop}
-use Rattle.std.specs.Prelude.{Result, Ok, Err, nat_lt, nat_le, if◌then◌else◌}
+use Rattle.std.proofs.Common.{◌≡◌, ℕ, zero, suc, ◌+◌, ◌-◌, ◌<◌, ◌≤◌, ◌^◌, Bool, true, false, List, [], ◌∷◌, ◌++◌, length, take, drop, refl, sym, ap, subst, ◌∙◌, inl, inr, arith, append-nil, length-append}
+use Rattle.std.specs.Prelude.{Ok, Err, nat_le}
 use Rattle.std.specs.Int.{w32, w64, to_be_bytes, from_be_bytes}
-use Rattle.std.proofs.lemmas.Bool.{cases_Bool, cases_lt}
+use Rattle.std.proofs.lemmas.Bool.{cases_lt}
 use Rattle.std.proofs.lemmas.Bool.Decides.{nat_tests}
 use Rattle.std.proofs.lemmas.List.{take_at, drop_at, take-append-drop, get_or-drop, length-take-le}
 use Rattle.std.proofs.lemmas.Nat.{be_bytes_4, be_bytes_8, from_be_bytes-to_be_bytes_4, from_be_bytes-to_be_bytes_8}
@@ -39,7 +39,7 @@ module _ (test : ℕ → Bool) where
         split = refl;
         len = cc;
         begun = (some.0, some.0 ∷ [], some.1, refl);
-        shut = λ rest. rw is refl
+        shut = λ rest. rw is refl;
       }
 
   pub byte_law : (v : ℕ) × ((v < 256) × (test v ≡ true)) → IsForm (byte_in test)
@@ -48,24 +48,24 @@ module _ (test : ℕ → Bool) where
     some = some;
     again = λ v rest k. byte_again v rest k.1;
     only = λ bytes x h e. read_only bytes x h e;
-    stuck = λ bytes left h e. read_stuck bytes left e
+    stuck = λ bytes left h e. read_stuck bytes left e;
   }
     where
-    read_only : (bytes : List ℕ) (x : ℕ × List ℕ) → AreBytes bytes → byte_at test bytes ≡ Ok x
-        → ((x.0 < 256) × (test x.0 ≡ true)) × (bytes ≡ (x.0 ∷ []) ++ x.1) × AreBytes x.1
-    read_only [] x h e = absurd cc
-    read_only (b ∷ bytes) x h e = byte_only b bytes x h (test b) refl e
+      read_only : (bytes : List ℕ) (x : ℕ × List ℕ) → AreBytes bytes → byte_at test bytes ≡ Ok x
+          → ((x.0 < 256) × (test x.0 ≡ true)) × (bytes ≡ (x.0 ∷ []) ++ x.1) × AreBytes x.1
+      read_only [] x h e = absurd cc
+      read_only (b ∷ bytes) x h e = byte_only b bytes x h (test b) refl e
 
-    read_stuck : (bytes : List ℕ) (left : ℕ) → byte_at test bytes ≡ Err left → IsStuck (byte_in test) bytes left
-    read_stuck [] left e = record {
-      front = [];
-      back = [];
-      split = refl;
-      len = cc;
-      begun = (some.0, some.0 ∷ [], some.1, refl);
-      shut = tt
-    }
-    read_stuck (b ∷ bytes) left e = byte_stuck b bytes left some (test b) refl e
+      read_stuck : (bytes : List ℕ) (left : ℕ) → byte_at test bytes ≡ Err left → IsStuck (byte_in test) bytes left
+      read_stuck [] left e = record {
+        front = [];
+        back = [];
+        split = refl;
+        len = cc;
+        begun = (some.0, some.0 ∷ [], some.1, refl);
+        shut = tt;
+      }
+      read_stuck (b ∷ bytes) left e = byte_stuck b bytes left some (test b) refl e
 
 -- A number of so many bytes.
 
@@ -132,13 +132,13 @@ module _ (count limit : ℕ) (to : ℕ → List ℕ) (from : List ℕ → ℕ) (
         let t = too_few bytes few in
         let more = zeros (count - length bytes) in
         let h = here (bytes ++ more) (omega (arith, length-append bytes more, length-zeros (count - length bytes)))
-            (bytes_then bytes more b (zeros_are_bytes (count - length bytes))) in record {
+        (bytes_then bytes more b (zeros_are_bytes (count - length bytes))) in record {
           front = bytes;
           back = [];
           split = sym (append-nil bytes);
           len = cc;
           begun = (from (bytes ++ more), more, h.0, h.1);
-          shut = tt
+          shut = tt;
         }
     | inr many ↦ let t = enough bytes many in absurd cc
   ]

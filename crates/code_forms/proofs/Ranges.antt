@@ -1,12 +1,12 @@
 -- Texts byte by byte: bytes that stand where they may.
-use Rattle.std.proofs.Common.{◌≡◌, ℕ, zero, suc, ◌+◌, ◌-◌, ◌*◌, ◌/◌, ◌%◌, ◌<◌, ◌≤◌, ◌^◌, Bool, true, false, ◌⊎◌, inl, inr, ⊎_elim, List, [], ◌∷◌, ◌++◌, length, refl, sym, ap, subst, ◌∙◌, arith, lt-ltb, le-ltb}
-use Rattle.std.specs.Prelude.{Option, Some, None, Result, Ok, Err, nat_lt, nat_le, ◌&&◌, if◌then◌else◌}
-use Rattle.std.proofs.lemmas.Bool.{cond-true, cond-false, cases_lt, cases_Bool}
+use Rattle.std.proofs.Common.{◌≡◌, ℕ, zero, suc, ◌<◌, ◌≤◌, Bool, true, false, List, [], ◌∷◌, length, refl, ap, ◌∙◌, arith, lt-ltb, le-ltb}
+use Rattle.std.specs.Prelude.{nat_lt, if◌then◌else◌}
+use Rattle.std.proofs.lemmas.Bool.{cond-true, cond-false}
 use Rattle.std.proofs.lemmas.Bool.Decides.{nat_tests}
 use Rattle.code_forms.specs.declared.utf8.Range.{Range}
-use Rattle.code_forms.specs.Forms.{Form, AreBytes, IsForm}
-use Rattle.code_forms.specs.Parts.{just, imaged, led, byte_in, FitsAs}
-use Rattle.code_forms.specs.Utf8.{from_to, any_more, lies_in, is_first, asked, may_stand, then_asked, first_of, rest_of, walk}
+use Rattle.code_forms.specs.Forms.{Form, IsForm}
+use Rattle.code_forms.specs.Parts.{imaged, byte_in, FitsAs}
+use Rattle.code_forms.specs.Utf8.{from_to, any_more, is_first, asked, may_stand, then_asked, first_of, rest_of, walk}
 use Rattle.code_forms.proofs.Laws.{just_law, imaged_law, led_law}
 use Rattle.code_forms.proofs.Numbers.{byte_law}
 

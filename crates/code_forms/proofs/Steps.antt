@@ -1,8 +1,8 @@
 -- Readings by cases, lists of bytes, and what follows from the law of a form.
-use Rattle.std.proofs.Common.{◌≡◌, ℕ, zero, suc, ◌+◌, ◌-◌, ◌<◌, ◌≤◌, List, [], ◌∷◌, ◌++◌, length, take, drop, get_or, refl, sym, ap, subst, ◌∙◌, arith, append_assoc, append-nil, length-append, add-one}
+use Rattle.std.proofs.Common.{◌≡◌, ℕ, ◌+◌, ◌<◌, List, [], ◌∷◌, ◌++◌, length, sym, ap, subst, ◌∙◌, append_assoc}
 use Rattle.std.specs.Prelude.{Result, Ok, Err}
-use Rattle.std.proofs.lemmas.List.{take_at, get_or-drop, get_or-append-add}
-use Rattle.code_forms.specs.Forms.{Form, ◌>>=◌, AreBytes, Begins, StopsAt, IsCode, IsPrefixFree, IsShut, IsStuck, IsForm}
+use Rattle.std.proofs.lemmas.List.{get_or-append-add}
+use Rattle.code_forms.specs.Forms.{Form, ◌>>=◌, AreBytes, IsShut, IsStuck, IsForm}
 
 -- behind a reading that gave a value
 pub bind_ok : {A B E : Type 0} (r : Result A E) (x : A) (f : A → Result B E) → r ≡ Ok x → (r >>= f) ≡ f x
@@ -46,22 +46,22 @@ alike f g to back code read h = record {
   again = λ v rest k. read _ ∙ ap (λ c. f.read (c ++ rest)) (code v (back v k)) ∙ h.again v rest (back v k);
   only = λ bytes x b e. let o = h.only bytes x b (sym (read bytes) ∙ e) in
       (to x.0 o.0, o.1 ∙ ap (λ c. c ++ x.1) (sym (code x.0 o.0)), o.2);
-  stuck = λ bytes left b e. alike_stuck f g to code read bytes left (h.stuck bytes left b (sym (read bytes) ∙ e))
+  stuck = λ bytes left b e. alike_stuck f g to code read bytes left (h.stuck bytes left b (sym (read bytes) ∙ e));
 }
   where
-  alike_shut : {A : Type 0} (f g : List ℕ → Result (A × List ℕ) ℕ) → ((bytes : List ℕ) → g bytes ≡ f bytes)
-      → (front back : List ℕ) → IsShut f front back → IsShut g front back
-  alike_shut f g read front [] h = tt
-  alike_shut f g read front (b ∷ back) h = λ rest. read _ ∙ h rest
+    alike_shut : {A : Type 0} (f g : List ℕ → Result (A × List ℕ) ℕ) → ((bytes : List ℕ) → g bytes ≡ f bytes)
+        → (front back : List ℕ) → IsShut f front back → IsShut g front back
+    alike_shut f g read front [] h = tt
+    alike_shut f g read front (b ∷ back) h = λ rest. read _ ∙ h rest
 
-  alike_stuck : {A : Type 0} (f g : Form A) → ((v : A) → f.fits v → g.fits v) → ((v : A) → f.fits v → g.code v ≡ f.code v)
-      → ((bytes : List ℕ) → g.read bytes ≡ f.read bytes) → (bytes : List ℕ) (left : ℕ) → IsStuck f bytes left
-      → IsStuck g bytes left
-  alike_stuck f g to code read bytes left s = record {
-    front = s.front;
-    back = s.back;
-    split = s.split;
-    len = s.len;
-    begun = (s.begun.0, s.begun.1, to s.begun.0 s.begun.2, code s.begun.0 s.begun.2 ∙ s.begun.3);
-    shut = alike_shut f.read g.read read s.front s.back s.shut
-  }
+    alike_stuck : {A : Type 0} (f g : Form A) → ((v : A) → f.fits v → g.fits v) → ((v : A) → f.fits v → g.code v ≡ f.code v)
+        → ((bytes : List ℕ) → g.read bytes ≡ f.read bytes) → (bytes : List ℕ) (left : ℕ) → IsStuck f bytes left
+        → IsStuck g bytes left
+    alike_stuck f g to code read bytes left s = record {
+      front = s.front;
+      back = s.back;
+      split = s.split;
+      len = s.len;
+      begun = (s.begun.0, s.begun.1, to s.begun.0 s.begun.2, code s.begun.0 s.begun.2 ∙ s.begun.3);
+      shut = alike_shut f.read g.read read s.front s.back s.shut;
+    }

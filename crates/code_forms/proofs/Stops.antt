@@ -1,8 +1,8 @@
 -- What follows from the law of a form: no code begins another, and where reading stops the codes stop.
-use Rattle.std.proofs.Common.{◌≡◌, ℕ, zero, suc, ◌+◌, ◌-◌, ◌<◌, ◌≤◌, List, [], ◌∷◌, ◌++◌, length, take, drop, refl, sym, ap, subst, ◌∙◌, arith, append_assoc, append-nil, length-append}
-use Rattle.std.specs.Prelude.{Result, Ok, Err}
-use Rattle.std.proofs.lemmas.List.{take_at, take_all, nil_from_length}
-use Rattle.code_forms.specs.Forms.{Form, AreBytes, Begins, StopsAt, IsCode, IsPrefixFree, IsShut, IsStuck, IsForm}
+use Rattle.std.proofs.Common.{◌≡◌, ℕ, suc, ◌-◌, List, [], ◌∷◌, ◌++◌, length, take, refl, sym, ap, subst, ◌∙◌, arith, append_assoc, append-nil, length-append}
+use Rattle.std.specs.Prelude.{Ok, Err}
+use Rattle.std.proofs.lemmas.List.{take_at, take_all}
+use Rattle.code_forms.specs.Forms.{Form, Begins, StopsAt, IsPrefixFree, IsShut, IsStuck, IsForm}
 
 module _ {A : Type 0} (f : Form A) (h : IsForm f) where
   -- a code is read as its value

@@ -1,17 +1,16 @@
 -- The law of texts, and where one that is no text goes wrong.
-use Rattle.std.proofs.Common.{◌≡◌, ℕ, zero, suc, ◌+◌, ◌-◌, ◌<◌, ◌≤◌, ◌^◌, Bool, true, false, List, [], ◌∷◌, ◌++◌, length, take, drop, get_or, refl, sym, ap, ap₂, subst, ◌∙◌, arith, IsUtf8, drop-cons, length-append, length-drop, drop_of_length-le, take_all}
-use Rattle.std.specs.Prelude.{Result, Ok, Err, nat_le, ◌&&◌, if◌then◌else◌}
-use Rattle.std.proofs.lemmas.Bool.{cond-true, cond-false}
+use Rattle.std.proofs.Common.{◌≡◌, ℕ, zero, suc, ◌+◌, ◌-◌, ◌<◌, ◌≤◌, true, false, List, [], ◌∷◌, length, take, drop, get_or, refl, sym, ap, ap₂, subst, ◌∙◌, arith, IsUtf8, drop-cons, length-append, length-drop, drop_of_length-le, take_all}
+use Rattle.std.specs.Prelude.{Result, Ok, Err}
 use Rattle.std.proofs.lemmas.Bool.Decides.{nat_tests}
 use Rattle.std.proofs.lemmas.List.{take_at, take-append-drop, length-take-le}
 use Rattle.code_forms.specs.declared.utf8.Range.{Range}
-use Rattle.code_forms.specs.Forms.{Form, ◌>>=◌, AreBytes, IsForm}
-use Rattle.code_forms.specs.Parts.{just, imaged, led, byte_in, FitsAs, code_as, read_as, led_on, byte_at, u32_form}
-use Rattle.code_forms.specs.Utf8.{is_first, lies_in, asked, may_stand, then_asked, first_of, rest_of, walk, utf8_form, text_form}
+use Rattle.code_forms.specs.Forms.{◌>>=◌, AreBytes, IsForm}
+use Rattle.code_forms.specs.Parts.{just, imaged, led, byte_in, read_as, led_on, byte_at, u32_form}
+use Rattle.code_forms.specs.Utf8.{is_first, lies_in, asked, may_stand, then_asked, rest_of, walk, utf8_form, text_form}
 use Rattle.code_forms.proofs.Steps.{alike}
 use Rattle.code_forms.proofs.Laws.{led_law}
 use Rattle.code_forms.proofs.Numbers.{u32_law}
-use Rattle.code_forms.proofs.Ranges.{AreRanges, Stands, Runs, then_few, then_ranges, walk_law}
+use Rattle.code_forms.proofs.Ranges.{AreRanges, Runs, then_few, then_ranges, walk_law}
 use Rattle.code_forms.proofs.Texts.{utf8_of_runs, runs_of_utf8}
 
 -- What a walk takes.
@@ -20,8 +19,8 @@ stands_of : (n b : ℕ) (bs : List ℕ) (ranges : List Range) → may_stand rang
     → Runs ranges (b ∷ bs)
 stands_of n b bs [] h k = (first_of_stand n b h, k)
   where
-  first_of_stand : (n b : ℕ) → may_stand [] n b ≡ true → is_first b ≡ true
-  first_of_stand n b h = grind (arith, nat_tests)
+    first_of_stand : (n b : ℕ) → may_stand [] n b ≡ true → is_first b ≡ true
+    first_of_stand n b h = grind (arith, nat_tests)
 stands_of n b bs (range ∷ ranges) h k = ((grind (arith, nat_tests), grind (arith, nat_tests)), k)
 
 runs_of_walk : (n : ℕ) (ranges : List Range) (v : List ℕ) → length ranges ≤ n → (walk n ranges).fits v
@@ -46,15 +45,15 @@ may_of n b bs [] len r k =
     let few = runs_len (asked b) bs k.1 in
     ((below b k.0, first_may n b k.0 (omega arith)), k.1)
   where
-  below : (b : ℕ) → is_first b ≡ true → b < 256
-  below b h = grind (arith, nat_tests)
+    below : (b : ℕ) → is_first b ≡ true → b < 256
+    below b h = grind (arith, nat_tests)
 
-  first_may : (n b : ℕ) → is_first b ≡ true → length (asked b) ≤ n → may_stand [] n b ≡ true
-  first_may n b h few = grind (arith, nat_tests)
+    first_may : (n b : ℕ) → is_first b ≡ true → length (asked b) ≤ n → may_stand [] n b ≡ true
+    first_may n b h few = grind (arith, nat_tests)
 may_of n b bs (range ∷ ranges) len r k = ((omega (arith, k.0.1, r.1), lies range b k.0.0 k.0.1), k.1)
   where
-  lies : (range : Range) (b : ℕ) → range.low ≤ b → b ≤ range.high → lies_in b range ≡ true
-  lies range b low high = grind (arith, nat_tests)
+    lies : (range : Range) (b : ℕ) → range.low ≤ b → b ≤ range.high → lies_in b range ≡ true
+    lies range b low high = grind (arith, nat_tests)
 
 walk_of_runs : (n : ℕ) (ranges : List Range) (v : List ℕ) → AreRanges ranges → length v ≡ n → Runs ranges v
     → (walk n ranges).fits v

@@ -1,14 +1,13 @@
 -- Bytes that stand where they may are the UTF-8 of characters, and no others are (The Unicode Standard, table 3-7).
-use Rattle.std.proofs.Common.{◌≡◌, ℕ, zero, suc, ◌+◌, ◌-◌, ◌*◌, ◌/◌, ◌%◌, ◌<◌, ◌≤◌, ◌^◌, Bool, true, false, ◌⊎◌, inl, inr, ⊎_elim, List, [], ◌∷◌, ◌++◌, length, refl, sym, ap, ap₂, subst, ◌∙◌, arith, lt-ltb, le-ltb, append_assoc, IsUtf8}
-use Rattle.std.specs.Prelude.{◌&&◌, nat_lt, nat_le}
-use Rattle.std.specs.Char.{IsScalar, encode_utf8}
+use Rattle.std.proofs.Common.{◌≡◌, ℕ, zero, suc, ◌+◌, ◌-◌, ◌*◌, ◌/◌, ◌%◌, ◌<◌, ◌≤◌, Bool, true, false, ◌⊎◌, ⊎_elim, List, [], ◌∷◌, ◌++◌, length, refl, sym, ap, ap₂, subst, ◌∙◌, arith, lt-ltb, le-ltb, IsUtf8}
+use Rattle.std.specs.Prelude.{◌&&◌}
 use Rattle.std.proofs.Math.Utf8.{scalar, scalars, encode, encodes, scalar_cases, low_scalar}
 use Rattle.std.proofs.lemmas.Bool.{cond-true, cond-false, cases_lt}
 use Rattle.std.proofs.lemmas.Bool.Decides.{nat_tests}
 use Rattle.std.proofs.lemmas.Nat.{div-mul-add, mod-mul-add}
 use Rattle.std.proofs.lemmas.Str.{IsUtf8-nil, IsUtf8-append, IsUtf8-encode, encode_ascii}
 use Rattle.code_forms.specs.Utf8.{from_to, any_more, is_first, asked}
-use Rattle.code_forms.proofs.Ranges.{Stands, Runs, asked_one, asked_two, asked_e0, asked_e1, asked_ed, asked_ee, asked_f0, asked_f1, asked_f4}
+use Rattle.code_forms.proofs.Ranges.{Runs, asked_one, asked_two, asked_e0, asked_e1, asked_ed, asked_ee, asked_f0, asked_f1, asked_f4}
 
 -- How characters are spelled.
 
@@ -88,7 +87,7 @@ two_bytes b c cs low high low' high' runs =
       is_char = low_scalar x (omega arith);
       split = ap₂ (λ p q. p ∷ q ∷ cs) first second ∙ ap (λ l. l ++ cs) (sym spelled);
       shorter = omega arith;
-      runs = runs
+      runs = runs;
     }
 
 three_bytes : (b c d : ℕ) (ds : List ℕ) → 0xe0 ≤ b → b < 0xf0 → 0x80 ≤ c → c ≤ 0xbf → 0x80 ≤ d → d ≤ 0xbf
@@ -112,7 +111,7 @@ three_bytes b c d ds low high c' c'' d' d'' least most runs =
       split = ap₂ (λ p q. p ∷ q ∷ d ∷ ds) first second ∙ ap (λ r. (224 + (b - 224)) ∷ (128 + (c - 128)) ∷ r ∷ ds) third
           ∙ ap (λ l. l ++ ds) (sym spelled);
       shorter = omega arith;
-      runs = runs
+      runs = runs;
     }
 
 four_bytes : (b c d e : ℕ) (es : List ℕ) → 0xf0 ≤ b → b ≤ 0xf4 → 0x80 ≤ c → c ≤ 0xbf → 0x80 ≤ d → d ≤ 0xbf
@@ -132,7 +131,7 @@ four_bytes b c d e es low high c' c'' d' d'' e' e'' least most runs =
       split = ap₂ (λ p q. p ∷ q ∷ d ∷ e ∷ es) first second
           ∙ ap₂ (λ p q. (240 + (b - 240)) ∷ (128 + (c - 128)) ∷ p ∷ q ∷ es) third fourth ∙ ap (λ l. l ++ es) (sym spelled);
       shorter = omega arith;
-      runs = runs
+      runs = runs;
     }
 
 -- the bytes that a first byte asks for, one by one
@@ -160,7 +159,7 @@ one_byte b bs h k = record {
   is_char = low_scalar b (omega arith);
   split = ap (λ l. l ++ bs) (sym (encode_ascii b h));
   shorter = omega arith;
-  runs = subst (λ rs. Runs rs bs) (asked_one b h) k
+  runs = subst (λ rs. Runs rs bs) (asked_one b h) k;
 }
 
 last_one : (b : ℕ) (bs : List ℕ) → 0xc2 ≤ b → b < 0xe0 → Runs (any_more ∷ []) bs → Front (b ∷ bs)
@@ -234,44 +233,50 @@ run_three : (p q r : ℕ) (rest : List ℕ) → p < 16 → q < 64 → r < 64 →
     → Runs [] ((224 + p) ∷ (128 + q) ∷ (128 + r) ∷ rest)
 run_three p q r rest p' q' r' least most k =
     let b = 224 + p in
-    let bytes = (128 + q) ∷ (128 + r) ∷ rest in
-    (first_high b (omega arith) (omega arith), ⊎_elim
-    (λ (h : b < 0xe1). let l = least (omega arith) in subst (λ rs. Runs rs bytes) (sym (asked_e0 b (omega arith) h))
-    ((omega arith, omega arith), ((omega arith, omega arith), k)))
-    (λ (l : 0xe1 ≤ b). ⊎_elim
-    (λ (h : b < 0xed). subst (λ rs. Runs rs bytes) (sym (asked_e1 b l h)) ((omega arith, omega arith), ((omega arith, omega arith), k)))
-    (λ (l : 0xed ≤ b). ⊎_elim
-    (λ (h : b < 0xee). let m = most (omega arith) in subst (λ rs. Runs rs bytes) (sym (asked_ed b l h))
-    ((omega arith, omega arith), ((omega arith, omega arith), k)))
-    (λ (l : 0xee ≤ b). subst (λ rs. Runs rs bytes) (sym (asked_ee b l (omega arith)))
-    ((omega arith, omega arith), ((omega arith, omega arith), k)))
-    (cases_lt b 0xee))
-    (cases_lt b 0xed))
-    (cases_lt b 0xe1))
+    let bytes = (128 + q) ∷ (128 + r) ∷ rest in (
+      first_high b (omega arith) (omega arith),
+      ⊎_elim
+          (λ (h : b < 0xe1). let l = least (omega arith) in subst (λ rs. Runs rs bytes) (sym (asked_e0 b (omega arith) h))
+          ((omega arith, omega arith), ((omega arith, omega arith), k)))
+          (λ (l : 0xe1 ≤ b). ⊎_elim
+          (λ (h : b < 0xed). subst (λ rs. Runs rs bytes) (sym (asked_e1 b l h)) ((omega arith, omega arith), ((omega arith, omega arith), k)))
+          (λ (l : 0xed ≤ b). ⊎_elim
+          (λ (h : b < 0xee). let m = most (omega arith) in subst (λ rs. Runs rs bytes) (sym (asked_ed b l h))
+          ((omega arith, omega arith), ((omega arith, omega arith), k)))
+          (λ (l : 0xee ≤ b). subst (λ rs. Runs rs bytes) (sym (asked_ee b l (omega arith)))
+          ((omega arith, omega arith), ((omega arith, omega arith), k)))
+          (cases_lt b 0xee))
+          (cases_lt b 0xed))
+          (cases_lt b 0xe1),
+    )
 
 -- four bytes
 run_four : (p q r s : ℕ) (rest : List ℕ) → p ≤ 4 → q < 64 → r < 64 → s < 64 → (p ≡ 0 → 16 ≤ q) → (p ≡ 4 → q < 16)
     → Runs [] rest → Runs [] ((240 + p) ∷ (128 + q) ∷ (128 + r) ∷ (128 + s) ∷ rest)
 run_four p q r s rest p' q' r' s' least most k =
     let b = 240 + p in
-    let bytes = (128 + q) ∷ (128 + r) ∷ (128 + s) ∷ rest in
-    (first_high b (omega arith) (omega arith), ⊎_elim
-    (λ (h : b < 0xf1). let l = least (omega arith) in subst (λ rs. Runs rs bytes) (sym (asked_f0 b (omega arith) h))
-    ((omega arith, omega arith), ((omega arith, omega arith), ((omega arith, omega arith), k))))
-    (λ (l : 0xf1 ≤ b). ⊎_elim
-    (λ (h : b < 0xf4). subst (λ rs. Runs rs bytes) (sym (asked_f1 b l h))
-    ((omega arith, omega arith), ((omega arith, omega arith), ((omega arith, omega arith), k))))
-    (λ (l : 0xf4 ≤ b). let m = most (omega arith) in subst (λ rs. Runs rs bytes) (sym (asked_f4 b l))
-    ((omega arith, omega arith), ((omega arith, omega arith), ((omega arith, omega arith), k))))
-    (cases_lt b 0xf4))
-    (cases_lt b 0xf1))
+    let bytes = (128 + q) ∷ (128 + r) ∷ (128 + s) ∷ rest in (
+      first_high b (omega arith) (omega arith),
+      ⊎_elim
+          (λ (h : b < 0xf1). let l = least (omega arith) in subst (λ rs. Runs rs bytes) (sym (asked_f0 b (omega arith) h))
+          ((omega arith, omega arith), ((omega arith, omega arith), ((omega arith, omega arith), k))))
+          (λ (l : 0xf1 ≤ b). ⊎_elim
+          (λ (h : b < 0xf4). subst (λ rs. Runs rs bytes) (sym (asked_f1 b l h))
+          ((omega arith, omega arith), ((omega arith, omega arith), ((omega arith, omega arith), k))))
+          (λ (l : 0xf4 ≤ b). let m = most (omega arith) in subst (λ rs. Runs rs bytes) (sym (asked_f4 b l))
+          ((omega arith, omega arith), ((omega arith, omega arith), ((omega arith, omega arith), k))))
+          (cases_lt b 0xf4))
+          (cases_lt b 0xf1),
+    )
 
 run_two : (p q : ℕ) (rest : List ℕ) → 2 ≤ p → p < 32 → q < 64 → Runs [] rest → Runs [] ((192 + p) ∷ (128 + q) ∷ rest)
 run_two p q rest p' p'' q' k =
     let b = 192 + p in
-    let bytes = (128 + q) ∷ rest in
-    (first_high b (omega arith) (omega arith), subst (λ rs. Runs rs bytes) (sym (asked_two b (omega arith) (omega arith)))
-    ((omega arith, omega arith), k))
+    let bytes = (128 + q) ∷ rest in (
+      first_high b (omega arith) (omega arith),
+      subst (λ rs. Runs rs bytes) (sym (asked_two b (omega arith) (omega arith)))
+          ((omega arith, omega arith), k),
+    )
 
 -- the digits of six bits of a number
 digits_two : (c : ℕ) → (c ≡ (c / 64) * 64 + c % 64) × (c % 64 < 64)

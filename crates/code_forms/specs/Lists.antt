@@ -1,5 +1,5 @@
 -- The forms of lists: a count, and the elements one behind another.
-use Rattle.std.specs.Prelude.{◌≡◌, ℕ, zero, suc, List, [], ◌∷◌, ◌++◌, length, Option, Some, None, Result, Ok, Err}
+use Rattle.std.specs.Prelude.{◌≡◌, ℕ, zero, suc, List, [], ◌∷◌, ◌++◌, length, Result, Ok}
 use Rattle.code_forms.specs.Forms.{Form, ◌>>=◌}
 use Rattle.code_forms.specs.Parts.{led, u32_form}
 

@@ -64,7 +64,7 @@ unfoldable pub imaged : {A B : Type 0} → Form A → (A → B) → (B → Optio
 imaged f of back = record {
   fits = λ v. FitsAs f of v (back v);
   code = λ v. code_as f (back v);
-  read = λ bytes. f.read bytes >>= read_as of
+  read = λ bytes. f.read bytes >>= read_as of;
 }
 
 -- a record, in the form of its fields
@@ -72,7 +72,7 @@ unfoldable pub shaped : {A B : Type 0} → Form A → (A → B) → (B → A) �
 shaped f of parts = record {
   fits = λ v. f.fits (parts v);
   code = λ v. f.code (parts v);
-  read = λ bytes. f.read bytes >>= read_as of
+  read = λ bytes. f.read bytes >>= read_as of;
 }
 
 -- One form behind another.
@@ -90,7 +90,7 @@ unfoldable pub pair : {A B : Type 0} → Form A → Form B → Form (A × B)
 pair f g = record {
   fits = λ p. f.fits p.0 × g.fits p.1;
   code = λ p. f.code p.0 ++ g.code p.1;
-  read = λ bytes. f.read bytes >>= second_of g
+  read = λ bytes. f.read bytes >>= second_of g;
 }
 
 -- the reading that what was read leads to
@@ -102,7 +102,7 @@ unfoldable pub led : {X A : Type 0} → Form X → (A → X) → (X → Form A) 
 led head of at = record {
   fits = λ v. head.fits (of v) × (at (of v)).fits v;
   code = λ v. head.code (of v) ++ (at (of v)).code v;
-  read = λ bytes. head.read bytes >>= led_on at
+  read = λ bytes. head.read bytes >>= led_on at;
 }
 
 -- whether a value is there

@@ -1,5 +1,5 @@
 -- The form of texts: their length in bytes, and their bytes, which are UTF-8 (The Unicode Standard, table 3-7).
-use Rattle.std.specs.Prelude.{◌≡◌, ℕ, zero, suc, Bool, true, false, ◌&&◌, ◌||◌, if◌then◌else◌, List, [], ◌∷◌, ◌++◌, length, nat_le, nat_lt, Option, Some, None, IsUtf8}
+use Rattle.std.specs.Prelude.{◌≡◌, ℕ, zero, suc, Bool, ◌&&◌, ◌||◌, if◌then◌else◌, List, [], ◌∷◌, length, nat_le, nat_lt, Option, Some, None, IsUtf8}
 use Rattle.code_forms.specs.declared.utf8.Range.{Range}
 use Rattle.code_forms.specs.Forms.{Form}
 use Rattle.code_forms.specs.Parts.{led, just, byte_in, imaged, u32_form}

@@ -22,13 +22,39 @@ fn asked(first: u8) -> &'static [Range]
     match first {
         0..0x80 => &[],
         0x80..0xe0 => &[ANY_MORE],
-        0xe0 => &[Range { low: 0xa0, high: 0xbf }, ANY_MORE],
+        0xe0 => &[
+            Range {
+                low: 0xa0,
+                high: 0xbf,
+            },
+            ANY_MORE,
+        ],
         0xe1..0xed => &[ANY_MORE, ANY_MORE],
-        0xed => &[Range { low: 0x80, high: 0x9f }, ANY_MORE],
+        0xed => &[
+            Range {
+                low: 0x80,
+                high: 0x9f,
+            },
+            ANY_MORE,
+        ],
         0xee..0xf0 => &[ANY_MORE, ANY_MORE],
-        0xf0 => &[Range { low: 0x90, high: 0xbf }, ANY_MORE, ANY_MORE],
+        0xf0 => &[
+            Range {
+                low: 0x90,
+                high: 0xbf,
+            },
+            ANY_MORE,
+            ANY_MORE,
+        ],
         0xf1..0xf4 => &[ANY_MORE, ANY_MORE, ANY_MORE],
-        _ => &[Range { low: 0x80, high: 0x8f }, ANY_MORE, ANY_MORE],
+        _ => &[
+            Range {
+                low: 0x80,
+                high: 0x8f,
+            },
+            ANY_MORE,
+            ANY_MORE,
+        ],
     }
 }
 

@@ -1,4 +1,4 @@
-use Rattle.std.proofs.Common.{◌≡◌, ℕ, ◌-◌, List, false, true, get_or, arith}
+use Rattle.std.proofs.Common.{◌≡◌, ◌-◌, false, true, get_or, arith}
 use Rattle.code_forms.specs.Utf8.{utf8_form, may_stand}
 use Rattle.code_forms.proofs.TextLaws.{begins_whole, goes_on_at, stops_at, cut_at, done_at, no_text_is_read}
 use Rattle.code_forms.proofs.utf8.left_at_fault.Goals as goal

@@ -1,5 +1,5 @@
 -- What is left is read from where the walk stands.
-use Rattle.std.proofs.Common.{ℕ, ◌-◌, List, drop}
+use Rattle.std.proofs.Common.{◌-◌, drop}
 use Rattle.code_forms.specs.Utf8.{utf8_form, walk}
 use Rattle.code_forms.proofs.TextLaws.{Ends}
 use Rattle.code_forms.proofs.utf8.left_at_fault.Given as goal
