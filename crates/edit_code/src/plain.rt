@@ -9,7 +9,7 @@ ghost use Rattle.edit_code.specs.Edits.{session_form};
 ghost use Rattle.edit_code.specs.Heads.{link_kind_form, link_kind_at};
 
 use crate::coded::{Coded, Readable, put_both, size_of_both};
-use code_forms::{CodeBytes, ReadFault, Rest, text_size};
+use code_forms::{CODE_LIMIT, CodeBytes, ReadFault, Rest, text_size};
 use emu_names::{BundleKey, ItemId, LevelKind, LinkKind, Memory, Name, SessionNo, Text};
 use level_items::Time;
 use std::alloc::Global;
@@ -243,8 +243,8 @@ impl Coded for Time {
     fn size(&self) -> u64 {
         match self {
             Time::NoTime => 1,
-            Time::Span { start, dur } => 1 + size_of_both(start, dur),
-            Time::Point { at } => 1 + at.size(),
+            Time::Span { start, dur } => (1 + size_of_both(start, dur)).min(CODE_LIMIT),
+            Time::Point { at } => (1 + at.size()).min(CODE_LIMIT),
         }
     }
 

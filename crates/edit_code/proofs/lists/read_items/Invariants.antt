@@ -4,6 +4,6 @@ use Rattle.code_forms.specs.Lists.{items_at}
 use Rattle.edit_code.proofs.Loops.{put_front}
 use Rattle.edit_code.proofs.lists.read_items.Given as goal
 
-abbrev pub invariant-loop-_place : goal.invariant-loop-_place
-invariant-loop-_place g l =
+abbrev pub invariant-loop-place : goal.invariant-loop-place
+invariant-loop-place g l =
     put_front l.items (items_at g.T.Readable.form (l.count - l._place) l.from) ≡ items_at g.T.Readable.form l.fn.count l.fn.from
