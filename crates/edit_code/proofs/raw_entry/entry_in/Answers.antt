@@ -42,13 +42,18 @@ key_by raw key false is e =
     let there : if_so is_key raw ≡ None = rw is refl in
     absurd cc
 
-named : (raw key : BundleKey) (f : Fields) (session : SessionNo) (line : ℕ) (made : Edit) → Some key ≡ if_so is_key raw
-    → made ≡ edit_of key f → Some (entry_with session line made) ≡ if_so has_names (entry_with session line (edit_of raw f))
-named raw key f session line made there is =
+named : (raw key : BundleKey) (f : Fields) (session : SessionNo) (line : ℕ) (made edit : Edit) (from : Entry)
+    → from ≡ entry_with session line edit → edit ≡ edit_of raw f → Some key ≡ if_so is_key raw → made ≡ edit_of key f
+    → Some (entry_with session line made) ≡ if_so has_names from
+named raw key f session line made edit from whole part there is =
     let by = key_by raw key (is_key raw) refl there in
-    let passes : has_names (entry_with session line (edit_of raw f)) ≡ true = ap is_key (key_is raw f) ∙ by.1 in
-    ap (λ e. Some (entry_with session line e)) (is ∙ ap (λ k. edit_of k f) by.0)
-    ∙ sym (so_true has_names (entry_with session line (edit_of raw f)) passes)
+    let all : from ≡ entry_with session line (edit_of raw f) = whole ∙ ap (entry_with session line) part in
+    let passes : has_names from ≡ true = ap has_names all ∙ ap is_key (key_is raw f) ∙ by.1 in
+    ap (λ e. Some (entry_with session line e)) (is ∙ ap (λ k. edit_of k f) by.0) ∙ ap (λ e. Some e) (sym all)
+    ∙ sym (so_true has_names from passes)
 
 pub returns-in-Some : goal.returns-in-Some
-returns-in-Some c = named _ _ _ _ _ _ (sym c.in-Some.is ∙ c.in_ok-key.ensures) c.edit_of-edit.ensures
+returns-in-Some c =
+    named c.edit.inside.key c.in-Some.key c.edit.inside.fields c.raw.inside.session c.raw.inside.line c.edit_of-edit.result
+    c.raw.inside.edit c.args.raw (sym c.raw.view_is) (sym c.edit.view_is) (sym c.in-Some.is ∙ c.in_ok-key.ensures)
+    c.edit_of-edit.ensures
