@@ -1,0 +1,27 @@
+//! Laws of the codes, with nothing to run.
+ghost use Rattle.std.specs.Prelude.{◌≡◌};
+ghost use Rattle.code_forms.specs.Forms.{IsForm, IsPrefixFree};
+ghost use Rattle.edit_code.specs.Codes.{entry_code};
+ghost use Rattle.edit_code.specs.Edits.{entry_form};
+ghost use Rattle.edit_code.specs.Example.{seventh_bytes, seventh_removed};
+ghost use Rattle.edit_code.specs.Heads.{head_form};
+
+/// A law with nothing to run: an entry has one code and a code is that of one entry, no code of an entry begins
+/// another, and so for configurations.
+pub fn codes_are_apart()
+    ensures entries { IsPrefixFree entry_form }
+    ensures heads { IsPrefixFree head_form }
+{}
+
+/// A law with nothing to run: what is read of bytes is what their code says, a code is read again whatever follows
+/// it, and where reading stops no code goes on.
+pub fn codes_are_read()
+    ensures entries { IsForm entry_form }
+    ensures heads { IsForm head_form }
+{}
+
+/// A law with nothing to run: an entry of session 1 and line 3 that takes item 7 of the bundle b1 of s1 out has
+/// these 26 bytes.
+pub fn an_entry_in_bytes()
+    ensures { entry_code seventh_removed ≡ seventh_bytes }
+{}
