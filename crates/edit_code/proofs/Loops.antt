@@ -41,7 +41,7 @@ module _ {A : Type 0} (f : Form A) (items : List A) where
         few = omega (arith, s.few);
         len = omega (arith, s.len, s.most);
         fit = λ (small : next < 2 ^ 32) k.
-            s.fit (omega arith) (subst (ItemsFit f) (sym d) (fit (omega arith), k))
+            s.fit (omega arith) (subst (ItemsFit f) (sym d) (fit (omega arith), k));
       }
 
   pub sized_done : (place size : ℕ) → SizedTo f items place size → length items ≤ place
@@ -49,9 +49,11 @@ module _ {A : Type 0} (f : Form A) (items : List A) where
   unfolding list_of times led u32_form
   sized_done place size s h =
       let none = drop_of_length-le items h in
-      let ends : length (items_code f (drop place items)) ≡ 0 = ap (λ l. length (items_code f l)) none in
-      (omega (arith, s.len, s.most), omega (arith, s.few),
-      λ small. (omega (arith, s.few), (refl, s.fit small (subst (ItemsFit f) (sym none) tt))))
+      let ends : length (items_code f (drop place items)) ≡ 0 = ap (λ l. length (items_code f l)) none in (
+        omega (arith, s.len, s.most),
+        omega (arith, s.few),
+        λ small. (omega (arith, s.few), (refl, s.fit small (subst (ItemsFit f) (sym none) tt))),
+      )
 
   -- Their writing.
 
@@ -86,9 +88,9 @@ module _ {A : Type 0} (f : Form A) (all : Result (List A × List ℕ) ℕ) where
       let same : count - 0 ≡ count = omega arith in
       ap (λ n. put_front [] (items_at f n from)) same ∙ none_before (items_at f count from) ∙ sym e
     where
-    none_before : (r : Result (List A × List ℕ) ℕ) → put_front [] r ≡ r
-    none_before (Ok y) = refl
-    none_before (Err n) = refl
+      none_before : (r : Result (List A × List ℕ) ℕ) → put_front [] r ≡ r
+      none_before (Ok y) = refl
+      none_before (Err n) = refl
 
   next_is : (items : List A) (count place : ℕ) (from : List ℕ) → put_front items (items_at f (count - place) from) ≡ all
       → place < count

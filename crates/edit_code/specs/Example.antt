@@ -8,7 +8,7 @@ abbrev pub seventh_removed : Entry
 seventh_removed = record {
   session = record { 0 = 1 };
   line = 3;
-  edit = RemoveItem (record { session = codes "s1"; bundle = codes "b1" }) (record { 0 = 7 })
+  edit = RemoveItem (record { session = codes "s1"; bundle = codes "b1" }) (record { 0 = 7 });
 }
 
 -- its 26 bytes: the form, the session, the line, the edit's number, the two names of the key, the id

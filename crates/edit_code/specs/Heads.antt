@@ -53,8 +53,13 @@ unfoldable pub parts_form : Form ConfigParts
 parts_form = shaped (pair text_form (pair text_form (pair text_form (pair (list_of text_form)
     (pair (list_of level_def_form) (pair (list_of group_form) (list_of link_def_form)))))))
     (λ p. record {
-      name = p.0; uuid = p.1.0; extension = p.1.1.0; tracks = p.1.1.1.0; levels = p.1.1.1.1.0;
-      groups = p.1.1.1.1.1.0; links = p.1.1.1.1.1.1
+      name = p.0;
+      uuid = p.1.0;
+      extension = p.1.1.0;
+      tracks = p.1.1.1.0;
+      levels = p.1.1.1.1.0;
+      groups = p.1.1.1.1.1.0;
+      links = p.1.1.1.1.1.1;
     })
     (λ c. (c.name, (c.uuid, (c.extension, (c.tracks, (c.levels, (c.groups, c.links)))))))
 

@@ -55,9 +55,14 @@ fn fields_size(edit: &Edit) -> u64
         Edit::MoveBoundary { id, start, .. } => size_of_both(id, start),
         Edit::SetPoint { id, at, .. } => size_of_both(id, at),
         Edit::Split {
-            id, new_id, start, ..
+            id,
+            new_id,
+            start,
+            ..
         } => size_of_three(id, new_id, start),
-        Edit::AddLink { from, to, .. } | Edit::RemoveLink { from, to, .. } => size_of_both(from, to),
+        Edit::AddLink { from, to, .. } | Edit::RemoveLink { from, to, .. } => size_of_both(
+            from, to,
+        ),
     }
 }
 
@@ -87,9 +92,14 @@ fn put_fields(edit: &Edit, out: &mut CodeBytes) -> Result<(), Memory>
         Edit::MoveBoundary { id, start, .. } => put_both(id, start, out),
         Edit::SetPoint { id, at, .. } => put_both(id, at, out),
         Edit::Split {
-            id, new_id, start, ..
+            id,
+            new_id,
+            start,
+            ..
         } => put_three(id, new_id, start, out),
-        Edit::AddLink { from, to, .. } | Edit::RemoveLink { from, to, .. } => put_both(from, to, out),
+        Edit::AddLink { from, to, .. } | Edit::RemoveLink { from, to, .. } => put_both(
+            from, to, out,
+        ),
     }
 }
 

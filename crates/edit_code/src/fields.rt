@@ -175,7 +175,11 @@ fn read_remove_link(alloc: Global, from: &mut Rest<'_>) -> Result<Fields, ReadFa
 
 /// Reads the fields of the edits of a number, 1 to 12.
 #[tactic(auto, unfolding(code_forms::specs::Parts::just))]
-pub(crate) fn read_fields(alloc: Global, number: u8, from: &mut Rest<'_>) -> Result<Fields, ReadFault>
+pub(crate) fn read_fields(
+    alloc: Global,
+    number: u8,
+    from: &mut Rest<'_>,
+) -> Result<Fields, ReadFault>
     requires some { 1 ≤ number }
     requires most { number ≤ 12 }
     ensures { Gives result from.new ((fields_at number).read from.old) }

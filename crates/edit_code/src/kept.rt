@@ -3,9 +3,7 @@ ghost use Rattle.std.specs.Prelude.{◌≡◌, true};
 ghost use Rattle.std.specs.List.{list_all};
 ghost use Rattle.edit_code.specs.Names.{are_attributes, are_groups, is_attribute, is_config, is_group, is_legal_list, is_level};
 
-use db_config::{
-    AttributeDef, AttributeDefs, Config, GroupDef, GroupDefs, GroupValues, LevelDef,
-};
+use db_config::{AttributeDef, AttributeDefs, Config, GroupDef, GroupDefs, GroupValues, LevelDef};
 
 /// A label group has few enough values.
 fn group_is(def: &GroupDef)

@@ -45,7 +45,11 @@ fn put_items<T: Coded>(items: &[T], out: &mut CodeBytes) -> Result<(), Memory>
 }
 
 /// Reads so many elements. Their list grows with them, since the bytes may end before.
-fn read_items<T: Readable>(alloc: Global, count: u32, from: &mut Rest<'_>) -> Result<Series<T>, ReadFault>
+fn read_items<T: Readable>(
+    alloc: Global,
+    count: u32,
+    from: &mut Rest<'_>,
+) -> Result<Series<T>, ReadFault>
     ensures { Gives result from.new (items_at T.form count from.old) }
 {
     let mut items = Series::new(alloc);

@@ -29,10 +29,7 @@ fn texts_in(alloc: Global, raw: &[Text]) -> Result<Option<GroupValues>, Memory>
 }
 
 /// The legal labels, if they are few enough where there are some. The only refusal is want of memory.
-fn legal_in(
-    alloc: Global,
-    raw: &Option<RawTexts>,
-) -> Result<Option<Option<GroupValues>>, Memory>
+fn legal_in(alloc: Global, raw: &Option<RawTexts>) -> Result<Option<Option<GroupValues>>, Memory>
     ensures { IfOk result (λ made. made ≡ if_so is_legal_list raw.now) }
 {
     match raw {

@@ -137,8 +137,9 @@ impl Readable for RawParts {
     #[tactic(auto, unfolding(crate::specs::Heads::head_form, crate::specs::Heads::parts_form, code_forms::specs::Parts::led, code_forms::specs::Parts::shaped))]
     fn read(alloc: Global, from: &mut Rest<'_>) -> Result<RawParts, ReadFault> {
         from.read_byte_is(0)?;
-        let (name, (uuid, (extension, (tracks, (levels, (groups, links)))))) =
-            Readable::read(alloc, from)?;
+        let (name, (uuid, (extension, (tracks, (levels, (groups, links)))))) = Readable::read(
+            alloc, from,
+        )?;
         Ok(RawParts {
             name,
             uuid,

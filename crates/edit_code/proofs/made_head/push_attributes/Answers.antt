@@ -27,8 +27,9 @@ pushed_more front items now next place x v whole is h at same =
 
 pub loop-part-preserved : goal.loop-part-preserved
 loop-part-preserved c =
-    let part = so_by is_attribute c.part-item.result c.in-Some.def (is_attribute c.part-item.result) refl (sym c.in-Some.is ∙ c.in_ok-def.ensures) in
-    (pushed_more c.args.defs.now c.args.raw.now c.loop-part.defs c.push.new.self c.loop-part.part-index c.part-item.result
-    c.in-Some.def c.loop-part.invariant.0 c.in_ok-push-in-Some.ensures.ok (omega arith) c.part-item.is part.0,
-    all_more is_attribute c.args.raw.now (list_all is_attribute c.args.raw.now) c.loop-part.part-index
-    c.loop-part.invariant.1 c.part-item.result (omega arith) c.part-item.is part.1)
+    let part = so_by is_attribute c.part-item.result c.in-Some.def (is_attribute c.part-item.result) refl (sym c.in-Some.is ∙ c.in_ok-def.ensures) in (
+      pushed_more c.args.defs.now c.args.raw.now c.loop-part.defs c.push.new.self c.loop-part.part-index c.part-item.result
+          c.in-Some.def c.loop-part.invariant.0 c.in_ok-push-in-Some.ensures.ok (omega arith) c.part-item.is part.0,
+      all_more is_attribute c.args.raw.now (list_all is_attribute c.args.raw.now) c.loop-part.part-index
+          c.loop-part.invariant.1 c.part-item.result (omega arith) c.part-item.is part.1,
+    )
