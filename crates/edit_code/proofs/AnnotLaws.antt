@@ -1,11 +1,11 @@
 -- The laws of the forms of annotations.
-use Rattle.std.proofs.Common.{◌≡◌, ℕ, zero, suc, ◌<◌, ◌≤◌, Bool, true, ◌∙◌, refl, ap, arith}
+use Rattle.std.proofs.Common.{◌≡◌, ℕ, zero, suc, ◌<◌, true, ◌∙◌, refl, ap, arith}
 use Rattle.std.specs.Prelude.{nat_lt, Option, Some, None}
 use Rattle.std.proofs.lemmas.Bool.Decides.{nat_tests}
 use Rattle.level_items.specs.declared.times.Time.{Time}
 use Rattle.level_items.specs.declared.times.Time.TheVariants.{NoTime, Span, Point}
 use Rattle.code_forms.specs.Forms.{Form, IsForm}
-use Rattle.code_forms.specs.Parts.{pair, shaped, imaged, led, just, byte_in, byte_below, u32_form, u64_form, FitsAs}
+use Rattle.code_forms.specs.Parts.{pair, imaged, just, byte_in, byte_below, u32_form, u64_form, FitsAs}
 use Rattle.code_forms.specs.Lists.{list_of}
 use Rattle.code_forms.specs.Utf8.{text_form}
 use Rattle.code_forms.proofs.Laws.{just_law, imaged_law, shaped_law, pair_law, led_law}

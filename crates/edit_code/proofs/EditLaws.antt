@@ -1,6 +1,6 @@
 -- The laws of the forms of edits and entries.
-use Rattle.std.proofs.Common.{◌≡◌, ℕ, zero, suc, ◌<◌, ◌≤◌, Bool, true, ◌∙◌, sym, refl, ap, arith, eqb-true}
-use Rattle.std.specs.Prelude.{nat_le, ◌&&◌, ◌==◌, Option, Some, None}
+use Rattle.std.proofs.Common.{◌≡◌, ℕ, zero, suc, ◌≤◌, true, refl, ap, arith}
+use Rattle.std.specs.Prelude.{nat_le, ◌&&◌, ◌==◌}
 use Rattle.std.proofs.lemmas.Bool.Decides.{nat_tests}
 use Rattle.edit_rules.specs.declared.edit.Edit.{Edit}
 use Rattle.edit_rules.specs.declared.edit.Edit.TheVariants as edits
@@ -8,8 +8,8 @@ use Rattle.edit_rules.specs.Edits.{key_of}
 use Rattle.emu_names.specs.declared.names.BundleKey.{BundleKey}
 use Rattle.edit_code.specs.declared.fields.Fields.{Fields}
 use Rattle.edit_code.specs.declared.fields.Fields.TheVariants as fields
-use Rattle.code_forms.specs.Forms.{Form, IsForm}
-use Rattle.code_forms.specs.Parts.{pair, shaped, imaged, led, just, byte_in, byte_from_to, byte_is, option_of, u32_form, u64_form, FitsAs}
+use Rattle.code_forms.specs.Forms.{IsForm}
+use Rattle.code_forms.specs.Parts.{pair, shaped, imaged, just, byte_in, byte_from_to, byte_is, option_of, u32_form, u64_form}
 use Rattle.code_forms.specs.Utf8.{text_form}
 use Rattle.code_forms.proofs.Laws.{just_law, imaged_law, shaped_law, pair_law, led_law}
 use Rattle.code_forms.proofs.Numbers.{u32_law, u64_law}

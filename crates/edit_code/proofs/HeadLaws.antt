@@ -1,8 +1,7 @@
 -- The laws of the forms of configurations.
 use Rattle.std.proofs.Common.{◌≡◌, ℕ, zero, suc, ◌<◌, ◌∙◌, refl, ap, arith}
-use Rattle.emu_names.specs.declared.kinds.LinkKind.{LinkKind}
-use Rattle.code_forms.specs.Forms.{Form, IsForm}
-use Rattle.code_forms.specs.Parts.{pair, shaped, led, just, byte_in, byte_is, byte_below, option_of, u32_form}
+use Rattle.code_forms.specs.Forms.{IsForm}
+use Rattle.code_forms.specs.Parts.{pair, just, byte_in, byte_is, byte_below, option_of, u32_form}
 use Rattle.code_forms.specs.Lists.{list_of}
 use Rattle.code_forms.specs.Utf8.{text_form}
 use Rattle.code_forms.proofs.Laws.{just_law, shaped_law, pair_law, led_law}

@@ -1,5 +1,5 @@
 -- Places of kinds and numbers of edits.
-use Rattle.std.proofs.Common.{◌≡◌, ℕ, zero, suc, ◌<◌, ◌≤◌, Bool, true, refl, arith}
+use Rattle.std.proofs.Common.{◌≡◌, ℕ, zero, suc, ◌<◌, true, refl, arith}
 use Rattle.std.specs.Prelude.{nat_le, ◌&&◌}
 use Rattle.emu_names.specs.declared.kinds.LevelKind.TheVariants as level_kinds
 use Rattle.emu_names.specs.declared.kinds.LinkKind.TheVariants as link_kinds

@@ -1,5 +1,5 @@
 -- Steps of the loops over lists: their length, their writing, their reading.
-use Rattle.std.proofs.Common.{◌≡◌, ℕ, zero, suc, ◌+◌, ◌-◌, ◌<◌, ◌≤◌, ◌^◌, List, [], ◌∷◌, ◌++◌, length, drop, get_or, min, refl, sym, ap, subst, ◌∙◌, arith, append_assoc, append-nil, length-append, drop-cons, drop_of_length-le}
+use Rattle.std.proofs.Common.{◌≡◌, ℕ, suc, ◌+◌, ◌-◌, ◌<◌, ◌≤◌, ◌^◌, List, [], ◌∷◌, ◌++◌, length, drop, get_or, min, refl, sym, ap, subst, ◌∙◌, arith, append_assoc, append-nil, length-append, drop-cons, drop_of_length-le}
 use Rattle.std.specs.Prelude.{Result, Ok, Err}
 use Rattle.code_forms.specs.Forms.{Form, ◌>>=◌}
 use Rattle.code_forms.specs.Parts.{led, u32_form}

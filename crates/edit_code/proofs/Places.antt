@@ -1,20 +1,13 @@
 -- What the reading of whole codes answers, in the words of codes.
-use Rattle.std.proofs.Common.{◌≡◌, ℕ, zero, suc, ◌+◌, ◌-◌, ◌<◌, ◌≤◌, Bool, true, false, List, [], ◌∷◌, ◌++◌, length, refl, sym, ap, subst, ◌∙◌, arith, append-nil}
-use Rattle.std.specs.Prelude.{Result, Ok, Err, nat_lt, if◌then◌else◌, IfOk, IfErr}
+use Rattle.std.proofs.Common.{◌≡◌, ℕ, ◌-◌, Bool, true, false, List, [], ◌++◌, length, refl, ap, subst, ◌∙◌, arith, append-nil}
+use Rattle.std.specs.Prelude.{Result, Ok, Err, nat_lt, IfOk, IfErr}
 use Rattle.std.proofs.lemmas.Bool.Decides.{nat_tests}
 use Rattle.std.proofs.lemmas.List.{nil_from_length}
-use Rattle.db_config.specs.declared.parts.ConfigParts.{ConfigParts}
-use Rattle.edit_rules.specs.declared.edit.Entry.{Entry}
-use Rattle.code_forms.specs.Forms.{Form, AreBytes, Begins, StopsAt, IsCode, IsStuck, IsForm}
+use Rattle.code_forms.specs.Forms.{Form, AreBytes, StopsAt, IsCode, IsForm}
 use Rattle.code_forms.proofs.Stops.{code_is_read, stuck_stops, more_stops, end_stops}
 use Rattle.edit_code.specs.declared.fault.CodeFault.{CodeFault}
 use Rattle.edit_code.specs.declared.fault.CodeFault.TheVariants as faults
-use Rattle.edit_code.specs.Codes.{whole, tested, entry_of, head_of, Answers, IsReadAs, IsPlace, IsEntryCode, IsHeadCode}
-use Rattle.edit_code.specs.Edits.{entry_form}
-use Rattle.edit_code.specs.Heads.{head_form}
-use Rattle.edit_code.specs.Names.{has_names, is_config}
-use Rattle.edit_code.proofs.EditLaws.{entry_law}
-use Rattle.edit_code.proofs.HeadLaws.{head_law}
+use Rattle.edit_code.specs.Codes.{whole, tested, Answers, IsReadAs, IsPlace}
 
 -- the bytes are the code of the value, which passes the test
 abbrev pub IsSo : {A : Type 0} → Form A → (A → Bool) → List ℕ → A → Type 0

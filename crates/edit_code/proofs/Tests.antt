@@ -1,6 +1,6 @@
 -- Steps of the loops that test each element of a list.
-use Rattle.std.proofs.Common.{◌≡◌, ℕ, suc, ◌+◌, ◌<◌, ◌≤◌, Bool, true, false, List, [], ◌∷◌, ◌++◌, length, take, drop, get_or, refl, sym, ap, ◌∙◌, arith, drop-cons, drop_of_length-le, take_all}
-use Rattle.std.specs.Prelude.{◌&&◌, Option, Some, None, if◌then◌else◌}
+use Rattle.std.proofs.Common.{◌≡◌, ℕ, suc, ◌+◌, ◌<◌, ◌≤◌, Bool, true, false, List, length, drop, get_or, refl, sym, ap, ◌∙◌, arith, drop-cons, drop_of_length-le}
+use Rattle.std.specs.Prelude.{◌&&◌, Some, None}
 use Rattle.std.specs.List.{list_all}
 use Rattle.edit_code.specs.Names.{if_so}
 

@@ -1,5 +1,5 @@
 use Rattle.std.proofs.Common.{◌≡◌, ℕ, Bool, true, false, List, refl, sym, ap, ◌∙◌}
-use Rattle.std.specs.Prelude.{Option, Some, None, Result, Ok, Err}
+use Rattle.std.specs.Prelude.{Some, None, Result, Ok}
 use Rattle.edit_code.specs.Codes.{head_of, tested}
 use Rattle.edit_code.specs.Names.{if_so, is_config}
 use Rattle.edit_code.proofs.codes.head_of.Goals as goal
