@@ -1,6 +1,7 @@
 #!/usr/bin/env bash
 # check.sh [BINARY]: runs the program on each script NAME.jsonl beside this file, and compares what it writes with NAME.stdout and
 # its status with that of the last line, or 0 where the last line has none. NAME.args has further words of the command line.
+# Then it asks the queries of make-wide.sh, where 1,000,000 tuples are answered and more are not.
 # BINARY is crates/emu/out/emu where it is not given. The last line says how many agreed; the status is 0 where all did.
 # check.sh --try compares what 'rt try' gives, in a minute or two: nothing is built and nothing is proved, and statuses are not looked at.
 begun=$PWD
@@ -42,6 +43,21 @@ for script in *.jsonl; do
         failed=$((failed + 1))
         echo "$name: status $status, wanted ${wanted:-0}; output, with what was wanted:"
         diff "$wrote" "$name.stdout"
+    fi
+done
+# For each query of a wide bundle: how many rows it has, or the rule that it is refused by.
+wide() {
+    sh ./make-wide.sh "$1" 1000 | "$binary" run |
+        awk 'NR > 2 { if (match($0, /"rule":"[A-Za-z]+"/)) print substr($0, RSTART + 8, RLENGTH - 9); else print gsub(/"labels"/, "") }' |
+        paste -s -d ' '
+}
+for row in "1000:1000 1000 1000" "1001:TooManyTuples 1000 1001"; do
+    found=$(wide "${row%%:*}")
+    if [ "$found" = "${row#*:}" ]; then
+        passed=$((passed + 1))
+    else
+        failed=$((failed + 1))
+        echo "make-wide.sh ${row%%:*} 1000: $found, wanted ${row#*:}"
     fi
 done
 echo "$passed agree, $failed do not"
