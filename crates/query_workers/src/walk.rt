@@ -1,10 +1,10 @@
 //! The rows of a query in each bundle of a version, bundle by bundle.
-ghost use Rattle.std.specs.Prelude.{◌≤◌, ◌×◌};
+ghost use Rattle.std.specs.Prelude.{◌≤◌};
 ghost use Rattle.bundle_state.specs.Built.{FitsConfig};
 ghost use Rattle.eql_resolve.specs.Sound.{IsResolvedBy};
 ghost use Rattle.eql_model.specs.Rows.{Answers};
 ghost use Rattle.version_tree.specs.Version.{state_of};
-ghost use Rattle.queryworkers.specs.Lists.{AddsRows, ListsRows};
+ghost use Rattle.query_workers.specs.Lists.{AddsRows, ListsRows};
 
 use crate::moving::move_rows;
 use bundle_index::Indexed;
