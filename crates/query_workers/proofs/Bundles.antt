@@ -1,7 +1,6 @@
 -- One bundle more of the segment list of a version.
 use Rattle.std.proofs.Common.{◌≡◌, ℕ, ◌+◌, Bool, true, false, ◌||◌, List, ◌∷◌, ◌++◌, drop, add-one, append_assoc, ap, ◌∙◌, sym, subst, Some, Err, slice_get}
 use Rattle.db_config.specs.declared.parts.ConfigParts.{ConfigParts}
-use Rattle.bundle_state.specs.Bundle.{BundleParts}
 use Rattle.bundle_index.specs.Index.{IndexParts}
 use Rattle.edit_rules.proofs.Spans.{drop_here}
 use Rattle.eql_resolve.specs.Asked.{AskedParts}

@@ -89,7 +89,8 @@ pub fn answer<R: Threads + Sync, G: Gate + Sync>(
     let mut rows = Vec::new(alloc);
     for place in 0..version.len() {
         gate.at(line, Moment::Piece(place as u32));
-        match add_bundle(alloc, &mut rows, config, version.at(place), asked) {
+        let indexed = version.at(place);
+        match add_bundle(alloc, &mut rows, config, indexed, asked) {
             Ok(()) => {}
             Err(fault) => return Err(fault),
         }
