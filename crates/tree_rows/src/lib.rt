@@ -1,7 +1,5 @@
-//! Versions of a database, through which many bundles go, and queries of them.
+//! Versions of a database, through which many bundles go.
 #![tactic(auto)]
 
-#[cfg(test)]
-mod answers;
 #[cfg(test)]
 mod versions;
