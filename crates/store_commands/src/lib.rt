@@ -2,11 +2,13 @@
 #![tactic(auto)]
 
 mod ask;
+mod causes;
 mod export;
 mod faults;
 mod history;
 mod note;
 mod print;
+mod values;
 
 pub use ask::ask_text;
 pub use export::export_text;
