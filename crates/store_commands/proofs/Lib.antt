@@ -1,3 +1,4 @@
 mod Ordered
 mod Printed
-mod Listed
+mod Segments
+mod Asks

@@ -1,5 +1,5 @@
--- How the program puts the members of a note, from the last one to the first. No public clause names it.
-use Rattle.std.specs.Prelude.{ℕ, List, Option, Some, None, codes}
+-- How the program makes the members of a note, from the last one to the first, and the line of a segment list.
+use Rattle.std.specs.Prelude.{ℕ, List, ◌++◌, Option, Some, None, codes, decimal}
 use Rattle.serde_json.specs.Data.{string, Members, put}
 use Rattle.store_commands.specs.declared.note.Note.{Note}
 use Rattle.store_commands.specs.Texts.{whole}
@@ -36,3 +36,7 @@ put_front n ms =
     put_whole (codes "at") n.at
     (put (codes "cause") (string n.cause)
     (put_whole (codes "entry") n.entry ms))
+
+-- what stands before the rows of a segment list
+abbrev pub head_text : ℕ → List ℕ
+head_text n = codes "{\"n\":" ++ (decimal n ++ codes ",\"segments\":")

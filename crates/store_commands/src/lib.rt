@@ -8,6 +8,7 @@ mod faults;
 mod history;
 mod note;
 mod print;
+mod segments;
 mod values;
 
 pub use ask::ask_text;

@@ -1,5 +1,7 @@
-//! Versions of a database, through which many bundles go.
+//! Versions of a database, through which many bundles go, and queries of them.
 #![tactic(auto)]
 
+#[cfg(test)]
+mod answers;
 #[cfg(test)]
 mod versions;

@@ -25,14 +25,14 @@ const COUNT: u32 = 10_000;
 static STEPS: [u32; 3] = [1, 9_999, 7_001];
 
 /// The configuration of the database.
-fn config_of(alloc: Global) -> Result<Config, Fail> {
+pub(crate) fn config_of(alloc: Global) -> Result<Config, Fail> {
     let value = Value::from_str(alloc, DATABASE)?;
     let view = View::root(alloc, &value)?;
     Ok(read_config(alloc, &view)?)
 }
 
 /// The key of a bundle, whose keys rise as the numbers do.
-fn key_of(alloc: Global, number: u32) -> Result<BundleKey, Fail> {
+pub(crate) fn key_of(alloc: Global, number: u32) -> Result<BundleKey, Fail> {
     let session = format!(in alloc; "s{:02}", number / 500)?;
     let bundle = format!(in alloc; "b{number:05}")?;
     Ok(BundleKey {
@@ -53,7 +53,12 @@ fn annot_of(alloc: Global) -> Result<Annot, Memory> {
 
 /// The bundle of an annotation.
 #[tactic(auto, using(bundle_state::proofs::Calling::fits_built))]
-fn built(alloc: Global, config: &Config, key: BundleKey, annot: &Annot) -> Result<Bundle, Fault>
+pub(crate) fn built(
+    alloc: Global,
+    config: &Config,
+    key: BundleKey,
+    annot: &Annot,
+) -> Result<Bundle, Fault>
     ensures { IfOk result (λ bundle. FitsConfig config.now bundle) }
 {
     Bundle::build(alloc, config, key, annot)
@@ -69,7 +74,7 @@ fn indexed(alloc: Global, config: &Config, number: u32) -> Result<Indexed, Fail>
 }
 
 /// The version with a bundle, where there is room.
-fn with(alloc: Global, version: &Version, indexed: Indexed) -> Result<Version, Memory>
+pub(crate) fn with(alloc: Global, version: &Version, indexed: Indexed) -> Result<Version, Memory>
     requires { FitsConfig version.now.config indexed.bundle }
 {
     if version.len() >= COUNT as usize {
