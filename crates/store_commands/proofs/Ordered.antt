@@ -25,27 +25,33 @@ taken Greater a b c e = absurd cc
 
 put_first : (k : List ℕ) (d : Data) (ms : Members) → goes_first k ms ≡ true → put k d ms ≡ member k d ms
 put_first k d no_members e = refl
-put_first k d (member l x ms) e = taken (slice_cmp nat_cmp k l) (member k d (member l x ms)) (member l d ms) (member l x (put k d ms)) e
+put_first k d (member l x ms) e = taken (slice_cmp nat_cmp k l) (member k d (member l x ms)) (member l d ms)
+    (member l x (put k d ms)) e
 
 -- an optional member in front
 
-whole_first : (k name : List ℕ) (o : Option ℕ) (ms : Members) → before k name ≡ true → goes_first k ms ≡ true → goes_first k (with_whole name o ms) ≡ true
+whole_first : (k name : List ℕ) (o : Option ℕ) (ms : Members) → before k name ≡ true → goes_first k ms ≡ true
+    → goes_first k (with_whole name o ms) ≡ true
 whole_first k name None ms lower first = first
 whole_first k name (Some n) ms lower first = lower
 
-text_first : (k name : List ℕ) (o : Option (List ℕ)) (ms : Members) → before k name ≡ true → goes_first k ms ≡ true → goes_first k (with_text name o ms) ≡ true
+text_first : (k name : List ℕ) (o : Option (List ℕ)) (ms : Members) → before k name ≡ true
+    → goes_first k ms ≡ true → goes_first k (with_text name o ms) ≡ true
 text_first k name None ms lower first = first
 text_first k name (Some t) ms lower first = lower
 
-whole_put : (name : List ℕ) (o : Option ℕ) (old ms : Members) → old ≡ ms → goes_first name ms ≡ true → put_whole name o old ≡ with_whole name o ms
+whole_put : (name : List ℕ) (o : Option ℕ) (old ms : Members) → old ≡ ms → goes_first name ms ≡ true
+    → put_whole name o old ≡ with_whole name o ms
 whole_put name None old ms same first = same
 whole_put name (Some n) old ms same first = ap (put name (whole n)) same ∙ put_first name (whole n) ms first
 
-text_put : (name : List ℕ) (o : Option (List ℕ)) (old ms : Members) → old ≡ ms → goes_first name ms ≡ true → put_text name o old ≡ with_text name o ms
+text_put : (name : List ℕ) (o : Option (List ℕ)) (old ms : Members) → old ≡ ms → goes_first name ms ≡ true
+    → put_text name o old ≡ with_text name o ms
 text_put name None old ms same first = same
 text_put name (Some t) old ms same first = ap (put name (string t)) same ∙ put_first name (string t) ms first
 
-member_put : (name : List ℕ) (d : Data) (old ms : Members) → old ≡ ms → goes_first name ms ≡ true → put name d old ≡ member name d ms
+member_put : (name : List ℕ) (d : Data) (old ms : Members) → old ≡ ms → goes_first name ms ≡ true
+    → put name d old ≡ member name d ms
 member_put name d old ms same first = ap (put name d) same ∙ put_first name d ms first
 
 -- the last members of a note, from each name on
@@ -82,31 +88,40 @@ from_entry n = with_whole (codes "entry") n.entry (from_file n)
 over_what : (k : List ℕ) (n : Note) → before k (codes "what") ≡ true → goes_first k (from_what n) ≡ true
 over_what k n what = text_first k (codes "what") n.what no_members what refl
 
-over_wanted : (k : List ℕ) (n : Note) → before k (codes "wanted") ≡ true → before k (codes "what") ≡ true → goes_first k (from_wanted n) ≡ true
+over_wanted : (k : List ℕ) (n : Note) → before k (codes "wanted") ≡ true → before k (codes "what") ≡ true
+    → goes_first k (from_wanted n) ≡ true
 over_wanted k n wanted what = text_first k (codes "wanted") n.wanted (from_what n) wanted (over_what k n what)
 
-over_tier : (k : List ℕ) (n : Note) → before k (codes "tier") ≡ true → before k (codes "wanted") ≡ true → before k (codes "what") ≡ true
+over_tier : (k : List ℕ) (n : Note) → before k (codes "tier") ≡ true → before k (codes "wanted") ≡ true
+    → before k (codes "what") ≡ true
     → goes_first k (from_tier n) ≡ true
-over_tier k n tier wanted what = whole_first k (codes "tier") n.tier (from_wanted n) tier (over_wanted k n wanted what)
+over_tier k n tier wanted what = whole_first k (codes "tier") n.tier (from_wanted n) tier
+    (over_wanted k n wanted what)
 
-over_path : (k : List ℕ) (n : Note) → before k (codes "path") ≡ true → before k (codes "status") ≡ true → goes_first k (from_path n) ≡ true
+over_path : (k : List ℕ) (n : Note) → before k (codes "path") ≡ true → before k (codes "status") ≡ true
+    → goes_first k (from_path n) ≡ true
 over_path k n path status = text_first k (codes "path") n.path (from_status n) path status
 
-over_name : (k : List ℕ) (n : Note) → before k (codes "name") ≡ true → before k (codes "path") ≡ true → before k (codes "status") ≡ true
+over_name : (k : List ℕ) (n : Note) → before k (codes "name") ≡ true → before k (codes "path") ≡ true
+    → before k (codes "status") ≡ true
     → goes_first k (from_name n) ≡ true
 over_name k n name path status = text_first k (codes "name") n.name (from_path n) name (over_path k n path status)
 
-over_id : (k : List ℕ) (n : Note) → before k (codes "id") ≡ true → before k (codes "name") ≡ true → before k (codes "path") ≡ true
+over_id : (k : List ℕ) (n : Note) → before k (codes "id") ≡ true → before k (codes "name") ≡ true
+    → before k (codes "path") ≡ true
     → before k (codes "status") ≡ true → goes_first k (from_id n) ≡ true
 over_id k n id name path status = whole_first k (codes "id") n.id (from_name n) id (over_name k n name path status)
 
-over_file : (k : List ℕ) (n : Note) → before k (codes "file") ≡ true → before k (codes "id") ≡ true → before k (codes "name") ≡ true
+over_file : (k : List ℕ) (n : Note) → before k (codes "file") ≡ true → before k (codes "id") ≡ true
+    → before k (codes "name") ≡ true
     → before k (codes "path") ≡ true → before k (codes "status") ≡ true → goes_first k (from_file n) ≡ true
 over_file k n file id name path status =
     text_first k (codes "file") n.file (from_id n) file (over_id k n id name path status)
 
-over_entry : (k : List ℕ) (n : Note) → before k (codes "entry") ≡ true → before k (codes "file") ≡ true → before k (codes "id") ≡ true
-    → before k (codes "name") ≡ true → before k (codes "path") ≡ true → before k (codes "status") ≡ true → goes_first k (from_entry n) ≡ true
+over_entry : (k : List ℕ) (n : Note) → before k (codes "entry") ≡ true → before k (codes "file") ≡ true
+    → before k (codes "id") ≡ true
+    → before k (codes "name") ≡ true → before k (codes "path") ≡ true → before k (codes "status") ≡ true
+    → goes_first k (from_entry n) ≡ true
 over_entry k n entry file id name path status =
     whole_first k (codes "entry") n.entry (from_file n) entry (over_file k n file id name path status)
 

@@ -16,7 +16,8 @@ in_pieces n rows = flat (codes "{\"n\":") (decimal n) (codes ",\"segments\":") (
 seam : (a b c d : List ℕ) → ((a ++ b) ++ c) ++ d ≡ a ++ (b ++ (c ++ d))
 seam a b c d = simp append_assoc
 
-pub written : (n : ℕ) (rows : List Row) (text o p q u r : List ℕ) → text ≡ u → o ≡ [] → p ≡ o ++ head_text n → q ≡ p ++ r → u ≡ q ++ codes "}\n"
+pub written : (n : ℕ) (rows : List Row) (text o p q u r : List ℕ) → text ≡ u → o ≡ [] → p ≡ o ++ head_text n
+    → q ≡ p ++ r → u ≡ q ++ codes "}\n"
     → r ≡ rows_text rows → text ≡ segments_text n rows
 written n rows text o p q u r is empty head rows_behind end printed =
     is ∙ end

@@ -108,6 +108,7 @@ fn prepared_text<R: Threads + Sync, G: Gate + Sync>(
 }
 
 /// The answer to what was made of a query's text.
+#[tactic(auto, using(crate::proofs::Asks::fault_told))]
 fn made_text<R: Threads + Sync, G: Gate + Sync>(
     rt: &R,
     alloc: Global,
@@ -133,6 +134,7 @@ fn made_text<R: Threads + Sync, G: Gate + Sync>(
 ///
 /// `time` is the name of the level of the times, where one is given. There are 1 to 8 workers. The gate is
 /// told line 0 before each bundle.
+#[tactic(auto, using(crate::proofs::Asks::made_is_told, crate::proofs::Asks::tells_asked))]
 pub fn ask_text<R: Threads + Sync, P: PatternMaker, G: Gate + Sync>(
     rt: &R,
     alloc: Global,
