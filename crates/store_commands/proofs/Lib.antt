@@ -1,4 +1,4 @@
 mod Ordered
 mod Printed
-mod Segments
+mod Pieces
 mod Asks

@@ -1,5 +1,5 @@
 //! The answer to a query over a store.
-ghost use Rattle.std.specs.Prelude.{◌≡◌, ◌×◌, ◌≤◌, IfOk, false};
+ghost use Rattle.std.specs.Prelude.{◌≡◌, ◌≤◌, IfOk, false};
 ghost use Rattle.std.specs.Option.{option_copied};
 ghost use Rattle.fault_counts.specs.Count.{RoseBy};
 ghost use Rattle.eql_resolve.specs.Resolve.{asked as asked_of};

@@ -1,5 +1,5 @@
 use Rattle.std.proofs.Common.{ℕ, List, ◌∙◌, string_bytes}
-use Rattle.store_commands.proofs.Segments.{written}
+use Rattle.store_commands.proofs.Pieces.{written}
 use Rattle.store_commands.proofs.segments.segments_line.Goals as goal
 
 pub returns : goal.returns
