@@ -1,5 +1,5 @@
 -- The line of a segment list, put together from its pieces.
-use Rattle.std.proofs.Common.{◌≡◌, ℕ, List, [], ◌∷◌, ◌++◌, codes, decimal, refl, ap, ◌∙◌, append_assoc}
+use Rattle.std.proofs.Common.{◌≡◌, ℕ, List, [], ◌∷◌, ◌++◌, codes, decimal, ap, ◌∙◌, append_assoc}
 use Rattle.json.specs.Print.{escape_byte}
 use Rattle.eql_model.specs.declared.row.Row.{Row}
 use Rattle.segment_list.specs.Texts.{rows_text}

@@ -1,6 +1,6 @@
 -- The text of a value that has no float, on a line of its own.
-use Rattle.std.proofs.Common.{◌≡◌, ℕ, List, Option, None, Some, false, refl, ap, codes, ◌∙◌}
-use Rattle.serde_json.specs.Data.{Data, Members, no_members}
+use Rattle.std.proofs.Common.{◌≡◌, ℕ, List, Option, None, Some, false, refl, ap, ◌∙◌}
+use Rattle.serde_json.specs.Data.{Data, Members}
 use Rattle.serde_json.specs.Written.{has_float, members_have_float}
 use Rattle.edit_rules.specs.declared.edit.Entry.{Entry}
 use Rattle.store_commands.specs.declared.note.Note.{Note}

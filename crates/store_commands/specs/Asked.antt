@@ -1,5 +1,5 @@
 -- What a query of a store is answered.
-use Rattle.std.specs.Prelude.{◌≡◌, ◌≤◌, ℕ, List, [], Option, Result, Ok, Err}
+use Rattle.std.specs.Prelude.{◌≤◌, ℕ, List, [], Option, Result, Ok, Err}
 use Rattle.fault_counts.specs.Count.{RoseBy}
 use Rattle.session_core.specs.declared.line.Answer.{Answer}
 use Rattle.session_core.specs.declared.line.Answer.TheVariants as answers

@@ -1,5 +1,5 @@
 -- What a maker of patterns made of the text of a query (EMU-SDMS Manual, "The EMU Query Language (EQL)").
-use Rattle.std.specs.Prelude.{◌≡◌, ◌≢◌, ℕ, Bool, true, false, List, Option, Some, Result, Ok, Err, if◌then◌else◌}
+use Rattle.std.specs.Prelude.{◌≡◌, ◌≢◌, ℕ, Bool, true, false, List, Some, Result, Ok, Err, if◌then◌else◌}
 use Rattle.std.specs.List.{list_all, position}
 use Rattle.label_match.specs.Pattern.{are_patterns}
 use Rattle.eql_syntax.specs.declared.query.QueryFault.TheVariants as queries

@@ -1,5 +1,5 @@
 -- Notes of one, two or three members.
-use Rattle.std.specs.Prelude.{ℕ, List, Option, Some, None}
+use Rattle.std.specs.Prelude.{ℕ, List, Some, None}
 use Rattle.store_commands.specs.declared.note.Note.{Note}
 
 -- a cause that says no more

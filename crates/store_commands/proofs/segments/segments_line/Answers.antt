@@ -1,4 +1,4 @@
-use Rattle.std.proofs.Common.{ℕ, List, ◌∙◌, string_bytes}
+use Rattle.std.proofs.Common.{◌∙◌, string_bytes}
 use Rattle.store_commands.proofs.Pieces.{written}
 use Rattle.store_commands.proofs.segments.segments_line.Goals as goal
 
