@@ -1,0 +1,8 @@
+mod HeadCodes
+mod States
+mod Codes
+mod Changes
+mod Storing
+mod Showing
+mod Committing
+mod Stores
