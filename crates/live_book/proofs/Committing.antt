@@ -174,7 +174,7 @@ module _ {D : Type 0} (may_leave : D → List ℕ → Type 0) where
           held = (None, subst (λ (k : ConfigParts). KeepsIn may_leave k more None new) (sym own) keeps);
         }))
 
--- A refusal before the disk is called.
+  -- A refusal before the disk is called.
   pub refused_commits : (moment : D → ℕ) (left_since : D → ℕ → List ℕ → Type 0) (faults : D → ℕ) (only_now : (disk : D) (c : List ℕ) → left_since disk (moment disk) c → may_leave disk c) (book : BookParts D) (next : Entry) (fault : EditFault)
       → IsAnswer (has_journal book.journal) book.config book.history next (Err fault) → (IsErrOf {T = ℕ} (Err fault) edit_faults.Disk → ⊥) → Commits may_leave moment left_since faults book next (Err fault) book
   refused_commits moment left_since faults only_now book next fault right not = record {

@@ -5,4 +5,6 @@ mod Changes
 mod Storing
 mod Showing
 mod Committing
+mod Readings
+mod FirstBooks
 mod Stores

@@ -154,12 +154,7 @@ fn make_ready<D: Disk>(
 }
 
 /// Publishes the next version, and keeps it.
-fn show<D: Disk, R: Wait>(
-    rt: &R,
-    parts: &mut Parts<D>,
-    next: Arc<Published>,
-    kept: Arc<Published>,
-)
+fn show<D: Disk, R: Wait>(rt: &R, parts: &mut Parts<D>, next: Arc<Published>, kept: Arc<Published>)
     requires number { suc parts.old.publisher.number ≡ length parts.old.entries }
     ensures current { parts.new.current ≡ kept }
     ensures entries { parts.new.entries ≡ parts.old.entries }
@@ -216,11 +211,7 @@ fn enter<D: Disk>(
 
 /// Stores an entry for which all is ready, and publishes its version. Where the disk fails, all is as
 /// before.
-fn put<D: Disk, R: Wait>(
-    rt: &R,
-    parts: &mut Parts<D>,
-    ready: Ready,
-) -> Result<u64, EditFault>
+fn put<D: Disk, R: Wait>(rt: &R, parts: &mut Parts<D>, ready: Ready) -> Result<u64, EditFault>
     requires book { IsBook D.may_leave parts.old }
     requires ready { IsReady parts.old.journal (config_in parts.old) parts.old.entries ready }
     requires welcome { IsWelcome (has_journal parts.old.journal) (config_in parts.old)

@@ -5,8 +5,8 @@
 mod book;
 mod commit;
 mod fault;
-mod next;
 mod making;
+mod next;
 mod opening;
 mod parts;
 mod published;
@@ -14,8 +14,7 @@ mod replay;
 mod store;
 
 pub use book::Book;
-pub use making::{MadeBook, NoBook, new_book};
 pub use fault::{EditFault, OpenFault};
+pub use making::{MadeBook, NoBook, new_book};
 pub use opening::{NoStore, Opened, open_store};
 pub use published::Published;
-

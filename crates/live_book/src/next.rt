@@ -72,11 +72,7 @@ fn without_bundle(alloc: Global, version: &Version, edit: &Edit) -> Result<Versi
 
 /// The version behind one more edit, or the rule that it breaks first, or want of memory.
 #[tactic(auto, using(crate::proofs::Changes::first_fault))]
-pub(crate) fn next_version(
-    alloc: Global,
-    version: &Version,
-    edit: &Edit,
-) -> Result<Version, Fault>
+pub(crate) fn next_version(alloc: Global, version: &Version, edit: &Edit) -> Result<Version, Fault>
     requires { KeepsDatabaseRules (state_of version.now) }
     ensures state { IfOk result (λ next.
         effect (state_of version.now) edit.now ≡ Ok (state_of next)) }

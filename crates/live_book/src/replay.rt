@@ -60,7 +60,7 @@ fn add(alloc: Global, replayed: &mut Replayed, body: &Body) -> Result<(), OpenFa
         → OnOk result (IsReplay config (texts ++ body.now.bytes ∷ []) replayed.new) }
     ensures err { (config : ConfigParts) (texts : List (List ℕ)) → IsReplay config texts replayed.old
         → IfErr result (λ fault. IsWrong (λ at.
-            (at ≡ body.now.at) × IsNoNext config replayed.old.entries body.now.bytes) fault) }
+        (at ≡ body.now.at) × IsNoNext config replayed.old.entries body.now.bytes) fault) }
 {
     if replayed.entries.len() >= HISTORY_EDITS {
         return Err(OpenFault::Damaged(body.at));
