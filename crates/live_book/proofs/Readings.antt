@@ -131,11 +131,11 @@ wrong_in config head rest at code w = record {
   behind = w.behind;
   split = ap (λ (l : List Body). head ∷ l) w.split;
   place = w.place;
-  is_wrong = (config, (w.entries, (record { is_head = code; are_entries = w.read; is_history = w.history }, w.no_next)));
+  is_wrong = (config, w.entries, record { is_head = code; are_entries = w.read; is_history = w.history }, w.no_next);
 }
 
 pub wrong_head : (head : Body) (rest : List Body) (at : ℕ) → at ≡ head.at → IsNoHead head.bytes → IsWrongIn (head ∷ rest) at
-wrong_head head rest at place no = record { front = []; wrong = head; behind = rest; split = refl; place = place; is_wrong = no }
+wrong_head head rest at place none_is = record { front = []; wrong = head; behind = rest; split = refl; place = place; is_wrong = none_is }
 
 -- The bodies of a loop.
 

@@ -59,7 +59,7 @@ module _ {D : Type 0} (may_leave : D → List ℕ → Type 0) where
       subst (IsStorable book.config) all (subst (λ (c : ConfigParts). IsStorable c replayed.entries) own (replay_storable config texts replayed is head code)) in
       let codes : head ∷ texts ≡ codes_of book.config book.history =
       replay_codes config texts replayed is head code ∙ ap (λ (c : ConfigParts). codes_of c replayed.entries) own ∙ ap (codes_of book.config) all in
-      (storable, (codes, (opened.2 ∙ ap length all, (opened.3, opened.4))))
+      (storable, codes, opened.2 ∙ ap length all, opened.3, opened.4)
 
   pub opened_as : (reads : Option (List ℕ)) (found : List Body) (old : Journal D) (readers : ℕ) → Reads reads (Ok found) → found ≡ placed 8 (texts_of found) → Holds may_leave (texts_of found) None old → (book : Option (BookParts D)) (journal : Option (Journal D)) (passes : List (Front Published))
       → IsOpenedOver may_leave (texts_of found) old readers book journal passes → IsOpenedAs may_leave reads readers book journal passes
@@ -69,7 +69,7 @@ module _ {D : Type 0} (may_leave : D → List ℕ → Type 0) where
       let stands : StandsFor (codes_of book.config book.history) read.0 = subst (λ (t : List (List ℕ)). StandsFor t read.0) opened.1 (read.2 ∙ ap Ok places) in
       let kept : KeepsIn may_leave book.config book.history None book.journal =
       subst (KeepsIn may_leave book.config book.history None) (sym opened.3) (opened_keeps book.config book.history (texts_of found) old opened.0 opened.1 holds) in
-      ((read.0, (read.1, record { storable = opened.0; stands = stands })), (opened.2, (kept, (ap has_journal opened.3, opened.4))))
+      ((read.0, read.1, record { storable = opened.0; stands = stands }), opened.2, kept, ap has_journal opened.3, opened.4)
 
 -- damage among the bodies
 pub wrong_at : (c : List ℕ) (found : List Body) (at : ℕ) → bodies c ≡ Ok found → IsWrongIn found at → IsDamagedAt c at
