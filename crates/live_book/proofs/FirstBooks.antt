@@ -18,7 +18,7 @@ use Rattle.edit_journal.specs.declared.journal.Journal.{Journal}
 use Rattle.edit_journal.specs.Store.{limit, start, bodies, placed, StandsFor}
 use Rattle.edit_journal.specs.Held.{disk_of, texts_of, Holds, MayHave, DuringAppend, LeavesIn, Reads, Tells}
 use Rattle.edit_journal.specs.Held.{PassesLimit as PassesJournal, IsAsBefore as IsJournalAsBefore}
-use Rattle.edit_journal.proofs.Found.{texts_of-push}
+use Rattle.edit_journal.proofs.Kept.{stands_may}
 use Rattle.version_gate.specs.declared.entry.Entry.{Entry as Numbered}
 use Rattle.version_gate.specs.Lists.{Front, Board, entry}
 use Rattle.version_tree.specs.Version.{VersionParts, state_of, next_number, first_version}
@@ -28,9 +28,9 @@ use Rattle.live_book.specs.declared.published.Published.{Published}
 use Rattle.live_book.specs.declared.replay.Replayed.{Replayed}
 use Rattle.live_book.specs.Histories.{codes_of, head_size, AreCoded, AreEntryCodes, HeadPassesLimit, IsBare, IsBrokenEntry, IsCoded, IsDamagedAt, IsHistory, IsNoEntry, IsNoHead, IsNoNext, IsStorable, IsWrongBehind, OfRead, Stands}
 use Rattle.live_book.specs.Published.{IsStateAfter, IsShown, AreShown}
-use Rattle.live_book.specs.Kept.{BookParts, Holding, IsBookOf, Keeps, KeepsIn}
+use Rattle.live_book.specs.Kept.{BookParts, CrashLeaves, Holding, IsBookOf, Keeps, KeepsIn}
 use Rattle.live_book.specs.Commits.{has_journal, HasRoom}
-use Rattle.live_book.specs.Opens.{AreAtFront, DuringNew, IsEmptyOrLost, IsHeadTooMuch, IsOpenedAs, IsReplay, IsWrong, IsWrongIn}
+use Rattle.live_book.specs.Opens.{AreAtFront, DuringNew, IsEmpty, IsEmptyOrLost, IsHeadTooMuch, IsOpenedAs, IsReplay, IsWrong, IsWrongIn}
 use Rattle.live_book.specs.Prepared.{IsHistoryOf, IsOpenedBook, IsOpenedOver, IsTest, IsWrongTail}
 use Rattle.live_book.proofs.HeadCodes.{entry_is, head_is}
 use Rattle.live_book.proofs.States.{next_state, edited_as}
@@ -84,6 +84,12 @@ module _ {D : Type 0} (may_leave : D → List ℕ → Type 0) where
     head_leaves moment left_since old leaves =
         weaker moment left_since (disk_of old) (disk_of new) (DuringAppend [] None body) (DuringNew config)
         (λ c has. ⊎_elim (λ bare. inl bare) (λ stands. inr (record { storable = new_storable config code; stands = subst (λ (b : List ℕ). StandsFor (b ∷ []) c) is stands })) has) leaves
+
+  -- where the disk is not called
+  pub still_bare : (moment : D → ℕ) (left_since : D → ℕ → List ℕ → Type 0) (only_now : (disk : D) (c : List ℕ) → left_since disk (moment disk) c → may_leave disk c) (journal : Option (Journal D)) → IsEmpty may_leave journal → CrashLeaves moment left_since journal journal IsBare
+  still_bare moment left_since only_now None empty = tt
+  still_bare moment left_since only_now (Some journal) empty =
+      started moment left_since (disk_of journal) IsBare (λ c left. stands_may may_leave [] None journal empty c (only_now (disk_of journal) c left))
 
 -- the limit, tested before the disk is called
 head_over : (t : Bool) (config : ConfigParts) (end len : ℕ) → t ≡ nat_lt (limit - end) (6 + len) → end ≡ length (start []) → end ≤ limit → len ≡ head_size config → IsTest t (IsHeadTooMuch true config)

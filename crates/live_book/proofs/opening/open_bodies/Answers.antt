@@ -7,12 +7,15 @@ use Rattle.live_book.proofs.Stores.{opened_from}
 use Rattle.live_book.proofs.opening.open_bodies.Goals as goal
 
 pub open_replayed-requires-clause-kept : goal.open_replayed-requires-clause-kept
-open_replayed-requires-clause-kept g c = (texts_of c.args.bodies.now, c.in-Ok.ensures.ok, c.requires.holds)
+open_replayed-requires-clause-kept g c =
+    let history = rw c.as_slice.ensures at c.in-Ok.ensures.ok in
+    (texts_of c.args.bodies.now, history, c.requires.holds)
 
 pub returns-in-Ok-clause-ok : goal.returns-in-Ok-clause-ok
 returns-in-Ok-clause-ok g c =
+    let history = rw c.as_slice.ensures at c.in-Ok.ensures.ok in
     IfOk-weaker c.open_replayed.result _ _
-    (λ o is. opened_from g.D.Disk.may_leave (texts_of c.args.bodies.now) c.args.journal c.in-Ok.replayed c.args.readers c.in-Ok.ensures.ok o.book o.journal o.passes is)
+    (λ o is. opened_from g.D.Disk.may_leave (texts_of c.args.bodies.now) c.args.journal c.in-Ok.replayed c.args.readers history o.book o.journal o.passes is)
     c.open_replayed.ensures.ok
 
 pub returns-in-Ok-clause-err : goal.returns-in-Ok-clause-err
