@@ -1,0 +1,6 @@
+mod Codes
+mod Changes
+mod Storing
+mod Showing
+mod Committing
+mod Stores
