@@ -4,3 +4,4 @@ mod Storing
 mod Showing
 mod Committing
 mod Stores
+mod Answering
