@@ -8,6 +8,7 @@ use Rattle.edit_journal.specs.declared.journal.Journal.{Journal}
 use Rattle.logbook.specs.Pages.{Book as GateName}
 use Rattle.version_gate.specs.declared.entry.Entry.{Entry as Numbered}
 use Rattle.version_gate.specs.Lists.{entry}
+use Rattle.version_tree.specs.Version.{VersionParts}
 use Rattle.live_book.specs.declared.fault.EditFault.{EditFault}
 use Rattle.live_book.specs.declared.fault.EditFault.TheVariants as edit_faults
 use Rattle.live_book.specs.declared.published.Published.{Published}
@@ -62,6 +63,14 @@ module _ {D : Type 0} (may_leave : D → List ℕ → Type 0) (moment : D → �
     disk = λ is. disk (disk_as fault is);
   }
 
+  -- the same where the entries are those from before by an equation alone
+  abbrev pub over_entries : List Entry → BookParts D
+  over_entries entries = record { config = old.config; history = entries; opened = old.opened; journal = journal; gate = old.gate; list = old.list }
+
+  pub same_history : (fault : EditFault) (entries : List Entry) → entries ≡ old.history → Commits may_leave moment left_since faults old next (Err fault) over_journal
+      → Commits may_leave moment left_since faults old next (Err fault) (over_entries entries)
+  same_history fault entries same commits = subst (λ (l : List Entry). Commits may_leave moment left_since faults old next (Err fault) (over_entries l)) (sym same) commits
+
   pub accepted_commits : (n : ℕ) (version : Published) (new : BookParts D) → n ≡ length new.history → new.history ≡ old.history ++ next ∷ [] → new.config ≡ old.config → new.opened ≡ old.opened
       → new.gate ≡ old.gate → new.list ≡ old.list ++ entry (length new.history) version ∷ [] → new.journal ≡ journal
       → IsWelcome (has_journal old.journal) old.config old.history next → MayFollowIn old.journal old.config old.history next
@@ -81,6 +90,15 @@ module _ {D : Type 0} (may_leave : D → List ℕ → Type 0) (moment : D → �
     disk = λ is. absurd cc;
   }
 
--- a name for `put`
-pub still_answers : (n : ℕ) → n ≡ n
-still_answers n = refl
+-- Refusals that are not the disk's.
+
+abbrev none_made : EditFault → Result VersionParts EditFault
+none_made fault = Err fault
+
+pub no_disk_as : (fault : EditFault) → (IsErrOf (none_made fault) edit_faults.Disk → ⊥) → IsErrOf {T = ℕ} (Err fault) edit_faults.Disk → ⊥
+no_disk_as fault not is =
+    let same : fault ≡ edit_faults.Disk = cc in
+    not (ap none_made same)
+
+pub memory_is_none : IsErrOf {T = ℕ} (Err edit_faults.Memory) edit_faults.Disk → ⊥
+memory_is_none is = absurd cc

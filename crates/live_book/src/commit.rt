@@ -210,7 +210,6 @@ fn enter<D: Disk>(
 
 /// Stores an entry for which all is ready, and publishes its version. Where the disk fails, all is as
 /// before.
-#[tactic(auto, using(crate::proofs::Answering::still_answers))]
 fn put<D: Disk, R: Wait>(rt: &R, parts: &mut Parts<D>, ready: Ready) -> Result<u64, EditFault>
     requires book { IsBook D.may_leave parts.old }
     requires ready { IsReady parts.old.journal (config_in parts.old) parts.old.entries ready }
