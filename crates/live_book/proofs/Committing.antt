@@ -1,7 +1,10 @@
 -- What a commit owes: the checks before the disk is called, and the book behind each answer.
 use Rattle.std.proofs.Common.{◌≡◌, ◌⊎◌, inl, inr, ⊎_elim, true, false, Bool, ℕ, suc, ◌+◌, ◌-◌, ◌^◌, ◌<◌, ◌≤◌, min, List, [], ◌∷◌, ◌++◌, length, take, drop, Option, None, Some, Result, Ok, Err, OnOk, OnErr, IsErrOf, IsTrue, refl, sym, ◌∙◌, ap, subst, arith, length-append, append_assoc, take-append-drop}
 use Rattle.std.specs.Arc.{arc_value}
+use Rattle.std.specs.List.{slice_get}
 use Rattle.std.proofs.lemmas.List.{take-append-le, drop-append-le}
+use Rattle.std.proofs.lemmas.Option.{slice_get-get_or}
+use Rattle.std.proofs.Math.Seq.{get_or-append_seam, take-append_seam}
 use Rattle.fault_counts.specs.Count.{Rose}
 use Rattle.emu_names.specs.declared.limits.TheConstants.{HISTORY_EDITS}
 use Rattle.emu_names.specs.declared.rules.Broken.{Broken}
@@ -57,12 +60,37 @@ module _ (config : ConfigParts) (history : List Entry) (next : Entry) (version :
 
   -- a refusal by a rule
   pub refused : (stored : Bool) (fault : Fault) (n : ℕ) → n ≡ length history → HasRoom history → IsFirstFault fault (effect (state_of version) next.edit) → IsAnswer stored config history next (Err (refusal_of fault n))
-  refused stored (faults.Broken rule) n is room broken = (is, (room, edited_as (Err rule) broken))
+  refused stored (faults.Broken rule) n is room broken = (is, room, edited_as (Err rule) broken)
   refused stored faults.Memory n is room broken = tt
 
 pub no_disk : (fault : Fault) (n : ℕ) → IsErrOf {T = ℕ} (Err (refusal_of fault n)) edit_faults.Disk → ⊥
 no_disk (faults.Broken rule) n is = absurd cc
 no_disk faults.Memory n is = absurd cc
+
+-- the store is full
+pub store_full : (stored : Bool) (config : ConfigParts) (history : List Entry) (next : Entry) (n : ℕ) → n ≡ length history → HasRoom history → BreaksNone config history next.edit → IsTooMuch stored config history next
+    → IsAnswer stored config history next (Err (edit_faults.StoreFull n))
+store_full stored config history next n is room none much = (is, room, none, much)
+
+-- The list of entries, with one entry more and without it again.
+
+pub last_is : (xs ys : List Entry) (e y : Entry) (n : ℕ) → ys ≡ xs ++ e ∷ [] → n ≡ length xs → slice_get ys n ≡ Some y → y ≡ e
+last_is xs ys e y n is place got =
+    let at : slice_get (xs ++ e ∷ []) (length xs) ≡ Some y = subst (λ (l : List Entry). slice_get l (length xs) ≡ Some y) is (subst (λ (k : ℕ). slice_get ys k ≡ Some y) place got) in
+    let there : slice_get (xs ++ e ∷ []) (length xs) ≡ Some e = slice_get-get_or (xs ++ e ∷ []) (length xs) e (omega (arith, length-append xs (e ∷ []))) ∙ ap (λ (x : Entry). Some x) (get_or-append_seam xs e [] e) in
+    let both : Some y ≡ Some e = sym at ∙ there in
+    cc
+
+pub cut_back : (xs ys zs : List Entry) (e : Entry) (n : ℕ) → ys ≡ xs ++ e ∷ [] → n ≡ length xs → zs ≡ take n ys → zs ≡ xs
+cut_back xs ys zs e n is place cut =
+    cut ∙ ap (λ (l : List Entry). take n l) is ∙ ap (λ (k : ℕ). take k (xs ++ e ∷ [])) place ∙ take-append_seam xs (e ∷ [])
+
+pub longer : (xs ys : List Entry) (e : Entry) (n : ℕ) → ys ≡ xs ++ e ∷ [] → n ≡ length xs → n < length ys
+longer xs ys e n is place = omega (arith, ap (λ (l : List Entry). length l) is, place, length-append xs (e ∷ []))
+
+pub on_any : (r : Result (Unit {0}) EditFault) (P : Type 0) → P → OnErr r P
+on_any (Ok v) P is = tt
+on_any (Err fault) P is = is
 
 -- The journal.
 
@@ -85,8 +113,8 @@ module _ {D : Type 0} (may_leave : D → List ℕ → Type 0) where
 pub ok_moment : (config : ConfigParts) (history : List Entry) (lost : Option Entry) (next : Entry) (c : List ℕ) → DuringStore config history lost next c → DuringCommit {T = Unit {0}} (Ok tt) config history lost next c
 ok_moment config history lost next c has = ⊎_elim (λ before. inl before) (λ more. inr (tt, more)) has
 
-pub disk_moment : {T : Type 0} (config : ConfigParts) (history : List Entry) (lost : Option Entry) (next : Entry) (c : List ℕ) → DuringStore config history lost next c → DuringCommit {T = T} (Err edit_faults.Disk) config history lost next c
-disk_moment config history lost next c has = ⊎_elim (λ before. inl before) (λ more. inr (tt, more)) has
+pub disk_moment : (T : Type 0) (config : ConfigParts) (history : List Entry) (lost : Option Entry) (next : Entry) (c : List ℕ) → DuringStore config history lost next c → DuringCommit {T = T} (Err edit_faults.Disk) config history lost next c
+disk_moment T config history lost next c has = ⊎_elim (λ before. inl before) (λ more. inr (tt, more)) has
 
 -- Behind an answer.
 

@@ -8,3 +8,4 @@ mod Committing
 mod Readings
 mod FirstBooks
 mod Stores
+mod Answering

@@ -102,7 +102,7 @@ fn published_twice(
 }
 
 /// The next version, where nothing but want of memory or a fault of the disk refuses an entry.
-#[tactic(auto, using(crate::proofs::Committing::state_keeps, crate::proofs::Committing::some_history, crate::proofs::Committing::refused, crate::proofs::Committing::no_disk, crate::proofs::Committing::breaks_none, crate::proofs::Committing::next_state))]
+#[tactic(auto, using(crate::proofs::Committing::some_history, crate::proofs::Committing::no_disk))]
 fn tested<D: Disk>(alloc: Global, parts: &Parts<D>, entry: &Entry) -> Result<Version, EditFault>
     requires { IsBook D.may_leave parts.now }
     ensures welcome { OnOk result (
@@ -172,7 +172,6 @@ fn show<D: Disk, R: Wait>(rt: &R, parts: &mut Parts<D>, next: Arc<Published>, ke
 }
 
 /// Puts an entry behind the history and into the store, or into neither.
-#[tactic(auto, using(crate::proofs::Committing::ok_moment, crate::proofs::Committing::disk_moment, crate::proofs::Committing::crash_weaker, crate::proofs::Committing::unchanged, crate::proofs::Storing::quiet))]
 fn enter<D: Disk>(
     entries: &mut Entries,
     journal: &mut Option<Journal<D>>,

@@ -38,7 +38,7 @@ fn change_in(alloc: Global, version: &Version, edit: &Edit) -> Result<Option<Bun
 }
 
 /// The version with the bundle that an edit made.
-#[tactic(auto, using(crate::proofs::Changes::made_fits, crate::proofs::Changes::made_room, crate::proofs::Changes::put_effect))]
+
 fn with_bundle(
     alloc: Global,
     version: &Version,
