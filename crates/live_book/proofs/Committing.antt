@@ -107,9 +107,6 @@ module _ {D : Type 0} (may_leave : D → List ℕ → Type 0) where
   crash_weaker moment left_since (Some old) None P Q change leaves = absurd leaves
   crash_weaker moment left_since (Some old) (Some new) P Q change leaves = weaker moment left_since (disk_of old) (disk_of new) P Q change leaves
 
-  pub unchanged : (config : ConfigParts) (history : List Entry) (lost : Option Entry) (next : Entry) (old new : Option (Journal D)) → new ≡ old → KeepsIn may_leave config history lost old → IsAsBefore may_leave config history lost next new
-  unchanged config history lost next old new same keeps = record { left = lost; keeps = subst (KeepsIn may_leave config history lost) (sym same) keeps; which = inr (inl refl) }
-
 pub ok_moment : (config : ConfigParts) (history : List Entry) (lost : Option Entry) (next : Entry) (c : List ℕ) → DuringStore config history lost next c → DuringCommit {T = Unit {0}} (Ok tt) config history lost next c
 ok_moment config history lost next c has = ⊎_elim (λ before. inl before) (λ more. inr (tt, more)) has
 
