@@ -1,12 +1,9 @@
 -- What a commit promises behind the try to store its entry.
-use Rattle.std.proofs.Common.{◌≡◌, ◌⊎◌, inl, inr, ⊎_elim, ℕ, suc, ◌≤◌, List, [], ◌∷◌, ◌++◌, length, Option, None, Some, Result, Ok, Err, IsErrOf, true, Bool, refl, sym, ◌∙◌, ap, subst, arith, length-append}
-use Rattle.std.specs.Arc.{arc_value}
+use Rattle.std.proofs.Common.{◌≡◌, ◌⊎◌, inl, inr, ⊎_elim, ℕ, ◌≤◌, List, [], ◌∷◌, ◌++◌, length, Option, None, Result, Ok, Err, IsErrOf, true, refl, sym, ◌∙◌, ap, subst, arith, length-append}
 use Rattle.fault_counts.specs.Count.{Rose}
 use Rattle.db_config.specs.declared.parts.ConfigParts.{ConfigParts}
 use Rattle.edit_rules.specs.declared.edit.Entry.{Entry}
 use Rattle.edit_journal.specs.declared.journal.Journal.{Journal}
-use Rattle.logbook.specs.Pages.{Book as GateName}
-use Rattle.version_gate.specs.declared.entry.Entry.{Entry as Numbered}
 use Rattle.version_gate.specs.Lists.{entry}
 use Rattle.version_tree.specs.Version.{VersionParts}
 use Rattle.live_book.specs.declared.fault.EditFault.{EditFault}

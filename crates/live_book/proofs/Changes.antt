@@ -1,5 +1,5 @@
 -- The version behind one more edit.
-use Rattle.std.proofs.Common.{◌≡◌, ◌<◌, true, false, Bool, ℕ, List, [], ◌∷◌, length, map, Option, None, Some, Result, Ok, Err, refl, sym, ◌∙◌, ap, subst, cond}
+use Rattle.std.proofs.Common.{◌≡◌, ◌<◌, true, false, Bool, ℕ, List, [], ◌∷◌, length, Option, None, Some, Result, Ok, Err, refl, sym, ◌∙◌, ap, subst, cond}
 use Rattle.std.proofs.lemmas.List.{length-map}
 use Rattle.emu_names.specs.Gives.{GivesOrBroken}
 use Rattle.emu_names.specs.declared.limits.TheConstants.{BUNDLES}
@@ -23,7 +23,7 @@ use Rattle.edit_rules.specs.declared.edit.Edit.{Edit}
 use Rattle.edit_rules.specs.declared.edit.Edit.TheVariants as edits
 use Rattle.edit_rules.specs.Edits.{key_of}
 use Rattle.edit_rules.specs.Changes.{changed, missing_changed, bundle_added, unless_too_many}
-use Rattle.edit_rules.specs.Database.{DatabaseParts, same_key, bundle_with, counts_of, with_bundles, put_for, KeepsDatabaseRules}
+use Rattle.edit_rules.specs.Database.{DatabaseParts, same_key, bundle_with, counts_of, KeepsDatabaseRules}
 use Rattle.edit_rules.specs.Effects.{effect, put_back, IsFirstFault}
 use Rattle.edit_rules.proofs.Stays.{IsStored, changed_stored, old_is, limit_before, limit_passed}
 use Rattle.version_tree.specs.Version.{VersionParts, state_of, state_put, bundles_of, indexed_with}

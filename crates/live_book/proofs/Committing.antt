@@ -1,66 +1,43 @@
 -- What a commit owes: the checks before the disk is called, and the book behind each answer.
-use Rattle.std.proofs.Common.{◌≡◌, ◌⊎◌, inl, inr, ⊎_elim, true, false, Bool, ℕ, suc, ◌+◌, ◌-◌, ◌^◌, ◌<◌, ◌≤◌, min, List, [], ◌∷◌, ◌++◌, length, take, drop, Option, None, Some, Result, Ok, Err, OnOk, OnErr, IsErrOf, IsTrue, refl, sym, ◌∙◌, ap, subst, arith, length-append, append_assoc, take-append-drop}
+use Rattle.std.proofs.Common.{◌≡◌, ◌⊎◌, inl, inr, ⊎_elim, true, Bool, ℕ, ◌+◌, ◌<◌, List, [], ◌∷◌, ◌++◌, length, take, drop, Option, None, Some, Result, Ok, Err, OnErr, IsErrOf, IsTrue, refl, sym, ◌∙◌, ap, subst, arith, length-append, take-append-drop}
 use Rattle.std.specs.Arc.{arc_value}
 use Rattle.std.specs.List.{slice_get}
 use Rattle.std.proofs.lemmas.List.{take-append-le, drop-append-le}
 use Rattle.std.proofs.lemmas.Option.{slice_get-get_or}
 use Rattle.std.proofs.Math.Seq.{get_or-append_seam, take-append_seam}
-use Rattle.fault_counts.specs.Count.{Rose}
-use Rattle.emu_names.specs.declared.limits.TheConstants.{HISTORY_EDITS}
-use Rattle.emu_names.specs.declared.rules.Broken.{Broken}
 use Rattle.emu_names.specs.declared.rules.Fault.{Fault}
 use Rattle.emu_names.specs.declared.rules.Fault.TheVariants as faults
 use Rattle.db_config.specs.declared.parts.ConfigParts.{ConfigParts}
 use Rattle.db_config.specs.Valid.{is_valid}
-use Rattle.bundle_state.specs.Linked.{onward}
-use Rattle.edit_rules.specs.declared.edit.Edit.{Edit}
 use Rattle.edit_rules.specs.declared.edit.Entry.{Entry}
-use Rattle.edit_rules.specs.Database.{DatabaseParts, empty_database, KeepsDatabaseRules}
-use Rattle.edit_rules.specs.Effects.{effect, after, edited, found_or, IsFirstFault}
-use Rattle.edit_rules.proofs.Replay.{legal_keeps, replay_goes_on}
-use Rattle.emu_disk.specs.Disk.{LeavesOnly}
+use Rattle.edit_rules.specs.Effects.{effect, IsFirstFault}
 use Rattle.emu_disk.proofs.Moments.{weaker}
 use Rattle.edit_journal.specs.declared.journal.Journal.{Journal}
 use Rattle.edit_journal.specs.Held.{disk_of}
 use Rattle.version_gate.specs.declared.entry.Entry.{Entry as Numbered}
-use Rattle.version_gate.specs.Lists.{Board, EndsIn, entry}
-use Rattle.version_tree.specs.Version.{VersionParts, state_of, next_number}
+use Rattle.version_gate.specs.Lists.{Board, entry}
+use Rattle.version_tree.specs.Version.{VersionParts, state_of}
 use Rattle.live_book.specs.declared.commit.Ready.{Ready}
 use Rattle.live_book.specs.declared.fault.EditFault.{EditFault}
 use Rattle.live_book.specs.declared.fault.EditFault.TheVariants as edit_faults
 use Rattle.live_book.specs.declared.published.Published.{Published}
-use Rattle.live_book.specs.Histories.{IsHistory, IsCoded}
 use Rattle.live_book.specs.Published.{IsStateAfter, IsShown, AreShown}
-use Rattle.live_book.specs.Kept.{BookParts, MayFollow, KeepsIn, IsAsBefore, StandsOrLost, DuringStore, CrashLeaves, Holding, IsBookOf}
+use Rattle.live_book.specs.Kept.{BookParts, KeepsIn, IsAsBefore, DuringStore, CrashLeaves, Holding, IsBookOf}
 use Rattle.live_book.specs.Commits.{has_journal, HasRoom, BreaksNone, IsTooMuch, IsWelcome, IsAnswer, LeavesKept, DuringCommit, Commits}
-use Rattle.live_book.specs.Prepared.{IsTest, IsFrameOf, MayFollowIn, HasRoomFor, HoldsSome, IsReady, refusal_of}
+use Rattle.live_book.specs.Prepared.{MayFollowIn, HasRoomFor, HoldsSome, IsReady, refusal_of}
+use Rattle.live_book.proofs.States.{edited_as}
 use Rattle.live_book.proofs.Storing.{quiet}
 use Rattle.live_book.proofs.Showing.{shown-push}
 
 -- Before the disk is called.
 
--- the state of a book keeps the rules
-pub state_keeps : (config : ConfigParts) (history : List Entry) (version : VersionParts) → IsTrue (is_valid config) → IsStateAfter config history version → KeepsDatabaseRules (state_of version)
-state_keeps config history version valid state =
-    subst (λ (r : Result DatabaseParts Broken). KeepsDatabaseRules (found_or (empty_database config) r)) state.state (legal_keeps config history valid (state_of version, state.state))
-
 module _ (config : ConfigParts) (history : List Entry) (next : Entry) (version : VersionParts) (state : IsStateAfter config history version) where
-  -- what the edit of an entry leaves
-  pub edited_as : (r : Result DatabaseParts Broken) → effect (state_of version) next.edit ≡ r → edited config history next.edit ≡ r
-  edited_as r is = ap (λ (s : Result DatabaseParts Broken). onward s (λ d. effect d next.edit)) state.state ∙ is
-
   pub breaks_none : (new : VersionParts) → effect (state_of version) next.edit ≡ Ok (state_of new) → BreaksNone config history next.edit
-  breaks_none new is = (state_of new, edited_as (Ok (state_of new)) is)
-
-  pub next_state : (new : VersionParts) → HasRoom history → effect (state_of version) next.edit ≡ Ok (state_of new) → new.number ≡ next_number version.number → IsStateAfter config (history ++ next ∷ []) new
-  next_state new room is number = record {
-    state = replay_goes_on config history next ∙ edited_as (Ok (state_of new)) is;
-    number = number ∙ (let n = state.number in omega (arith, n, room, length-append history (next ∷ [])));
-  }
+  breaks_none new is = (state_of new, edited_as config history next version state (Ok (state_of new)) is)
 
   -- a refusal by a rule
   pub refused : (stored : Bool) (fault : Fault) (n : ℕ) → n ≡ length history → HasRoom history → IsFirstFault fault (effect (state_of version) next.edit) → IsAnswer stored config history next (Err (refusal_of fault n))
-  refused stored (faults.Broken rule) n is room broken = (is, room, edited_as (Err rule) broken)
+  refused stored (faults.Broken rule) n is room broken = (is, room, edited_as config history next version state (Err rule) broken)
   refused stored faults.Memory n is room broken = tt
 
 pub no_disk : (fault : Fault) (n : ℕ) → IsErrOf {T = ℕ} (Err (refusal_of fault n)) edit_faults.Disk → ⊥

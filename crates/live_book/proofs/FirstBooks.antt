@@ -1,39 +1,29 @@
 -- What making a book owes.
-use Rattle.std.proofs.Common.{◌≡◌, ◌⊎◌, inl, inr, ⊎_elim, true, false, Bool, ℕ, suc, ◌+◌, ◌-◌, ◌<◌, ◌≤◌, List, [], ◌∷◌, ◌++◌, length, map, take, drop, Option, None, Some, Result, Ok, Err, IsTrue, All, refl, sym, ◌∙◌, ap, subst, arith, get_or, length-append, take-append-drop, drop-cons}
+use Rattle.std.proofs.Common.{◌≡◌, inl, inr, ⊎_elim, true, false, Bool, ℕ, ◌+◌, ◌-◌, ◌<◌, ◌≤◌, List, [], ◌∷◌, length, take, drop, Option, None, Some, IsTrue, refl, sym, ◌∙◌, ap, subst, arith}
 use Rattle.std.specs.Prelude.{nat_lt}
-use Rattle.std.specs.Option.{option_map}
-use Rattle.std.proofs.lemmas.List.{take_all, drop_all, take_more}
+use Rattle.std.proofs.lemmas.List.{take_all, drop_all}
 use Rattle.std.proofs.lemmas.Bool.{ltb-true, ltb-false}
 use Rattle.emu_names.specs.declared.limits.TheConstants.{HISTORY_EDITS}
-use Rattle.emu_names.specs.declared.rules.Broken.{Broken}
 use Rattle.db_config.specs.declared.parts.ConfigParts.{ConfigParts}
 use Rattle.db_config.specs.Valid.{is_valid}
 use Rattle.edit_rules.specs.declared.edit.Entry.{Entry}
 use Rattle.edit_rules.specs.Database.{empty_database}
-use Rattle.edit_rules.specs.Effects.{effect, edited}
-use Rattle.edit_code.specs.Codes.{entry_code, head_code, IsEntryCode, IsHeadCode}
+use Rattle.edit_code.specs.Codes.{head_code, IsHeadCode}
 use Rattle.emu_disk.proofs.Moments.{started, weaker}
-use Rattle.edit_journal.specs.declared.body.Body.{Body}
 use Rattle.edit_journal.specs.declared.journal.Journal.{Journal}
-use Rattle.edit_journal.specs.Store.{limit, start, bodies, placed, StandsFor}
-use Rattle.edit_journal.specs.Held.{disk_of, texts_of, Holds, MayHave, DuringAppend, LeavesIn, Reads, Tells}
+use Rattle.edit_journal.specs.Store.{limit, start, StandsFor}
+use Rattle.edit_journal.specs.Held.{disk_of, Holds, DuringAppend, LeavesIn}
 use Rattle.edit_journal.specs.Held.{PassesLimit as PassesJournal, IsAsBefore as IsJournalAsBefore}
 use Rattle.edit_journal.proofs.Kept.{stands_may}
 use Rattle.version_gate.specs.declared.entry.Entry.{Entry as Numbered}
-use Rattle.version_gate.specs.Lists.{Front, Board, entry}
-use Rattle.version_tree.specs.Version.{VersionParts, state_of, next_number, first_version}
-use Rattle.live_book.specs.declared.fault.OpenFault.{OpenFault}
-use Rattle.live_book.specs.declared.fault.OpenFault.TheVariants.{Disk, Damaged, StoreFull, Memory}
+use Rattle.version_gate.specs.Lists.{Board, entry}
+use Rattle.version_tree.specs.Version.{VersionParts}
 use Rattle.live_book.specs.declared.published.Published.{Published}
-use Rattle.live_book.specs.declared.replay.Replayed.{Replayed}
-use Rattle.live_book.specs.Histories.{codes_of, head_size, AreCoded, AreEntryCodes, HeadPassesLimit, IsBare, IsBrokenEntry, IsCoded, IsDamagedAt, IsHistory, IsNoEntry, IsNoHead, IsNoNext, IsStorable, IsWrongBehind, OfRead, Stands}
-use Rattle.live_book.specs.Published.{IsStateAfter, IsShown, AreShown}
-use Rattle.live_book.specs.Kept.{BookParts, CrashLeaves, Holding, IsBookOf, Keeps, KeepsIn}
-use Rattle.live_book.specs.Commits.{has_journal, HasRoom}
-use Rattle.live_book.specs.Opens.{AreAtFront, DuringNew, IsEmpty, IsEmptyOrLost, IsHeadTooMuch, IsOpenedAs, IsReplay, IsWrong, IsWrongIn}
-use Rattle.live_book.specs.Prepared.{IsHistoryOf, IsOpenedBook, IsOpenedOver, IsTest, IsWrongTail}
-use Rattle.live_book.proofs.HeadCodes.{entry_is, head_is}
-use Rattle.live_book.proofs.States.{next_state, edited_as}
+use Rattle.live_book.specs.Histories.{head_size, HeadPassesLimit, IsBare, IsStorable}
+use Rattle.live_book.specs.Published.{IsStateAfter, AreShown}
+use Rattle.live_book.specs.Kept.{CrashLeaves, Holding, IsBookOf, Keeps}
+use Rattle.live_book.specs.Opens.{DuringNew, IsEmpty, IsEmptyOrLost, IsHeadTooMuch}
+use Rattle.live_book.specs.Prepared.{IsTest}
 
 -- The first book.
 

@@ -1,5 +1,5 @@
 -- What a code says of its value: of a configuration, and which one is an entry's.
-use Rattle.std.proofs.Common.{◌≡◌, true, false, Bool, ℕ, ◌<◌, List, [], ◌∷◌, ◌++◌, length, IsTrue, refl, ap, subst, arith, ◌∙◌}
+use Rattle.std.proofs.Common.{◌≡◌, true, false, Bool, ℕ, ◌<◌, List, ◌∷◌, length, IsTrue, refl, ap, subst, arith}
 use Rattle.std.specs.Prelude.{◌&&◌}
 use Rattle.db_config.specs.declared.parts.ConfigParts.{ConfigParts}
 use Rattle.db_config.specs.Valid.{is_valid}
@@ -7,7 +7,7 @@ use Rattle.edit_rules.specs.declared.edit.Entry.{Entry}
 use Rattle.code_forms.specs.Parts.{led, byte_in}
 use Rattle.edit_code.specs.Codes.{entry_code, head_code, IsEntryCode, IsHeadCode}
 use Rattle.edit_code.specs.Heads.{head_form, parts_form}
-use Rattle.edit_code.specs.Names.{is_config, is_made}
+use Rattle.edit_code.specs.Names.{is_made}
 
 -- the code of an entry is its own
 pub entry_is : (text : List ℕ) (e : Entry) → IsEntryCode text e → text ≡ entry_code e

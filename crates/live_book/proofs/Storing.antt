@@ -1,5 +1,5 @@
 -- What a journal keeps of a history before and behind one more entry.
-use Rattle.std.proofs.Common.{◌≡◌, ◌⊎◌, ◌↔◌, inl, inr, ⊎_elim, true, false, Bool, ℕ, ◌+◌, ◌-◌, ◌^◌, ◌<◌, ◌≤◌, min, List, [], ◌∷◌, ◌++◌, length, map, Option, None, Some, refl, sym, ◌∙◌, ap, subst, arith}
+use Rattle.std.proofs.Common.{◌≡◌, ◌↔◌, inl, inr, ⊎_elim, true, false, Bool, ℕ, ◌+◌, ◌-◌, ◌<◌, ◌≤◌, List, [], ◌∷◌, ◌++◌, length, Option, None, Some, refl, sym, ◌∙◌, ap, subst, arith}
 use Rattle.std.specs.Prelude.{nat_lt}
 use Rattle.std.specs.Option.{option_map}
 use Rattle.std.proofs.lemmas.List.{map-append}
@@ -7,15 +7,14 @@ use Rattle.std.proofs.lemmas.Bool.{ltb-true, ltb-false, cases_lt}
 use Rattle.db_config.specs.declared.parts.ConfigParts.{ConfigParts}
 use Rattle.edit_rules.specs.declared.edit.Entry.{Entry}
 use Rattle.edit_code.specs.Codes.{entry_code, head_code}
-use Rattle.emu_disk.specs.Disk.{LeavesOnly}
 use Rattle.emu_disk.proofs.Moments.{started, weaker}
 use Rattle.edit_journal.specs.declared.journal.Journal.{Journal}
-use Rattle.edit_journal.specs.Store.{limit, start, StandsFor}
+use Rattle.edit_journal.specs.Store.{limit, StandsFor}
 use Rattle.edit_journal.specs.Held.{disk_of, ForHeld, Holds, IsHeld, MayHave, DuringAppend, LeavesIn}
 use Rattle.edit_journal.specs.Held.{PassesLimit as PassesJournal, IsAsBefore as IsJournalAsBefore}
 use Rattle.edit_journal.proofs.Kept.{stands_may}
 use Rattle.edit_journal.proofs.Walk.{length-start}
-use Rattle.live_book.specs.Histories.{codes_of, AreCoded, IsCoded, IsHistory, IsStorable, Stands, size, entry_size, PassesLimit}
+use Rattle.live_book.specs.Histories.{codes_of, AreCoded, IsCoded, IsStorable, Stands, size, entry_size}
 use Rattle.live_book.specs.Kept.{MayFollow, LostMayFollow, Keeps, KeepsIn, IsAsBefore, StandsOrLost, DuringStore, CrashLeaves}
 use Rattle.live_book.specs.Commits.{has_journal, IsTooMuch}
 use Rattle.live_book.specs.Prepared.{ForStore, IsFrameOf, IsTest, HasRoomFor, HoldsSome}

@@ -4,7 +4,6 @@ use Rattle.fault_counts.specs.Count.{Rose}
 use Rattle.emu_names.specs.declared.limits.TheConstants.{HISTORY_EDITS}
 use Rattle.db_config.specs.declared.parts.ConfigParts.{ConfigParts}
 use Rattle.db_config.specs.Valid.{is_valid}
-use Rattle.edit_rules.specs.declared.edit.Entry.{Entry}
 use Rattle.edit_code.specs.Codes.{head_code}
 use Rattle.emu_disk.specs.Disk.{LeavesOnly}
 use Rattle.edit_journal.specs.declared.body.Body.{Body}

@@ -1,5 +1,4 @@
-use Rattle.std.proofs.Common.{◌≡◌, [], ◌∷◌, ◌++◌, List, Option, None, Ok, Err, inl, inr, refl, sym, subst}
-use Rattle.db_config.specs.declared.parts.ConfigParts.{ConfigParts}
+use Rattle.std.proofs.Common.{◌≡◌, [], ◌∷◌, ◌++◌, None, Ok, Err, inl, inr, refl, sym, subst}
 use Rattle.edit_rules.specs.declared.edit.Entry.{Entry}
 use Rattle.live_book.specs.declared.fault.EditFault.TheVariants as edit_faults
 use Rattle.live_book.specs.Kept.{KeepsIn, IsAsBefore, DuringStore, CrashLeaves}

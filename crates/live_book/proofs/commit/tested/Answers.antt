@@ -1,4 +1,4 @@
-use Rattle.std.proofs.Common.{◌≡◌, [], ◌∷◌, ◌++◌, ◌<◌, List, length, Bool, true, false, Ok, Err, sym, subst, rules, arith}
+use Rattle.std.proofs.Common.{◌≡◌, Bool, false, Err, sym, subst, rules, arith}
 use Rattle.std.specs.Arc.{arc_value}
 use Rattle.edit_rules.specs.Database.{KeepsDatabaseRules}
 use Rattle.version_tree.specs.Version.{state_of}
@@ -8,7 +8,8 @@ use Rattle.live_book.specs.Published.{IsStateAfter}
 use Rattle.live_book.specs.Kept.{config_in}
 use Rattle.live_book.specs.Commits.{has_journal, HasRoom, IsTooMuch, IsAnswer}
 use Rattle.live_book.specs.Prepared.{IsTest}
-use Rattle.live_book.proofs.Committing.{state_keeps, refused, store_full, breaks_none, next_state}
+use Rattle.live_book.proofs.Committing.{refused, store_full, breaks_none}
+use Rattle.live_book.proofs.States.{state_keeps, next_state}
 use Rattle.live_book.proofs.commit.tested.Goals as goal
 
 pub next_version-requires : goal.next_version-requires

@@ -1,5 +1,4 @@
-use Rattle.std.proofs.Common.{◌≡◌, length, refl}
-use Rattle.live_book.proofs.Stores.{history_book, opened_book}
+use Rattle.live_book.proofs.Stores.{history_book}
 use Rattle.live_book.proofs.opening.open_replayed.Goals as goal
 
 pub of-book-requires : goal.of-book-requires

@@ -1,8 +1,8 @@
-use Rattle.std.proofs.Common.{◌≡◌, ◌+◌, ◌++◌, [], ◌∷◌, ℕ, List, suc, Err, IfErr, take, drop, refl, sym, subst, arith}
+use Rattle.std.proofs.Common.{◌≡◌, ℕ, List, suc, take, drop, refl, sym, subst, arith}
 use Rattle.edit_journal.specs.declared.body.Body.{Body}
 use Rattle.edit_journal.specs.Held.{texts_of}
 use Rattle.live_book.specs.Histories.{IsNoNext}
-use Rattle.live_book.specs.Opens.{IsReplay, IsWrong}
+use Rattle.live_book.specs.Opens.{IsReplay}
 use Rattle.live_book.specs.Prepared.{IsWrongTail}
 use Rattle.live_book.proofs.Readings.{texts_next, split_here, still_wrong, wrong_tail}
 use Rattle.live_book.proofs.replay.add_all.Goals as goal

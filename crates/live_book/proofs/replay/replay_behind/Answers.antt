@@ -1,10 +1,10 @@
-use Rattle.std.proofs.Common.{◌≡◌, ◌∙◌, ◌∷◌, ℕ, IsTrue, ap, sym, subst}
+use Rattle.std.proofs.Common.{◌≡◌, ◌∷◌, IsTrue, ap, sym, subst}
 use Rattle.std.proofs.lemmas.Result.{IfOk-weaker, IfErr-weaker}
 use Rattle.db_config.specs.declared.parts.ConfigParts.{ConfigParts}
 use Rattle.db_config.specs.Valid.{is_valid}
 use Rattle.edit_code.specs.Codes.{IsHeadCode}
 use Rattle.edit_journal.specs.Held.{texts_of}
-use Rattle.version_tree.specs.Version.{VersionParts, first_version}
+use Rattle.version_tree.specs.Version.{VersionParts}
 use Rattle.live_book.specs.Histories.{IsNoHead}
 use Rattle.live_book.specs.Opens.{IsReplay, IsWrong, IsWrongIn}
 use Rattle.live_book.specs.Prepared.{IsHistoryOf, IsWrongTail}
