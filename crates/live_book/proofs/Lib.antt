@@ -1,0 +1,11 @@
+mod HeadCodes
+mod States
+mod Codes
+mod Changes
+mod Storing
+mod Showing
+mod Committing
+mod Readings
+mod FirstBooks
+mod Stores
+mod Answering

@@ -1,0 +1,6 @@
+pub mod Histories
+pub mod Published
+pub mod Kept
+pub mod Commits
+pub mod Opens
+pub mod Prepared

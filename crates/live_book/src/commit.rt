@@ -1,0 +1,256 @@
+//! One commit: what it makes before it calls the disk, the entry in the store, and the new version.
+ghost use Rattle.std.specs.Prelude.{◌≡◌, ◌⊎◌, ◌+◌, ◌≤◌, ◌++◌, [], ◌∷◌, ℕ, suc, true, List, None, Some, Ok, Err, length, IfOk, IfErr, OnOk, OnErr, IsErrOf};
+ghost use Rattle.std.specs.Arc.{arc_value};
+ghost use Rattle.fault_counts.specs.Count.{Rose};
+ghost use Rattle.emu_names.specs.declared.limits.TheConstants.{HISTORY_EDITS};
+ghost use Rattle.db_config.specs.declared.parts.ConfigParts.{ConfigParts};
+ghost use Rattle.edit_rules.specs.declared.edit.Entry.{Entry};
+ghost use Rattle.edit_code.specs.Codes.{entry_code};
+ghost use Rattle.edit_journal.specs.Store.{limit};
+ghost use Rattle.live_book.specs.Histories.{IsCoded, entry_size};
+ghost use Rattle.version_gate.specs.Lists.{entry};
+ghost use Rattle.live_book.specs.Published.{IsStateAfter};
+ghost use Rattle.live_book.specs.Kept.{IsBook, KeepsIn, IsAsBefore, CrashLeaves, book_of, config_in, faults_in};
+ghost use Rattle.live_book.specs.Commits.{has_journal, IsAnswer, IsWelcome, DuringCommit, Commits};
+ghost use Rattle.live_book.specs.Prepared.{IsFrameOf, IsReady, IsTest, HasRoomFor, HoldsSome, ForStoreIn, refusal_of, entries_behind};
+
+use crate::fault::EditFault;
+use crate::next::next_version;
+use crate::parts::Parts;
+use crate::published::Published;
+use crate::store::{append_in, is_too_much};
+use edit_code::{entry_len, write_entry};
+use edit_journal::{Frame, Journal};
+use edit_rules::{Entries, Entry};
+use emu_disk::{Disk, Failed};
+use emu_names::limits::HISTORY_EDITS;
+use emu_names::{Fault, Memory};
+use std::alloc::Global;
+use std::sync::{Arc, Wait};
+use version_tree::Version;
+
+/// What a commit has ready before it calls the disk.
+#[derive(Drop)]
+pub(crate) struct Ready {
+    /// The entry.
+    pub(crate) entry: Entry,
+    /// Its frame, where there is a store.
+    pub(crate) frame: Option<Frame>,
+    /// The next version, to be published.
+    pub(crate) next: Arc<Published>,
+    /// The same, to be kept.
+    pub(crate) kept: Arc<Published>,
+}
+
+/// The refusal of an edit after so many entries.
+fn refusal(fault: Fault, number: u64) -> EditFault
+    ensures { result ≡ refusal_of fault number }
+{
+    match fault {
+        Fault::Broken(rule) => EditFault::Broken(rule, number),
+        Fault::Memory => EditFault::Memory,
+    }
+}
+
+/// The frame of an entry's code, for which a store has room.
+#[tactic(auto, using(crate::proofs::Codes::entry_some, crate::proofs::Codes::own_entry))]
+fn make_frame(alloc: Global, entry: &Entry) -> Result<Frame, Memory>
+    requires { entry_size entry.now + 14 ≤ limit }
+    ensures frame { IfOk result (λ frame. frame ≡ entry_code entry.now) }
+    ensures coded { OnOk result (IsCoded entry.now) }
+{
+    let _len = entry_len(entry);
+    let code = write_entry(alloc, entry)?;
+    let frame = Frame::new(alloc, code.as_slice())?;
+    Ok(frame)
+}
+
+/// The frame of an entry's code, where there is a store.
+#[tactic(auto, using(crate::proofs::Storing::room_size, crate::proofs::Storing::frame_some, crate::proofs::Storing::frame_none, crate::proofs::Storing::none_stored))]
+fn frame_for<D: Disk>(
+    alloc: Global,
+    journal: &Option<Journal<D>>,
+    entry: &Entry,
+) -> Result<Option<Frame>, Memory>
+    requires { HasRoomFor D.may_leave (has_journal journal.now) entry.now journal.now }
+    ensures frame { IfOk result (λ frame. IsFrameOf entry.now journal.now frame) }
+    ensures coded { has_journal journal.now ≡ true → OnOk result (IsCoded entry.now) }
+{
+    match journal {
+        None => Ok(None),
+        Some(_) => {
+            let frame = make_frame(alloc, entry)?;
+            Ok(Some(frame))
+        }
+    }
+}
+
+/// The next version with its last entry, twice.
+fn published_twice(
+    alloc: Global,
+    version: Version,
+    entry: &Entry,
+) -> Result<(Arc<Published>, Arc<Published>), Memory>
+    ensures { IfOk result (λ pair.
+        (arc_value pair.0 ≡ record { version = version; last = Some entry.now })
+        × (arc_value pair.1 ≡ record { version = version; last = Some entry.now })) }
+{
+    let last = Some(entry.copy(alloc)?);
+    let next = Arc::new(alloc, Published { version, last })?;
+    let kept = Arc::try_clone(&next)?;
+    Ok((next, kept))
+}
+
+/// The next version, where nothing but want of memory or a fault of the disk refuses an entry.
+#[tactic(auto, using(crate::proofs::Committing::some_history, crate::proofs::Committing::no_disk))]
+fn tested<D: Disk>(alloc: Global, parts: &Parts<D>, entry: &Entry) -> Result<Version, EditFault>
+    requires { IsBook D.may_leave parts.now }
+    ensures welcome { OnOk result (
+        IsWelcome (has_journal parts.now.journal) (config_in parts.now) parts.now.entries entry.now) }
+    ensures config { IfOk result (λ version. version.config ≡ config_in parts.now) }
+    ensures state { IfOk result (λ version.
+        IsStateAfter (config_in parts.now) (parts.now.entries ++ entry.now ∷ []) version) }
+    ensures refused { IfErr result (λ fault. IsAnswer (has_journal parts.now.journal)
+        (config_in parts.now) parts.now.entries entry.now (Err fault)) }
+    ensures no_disk { IsErrOf result EditFault.Disk → ⊥ }
+{
+    let count = parts.entries.len();
+    if count >= HISTORY_EDITS {
+        return Err(EditFault::HistoryFull(count as u64));
+    }
+    match next_version(alloc, &parts.current.version, &entry.edit) {
+        Err(fault) => Err(refusal(fault, count as u64)),
+        Ok(version) => {
+            if is_too_much(&parts.journal, entry) {
+                Err(EditFault::StoreFull(count as u64))
+            } else {
+                Ok(version)
+            }
+        }
+    }
+}
+
+/// All that an accepted entry needs: its frame, and the next version twice.
+fn make_ready<D: Disk>(
+    alloc: Global,
+    journal: &Option<Journal<D>>,
+    version: Version,
+    entry: Entry,
+) -> Result<Ready, Memory>
+    requires room { HasRoomFor D.may_leave (has_journal journal.now) entry journal.now }
+    ensures entry { IfOk result (λ ready. ready.entry ≡ entry) }
+    ensures ready { IfOk result (λ ready. (config : ConfigParts) (history : List Entry)
+        → version.config ≡ config → IsStateAfter config (history ++ entry ∷ []) version
+        → IsReady journal.now config history ready) }
+{
+    let frame = frame_for(alloc, journal, &entry)?;
+    let (next, kept) = published_twice(alloc, version, &entry)?;
+    Ok(Ready {
+        entry,
+        frame,
+        next,
+        kept,
+    })
+}
+
+/// Publishes the next version, and keeps it.
+fn show<D: Disk, R: Wait>(rt: &R, parts: &mut Parts<D>, next: Arc<Published>, kept: Arc<Published>)
+    requires number { suc parts.old.publisher.number ≡ length parts.old.entries }
+    ensures current { parts.new.current ≡ kept }
+    ensures entries { parts.new.entries ≡ parts.old.entries }
+    ensures opened { parts.new.opened ≡ parts.old.opened }
+    ensures journal { parts.new.journal ≡ parts.old.journal }
+    ensures gate { parts.new.publisher.gate ≡ parts.old.publisher.gate }
+    ensures number { parts.new.publisher.number ≡ length parts.old.entries }
+    ensures list { parts.new.publisher.list ≡ parts.old.publisher.list
+        ++ entry (length parts.old.entries) (arc_value next) ∷ [] }
+{
+    let number = parts.entries.len() as u64;
+    let _staged = parts.publisher.stage(number, next);
+    parts.publisher.publish(rt);
+    parts.current = kept;
+}
+
+/// Puts an entry behind the history and into the store, or into neither.
+fn enter<D: Disk>(
+    entries: &mut Entries,
+    journal: &mut Option<Journal<D>>,
+    entry: Entry,
+    frame: Option<Frame>,
+) -> Result<(), EditFault>
+    requires frame { IsFrameOf entry journal.old frame }
+    requires kept { HasRoomFor D.may_leave (has_journal journal.old) entry journal.old }
+    ensures entries { entries.new ≡ entries_behind entries.old entry result }
+    ensures ok { ForStoreIn D.may_leave journal.old entry (λ config history lost.
+        OnOk result (KeepsIn D.may_leave config (history ++ entry ∷ []) None journal.new)) }
+    ensures err { ForStoreIn D.may_leave journal.old entry (λ config history lost.
+        OnErr result (IsAsBefore D.may_leave config history lost entry journal.new)) }
+    ensures still { IsErrOf result EditFault.Memory → journal.new ≡ journal.old }
+    ensures any_moment { ForStoreIn D.may_leave journal.old entry (λ config history lost.
+        CrashLeaves D.moment D.left_since journal.old journal.new (
+        DuringCommit result config history lost entry)) }
+    ensures later { faults_in D.faults journal.old ≤ faults_in D.faults journal.new }
+    ensures disk { IsErrOf result EditFault.Disk
+        → Rose (faults_in D.faults journal.old) (faults_in D.faults journal.new) }
+    ensures only { IsErrOf result EditFault.Disk → has_journal journal.old ≡ true }
+    ensures stored { has_journal journal.new ≡ has_journal journal.old }
+    ensures no_other { OnErr result (
+        IsErrOf result EditFault.Disk ⊎ IsErrOf result EditFault.Memory) }
+{
+    let count = entries.len();
+    entries.push(entry)?;
+    match append_in(journal, entries.get(count), &frame) {
+        Ok(()) => Ok(()),
+        Err(Failed) => {
+            entries.truncate(count);
+            Err(EditFault::Disk)
+        }
+    }
+}
+
+/// Stores an entry for which all is ready, and publishes its version. Where the disk fails, all is as
+/// before.
+fn put<D: Disk, R: Wait>(rt: &R, parts: &mut Parts<D>, ready: Ready) -> Result<u64, EditFault>
+    requires book { IsBook D.may_leave parts.old }
+    requires ready { IsReady parts.old.journal (config_in parts.old) parts.old.entries ready }
+    requires welcome { IsWelcome (has_journal parts.old.journal) (config_in parts.old)
+        parts.old.entries ready.entry }
+    ensures book { IsBook D.may_leave parts.new }
+    ensures commits { Commits D.may_leave D.moment D.left_since D.faults (book_of parts.old) ready.entry
+        result (book_of parts.new) }
+{
+    let Ready {
+        entry,
+        frame,
+        next,
+        kept,
+    } = ready;
+    match enter(&mut parts.entries, &mut parts.journal, entry, frame) {
+        Err(fault) => Err(fault),
+        Ok(()) => {
+            show(rt, parts, next, kept);
+            Ok(parts.entries.len() as u64)
+        }
+    }
+}
+
+/// Accepts an entry, or says why not.
+pub(crate) fn commit_in<D: Disk, R: Wait>(
+    rt: &R,
+    alloc: Global,
+    parts: &mut Parts<D>,
+    entry: Entry,
+) -> Result<u64, EditFault>
+    requires book { IsBook D.may_leave parts.old }
+    ensures book { IsBook D.may_leave parts.new }
+    ensures commits { Commits D.may_leave D.moment D.left_since D.faults (book_of parts.old) entry result
+        (book_of parts.new) }
+{
+    match tested(alloc, parts, &entry) {
+        Err(fault) => Err(fault),
+        Ok(version) => match make_ready(alloc, &parts.journal, version, entry) {
+            Err(Memory) => Err(EditFault::Memory),
+            Ok(ready) => put(rt, parts, ready),
+        },
+    }
+}
