@@ -1,5 +1,5 @@
 -- The line of an edit: what a commit answers is what the core's turn gives.
-use Rattle.std.proofs.Common.{◌≡◌, ℕ, suc, ◌+◌, ◌≤◌, ◌<◌, Bool, true, false, List, [], ◌∷◌, ◌++◌, length, Option, None, Some, Result, Ok, Err, inl, inr, ⊎_elim, refl, sym, ap, ◌∙◌, subst, absurd, arith}
+use Rattle.std.proofs.Common.{◌≡◌, ℕ, suc, ◌+◌, ◌≤◌, ◌<◌, Bool, true, false, List, [], ◌∷◌, ◌++◌, length, Option, None, Some, Result, Ok, Err, inl, inr, ⊎_elim, refl, sym, ap, ◌∙◌, subst, arith}
 use Rattle.std.proofs.lemmas.Bool.Decides.{nat_tests}
 use Rattle.fault_counts.specs.Count.{RoseBy}
 use Rattle.emu_names.specs.declared.limits.TheConstants.{HISTORY_EDITS}
@@ -189,7 +189,7 @@ module _ {D : Type 0} (may_leave : D → List ℕ → Type 0) (moment : D → �
     left = leaves.left;
     keeps = keeps_now leaves.left (Err faults.Disk) same history leaves.keeps;
     which = ⊎_elim (λ none. inl none)
-        (λ some. ⊎_elim (λ before. inr (inl before)) (λ next. inr (inr (entry_of l edit, (next, record { edit = edit; asks = is; entry = refl; refused = refl })))) some)
+        (λ some. ⊎_elim (λ before. inr (inl before)) (λ next. inr (inr (entry_of l edit, next, record { edit = edit; asks = is; entry = refl; refused = refl }))) some)
         leaves.which;
   }
 

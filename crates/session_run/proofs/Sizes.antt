@@ -1,5 +1,5 @@
 -- How large a store is, as the journal counts its bytes and as the core counts the codes.
-use Rattle.std.proofs.Common.{◌≡◌, ℕ, ◌+◌, ◌<◌, ◌^◌, min, Bool, true, false, nat_lt, List, [], ◌∷◌, length, map, sum_by, refl, absurd, arith, length-append}
+use Rattle.std.proofs.Common.{◌≡◌, ℕ, ◌+◌, ◌<◌, ◌^◌, min, Bool, true, false, nat_lt, List, [], ◌∷◌, length, map, sum_by, refl, arith, length-append}
 use Rattle.std.proofs.lemmas.Bool.Decides.{nat_tests}
 use Rattle.std.proofs.lemmas.List.Sums.{sum_by-cons}
 use Rattle.emu_names.specs.declared.limits.TheConstants.{STORE_BYTES}
