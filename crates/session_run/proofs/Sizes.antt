@@ -1,5 +1,5 @@
 -- How large a store is, as the journal counts its bytes and as the core counts the codes.
-use Rattle.std.proofs.Common.{◌≡◌, ℕ, ◌+◌, ◌<◌, ◌^◌, min, Bool, true, false, nat_lt, List, [], ◌∷◌, length, map, sum_by, refl, arith, length-append}
+use Rattle.std.proofs.Common.{◌≡◌, ℕ, ◌+◌, ◌<◌, ◌^◌, min, Bool, true, false, List, [], ◌∷◌, length, map, sum_by, refl, arith, length-append}
 use Rattle.std.proofs.lemmas.Bool.Decides.{nat_tests}
 use Rattle.std.proofs.lemmas.List.Sums.{sum_by-cons}
 use Rattle.emu_names.specs.declared.limits.TheConstants.{STORE_BYTES}
@@ -8,7 +8,7 @@ use Rattle.edit_rules.specs.declared.edit.Entry.{Entry}
 use Rattle.edit_code.specs.Codes.{entry_code, head_code}
 use Rattle.edit_journal.specs.Store.{frame, frames}
 use Rattle.edit_journal.proofs.Walk.{length_frame, length-start}
-use Rattle.session_core.specs.Sizes.{entry_size, frame_size, head_size, store_size}
+use Rattle.session_core.specs.Sizes.{entry_size, frame_size, store_size}
 use Rattle.session_core.specs.Worlds.{passes_store}
 use Rattle.live_book.specs.Histories.{codes_of, size, PassesLimit}
 
