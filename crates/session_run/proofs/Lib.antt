@@ -1,0 +1,5 @@
+mod Commits
+mod Listing
+mod Others
+mod Showing
+mod Sizes

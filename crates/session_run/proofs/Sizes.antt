@@ -1,0 +1,43 @@
+-- How large a store is, as the journal counts its bytes and as the core counts the codes.
+use Rattle.std.proofs.Common.{◌≡◌, ℕ, ◌+◌, ◌<◌, ◌^◌, min, Bool, true, false, List, [], ◌∷◌, length, map, sum_by, refl, arith, length-append}
+use Rattle.std.proofs.lemmas.Bool.Decides.{nat_tests}
+use Rattle.std.proofs.lemmas.List.Sums.{sum_by-cons}
+use Rattle.emu_names.specs.declared.limits.TheConstants.{STORE_BYTES}
+use Rattle.db_config.specs.declared.parts.ConfigParts.{ConfigParts}
+use Rattle.edit_rules.specs.declared.edit.Entry.{Entry}
+use Rattle.edit_code.specs.Codes.{entry_code, head_code}
+use Rattle.edit_journal.specs.Store.{frame, frames}
+use Rattle.edit_journal.proofs.Walk.{length_frame, length-start}
+use Rattle.session_core.specs.Sizes.{entry_size, frame_size, store_size}
+use Rattle.session_core.specs.Worlds.{passes_store}
+use Rattle.live_book.specs.Histories.{codes_of, size, PassesLimit}
+
+-- the frames of a history
+entries_size : (history : List Entry) → length (frames (map entry_code history)) ≡ sum_by (λ e. frame_size (entry_size e)) history
+entries_size [] = refl
+entries_size (e ∷ history) =
+    omega (arith, length-append (frame (entry_code e)) (frames (map entry_code history)), length_frame (entry_code e), entries_size history, sum_by-cons (λ x. frame_size (entry_size x)) e history)
+
+-- the place of the last gate
+size_is : (config : ConfigParts) (history : List Entry) → size config history ≡ store_size config history
+size_is config history =
+    omega (arith, length-start (codes_of config history), length-append (frame (head_code config)) (frames (map entry_code history)), length_frame (head_code config), entries_size history)
+
+-- an entry of 2^32 bytes passes the limit anyhow
+over : (store len : ℕ) → STORE_BYTES < store + 6 + len → STORE_BYTES < store + 6 + min (2 ^ 32) len
+over store len passes = omega arith
+
+pub passes_so : (config : ConfigParts) (history : List Entry) (next : Entry) → PassesLimit config history next → passes_store config history next ≡ true
+passes_so config history next passes =
+    let far : STORE_BYTES < store_size config history + 6 + entry_size next = omega (arith, passes, size_is config history) in
+    grind (arith, nat_tests)
+
+pub fits_so : (config : ConfigParts) (history : List Entry) (next : Entry) → (PassesLimit config history next → ⊥) → passes_store config history next ≡ false
+fits_so config history next fits = test (passes_store config history next) refl
+  where
+    far : STORE_BYTES < store_size config history + 6 + entry_size next → PassesLimit config history next
+    far passes = omega (arith, over (store_size config history) (entry_size next) passes, size_is config history)
+
+    test : (b : Bool) → passes_store config history next ≡ b → b ≡ false
+    test false is = refl
+    test true is = absurd (fits (far (grind (arith, nat_tests))))

@@ -1,0 +1,69 @@
+//! The answer to a query over a version.
+ghost use Rattle.std.specs.Prelude.{◌≡◌, IfOk};
+ghost use Rattle.std.specs.Option.{option_copied};
+ghost use Rattle.eql_resolve.specs.Resolve.{asked as asked_of};
+ghost use Rattle.eql_resolve.specs.Sound.{IsResolvedBy};
+ghost use Rattle.version_tree.specs.Version.{state_of};
+ghost use Rattle.session_core.specs.Answers.{answer_over, matched_answer, resolved_answer};
+ghost use Rattle.session_core.specs.Queries.{any_has_too_many};
+
+use emu_io::OpenGate;
+use emu_names::{Memory, Text};
+use eql_resolve::{AskFault, Asked, Prepared, resolve};
+use session_core::{Answer, Ask, Refusal, answer_listed, refuse_text};
+use std::alloc::Global;
+use std::thread::Threads;
+use version_tree::Version;
+
+/// The answer to a query of a line whose names were found.
+fn answer_asked<R: Threads + Sync>(
+    rt: &R,
+    alloc: Global,
+    version: &Version,
+    asked: &Asked,
+    line: u32,
+) -> Result<Answer, Memory>
+    requires { IsResolvedBy version.now.config asked.now }
+    ensures { IfOk result (λ given. given ≡ matched_answer (state_of version.now) asked.now
+        (any_has_too_many version.now.config (state_of version.now).bundles asked.now)) }
+{
+    let gate = OpenGate;
+    answer_listed(query_workers::answer(rt, alloc, version, asked, 1, line, &gate))
+}
+
+/// The answer to a query of a line that was prepared, with the name of the level of the times where it is
+/// given.
+fn answer_prepared<R: Threads + Sync>(
+    rt: &R,
+    alloc: Global,
+    version: &Version,
+    prepared: &Prepared,
+    time: Option<&Text>,
+    line: u32,
+) -> Result<Answer, Memory>
+    ensures { IfOk result (λ given. given ≡ resolved_answer (state_of version.now)
+        (asked_of version.now.config prepared.now.query (option_copied time.entry))) }
+{
+    match resolve(alloc, version.config(), prepared, time) {
+        Ok(asked) => answer_asked(rt, alloc, version, &asked, line),
+        Err(AskFault::Memory) => Err(Memory),
+        Err(fault) => Ok(Answer::Refused(Refusal::Resolve(fault))),
+    }
+}
+
+/// The answer to a query of a line over a version, which is that of the core over the version's database. The
+/// only failure is want of memory.
+pub(crate) fn answer_over<R: Threads + Sync>(
+    rt: &R,
+    alloc: Global,
+    version: &Version,
+    ask: &Ask,
+    line: u32,
+) -> Result<Answer, Memory>
+    ensures { IfOk result (λ given. given ≡ answer_over (state_of version.now) ask.now) }
+{
+    match &ask.prepared {
+        Ok(prepared) => answer_prepared(rt, alloc, version, prepared, ask.time.as_ref(), line),
+        Err(fault) => Ok(refuse_text(*fault)),
+    }
+}

@@ -1,0 +1,193 @@
+//! What one line does to the parts of a run in order.
+ghost use Rattle.std.specs.Prelude.{◌≡◌, ◌<◌, length, Ok, IfOk, OnErr};
+ghost use Rattle.edit_rules.specs.Effects.{after};
+ghost use Rattle.session_core.specs.declared.line.Request.{Request};
+ghost use Rattle.session_core.specs.Kept.{AreHeld, held_at, look_closed};
+ghost use Rattle.session_core.specs.Steps.{session_places, slot};
+ghost use Rattle.session_run.specs.Orders.{commit_reply};
+ghost use Rattle.session_run.specs.Taken.{EditsBook, IsAnsweredAt, IsLookedAt, IsTaken, line_of, or_memory};
+
+use crate::looks::Look;
+use crate::shown::look_at;
+use edit_rules::Edit;
+use emu_disk::Disk;
+use emu_names::Memory;
+use live_book::{Book, EditFault, Published};
+use session_core::{
+    Answer, Ask, Head, Line, Refusal, Reply, Request, Slots, memory_reply, refuse_grid,
+};
+use std::alloc::Global;
+use std::sync::Wait;
+use std::thread::Threads;
+use textgrid::GridFault;
+use version_gate::Pass;
+
+/// The reply that was made for a line, or that memory ran out at it.
+fn or_memory(head: Head, made: Result<Reply, Memory>) -> Reply
+    ensures { result ≡ or_memory head made }
+{
+    match made {
+        Ok(reply) => reply,
+        Err(_) => memory_reply(head.line, head.session),
+    }
+}
+
+/// The reply to a line whose edit was committed with this answer.
+fn commit_reply(head: Head, made: Result<u64, EditFault>) -> Reply
+    ensures { (request : Request) → result ≡ commit_reply (line_of head request) made }
+{
+    match made {
+        Ok(n) => head.reply(Some(n), Answer::Done(head.command)),
+        Err(EditFault::HistoryFull(n)) => {
+            head.reply(Some(n), Answer::Refused(Refusal::HistoryFull))
+        }
+        Err(EditFault::Broken(rule, n)) => {
+            head.reply(Some(n), Answer::Refused(Refusal::Rule(rule)))
+        }
+        Err(EditFault::StoreFull(n)) => head.reply(Some(n), Answer::Refused(Refusal::StoreFull)),
+        Err(EditFault::Disk) => head.reply(None, Answer::Refused(Refusal::Disk)),
+        Err(EditFault::Memory) => head.reply(None, Answer::Refused(Refusal::Memory)),
+    }
+}
+
+/// Commits the edit of a line, unless its TextGrid has a fault: the reply.
+fn try_edit<D: Disk, R: Wait>(
+    rt: &R,
+    alloc: Global,
+    book: &mut Book<D>,
+    head: Head,
+    given: Result<Edit, GridFault>,
+) -> Reply
+    ensures { EditsBook D.may_leave D.moment D.left_since D.faults book.old head given result book.new }
+{
+    match given {
+        Ok(edit) => {
+            let made = book.commit(rt, alloc, head.session, head.line, &edit);
+            commit_reply(head, made)
+        }
+        Err(fault) => refuse_grid(head, book.number(), fault),
+    }
+}
+
+/// A query over the state after all entries.
+fn hold<D: Disk, R: Wait>(
+    rt: &R,
+    book: &mut Book<D>,
+    pass: &mut Pass<Published>,
+    head: Head,
+    ask: Ask,
+) -> Result<Look, Memory>
+    requires { pass.old.gate ≡ book.old.gate }
+    ensures same { book.new ≡ book.old }
+    ensures gate { pass.new.gate ≡ pass.old.gate }
+    ensures look { IfOk result (λ look. look ≡ held_at head ask (length book.old.history) look.database) }
+    ensures state { IfOk result (λ look. after book.old.config book.old.history ≡ Ok look.database) }
+{
+    let shown = look_at(rt, book, pass)?;
+    Ok(Look::new(head, book.number(), ask, shown))
+}
+
+/// Answers a query over the state after all entries: the reply. The only refusal is want of memory.
+fn answer_query<D: Disk, R: Threads + Wait + Sync>(
+    rt: &R,
+    alloc: Global,
+    book: &mut Book<D>,
+    pass: &mut Pass<Published>,
+    head: Head,
+    ask: Ask,
+) -> Result<Reply, Memory>
+    requires { pass.old.gate ≡ book.old.gate }
+    ensures same { book.new ≡ book.old }
+    ensures gate { pass.new.gate ≡ pass.old.gate }
+    ensures ok { IfOk result (λ reply. IsAnsweredAt book.old.config book.old.history head ask reply) }
+{
+    let look = hold(rt, book, pass, head, ask)?;
+    look.reply(rt, alloc, head.line, head.session)
+}
+
+/// Holds the state after all entries for a look, if the session has none open: the reply. Want of memory
+/// changes no look.
+fn open_look<D: Disk, R: Wait>(
+    rt: &R,
+    book: &mut Book<D>,
+    pass: &mut Pass<Published>,
+    looks: &mut Slots<Look>,
+    head: Head,
+    ask: Ask,
+) -> Result<Reply, Memory>
+    requires gate { pass.old.gate ≡ book.old.gate }
+    requires place { head.session.0 < length looks.old }
+    ensures same { book.new ≡ book.old }
+    ensures gate { pass.new.gate ≡ pass.old.gate }
+    ensures ok { IfOk result (λ reply.
+        IsLookedAt book.old.config book.old.history head ask looks.old reply looks.new) }
+    ensures err { OnErr result (looks.new ≡ looks.old) }
+{
+    let place = head.session.0 as usize;
+    let n = book.history().len() as u64;
+    match looks.get(place) {
+        Some(_) => Ok(head.reply(None, Answer::Refused(Refusal::LookOpen))),
+        None => {
+            let look = hold(rt, book, pass, head, ask)?;
+            looks.put(place, Some(look));
+            Ok(head.reply(Some(n), Answer::Done(head.command)))
+        }
+    }
+}
+
+/// Answers the session's open look and closes it: the reply. Want of memory, also that at which its query was
+/// read, leaves it open.
+fn close_look<R: Threads + Sync>(
+    rt: &R,
+    alloc: Global,
+    looks: &mut Slots<Look>,
+    head: Head,
+) -> Result<Reply, Memory>
+    requires { head.session.0 < length looks.old }
+    ensures ok { IfOk result (λ reply. (reply, looks.new) ≡
+        look_closed head.line head.session looks.old (slot looks.old head.session.0)) }
+    ensures err { OnErr result (looks.new ≡ looks.old) }
+{
+    let place = head.session.0 as usize;
+    match looks.get(place) {
+        None => Ok(head.reply(None, Answer::Refused(Refusal::NoLook))),
+        Some(look) => {
+            if look.lacks_memory() {
+                return Ok(memory_reply(head.line, head.session));
+            }
+            let reply = look.answered(rt, alloc, head.line, head.session)?;
+            looks.put(place, None);
+            Ok(reply)
+        }
+    }
+}
+
+/// Answers a line.
+pub(crate) fn take_line<D: Disk, R: Threads + Wait + Sync>(
+    rt: &R,
+    alloc: Global,
+    book: &mut Book<D>,
+    pass: &mut Pass<Published>,
+    looks: &mut Slots<Look>,
+    line: Line,
+) -> Reply
+    requires gate { pass.old.gate ≡ book.old.gate }
+    requires held { AreHeld book.old.config book.old.history looks.old }
+    requires place { line.session.0 < session_places }
+    ensures gate { pass.new.gate ≡ book.new.gate }
+    ensures taken { IsTaken D.may_leave D.moment D.left_since D.faults
+        book.old looks.old line result book.new looks.new }
+{
+    let head = Head {
+        line: line.line,
+        session: line.session,
+        command: line.command,
+    };
+    match line.request {
+        Request::Edit(given) => try_edit(rt, alloc, book, head, given),
+        Request::Query(ask) => or_memory(head, answer_query(rt, alloc, book, pass, head, ask)),
+        Request::Look(ask) => or_memory(head, open_look(rt, book, pass, looks, head, ask)),
+        Request::Finish => or_memory(head, close_look(rt, alloc, looks, head)),
+        Request::After(_) => head.reply(Some(book.number()), Answer::Done(head.command)),
+    }
+}
