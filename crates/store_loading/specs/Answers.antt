@@ -1,5 +1,5 @@
 -- What `import` and `load` answer, and why.
-use Rattle.std.specs.Prelude.{◌≡◌, ℕ, ◌≤◌, List, Option, None, Some, Result, Ok, Err, IsErrOf, ⊤}
+use Rattle.std.specs.Prelude.{◌≡◌, ℕ, ◌≤◌, List, Option, Some, Result, Ok, Err, IsErrOf, ⊤}
 use Rattle.fault_counts.specs.Count.{Rose}
 use Rattle.emu_io.specs.declared.tree.Stored.{Stored}
 use Rattle.emu_io.specs.declared.folder.FolderFault.{FolderFault}
@@ -16,24 +16,23 @@ use Rattle.store_commands.specs.declared.faults.Refused.TheVariants as refusals
 use Rattle.store_commands.specs.declared.faults.CommandFault.{CommandFault}
 use Rattle.store_commands.specs.declared.faults.CommandFault.TheVariants as faults
 
--- P is said of the content of a folder that tells it
+-- P is said of the content of a folder, where it tells it
 abbrev pub Told : Option (List Stored) → (List Stored → Type 0) → Type 0
-Told None P = ⊤
-Told (Some content) P = P content
+Told told P = (content : List Stored) → told ≡ Some content → P content
 
--- a reading gave the answer that was wanted, unless a call on the folder failed or memory ran out
+-- a reading gave the answer that is wanted, unless a call on the outside failed or memory ran out
 abbrev pub Gives : {A : Type 0} → Result A Refused → Result A CommandFault → Type 0
 Gives wanted (Ok x) = wanted ≡ Ok x
 Gives wanted (Err (faults.Refused refused)) = wanted ≡ Err refused
 Gives wanted (Err faults.Read) = ⊤
-Gives wanted (Err faults.Disk) = ⊥
+Gives wanted (Err faults.Disk) = ⊤
 Gives wanted (Err faults.Memory) = ⊤
 
 -- where the content is told, a reading gave the answer that it wants; in any case it gave no fault of a disk
-abbrev pub Reads : {A : Type 0} → Option (List Stored) → (List Stored → Result A Refused) → Result A CommandFault
-    → Type 0
-Reads {A = A} told wanted result =
-    (answer : Result A Refused) × Told told (λ content. wanted content ≡ answer) × Gives answer result
+pub record Reads {A : Type 0} (told : Option (List Stored)) (wanted : List Stored → Result A Refused)
+    (result : Result A CommandFault) : Type 0 where
+  pub given : Told told (λ content. Gives (wanted content) result)
+  pub no_disk : IsErrOf result faults.Disk → ⊥
 
 -- the refusal of the file or the folder of a path, unless memory ran out
 abbrev pub IsRefusalOf : List ℕ → FileFault → CommandFault → Type 0
@@ -75,13 +74,26 @@ OnMiss (Err (faults.Refused (refusals.File path file_faults.Absent))) P = P
 OnMiss (Err (faults.Refused (refusals.File path file_faults.TooLarge))) P = P
 OnMiss _ P = ⊤
 
--- Of a folder and a disk the counts never fall. `Read` comes only where the folder's count of faults rose, `Absent` and
--- `TooLarge` only where its count of misses rose, and `Disk` only where the disk's count rose
-pub record HasCommandCause {A : Type 0} (faults_before faults_now misses_before misses_now disk_before disk_now : ℕ)
+-- Of a folder the counts never fall. `Read` comes only where the count of faults rose, `Absent` and `TooLarge` only where
+-- that of misses rose
+pub record HasReadCause {A : Type 0} (faults_before faults_now misses_before misses_now : ℕ)
     (result : Result A CommandFault) : Type 0 where
   pub later_faults : faults_before ≤ faults_now
   pub later_misses : misses_before ≤ misses_now
-  pub later_disk : disk_before ≤ disk_now
   pub read : IsErrOf result faults.Read → Rose faults_before faults_now
   pub missed : OnMiss result (Rose misses_before misses_now)
-  pub disk : IsErrOf result faults.Disk → Rose disk_before disk_now
+
+-- of a disk the count never falls, and `Disk` comes only where it rose
+pub record HasDiskCause {A : Type 0} (before now : ℕ) (result : Result A CommandFault) : Type 0 where
+  pub later : before ≤ now
+  pub failed : IsErrOf result faults.Disk → Rose before now
+
+-- ---- steps that ask no folder
+
+-- a step gave the answer that is wanted, unless memory ran out
+abbrev pub Makes : {A : Type 0} → Result A Refused → Result A CommandFault → Type 0
+Makes wanted (Ok x) = wanted ≡ Ok x
+Makes wanted (Err (faults.Refused refused)) = wanted ≡ Err refused
+Makes wanted (Err faults.Read) = ⊥
+Makes wanted (Err faults.Disk) = ⊥
+Makes wanted (Err faults.Memory) = ⊤

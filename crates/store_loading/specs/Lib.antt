@@ -3,3 +3,4 @@ pub mod Files
 pub mod Wanted
 pub mod Answers
 pub mod Stored
+pub mod Running

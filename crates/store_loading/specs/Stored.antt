@@ -102,31 +102,40 @@ pub record IsNotRead {D : Type 0} (told : Option (List Stored)) (name : List ℕ
   pub refused : result ≡ Err fault
   pub reads : Reads told (config_wanted name) (Err fault)
 
--- The configuration was read and not stored, and no book was made of it. The journal is as before, or after a fault of the
--- disk the configuration may be in doubt
-pub record IsNotStored {D : Type 0} (may_leave : D → List ℕ → Type 0) (count : D → ℕ) (told : Option (List Stored))
-    (name : List ℕ) (old : Journal D) (result : Result ℕ CommandFault) (new : Journal D) : Type 0 where
-  pub config : ConfigParts
-  pub is_wanted : Told told (λ content. config_wanted name content ≡ Ok config)
+-- The configuration was not stored, and no book was made of it. The journal is as before, or after a fault of the disk the
+-- configuration may be in doubt
+pub record IsNotStored {D : Type 0} (may_leave : D → List ℕ → Type 0) (count : D → ℕ) (config : ConfigParts)
+    (old : Journal D) (result : Result ℕ CommandFault) (new : Journal D) : Type 0 where
   pub fault : OpenFault
   pub no_book : IsNoBookFor may_leave count config (Some old) fault (Some new)
   pub refused : result ≡ Err (open_fault fault)
 
--- the configuration was stored, and behind it these entries
-pub record IsStored {D : Type 0} (may_leave : D → List ℕ → Type 0) (told : Option (List Stored)) (name : List ℕ)
-    (result : Result ℕ CommandFault) (new : Journal D) : Type 0 where
-  pub config : ConfigParts
+-- Behind a stored configuration these edits were accepted, in order, each as an entry of the program, and the journal
+-- keeps all of that
+pub record IsFilled {D : Type 0} (may_leave : D → List ℕ → Type 0) (told : Option (List Stored))
+    (wanted : List Stored → List (Result Edit Refused)) (config : ConfigParts) (result : Result ℕ CommandFault)
+    (new : Journal D) : Type 0 where
   pub done : List Edit
   pub lost : Option Entry
-  pub is_wanted : Told told (λ content. config_wanted name content ≡ Ok config)
   pub add : All AddsBundle done
   pub keeps : Keeps may_leave config (map own_entry done) lost new
-  pub end : IsEnd told (bundles_wanted name) config done lost result
+  pub end : IsEnd told wanted config done lost result
+
+-- a configuration was not stored, or it was stored and bundles were added
+abbrev pub IsMade : {D : Type 0} → (D → List ℕ → Type 0) → (D → ℕ) → Option (List Stored)
+    → (List Stored → List (Result Edit Refused)) → ConfigParts → Journal D → Result ℕ CommandFault → Journal D → Type 0
+IsMade may_leave count told wanted config old result new =
+    IsNotStored may_leave count config old result new ⊎ IsFilled may_leave told wanted config result new
+
+-- the configuration was read, and then stored or not
+pub record IsRead {D : Type 0} (may_leave : D → List ℕ → Type 0) (count : D → ℕ) (told : Option (List Stored))
+    (name : List ℕ) (old : Journal D) (result : Result ℕ CommandFault) (new : Journal D) : Type 0 where
+  pub config : ConfigParts
+  pub is_wanted : Told told (λ content. config_wanted name content ≡ Ok config)
+  pub made : IsMade may_leave count told (bundles_wanted name) config old result new
 
 -- what a `load` does to a store without a configuration
 abbrev pub Loads : {D : Type 0} → (D → List ℕ → Type 0) → (D → ℕ) → Option (List Stored) → List ℕ → Journal D
     → Result ℕ CommandFault → Journal D → Type 0
 Loads may_leave count told name old result new =
-    IsNotRead told name old result new
-    ⊎ IsNotStored may_leave count told name old result new
-    ⊎ IsStored may_leave told name result new
+    IsNotRead told name old result new ⊎ IsRead may_leave count told name old result new

@@ -1,8 +1,7 @@
 -- What `import` and `load` are asked for, by a folder's content alone.
-use Rattle.std.specs.Prelude.{ℕ, Bool, ◌&&◌, List, [], ◌∷◌, ◌++◌, map, codes, Result, Ok, Err, flat_map, if◌then◌else◌}
+use Rattle.std.specs.Prelude.{ℕ, List, [], ◌∷◌, ◌++◌, map, codes, Result, Ok, Err, flat_map, if◌then◌else◌}
 use Rattle.emu_io.specs.declared.entries.FolderEntry.{FolderEntry}
 use Rattle.emu_io.specs.declared.tree.Stored.{Stored}
-use Rattle.emu_io.specs.declared.folder.FolderFault.{FolderFault}
 use Rattle.emu_io.specs.Folders.{list_answer, file_answer}
 use Rattle.emu_names.specs.declared.names.BundleKey.{BundleKey}
 use Rattle.emu_names.specs.Name.{is_name}
@@ -33,11 +32,21 @@ bytes_in path content = at_path path missed (file_answer path content)
 abbrev pub value_in : List ℕ → List Stored → Result Seen Refused
 value_in path content = bytes_in path content >>= json_in path
 
--- the key of two words that have to be names
-abbrev pub key_of : List ℕ → List ℕ → Result BundleKey Refused
-key_of session bundle =
-    if is_name session && is_name bundle then Ok (record { session = session; bundle = bundle })
-    else Err refusals.BadName
+-- the entries of the folder at a path, or its refusal
+abbrev pub entries_in : List ℕ → List Stored → Result (List FolderEntry) Refused
+entries_in path content = at_path path missed (list_answer path content)
+
+-- what the folders below a path with an ending are called before it, in order, or the refusal of the path's folder
+abbrev pub names_in : List ℕ → List ℕ → List Stored → Result (List (List ℕ)) Refused
+names_in path ending content = entries_in path content >>= λ entries. Ok (names_with ending entries)
+
+-- a name, or another refusal where it is none
+abbrev pub named : Refused → List ℕ → Result (List ℕ) Refused
+named refused word = if is_name word then Ok word else Err refused
+
+-- the key of two names
+abbrev pub key_of : List ℕ → List ℕ → BundleKey
+key_of session bundle = record { session = session; bundle = bundle }
 
 -- the annotation of a TextGrid's bytes at a rate, or the TextGrid's first fault
 abbrev pub grid_annot : ℕ → List ℕ → Result Annot GridFault
@@ -45,14 +54,19 @@ grid_annot rate bytes = grid_of bytes >>= grids.annot_of rate
 
 -- ---- `import`
 
+-- the annotation of the TextGrid in the file at a path, or the refusal of the file, or that of what it holds
+abbrev pub grid_in : ℕ → List ℕ → List Stored → Result Annot Refused
+grid_in rate path content =
+    bytes_in path content >>= λ bytes. at_path path file_faults.Grid (grid_annot rate bytes)
+
 -- The edit that adds the TextGrid of a file under two names, or the refusal: first that of the names, then that of the
--- file, and then that of what it holds
+-- file
 abbrev pub import_wanted : List ℕ → List ℕ → ℕ → List ℕ → List Stored → Result Edit Refused
-import_wanted session bundle rate file content =
-    key_of session bundle >>= λ key.
-    bytes_in file content >>= λ bytes.
-    at_path file file_faults.Grid (grid_annot rate bytes) >>= λ annot.
-    Ok (edits.AddBundle key annot)
+import_wanted session bundle rate path content =
+    named refusals.BadName session >>= λ s.
+    named refusals.BadName bundle >>= λ b.
+    grid_in rate path content >>= λ annot.
+    Ok (edits.AddBundle (key_of s b) annot)
 
 -- ---- `load`
 
@@ -60,45 +74,58 @@ import_wanted session bundle rate file content =
 abbrev pub database_path : List ℕ → List ℕ
 database_path name = name ++ codes "_emuDB"
 
--- the configuration of a database, or the refusal of its file
-abbrev pub config_wanted : List ℕ → List Stored → Result ConfigParts Refused
-config_wanted name content =
-    let path = path_in (database_path name) name (codes "_DBconfig.json") in
-    value_in path content >>= λ value.
-    at_path path file_faults.Config (config_of value)
+-- the configuration in the file at a path, or the refusal of the file, or that of what it holds
+abbrev pub config_in : List ℕ → List Stored → Result ConfigParts Refused
+config_in path content = value_in path content >>= λ value. at_path path file_faults.Config (config_of value)
 
--- The edit that adds a bundle, or the refusal: first that of its name, then that of its file, and then that of what it
--- holds. The path is that of the session's folder.
+-- the configuration of a database
+abbrev pub config_wanted : List ℕ → List Stored → Result ConfigParts Refused
+config_wanted name content = config_in (path_in (database_path name) name (codes "_DBconfig.json")) content
+
+-- the annotation in the file at a path, or the refusal of the file, or that of what it holds
+abbrev pub annot_in : List ℕ → List Stored → Result Annot Refused
+annot_in path content = value_in path content >>= λ value. at_path path file_faults.Shape (annot_of value)
+
+-- the folder of a bundle in that of its session
+abbrev pub bundle_path : List ℕ → List ℕ → List ℕ
+bundle_path path bundle = path_in path bundle (codes "_bndl")
+
+-- The edit that adds a bundle, or the refusal: first that of its name, with its folder, and then that of its file. The
+-- path is that of the session's folder
 abbrev pub bundle_wanted : List ℕ → List ℕ → List Stored → List ℕ → Result Edit Refused
 bundle_wanted path session content bundle =
-    let folder = path_in path bundle (codes "_bndl") in
-    let file = path_in folder bundle (codes "_annot.json") in
-    if is_name bundle then (
-    value_in file content >>= λ value.
-    at_path file file_faults.Shape (annot_of value) >>= λ annot.
-    Ok (edits.AddBundle (record { session = session; bundle = bundle }) annot))
-    else Err (refusals.File folder file_faults.BadName)
+    named (refusals.File (bundle_path path bundle) file_faults.BadName) bundle >>= λ b.
+    annot_in (path_in (bundle_path path bundle) bundle (codes "_annot.json")) content >>= λ annot.
+    Ok (edits.AddBundle (key_of session b) annot)
 
--- what the entries of the folder at a path ask for, or the folder's refusal alone
-abbrev pub listed : List ℕ → (List FolderEntry → List (Result Edit Refused)) → Result (List FolderEntry) FolderFault
-    → List (Result Edit Refused)
-listed path wanted (Ok entries) = wanted entries
-listed path wanted (Err fault) = Err (refusals.File path (missed fault)) ∷ []
+-- what is asked for behind a reading, or its refusal alone
+abbrev pub behind : {A : Type 0} → Result A Refused → (A → List (Result Edit Refused)) → List (Result Edit Refused)
+behind (Ok x) wanted = wanted x
+behind (Err refused) wanted = Err refused ∷ []
 
--- What a session asks for: each of its bundles in the order of their names, or the refusal of its folder. The path is
--- that of the database's folder.
+-- the folder of a session in that of its database
+abbrev pub session_path : List ℕ → List ℕ → List ℕ
+session_path path session = path_in path session (codes "_ses")
+
+-- the names of a session's bundles, in order, or the refusal: first that of its name, with its folder, and then that of
+-- the folder
+abbrev pub bundle_names : List ℕ → List Stored → List ℕ → Result (List (List ℕ)) Refused
+bundle_names path content session =
+    named (refusals.File (session_path path session) file_faults.BadName) session >>= λ s.
+    names_in (session_path path session) (codes "_bndl") content
+
+-- What a session asks for: each of its bundles in the order of their names, or its refusal. The path is that of the
+-- database's folder
 abbrev pub session_wanted : List ℕ → List Stored → List ℕ → List (Result Edit Refused)
 session_wanted path content session =
-    let folder = path_in path session (codes "_ses") in
-    if is_name session then
-    listed folder (λ entries. map (bundle_wanted folder session content) (names_with (codes "_bndl") entries))
-    (list_answer folder content)
-    else Err (refusals.File folder file_faults.BadName) ∷ []
+    behind (bundle_names path content session) (map (bundle_wanted (session_path path session) session content))
 
--- What a database asks for behind its configuration: the edits that add its bundles, the sessions in the order of their
--- names, and the refusals in the places where they come
+-- What the folder of a database asks for: the edits that add its bundles, the sessions in the order of their names, and
+-- the refusals in the places where they come
+abbrev pub database_wanted : List ℕ → List Stored → List (Result Edit Refused)
+database_wanted path content =
+    behind (names_in path (codes "_ses") content) (flat_map (session_wanted path content))
+
+-- what a database asks for behind its configuration
 abbrev pub bundles_wanted : List ℕ → List Stored → List (Result Edit Refused)
-bundles_wanted name content =
-    let path = database_path name in
-    listed path (λ entries. flat_map (session_wanted path content) (names_with (codes "_ses") entries))
-    (list_answer path content)
+bundles_wanted name content = database_wanted (database_path name) content

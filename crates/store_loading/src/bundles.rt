@@ -1,19 +1,28 @@
 //! The bundles of one session's folder.
+ghost use Rattle.std.specs.Prelude.{◌≡◌, None, IfOk, IsTrue, [], ◌∷◌, map};
+ghost use Rattle.emu_names.specs.Name.{is_name};
+ghost use Rattle.live_book.specs.Kept.{faults_in};
+ghost use Rattle.store_loading.specs.Answers.{HasDiskCause, HasReadCause, Makes, Reads};
+ghost use Rattle.store_loading.specs.Running.{Goes, IsKept};
+ghost use Rattle.store_loading.specs.Stored.{AddsBundle};
+ghost use Rattle.store_loading.specs.Wanted.{bundle_wanted, named};
 
-use crate::answers::{add, refuse};
+use crate::faults::{add, refuse};
 use crate::files::annot_in;
 use crate::paths::path_in;
 use edit_rules::Edit;
 use emu_disk::Disk;
 use emu_io::{FileName, Folder};
-use emu_names::{BundleKey, Name, NameFault, Text};
+use emu_names::{BundleKey, Name, NameFault};
 use live_book::Book;
 use std::alloc::Global;
 use std::sync::Wait;
 use store_commands::{CommandFault, FileFault};
 
-/// The name of a part of a folder of this path.
-pub(crate) fn name_of_folder(alloc: Global, path: &str, name: &str) -> Result<Name, CommandFault> {
+/// The name of which the folder of this path is called.
+pub(crate) fn name_in(alloc: Global, path: &str, name: &str) -> Result<Name, CommandFault>
+    ensures { Makes (named (Refused.File path.now FileFault.BadName) name.now) result }
+{
     match Name::new(alloc, name) {
         Ok(name) => Ok(name),
         Err(NameFault::BadName) => Err(refuse(alloc, path, FileFault::BadName)),
@@ -28,19 +37,24 @@ fn bundle_edit<F: Folder>(
     path: &str,
     session: &Name,
     bundle: &str,
-) -> Result<Edit, CommandFault> {
+) -> Result<Edit, CommandFault>
+    ensures reads { Reads (F.content folder.old)
+        (λ content. bundle_wanted path.now session.now content bundle.now) result }
+    ensures adds { IfOk result AddsBundle }
+    ensures cause { HasReadCause (F.faults folder.old) (F.faults folder.new)
+        (F.misses folder.old) (F.misses folder.new) result }
+    ensures same { F.content folder.new ≡ F.content folder.old }
+{
     let below = path_in(alloc, path, bundle, "_bndl")?;
-    let name = name_of_folder(alloc, below.as_str(), bundle)?;
+    let name = name_in(alloc, below.as_str(), bundle)?;
     let file = path_in(alloc, below.as_str(), bundle, "_annot.json")?;
-    let annot = annot_in(alloc, folder, file.as_str())?;
     let session = session.copy(alloc)?;
-    Ok(Edit::AddBundle {
-        key: BundleKey {
-            session,
-            bundle: name,
-        },
-        annot,
-    })
+    let annot = annot_in(alloc, folder, file.as_str())?;
+    let key = BundleKey {
+        session,
+        bundle: name,
+    };
+    Ok(Edit::AddBundle { key, annot })
 }
 
 /// Adds the bundle of a name in the folder of a session.
@@ -52,10 +66,22 @@ fn add_bundle<R: Wait, F: Folder, D: Disk>(
     path: &str,
     session: &Name,
     bundle: &str,
-) -> Result<(), CommandFault> {
+) -> Result<(), CommandFault>
+    requires { IsKept D.may_leave None book.old }
+    ensures goes { Goes D.may_leave (F.content folder.old)
+        (λ content. bundle_wanted path.now session.now content bundle.now ∷ [])
+        book.old result book.new }
+    ensures read { HasReadCause (F.faults folder.old) (F.faults folder.new)
+        (F.misses folder.old) (F.misses folder.new) result }
+    ensures disk { HasDiskCause (faults_in D.faults book.old.journal)
+        (faults_in D.faults book.new.journal) result }
+    ensures same { F.content folder.new ≡ F.content folder.old }
+{
     let edit = bundle_edit(alloc, folder, path, session, bundle)?;
-    let _number = add(rt, alloc, book, &edit)?;
-    Ok(())
+    match add(rt, alloc, book, &edit) {
+        Ok(_) => Ok(()),
+        Err(fault) => Err(fault),
+    }
 }
 
 /// Adds the bundles of these names in the folder of a session, in turn.
@@ -67,7 +93,17 @@ pub(crate) fn add_bundles<R: Wait, F: Folder, D: Disk>(
     path: &str,
     session: &Name,
     names: &[FileName],
-) -> Result<(), CommandFault> {
+) -> Result<(), CommandFault>
+    requires { IsKept D.may_leave None book.old }
+    ensures goes { Goes D.may_leave (F.content folder.old)
+        (λ content. map (bundle_wanted path.now session.now content) names.now)
+        book.old result book.new }
+    ensures read { HasReadCause (F.faults folder.old) (F.faults folder.new)
+        (F.misses folder.old) (F.misses folder.new) result }
+    ensures disk { HasDiskCause (faults_in D.faults book.old.journal)
+        (faults_in D.faults book.new.journal) result }
+    ensures same { F.content folder.new ≡ F.content folder.old }
+{
     'names: for name in names {
         add_bundle(rt, alloc, book, folder, path, session, name.as_str())?;
     }

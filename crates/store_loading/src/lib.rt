@@ -1,13 +1,13 @@
 //! What comes into a store from files: a bundle of a TextGrid, and a whole database of a folder.
 #![tactic(auto)]
 
-mod answers;
 mod bundles;
+mod faults;
 mod files;
-mod import;
-mod load;
+mod importing;
+mod loading;
 mod paths;
 mod sessions;
 
-pub use import::import;
-pub use load::{Loaded, load};
+pub use importing::import;
+pub use loading::{Loaded, load};

@@ -1,35 +1,33 @@
 //! The sessions of a database's folder.
+ghost use Rattle.std.specs.Prelude.{◌≡◌, None, IfOk, flat_map, length};
+ghost use Rattle.live_book.specs.Kept.{faults_in};
+ghost use Rattle.store_loading.specs.Answers.{HasDiskCause, HasReadCause, Reads};
+ghost use Rattle.store_loading.specs.Running.{Goes, IsKept};
+ghost use Rattle.store_loading.specs.Wanted.{bundle_names, database_wanted, names_in, session_path, session_wanted};
 
-use crate::answers::folder_fault;
-use crate::bundles::{add_bundles, name_of_folder};
-use crate::paths::{names_with, path_in};
+use crate::bundles::{add_bundles, name_in};
+use crate::files::entries_in;
+use crate::paths::{FileNames, names_with, path_in};
 use emu_disk::Disk;
-use emu_io::{FileName, Folder, FolderEntries};
+use emu_io::{FileName, Folder};
 use live_book::Book;
 use std::alloc::Global;
 use std::sync::Wait;
 use store_commands::CommandFault;
 
-/// The entries of the folder at a path.
-pub(crate) fn list_folder<F: Folder>(
-    alloc: Global,
-    folder: &mut F,
-    path: &str,
-) -> Result<FolderEntries, CommandFault> {
-    match folder.list(alloc, path) {
-        Ok(entries) => Ok(entries),
-        Err(fault) => Err(folder_fault(alloc, path, fault)),
-    }
-}
-
-/// Names of the folders at a path that have an ending, in the order of their bytes.
-fn listed_names<F: Folder>(
+/// What the folders below a path with an ending are called before it, in the order of the bytes of that.
+fn names_in<F: Folder>(
     alloc: Global,
     folder: &mut F,
     path: &str,
     ending: &str,
-) -> Result<Vec<FileName>, CommandFault> {
-    let entries = list_folder(alloc, folder, path)?;
+) -> Result<FileNames, CommandFault>
+    ensures reads { Reads (F.content folder.old) (names_in path.now ending.now) result }
+    ensures cause { HasReadCause (F.faults folder.old) (F.faults folder.new)
+        (F.misses folder.old) (F.misses folder.new) result }
+    ensures same { F.content folder.new ≡ F.content folder.old }
+{
+    let entries = entries_in(alloc, folder, path)?;
     let names = names_with(alloc, &entries, ending)?;
     Ok(names)
 }
@@ -42,11 +40,28 @@ fn add_session<R: Wait, F: Folder, D: Disk>(
     folder: &mut F,
     path: &str,
     session: &str,
-) -> Result<(), CommandFault> {
+) -> Result<(), CommandFault>
+    requires { IsKept D.may_leave None book.old }
+    ensures goes { Goes D.may_leave (F.content folder.old)
+        (λ content. session_wanted path.now content session.now) book.old result book.new }
+    ensures read { HasReadCause (F.faults folder.old) (F.faults folder.new)
+        (F.misses folder.old) (F.misses folder.new) result }
+    ensures disk { HasDiskCause (faults_in D.faults book.old.journal)
+        (faults_in D.faults book.new.journal) result }
+    ensures same { F.content folder.new ≡ F.content folder.old }
+{
     let below = path_in(alloc, path, session, "_ses")?;
-    let name = name_of_folder(alloc, below.as_str(), session)?;
-    let names = listed_names(alloc, folder, below.as_str(), "_bndl")?;
-    add_bundles(rt, alloc, book, folder, below.as_str(), &name, &names)
+    let name = name_in(alloc, below.as_str(), session)?;
+    let names = names_in(alloc, folder, below.as_str(), "_bndl")?;
+    add_bundles(
+        rt,
+        alloc,
+        book,
+        folder,
+        below.as_str(),
+        &name,
+        names.as_slice(),
+    )
 }
 
 /// Adds the bundles of the sessions of these names, in turn.
@@ -57,7 +72,17 @@ fn add_sessions<R: Wait, F: Folder, D: Disk>(
     folder: &mut F,
     path: &str,
     names: &[FileName],
-) -> Result<(), CommandFault> {
+) -> Result<(), CommandFault>
+    requires { IsKept D.may_leave None book.old }
+    ensures goes { Goes D.may_leave (F.content folder.old)
+        (λ content. flat_map (session_wanted path.now content) names.now)
+        book.old result book.new }
+    ensures read { HasReadCause (F.faults folder.old) (F.faults folder.new)
+        (F.misses folder.old) (F.misses folder.new) result }
+    ensures disk { HasDiskCause (faults_in D.faults book.old.journal)
+        (faults_in D.faults book.new.journal) result }
+    ensures same { F.content folder.new ≡ F.content folder.old }
+{
     'names: for name in names {
         add_session(rt, alloc, book, folder, path, name.as_str())?;
     }
@@ -71,8 +96,16 @@ pub(crate) fn add_database<R: Wait, F: Folder, D: Disk>(
     book: &mut Book<D>,
     folder: &mut F,
     path: &str,
-) -> Result<u64, CommandFault> {
-    let names = listed_names(alloc, folder, path, "_ses")?;
-    add_sessions(rt, alloc, book, folder, path, &names)?;
-    Ok(book.number())
+) -> Result<(), CommandFault>
+    requires { IsKept D.may_leave None book.old }
+    ensures goes { Goes D.may_leave (F.content folder.old) (database_wanted path.now)
+        book.old result book.new }
+    ensures read { HasReadCause (F.faults folder.old) (F.faults folder.new)
+        (F.misses folder.old) (F.misses folder.new) result }
+    ensures disk { HasDiskCause (faults_in D.faults book.old.journal)
+        (faults_in D.faults book.new.journal) result }
+    ensures same { F.content folder.new ≡ F.content folder.old }
+{
+    let names = names_in(alloc, folder, path, "_ses")?;
+    add_sessions(rt, alloc, book, folder, path, names.as_slice())
 }

@@ -1,11 +1,12 @@
 //! A bundle of a TextGrid's file.
-ghost use Rattle.std.specs.Prelude.{◌≡◌, ◌≤◌};
+ghost use Rattle.std.specs.Prelude.{◌≡◌, ◌≤◌, IfOk};
+ghost use Rattle.emu_names.specs.declared.limits.TheConstants.{TOP_RATE};
 ghost use Rattle.live_book.specs.Kept.{faults_in};
-ghost use Rattle.store_loading.specs.Answers.{HasCommandCause};
-ghost use Rattle.store_loading.specs.Stored.{Imports};
-ghost use Rattle.store_loading.specs.Wanted.{import_wanted};
+ghost use Rattle.store_loading.specs.Answers.{HasDiskCause, HasReadCause, Makes, Reads};
+ghost use Rattle.store_loading.specs.Stored.{AddsBundle, Imports};
+ghost use Rattle.store_loading.specs.Wanted.{import_wanted, named};
 
-use crate::answers::add;
+use crate::faults::add;
 use crate::files::grid_in;
 use edit_rules::Edit;
 use emu_disk::Disk;
@@ -17,7 +18,9 @@ use std::sync::Wait;
 use store_commands::{CommandFault, Refused};
 
 /// A word that has to be a name.
-fn name_of(alloc: Global, word: &str) -> Result<Name, CommandFault> {
+fn name_of(alloc: Global, word: &str) -> Result<Name, CommandFault>
+    ensures { Makes (named Refused.BadName word.now) result }
+{
     match Name::new(alloc, word) {
         Ok(name) => Ok(name),
         Err(NameFault::BadName) => Err(CommandFault::Refused(Refused::BadName)),
@@ -33,14 +36,21 @@ fn import_edit<F: Folder>(
     bundle: &str,
     rate: u32,
     file: &str,
-) -> Result<Edit, CommandFault> {
+) -> Result<Edit, CommandFault>
+    requires least { 1 ≤ rate }
+    requires most { rate ≤ TOP_RATE }
+    ensures reads { Reads (F.content folder.old)
+        (import_wanted session.now bundle.now rate file.now) result }
+    ensures adds { IfOk result AddsBundle }
+    ensures cause { HasReadCause (F.faults folder.old) (F.faults folder.new)
+        (F.misses folder.old) (F.misses folder.new) result }
+    ensures same { F.content folder.new ≡ F.content folder.old }
+{
     let session = name_of(alloc, session)?;
     let bundle = name_of(alloc, bundle)?;
     let annot = grid_in(alloc, folder, rate, file)?;
-    Ok(Edit::AddBundle {
-        key: BundleKey { session, bundle },
-        annot,
-    })
+    let key = BundleKey { session, bundle };
+    Ok(Edit::AddBundle { key, annot })
 }
 
 /// Adds the TextGrid of a file, read at `rate` samples a second, to a book, as the bundle of these two names, with
@@ -61,12 +71,14 @@ pub fn import<R: Wait, F: Folder, D: Disk>(
     rate: u32,
     file: &str,
 ) -> Result<u64, CommandFault>
-    requires rate { (1 ≤ rate) × (rate ≤ 1000000) }
+    requires least { 1 ≤ rate }
+    requires most { rate ≤ TOP_RATE }
     ensures stored { Imports D.may_leave D.moment D.left_since D.faults (F.content folder.old)
         (import_wanted session.now bundle.now rate file.now) book.old result book.new }
-    ensures cause { HasCommandCause (F.faults folder.old) (F.faults folder.new)
-        (F.misses folder.old) (F.misses folder.new)
-        (faults_in D.faults book.old.journal) (faults_in D.faults book.new.journal) result }
+    ensures read { HasReadCause (F.faults folder.old) (F.faults folder.new)
+        (F.misses folder.old) (F.misses folder.new) result }
+    ensures disk { HasDiskCause (faults_in D.faults book.old.journal)
+        (faults_in D.faults book.new.journal) result }
     ensures same { F.content folder.new ≡ F.content folder.old }
 {
     let edit = import_edit(alloc, folder, session, bundle, rate, file)?;

@@ -1,18 +1,21 @@
 //! A whole database of a folder.
-ghost use Rattle.std.specs.Prelude.{◌≡◌, [], None};
+ghost use Rattle.std.specs.Prelude.{◌≡◌, [], None, Some, IfOk, length, true};
 ghost use Rattle.edit_journal.specs.Held.{Holds, count_in};
-ghost use Rattle.store_loading.specs.Answers.{HasCommandCause};
-ghost use Rattle.store_loading.specs.Stored.{Loads};
+ghost use Rattle.live_book.specs.Commits.{has_journal};
+ghost use Rattle.live_book.specs.Kept.{faults_in};
+ghost use Rattle.store_loading.specs.Answers.{HasReadCause, HasDiskCause, Reads};
+ghost use Rattle.store_loading.specs.Running.{Goes, IsKept};
+ghost use Rattle.store_loading.specs.Stored.{IsFilled, IsMade, Loads};
+ghost use Rattle.store_loading.specs.Wanted.{bundles_wanted, config_wanted};
 
-use crate::answers::open_fault;
+use crate::faults::open_fault;
 use crate::files::config_in;
-use crate::paths::path_in;
+use crate::paths::{database_path, path_in};
 use crate::sessions::add_database;
 use db_config::Config;
 use edit_journal::Journal;
 use emu_disk::Disk;
 use emu_io::Folder;
-use emu_names::{Memory, Text};
 use live_book::{Book, MadeBook, NoBook, new_book};
 use std::alloc::Global;
 use std::sync::Wait;
@@ -49,9 +52,10 @@ pub fn load<R: Wait, F: Folder, D: Disk>(
     requires { Holds D.may_leave [] None journal }
     ensures stored { Loads D.may_leave D.faults (F.content folder.old) name.now journal
         result.result result.journal }
-    ensures cause { HasCommandCause (F.faults folder.old) (F.faults folder.new)
-        (F.misses folder.old) (F.misses folder.new)
-        (count_in D.faults journal) (count_in D.faults result.journal) result.result }
+    ensures read { HasReadCause (F.faults folder.old) (F.faults folder.new)
+        (F.misses folder.old) (F.misses folder.new) result.result }
+    ensures disk { HasDiskCause (count_in D.faults journal) (count_in D.faults result.journal)
+        result.result }
     ensures same { F.content folder.new ≡ F.content folder.old }
 {
     match config_wanted(alloc, folder, name) {
@@ -63,18 +67,17 @@ pub fn load<R: Wait, F: Folder, D: Disk>(
     }
 }
 
-/// The path of a database's folder.
-fn database_path(alloc: Global, name: &str) -> Result<Text, Memory> {
-    let path = format!(in alloc; "{name}_emuDB")?;
-    Ok(Text::from_string(path))
-}
-
 /// The configuration of a database.
 fn config_wanted<F: Folder>(
     alloc: Global,
     folder: &mut F,
     name: &str,
-) -> Result<Config, CommandFault> {
+) -> Result<Config, CommandFault>
+    ensures reads { Reads (F.content folder.old) (config_wanted name.now) result }
+    ensures cause { HasReadCause (F.faults folder.old) (F.faults folder.new)
+        (F.misses folder.old) (F.misses folder.new) result }
+    ensures same { F.content folder.new ≡ F.content folder.old }
+{
     let path = database_path(alloc, name)?;
     let file = path_in(alloc, path.as_str(), name, "_DBconfig.json")?;
     config_in(alloc, folder, file.as_str())
@@ -88,7 +91,16 @@ fn store<R: Wait, F: Folder, D: Disk>(
     journal: Journal<D>,
     folder: &mut F,
     name: &str,
-) -> Loaded<D> {
+) -> Loaded<D>
+    requires { Holds D.may_leave [] None journal }
+    ensures stored { IsMade D.may_leave D.faults (F.content folder.old) (bundles_wanted name.now)
+        config journal result.result result.journal }
+    ensures read { HasReadCause (F.faults folder.old) (F.faults folder.new)
+        (F.misses folder.old) (F.misses folder.new) result.result }
+    ensures disk { HasDiskCause (count_in D.faults journal) (count_in D.faults result.journal)
+        result.result }
+    ensures same { F.content folder.new ≡ F.content folder.old }
+{
     match new_book(rt, alloc, config, Some(journal), 1) {
         Ok(made) => {
             let MadeBook { book, passes } = made;
@@ -97,18 +109,22 @@ fn store<R: Wait, F: Folder, D: Disk>(
         }
         Err(refused) => {
             let NoBook { fault, journal } = refused;
-            given_back(journal, Err(open_fault(fault)))
+            with_answer(journal, Err(open_fault(fault)))
         }
     }
 }
 
 /// A journal that is there, with an answer.
-fn given_back<D: Disk>(
-    journal: Option<Journal<D>>,
-    result: Result<u64, CommandFault>,
-) -> Loaded<D> {
+fn with_answer<D: Disk>(journal: Option<Journal<D>>, answer: Result<u64, CommandFault>) -> Loaded<D>
+    requires { has_journal journal ≡ true }
+    ensures journal { Some result.journal ≡ journal }
+    ensures answer { result.result ≡ answer }
+{
     match journal {
-        Some(journal) => Loaded { journal, result },
+        Some(journal) => Loaded {
+            journal,
+            result: answer,
+        },
         None => unreachable!(),
     }
 }
@@ -120,20 +136,44 @@ fn fill<R: Wait, F: Folder, D: Disk>(
     book: Book<D>,
     folder: &mut F,
     name: &str,
-) -> Loaded<D> {
+) -> Loaded<D>
+    requires kept { IsKept D.may_leave None book }
+    requires empty { book.history ≡ [] }
+    ensures filled { IsFilled D.may_leave (F.content folder.old) (bundles_wanted name.now)
+        book.config result.result result.journal }
+    ensures read { HasReadCause (F.faults folder.old) (F.faults folder.new)
+        (F.misses folder.old) (F.misses folder.new) result.result }
+    ensures disk { HasDiskCause (faults_in D.faults book.journal)
+        (count_in D.faults result.journal) result.result }
+    ensures same { F.content folder.new ≡ F.content folder.old }
+{
     let mut book = book;
-    let result = add_all(rt, alloc, &mut book, folder, name);
-    given_back(book.into_journal(rt), result)
+    let answer = add_all(rt, alloc, &mut book, folder, name);
+    with_answer(book.into_journal(rt), answer)
 }
 
-/// Adds the bundles of a database to a book.
+/// Adds the bundles of a database to a book without entries, and counts them.
 fn add_all<R: Wait, F: Folder, D: Disk>(
     rt: &R,
     alloc: Global,
     book: &mut Book<D>,
     folder: &mut F,
     name: &str,
-) -> Result<u64, CommandFault> {
+) -> Result<u64, CommandFault>
+    requires kept { IsKept D.may_leave None book.old }
+    requires empty { book.old.history ≡ [] }
+    ensures goes { Goes D.may_leave (F.content folder.old) (bundles_wanted name.now)
+        book.old result book.new }
+    ensures count { IfOk result (λ n. n ≡ length book.new.history) }
+    ensures read { HasReadCause (F.faults folder.old) (F.faults folder.new)
+        (F.misses folder.old) (F.misses folder.new) result }
+    ensures disk { HasDiskCause (faults_in D.faults book.old.journal)
+        (faults_in D.faults book.new.journal) result }
+    ensures same { F.content folder.new ≡ F.content folder.old }
+{
     let path = database_path(alloc, name)?;
-    add_database(rt, alloc, book, folder, path.as_str())
+    match add_database(rt, alloc, book, folder, path.as_str()) {
+        Ok(()) => Ok(book.number()),
+        Err(fault) => Err(fault),
+    }
 }
