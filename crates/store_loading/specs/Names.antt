@@ -11,7 +11,7 @@ path_in folder name ending = folder ++ (codes "/" ++ (name ++ ending))
 -- what stands before an ending, where a name has it
 abbrev pub stem : List ℕ → List ℕ → Option (List ℕ)
 stem ending name =
-    cond (pointwise nat_eq (drop (length name - length ending) name) ending)
+    cond (pointwise nat_eq ending (drop (length name - length ending) name))
     (Some (take (length name - length ending) name)) None
 
 -- the same of an entry that is a folder

@@ -1,5 +1,5 @@
 -- A `load` under way, step by step.
-use Rattle.std.specs.Prelude.{◌≡◌, ℕ, List, [], ◌++◌, map, All, true, Option, None, Some, Result, Ok, Err}
+use Rattle.std.specs.Prelude.{◌≡◌, ℕ, List, [], ◌++◌, map, true, Option, None, Some, Result, Ok, Err}
 use mathlib.Core.List.{IsPrefix}
 use Rattle.emu_io.specs.declared.tree.Stored.{Stored}
 use Rattle.edit_rules.specs.declared.edit.Edit.{Edit}
@@ -9,7 +9,7 @@ use Rattle.live_book.specs.Commits.{has_journal}
 use Rattle.store_commands.specs.declared.faults.Refused.{Refused}
 use Rattle.store_commands.specs.declared.faults.CommandFault.{CommandFault}
 use Rattle.store_loading.specs.Answers.{Told}
-use Rattle.store_loading.specs.Stored.{own_entry, AddsBundle, IsStop}
+use Rattle.store_loading.specs.Stored.{own_entry, AddBundles, IsStop}
 
 -- a book has a journal, which keeps its configuration and history, and in which this is in doubt
 pub record IsKept {D : Type 0} (may_leave : D → List ℕ → Type 0) (lost : Option Entry) (book : BookParts D)
@@ -21,7 +21,7 @@ pub record IsKept {D : Type 0} (may_leave : D → List ℕ → Type 0) (lost : O
 pub record IsBehind {D : Type 0} (old : BookParts D) (more : List Edit) (new : BookParts D) : Type 0 where
   pub config : new.config ≡ old.config
   pub history : new.history ≡ old.history ++ map own_entry more
-  pub add : All AddsBundle more
+  pub add : AddBundles more
 
 -- all that is wanted was accepted, and nothing is in doubt
 pub record Advances {D : Type 0} (may_leave : D → List ℕ → Type 0) (told : Option (List Stored))

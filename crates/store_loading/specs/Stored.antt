@@ -1,5 +1,5 @@
 -- What `import` and `load` do to a store.
-use Rattle.std.specs.Prelude.{◌≡◌, ◌⊎◌, ℕ, List, [], ◌∷◌, ◌++◌, length, map, All, Bool, true, Option, None, Some, Result, Ok, Err}
+use Rattle.std.specs.Prelude.{◌≡◌, ◌⊎◌, ℕ, List, [], ◌∷◌, ◌++◌, length, map, Bool, true, Option, None, Some, Result, Ok, Err}
 use mathlib.Core.List.{IsPrefix}
 use Rattle.emu_io.specs.declared.tree.Stored.{Stored}
 use Rattle.emu_names.specs.declared.names.BundleKey.{BundleKey}
@@ -27,6 +27,11 @@ own_entry edit = entry_of (record { 0 = 0 }) 0 edit
 -- an edit adds a bundle
 abbrev pub AddsBundle : Edit → Type 0
 AddsBundle edit = (key : BundleKey) × (annot : Annot) × (edit ≡ edits.AddBundle key annot)
+
+-- each of these edits adds a bundle
+abbrev pub AddBundles : List Edit → Type 0
+AddBundles [] = Unit {0}
+AddBundles (edit ∷ edits) = AddsBundle edit × AddBundles edits
 
 -- an edit of the program was committed, and the answer is that of the commit
 pub record IsAdded {D : Type 0} (may_leave : D → List ℕ → Type 0) (moment : D → ℕ)
@@ -117,7 +122,7 @@ pub record IsFilled {D : Type 0} (may_leave : D → List ℕ → Type 0) (told :
     (new : Journal D) : Type 0 where
   pub done : List Edit
   pub lost : Option Entry
-  pub add : All AddsBundle done
+  pub add : AddBundles done
   pub keeps : Keeps may_leave config (map own_entry done) lost new
   pub end : IsEnd told wanted config done lost result
 

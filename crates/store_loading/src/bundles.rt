@@ -2,6 +2,7 @@
 ghost use Rattle.std.specs.Prelude.{◌≡◌, None, IfOk, IsTrue, [], ◌∷◌, map};
 ghost use Rattle.emu_names.specs.Name.{is_name};
 ghost use Rattle.live_book.specs.Kept.{faults_in};
+ghost use Rattle.store_commands.specs.declared.faults.Refused.TheVariants as refusals;
 ghost use Rattle.store_loading.specs.Answers.{HasDiskCause, HasReadCause, Makes, Reads};
 ghost use Rattle.store_loading.specs.Running.{Goes, IsKept};
 ghost use Rattle.store_loading.specs.Stored.{AddsBundle};
@@ -21,7 +22,7 @@ use store_commands::{CommandFault, FileFault};
 
 /// The name of which the folder of this path is called.
 pub(crate) fn name_in(alloc: Global, path: &str, name: &str) -> Result<Name, CommandFault>
-    ensures { Makes (named (Refused.File path.now FileFault.BadName) name.now) result }
+    ensures { Makes (named (refusals.File path.now FileFault.BadName) name.now) result }
 {
     match Name::new(alloc, name) {
         Ok(name) => Ok(name),

@@ -1,0 +1,4 @@
+pub mod Ordered
+pub mod Stems
+pub mod Reading
+pub mod Going
