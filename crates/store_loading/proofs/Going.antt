@@ -1,7 +1,9 @@
 -- A `load` under way: one commit, one step behind another, and a loop of steps.
-use Rattle.std.proofs.Common.{◌≡◌, ◌⊎◌, inl, inr, ℕ, suc, ◌+◌, ◌≤◌, ◌<◌, Bool, true, List, [], ◌∷◌, ◌++◌, map, length, take, drop, Option, None, Some, Result, Ok, Err, IsErrOf, flat_map, refl, sym, ap, subst, subst₂, ◌∙◌, append_assoc, append-nil, arith}
+use Rattle.std.proofs.Common.{◌≡◌, ◌⊎◌, inl, inr, ℕ, suc, ◌+◌, ◌≤◌, ◌<◌, Bool, true, List, [], ◌∷◌, ◌++◌, map, length, take, drop, get_or, Option, None, Some, Result, Ok, Err, IsErrOf, flat_map, refl, sym, ap, subst, subst₂, ◌∙◌, append_assoc, append-nil, arith}
 use mathlib.Core.List.{IsPrefix}
-use Rattle.std.proofs.lemmas.List.{map-append, flat_map-append, take-append-drop}
+use Rattle.std.proofs.lemmas.List.{map-append, take_more, take-append-drop}
+use Rattle.std.proofs.lemmas.Grind.{flat_map-append}
+use Rattle.std.proofs.Math.Seq.{take-length, drop-cons}
 use Rattle.fault_counts.specs.Count.{Rose}
 use Rattle.emu_io.specs.declared.tree.Stored.{Stored}
 use Rattle.db_config.specs.declared.parts.ConfigParts.{ConfigParts}
@@ -95,9 +97,15 @@ module _ {D : Type 0} (may_leave : D → List ℕ → Type 0) where
         → KeepsIn may_leave old.config old.history None new.journal
         → Stops may_leave told (λ c. wanted c ∷ []) old (faults.Refused refused) new
     refused_stop told wanted old new edit fault refused kept commits is_wanted is keeps =
-        one_stop told wanted old new edit fault None (Ok edit ∷ []) (faults.Refused refused) kept commits keeps
-        (refl, (fault, answer_along (has_journal old.journal) old.config new.config old.history new.history
-        (own_entry edit) (Err fault) kept.stored commits.same.config commits.history commits.right, is))
+        one_stop told wanted old new edit fault None (Ok edit ∷ []) (faults.Refused refused) kept commits keeps (
+          refl,
+          (
+            fault,
+            answer_along (has_journal old.journal) old.config new.config old.history new.history
+                (own_entry edit) (Err fault) kept.stored commits.same.config commits.history commits.right,
+            is,
+          ),
+        )
         (taken told wanted edit is_wanted)
 
     doubt : (a : Option Entry) (entry : Entry) → (a ≡ None) ⊎ (a ≡ None) ⊎ (a ≡ Some entry)
@@ -128,10 +136,13 @@ module _ {D : Type 0} (may_leave : D → List ℕ → Type 0) where
         is_wanted refl (commits.kept None kept.keeps)
     one_refused told wanted old new edit edit_faults.Disk kept commits is_wanted =
         let left = commits.kept None kept.keeps in
-        one_stop told wanted old new edit edit_faults.Disk left.left (Ok edit ∷ []) faults.Disk kept commits left.keeps
-        (edit, refl, welcome_along (has_journal old.journal) old.config new.config old.history new.history
-        (own_entry edit) kept.stored commits.same.config commits.history commits.right.1,
-        doubt left.left (own_entry edit) left.which)
+        one_stop told wanted old new edit edit_faults.Disk left.left (Ok edit ∷ []) faults.Disk kept commits left.keeps (
+          edit,
+          refl,
+          welcome_along (has_journal old.journal) old.config new.config old.history new.history
+              (own_entry edit) kept.stored commits.same.config commits.history commits.right.1,
+          doubt left.left (own_entry edit) left.which,
+        )
         (taken told wanted edit is_wanted)
     one_refused told wanted old new edit edit_faults.Memory kept commits is_wanted =
         one_stop told wanted old new edit edit_faults.Memory None [] faults.Memory kept commits (commits.kept None kept.keeps)
@@ -229,11 +240,13 @@ module _ {D : Type 0} (may_leave : D → List ℕ → Type 0) where
     is_behind = behind_on old mid new h.more h'.more h.is_behind h'.is_behind;
     kept = h'.kept;
     why = h'.why;
-    front = λ c is. (let (rest, split) = h'.front c is in
-        (rest, ap (λ l. (l ++ h'.next) ++ rest) (map-append Ok h.more h'.more)
-        ∙ ap (λ l. l ++ rest) (append_assoc (map Ok h.more) (map Ok h'.more) h'.next)
-        ∙ append_assoc (map Ok h.more) (map Ok h'.more ++ h'.next) rest
-        ∙ ap (λ l. map Ok h.more ++ l) split ∙ ap (λ l. l ++ second c) (sym (h.all c is))));
+    front = λ c is. (let (rest, split) = h'.front c is in (
+      rest,
+      ap (λ l. (l ++ h'.next) ++ rest) (map-append Ok h.more h'.more)
+          ∙ ap (λ l. l ++ rest) (append_assoc (map Ok h.more) (map Ok h'.more) h'.next)
+          ∙ append_assoc (map Ok h.more) (map Ok h'.more ++ h'.next) rest
+          ∙ ap (λ l. map Ok h.more ++ l) split ∙ ap (λ l. l ++ second c) (sym (h.all c is)),
+    ));
   }
 
   pub stop_early : (told : Option (List Stored)) (first second : List Stored → List (Result Edit Refused))
@@ -313,3 +326,81 @@ module _ {D : Type 0} (may_leave : D → List ℕ → Type 0) where
   names_go told names x more old (Err e) new h goes =
       stop_wanted told (λ c. more c x) (λ c. behind (names c) (more c)) old e new
       (λ c is. ap (λ r. behind r (more c)) (h.given c is)) goes
+
+  -- an edit of the program that was tried
+  pub added_goes : (moment : D → ℕ) (left_since : D → ℕ → List ℕ → Type 0) (count : D → ℕ) (told : Option (List Stored))
+      (wanted : List Stored → Result Edit Refused) (old new : BookParts D) (edit : Edit) (r : Result ℕ CommandFault)
+      → IsKept may_leave None old → IsAdded may_leave moment left_since count old edit r new → AddsBundle edit
+      → Told told (λ c. wanted c ≡ Ok edit) → Goes may_leave told (λ c. wanted c ∷ []) old r new
+  added_goes moment left_since count told wanted old new edit (Ok n) kept added adds is_wanted =
+      added_ok moment left_since count told wanted old new edit n kept added adds is_wanted
+  added_goes moment left_since count told wanted old new edit (Err e) kept added adds is_wanted =
+      added_err moment left_since count told wanted old new edit e kept added is_wanted
+
+  -- a run over the same content
+  pub goes_along : {T : Type 0} (told told' : Option (List Stored)) (wanted : List Stored → List (Result Edit Refused))
+      (old : BookParts D) (r : Result T CommandFault) (new : BookParts D) → told' ≡ told
+      → Goes may_leave told' wanted old r new → Goes may_leave told wanted old r new
+  goes_along told told' wanted old r new same h = subst (λ o. Goes may_leave o wanted old r new) same h
+
+  -- ---- a loop of steps over names
+
+  each_more : (g : List Stored → List ℕ → List (Result Edit Refused)) (names : List (List ℕ)) (i : ℕ) (name : List ℕ)
+      (c : List Stored) → i < length names → name ≡ get_or names i name
+      → flat_map (g c) (take (i + 1) names) ≡ flat_map (g c) (take i names) ++ g c name
+  each_more g names i name c low is =
+      ap (flat_map (g c)) (take_more names i name low ∙ ap (λ v. take i names ++ v ∷ []) (sym is))
+      ∙ flat_map-append (g c) (take i names) (name ∷ [])
+      ∙ ap (λ l. flat_map (g c) (take i names) ++ l) (append-nil (g c name))
+
+  each_split : (g : List Stored → List ℕ → List (Result Edit Refused)) (names : List (List ℕ)) (i : ℕ) (name : List ℕ)
+      (c : List Stored) → i < length names → name ≡ get_or names i name
+      → flat_map (g c) names
+      ≡ flat_map (g c) (take i names) ++ (g c name ++ flat_map (g c) (drop (suc i) names))
+  each_split g names i name c low is =
+      ap (flat_map (g c)) (sym (take-append-drop i names)
+      ∙ ap (λ l. take i names ++ l) (drop-cons names i name low ∙ ap (λ v. v ∷ drop (suc i) names) (sym is)))
+      ∙ flat_map-append (g c) (take i names) (name ∷ drop (suc i) names)
+
+  pub each_step : (g : List Stored → List ℕ → List (Result Edit Refused)) (told told' : Option (List Stored))
+      (names : List (List ℕ)) (i : ℕ) (name : List ℕ) (old mid new : BookParts D) → i < length names
+      → name ≡ get_or names i name → told' ≡ told
+      → Advances may_leave told (λ c. flat_map (g c) (take i names)) old mid
+      → Advances may_leave told' (λ c. g c name) mid new
+      → Advances may_leave told (λ c. flat_map (g c) (take (i + 1) names)) old new
+  each_step g told told' names i name old mid new low is same h h' =
+      same_wanted told (λ c. flat_map (g c) (take i names) ++ g c name) (λ c. flat_map (g c) (take (i + 1) names)) old new
+      (λ c known. each_more g names i name c low is)
+      (go_on told (λ c. flat_map (g c) (take i names)) (λ c. g c name) old mid new h
+      (subst (λ o. Advances may_leave o (λ c. g c name) mid new) same h'))
+
+  pub each_stop : (g : List Stored → List ℕ → List (Result Edit Refused)) (told told' : Option (List Stored))
+      (names : List (List ℕ)) (i : ℕ) (name : List ℕ) (old mid : BookParts D) (e : CommandFault) (new : BookParts D)
+      → i < length names → name ≡ get_or names i name → told' ≡ told
+      → Advances may_leave told (λ c. flat_map (g c) (take i names)) old mid
+      → Stops may_leave told' (λ c. g c name) mid e new
+      → Stops may_leave told (λ c. flat_map (g c) names) old e new
+  each_stop g told told' names i name old mid e new low is same h h' =
+      stop_wanted told (λ c. flat_map (g c) (take i names) ++ (g c name ++ flat_map (g c) (drop (suc i) names)))
+      (λ c. flat_map (g c) names) old e new (λ c known. each_split g names i name c low is)
+      (stop_on told (λ c. flat_map (g c) (take i names)) (λ c. g c name ++ flat_map (g c) (drop (suc i) names)) old mid e
+      new h (stop_early told (λ c. g c name) (λ c. flat_map (g c) (drop (suc i) names)) mid e new
+      (subst (λ o. Stops may_leave o (λ c. g c name) mid e new) same h')))
+
+  pub each_end : (g : List Stored → List ℕ → List (Result Edit Refused)) (told : Option (List Stored))
+      (names : List (List ℕ)) (i : ℕ) (old new : BookParts D) → i ≡ length names
+      → Advances may_leave told (λ c. flat_map (g c) (take i names)) old new
+      → Advances may_leave told (λ c. flat_map (g c) names) old new
+  each_end g told names i old new is h =
+      same_wanted told (λ c. flat_map (g c) (take i names)) (λ c. flat_map (g c) names) old new
+      (λ c known. ap (flat_map (g c)) (sym (ap (λ n. take n names) is ∙ take-length names))) h
+
+-- what a loop over names keeps: what came so far was accepted, the folder's content is the same, and no count fell
+pub record Going {D : Type 0} (may_leave : D → List ℕ → Type 0) (told now : Option (List Stored))
+    (wanted : List Stored → List (Result Edit Refused)) (old new : BookParts D)
+    (faults_before faults_now misses_before misses_now disk_before disk_now : ℕ) : Type 0 where
+  pub advances : Advances may_leave told wanted old new
+  pub same : now ≡ told
+  pub faults : faults_before ≤ faults_now
+  pub misses : misses_before ≤ misses_now
+  pub disk : disk_before ≤ disk_now

@@ -1,4 +1,7 @@
 pub mod Ordered
 pub mod Stems
-pub mod Reading
+pub mod Json
+pub mod FaultKinds
 pub mod Going
+pub mod Causes
+pub mod Ending

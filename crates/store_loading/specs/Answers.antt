@@ -90,20 +90,10 @@ pub record HasDiskCause {A : Type 0} (before now : ℕ) (result : Result A Comma
 
 -- ---- steps that ask no folder
 
--- it is no refusal of a file or a folder that is not there or too large
-abbrev pub IsNoMiss : Refused → Type 0
-IsNoMiss (refusals.File path file_faults.Absent) = ⊥
-IsNoMiss (refusals.File path file_faults.TooLarge) = ⊥
-IsNoMiss _ = ⊤
-
--- a step was refused as is wanted, unless memory ran out
-abbrev pub Fails : {A : Type 0} → Result A Refused → CommandFault → Type 0
-Fails wanted (faults.Refused refused) = (wanted ≡ Err refused) × IsNoMiss refused
-Fails wanted faults.Read = ⊥
-Fails wanted faults.Disk = ⊥
-Fails wanted faults.Memory = ⊤
-
 -- a step gave the answer that is wanted, unless memory ran out
 abbrev pub Makes : {A : Type 0} → Result A Refused → Result A CommandFault → Type 0
 Makes wanted (Ok x) = wanted ≡ Ok x
-Makes wanted (Err fault) = Fails wanted fault
+Makes wanted (Err (faults.Refused refused)) = wanted ≡ Err refused
+Makes wanted (Err faults.Read) = ⊥
+Makes wanted (Err faults.Disk) = ⊥
+Makes wanted (Err faults.Memory) = ⊤

@@ -19,6 +19,7 @@ use Rattle.edit_rules.specs.declared.edit.Edit.TheVariants as edits
 use Rattle.store_commands.specs.declared.faults.FileFault.TheVariants as file_faults
 use Rattle.store_commands.specs.declared.faults.Refused.{Refused}
 use Rattle.store_commands.specs.declared.faults.Refused.TheVariants as refusals
+use Rattle.store_loading.specs.declared.sessions.Session.{Session}
 use Rattle.store_loading.specs.Names.{path_in, names_with}
 use Rattle.store_loading.specs.Files.{at_path, missed, json_in}
 
@@ -107,18 +108,21 @@ behind (Err refused) wanted = Err refused ∷ []
 abbrev pub session_path : List ℕ → List ℕ → List ℕ
 session_path path session = path_in path session (codes "_ses")
 
--- the names of a session's bundles, in order, or the refusal: first that of its name, with its folder, and then that of
--- the folder
-abbrev pub bundle_names : List ℕ → List Stored → List ℕ → Result (List (List ℕ)) Refused
-bundle_names path content session =
-    named (refusals.File (session_path path session) file_faults.BadName) session >>= λ s.
-    names_in (session_path path session) (codes "_bndl") content
+-- A session of a database: its folder, its name and the names of its bundles, in order. The refusal is first that of its
+-- name, with its folder, and then that of the folder. The path is that of the database's folder
+abbrev pub session_in : List ℕ → List ℕ → List Stored → Result Session Refused
+session_in path session content =
+    named (refusals.File (session_path path session) file_faults.BadName) session >>= λ name.
+    names_in (session_path path session) (codes "_bndl") content >>= λ bundles.
+    Ok (record { path = session_path path session; name = name; bundles = bundles })
 
--- What a session asks for: each of its bundles in the order of their names, or its refusal. The path is that of the
--- database's folder
+-- what the bundles of a session ask for, in order
+abbrev pub bundles_of : List Stored → Session → List (Result Edit Refused)
+bundles_of content session = map (bundle_wanted session.path session.name content) session.bundles
+
+-- what a session asks for: each of its bundles, or its refusal
 abbrev pub session_wanted : List ℕ → List Stored → List ℕ → List (Result Edit Refused)
-session_wanted path content session =
-    behind (bundle_names path content session) (map (bundle_wanted (session_path path session) session content))
+session_wanted path content session = behind (session_in path session content) (bundles_of content)
 
 -- What the folder of a database asks for: the edits that add its bundles, the sessions in the order of their names, and
 -- the refusals in the places where they come

@@ -67,7 +67,7 @@ fn add_bundle<R: Wait, F: Folder, D: Disk>(
     path: &str,
     session: &Name,
     bundle: &str,
-) -> Result<(), CommandFault>
+) -> Result<u64, CommandFault>
     requires { IsKept D.may_leave None book.old }
     ensures goes { Goes D.may_leave (F.content folder.old)
         (λ content. bundle_wanted path.now session.now content bundle.now ∷ [])
@@ -78,14 +78,13 @@ fn add_bundle<R: Wait, F: Folder, D: Disk>(
         (faults_in D.faults book.new.journal) result }
     ensures same { F.content folder.new ≡ F.content folder.old }
 {
-    let edit = bundle_edit(alloc, folder, path, session, bundle)?;
-    match add(rt, alloc, book, &edit) {
-        Ok(_) => Ok(()),
+    match bundle_edit(alloc, folder, path, session, bundle) {
+        Ok(edit) => add(rt, alloc, book, &edit),
         Err(fault) => Err(fault),
     }
 }
 
-/// Adds the bundles of these names in the folder of a session, in turn.
+/// Adds the bundles of a session, in turn.
 pub(crate) fn add_bundles<R: Wait, F: Folder, D: Disk>(
     rt: &R,
     alloc: Global,
@@ -106,7 +105,10 @@ pub(crate) fn add_bundles<R: Wait, F: Folder, D: Disk>(
     ensures same { F.content folder.new ≡ F.content folder.old }
 {
     'names: for name in names {
-        add_bundle(rt, alloc, book, folder, path, session, name.as_str())?;
+        match add_bundle(rt, alloc, book, folder, path, session, name.as_str()) {
+            Ok(_) => {}
+            Err(fault) => return Err(fault),
+        }
     }
     Ok(())
 }

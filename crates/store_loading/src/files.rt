@@ -1,5 +1,5 @@
 //! One file of a folder, and what it holds.
-ghost use Rattle.std.specs.Prelude.{◌≡◌, ◌≤◌, IfOk, IfErr, Some, Ok};
+ghost use Rattle.std.specs.Prelude.{◌≡◌, ◌≢◌, ◌≤◌, IfOk, IfErr, None, Some, Ok};
 ghost use Rattle.emu_names.specs.declared.limits.TheConstants.{TOP_RATE};
 ghost use Rattle.serde_json.specs.View.{view};
 ghost use Rattle.json_view.specs.Gives.{Gives};
@@ -9,9 +9,9 @@ ghost use Rattle.db_config.specs.Faults.{Reads as ReadsConfig};
 ghost use Rattle.db_config.specs.Read.{config_of};
 ghost use Rattle.annot_json.specs.Read.{annot_of};
 ghost use Rattle.textgrid.specs.Told.{TellsFault};
-ghost use Rattle.store_loading.specs.Files.{at_path, json_in, json_of};
+ghost use Rattle.store_loading.specs.Files.{at_path, json_of};
 ghost use Rattle.store_loading.specs.Wanted.{bytes_in, entries_in, annot_in, config_in, grid_in, grid_annot};
-ghost use Rattle.store_loading.specs.Answers.{Fails, HasReadCause, Makes, Reads};
+ghost use Rattle.store_loading.specs.Answers.{HasReadCause, IsRefusalOf, Makes, Reads};
 
 use crate::faults::{folder_fault, refuse};
 use annot_json::read_annot;
@@ -59,9 +59,11 @@ pub(crate) fn entries_in<F: Folder>(
 }
 
 /// The JSON value that bytes are, or the refusal of the file of this path.
+#[tactic(auto, using(crate::proofs::Json::json_text, crate::proofs::Json::no_text))]
 fn json_of(alloc: Global, path: &str, bytes: &[u8]) -> Result<Value, CommandFault>
     ensures value { IfOk result (λ v. json_of bytes.now ≡ Some (view v)) }
-    ensures fault { IfErr result (Fails (json_in path.now bytes.now)) }
+    ensures none { IfErr result (λ e. e ≢ CommandFault.Memory → json_of bytes.now ≡ None) }
+    ensures fault { IfErr result (IsRefusalOf path.now FileFault.NotJson) }
 {
     let Ok(text) = str::from_utf8(bytes) else {
         return Err(refuse(alloc, path, FileFault::NotJson));

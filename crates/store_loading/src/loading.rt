@@ -148,20 +148,19 @@ fn fill<R: Wait, F: Folder, D: Disk>(
     ensures same { F.content folder.new ≡ F.content folder.old }
 {
     let mut book = book;
-    let answer = add_all(rt, alloc, &mut book, folder, name);
+    let answer = add_counted(rt, alloc, &mut book, folder, name);
     with_answer(book.into_journal(rt), answer)
 }
 
-/// Adds the bundles of a database to a book without entries, and counts them.
-fn add_all<R: Wait, F: Folder, D: Disk>(
+/// Adds the bundles of a database to a book, and counts its entries.
+fn add_counted<R: Wait, F: Folder, D: Disk>(
     rt: &R,
     alloc: Global,
     book: &mut Book<D>,
     folder: &mut F,
     name: &str,
 ) -> Result<u64, CommandFault>
-    requires kept { IsKept D.may_leave None book.old }
-    requires empty { book.old.history ≡ [] }
+    requires { IsKept D.may_leave None book.old }
     ensures goes { Goes D.may_leave (F.content folder.old) (bundles_wanted name.now)
         book.old result book.new }
     ensures count { IfOk result (λ n. n ≡ length book.new.history) }
@@ -171,9 +170,31 @@ fn add_all<R: Wait, F: Folder, D: Disk>(
         (faults_in D.faults book.new.journal) result }
     ensures same { F.content folder.new ≡ F.content folder.old }
 {
-    let path = database_path(alloc, name)?;
-    match add_database(rt, alloc, book, folder, path.as_str()) {
+    match add_named(rt, alloc, book, folder, name) {
         Ok(()) => Ok(book.number()),
         Err(fault) => Err(fault),
+    }
+}
+
+/// Adds the bundles of a database to a book.
+fn add_named<R: Wait, F: Folder, D: Disk>(
+    rt: &R,
+    alloc: Global,
+    book: &mut Book<D>,
+    folder: &mut F,
+    name: &str,
+) -> Result<(), CommandFault>
+    requires { IsKept D.may_leave None book.old }
+    ensures goes { Goes D.may_leave (F.content folder.old) (bundles_wanted name.now)
+        book.old result book.new }
+    ensures read { HasReadCause (F.faults folder.old) (F.faults folder.new)
+        (F.misses folder.old) (F.misses folder.new) result }
+    ensures disk { HasDiskCause (faults_in D.faults book.old.journal)
+        (faults_in D.faults book.new.journal) result }
+    ensures same { F.content folder.new ≡ F.content folder.old }
+{
+    match database_path(alloc, name) {
+        Ok(path) => add_database(rt, alloc, book, folder, path.as_str()),
+        Err(_) => Err(CommandFault::Memory),
     }
 }

@@ -1,5 +1,5 @@
 //! The paths of a database's files, and the names of its folders.
-ghost use Rattle.std.specs.Prelude.{◌≡◌, IfOk, MatchOption, None, Some, filter_map};
+ghost use Rattle.std.specs.Prelude.{◌≡◌, ◌++◌, [], ◌∷◌, IfOk, MatchOption, None, OnOk, Some, filter_map};
 ghost use Rattle.store_loading.specs.Names.{path_in, stem, folder_stem, names_with};
 ghost use Rattle.store_loading.specs.Wanted.{database_path};
 
@@ -28,6 +28,7 @@ pub(crate) fn database_path(alloc: Global, name: &str) -> Result<Text, Memory>
 }
 
 /// What stands before an ending, where a name has it.
+#[tactic(auto, using(crate::proofs::Stems::stem_is))]
 fn stem<'a>(name: &'a str, ending: &str) -> Option<&'a str>
     ensures { MatchOption result (stem ending.now name.now ≡ None)
         (λ front. stem ending.now name.now ≡ Some front.now) }
@@ -57,16 +58,34 @@ fn file_name(alloc: Global, name: &str) -> Result<FileName, Memory>
     }
 }
 
+/// Puts what the entry is called before an ending behind these names, if it is a folder that has the ending.
+fn add_stem(
+    alloc: Global,
+    names: &mut Vec<FileName>,
+    entry: &FolderEntry,
+    ending: &str,
+) -> Result<(), Memory>
+    ensures { OnOk result (names.new.items
+        ≡ names.old.items ++ filter_map (folder_stem ending.now) (entry.now ∷ [])) }
+{
+    match folder_stem(entry, ending) {
+        Some(name) => {
+            names.push(file_name(alloc, name)?)?;
+            Ok(())
+        }
+        None => Ok(()),
+    }
+}
+
 /// What the folders with an ending are called before it, in the order of the entries.
+#[tactic(auto, using(crate::proofs::Stems::stems_more))]
 fn stems(alloc: Global, entries: &[FolderEntry], ending: &str) -> Result<Vec<FileName>, Memory>
     ensures { IfOk result (λ names.
         names.items ≡ filter_map (folder_stem ending.now) entries.now) }
 {
     let mut names = Vec::new(alloc);
     'entries: for entry in entries {
-        if let Some(name) = folder_stem(entry, ending) {
-            names.push(file_name(alloc, name)?)?;
-        }
+        add_stem(alloc, &mut names, entry, ending)?;
     }
     Ok(names)
 }

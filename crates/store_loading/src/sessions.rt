@@ -3,13 +3,14 @@ ghost use Rattle.std.specs.Prelude.{◌≡◌, None, IfOk, flat_map, length};
 ghost use Rattle.live_book.specs.Kept.{faults_in};
 ghost use Rattle.store_loading.specs.Answers.{HasDiskCause, HasReadCause, Reads};
 ghost use Rattle.store_loading.specs.Running.{Goes, IsKept};
-ghost use Rattle.store_loading.specs.Wanted.{bundle_names, database_wanted, names_in, session_path, session_wanted};
+ghost use Rattle.store_loading.specs.Wanted.{database_wanted, names_in, session_in, session_wanted};
 
 use crate::bundles::{add_bundles, name_in};
 use crate::files::entries_in;
 use crate::paths::{FileNames, names_with, path_in};
 use emu_disk::Disk;
 use emu_io::{FileName, Folder};
+use emu_names::{Name, Text};
 use live_book::Book;
 use std::alloc::Global;
 use std::sync::Wait;
@@ -32,7 +33,40 @@ fn names_in<F: Folder>(
     Ok(names)
 }
 
-/// Adds the bundles of the session of a name.
+/// A session of a database.
+#[derive(Drop)]
+pub(crate) struct Session {
+    /// The path of its folder.
+    pub(crate) path: Text,
+    /// Its name.
+    pub(crate) name: Name,
+    /// The names of its bundles, in order.
+    pub(crate) bundles: FileNames,
+}
+
+/// The session of a name in the folder of a database.
+fn session_in<F: Folder>(
+    alloc: Global,
+    folder: &mut F,
+    path: &str,
+    session: &str,
+) -> Result<Session, CommandFault>
+    ensures reads { Reads (F.content folder.old) (session_in path.now session.now) result }
+    ensures cause { HasReadCause (F.faults folder.old) (F.faults folder.new)
+        (F.misses folder.old) (F.misses folder.new) result }
+    ensures same { F.content folder.new ≡ F.content folder.old }
+{
+    let path = path_in(alloc, path, session, "_ses")?;
+    let name = name_in(alloc, path.as_str(), session)?;
+    let bundles = names_in(alloc, folder, path.as_str(), "_bndl")?;
+    Ok(Session {
+        path,
+        name,
+        bundles,
+    })
+}
+
+/// Adds the bundles of the session of a name in the folder of a database.
 fn add_session<R: Wait, F: Folder, D: Disk>(
     rt: &R,
     alloc: Global,
@@ -50,18 +84,21 @@ fn add_session<R: Wait, F: Folder, D: Disk>(
         (faults_in D.faults book.new.journal) result }
     ensures same { F.content folder.new ≡ F.content folder.old }
 {
-    let below = path_in(alloc, path, session, "_ses")?;
-    let name = name_in(alloc, below.as_str(), session)?;
-    let names = names_in(alloc, folder, below.as_str(), "_bndl")?;
-    add_bundles(
-        rt,
-        alloc,
-        book,
-        folder,
-        below.as_str(),
-        &name,
-        names.as_slice(),
-    )
+    match session_in(alloc, folder, path, session) {
+        Ok(found) => {
+            let names = found.bundles.as_slice();
+            add_bundles(
+                rt,
+                alloc,
+                book,
+                folder,
+                found.path.as_str(),
+                &found.name,
+                names,
+            )
+        }
+        Err(fault) => Err(fault),
+    }
 }
 
 /// Adds the bundles of the sessions of these names, in turn.
@@ -84,7 +121,10 @@ fn add_sessions<R: Wait, F: Folder, D: Disk>(
     ensures same { F.content folder.new ≡ F.content folder.old }
 {
     'names: for name in names {
-        add_session(rt, alloc, book, folder, path, name.as_str())?;
+        match add_session(rt, alloc, book, folder, path, name.as_str()) {
+            Ok(()) => {}
+            Err(fault) => return Err(fault),
+        }
     }
     Ok(())
 }
@@ -106,6 +146,8 @@ pub(crate) fn add_database<R: Wait, F: Folder, D: Disk>(
         (faults_in D.faults book.new.journal) result }
     ensures same { F.content folder.new ≡ F.content folder.old }
 {
-    let names = names_in(alloc, folder, path, "_ses")?;
-    add_sessions(rt, alloc, book, folder, path, names.as_slice())
+    match names_in(alloc, folder, path, "_ses") {
+        Ok(names) => add_sessions(rt, alloc, book, folder, path, names.as_slice()),
+        Err(fault) => Err(fault),
+    }
 }
