@@ -343,6 +343,28 @@ module _ {D : Type 0} (may_leave : D → List ℕ → Type 0) where
       → Goes may_leave told' wanted old r new → Goes may_leave told wanted old r new
   goes_along told told' wanted old r new same h = subst (λ o. Goes may_leave o wanted old r new) same h
 
+  pub memory_stops : (told : Option (List Stored)) (wanted : List Stored → List (Result Edit Refused)) (old : BookParts D)
+      → IsKept may_leave None old → Stops may_leave told wanted old faults.Memory old
+  memory_stops told wanted old kept =
+      unread_stops told wanted old [] faults.Memory kept (refl, refl) (λ c is. (wanted c, refl))
+
+  -- behind a reading of names that are seen in another list
+  pub names_along : {A T : Type 0} (told told' : Option (List Stored)) (names : List Stored → Result A Refused) (x y : A)
+      (more : List Stored → A → List (Result Edit Refused)) (old : BookParts D) (r : Result T CommandFault)
+      (new : BookParts D) → y ≡ x → told' ≡ told → Reads told names (Ok x)
+      → Goes may_leave told' (λ c. more c y) old r new → Goes may_leave told (λ c. behind (names c) (more c)) old r new
+  names_along told told' names x y more old r new is same h goes =
+      names_go told names x more old r new h
+      (subst (λ v. Goes may_leave told (λ c. more c v) old r new) is
+      (goes_along told told' (λ c. more c y) old r new same goes))
+
+  -- a book under way has its journal
+  pub goes_stored : {T : Type 0} (told : Option (List Stored)) (wanted : List Stored → List (Result Edit Refused))
+      (old : BookParts D) (r : Result T CommandFault) (new : BookParts D) → Goes may_leave told wanted old r new
+      → has_journal new.journal ≡ true
+  goes_stored told wanted old (Ok x) new h = h.kept.stored
+  goes_stored told wanted old (Err e) new h = h.kept.stored
+
   -- ---- a loop of steps over names
 
   each_more : (g : List Stored → List ℕ → List (Result Edit Refused)) (names : List (List ℕ)) (i : ℕ) (name : List ℕ)
@@ -394,6 +416,10 @@ module _ {D : Type 0} (may_leave : D → List ℕ → Type 0) where
   each_end g told names i old new is h =
       same_wanted told (λ c. flat_map (g c) (take i names)) (λ c. flat_map (g c) names) old new
       (λ c known. ap (flat_map (g c)) (sym (ap (λ n. take n names) is ∙ take-length names))) h
+
+-- an element, by another view of it
+pub item_is : (a b : List ℕ) (names : List (List ℕ)) (i : ℕ) → a ≡ b → b ≡ get_or names i b → a ≡ get_or names i a
+item_is a b names i is here = subst (λ v. v ≡ get_or names i v) (sym is) here
 
 -- what a loop over names keeps: what came so far was accepted, the folder's content is the same, and no count fell
 pub record Going {D : Type 0} (may_leave : D → List ℕ → Type 0) (told now : Option (List Stored))

@@ -78,7 +78,6 @@ fn add_stem(
 }
 
 /// What the folders with an ending are called before it, in the order of the entries.
-#[tactic(auto, using(crate::proofs::Stems::stems_more))]
 fn stems(alloc: Global, entries: &[FolderEntry], ending: &str) -> Result<Vec<FileName>, Memory>
     ensures { IfOk result (λ names.
         names.items ≡ filter_map (folder_stem ending.now) entries.now) }
