@@ -1,21 +1,16 @@
 -- How a `load` ends: what the journal of a book that was filled keeps.
-use Rattle.std.proofs.Common.{◌≡◌, ℕ, ◌≤◌, Bool, true, List, [], ◌∷◌, ◌++◌, map, length, Option, None, Some, Result, Ok, Err, IsErrOf, refl, sym, ap, subst, subst₂, ◌∙◌, le_trans}
-use mathlib.Core.List.{IsPrefix}
+use Rattle.std.proofs.Common.{◌≡◌, ℕ, List, [], ◌++◌, map, length, Option, None, Some, Result, Ok, Err, IfOk, refl, ap, subst, subst₂, ◌∙◌}
 use Rattle.std.proofs.lemmas.List.{length-map}
 use Rattle.emu_io.specs.declared.tree.Stored.{Stored}
 use Rattle.db_config.specs.declared.parts.ConfigParts.{ConfigParts}
 use Rattle.edit_rules.specs.declared.edit.Edit.{Edit}
 use Rattle.edit_rules.specs.declared.edit.Entry.{Entry}
 use Rattle.edit_journal.specs.declared.journal.Journal.{Journal}
-use Rattle.edit_journal.specs.Held.{count_in}
-use Rattle.live_book.specs.Kept.{BookParts, Keeps, KeepsIn, faults_in}
-use Rattle.live_book.specs.Opens.{IsNew}
-use Rattle.live_book.specs.Commits.{has_journal}
+use Rattle.live_book.specs.Kept.{BookParts, Keeps, KeepsIn}
 use Rattle.store_commands.specs.declared.faults.Refused.{Refused}
 use Rattle.store_commands.specs.declared.faults.CommandFault.{CommandFault}
-use Rattle.store_loading.specs.Answers.{Told, HasDiskCause}
-use Rattle.store_loading.specs.Stored.{own_entry, AddBundles, IsEnd, IsStop, IsFilled}
-use Rattle.store_loading.specs.Running.{IsKept, IsBehind, Advances, Stops, Goes}
+use Rattle.store_loading.specs.Stored.{own_entry, IsStop, IsFilled}
+use Rattle.store_loading.specs.Running.{IsBehind, Goes}
 
 module _ {D : Type 0} (may_leave : D → List ℕ → Type 0) where
   history_of : (old new : BookParts D) (more : List Edit) → old.history ≡ [] → IsBehind old more new
@@ -52,15 +47,6 @@ module _ {D : Type 0} (may_leave : D → List ℕ → Type 0) where
         end = (h.next, subst₂ (λ c l. IsStop c l h.next h.lost e) h.is_behind.config past h.why, h.front);
       }
 
-  pub new_kept : (config : ConfigParts) (book : BookParts D) → IsNew may_leave config true book
-      → IsKept may_leave None book
-  new_kept config book h = record {
-    stored = h.stored;
-    keeps = subst₂ (λ c l. KeepsIn may_leave c l None book.journal) (sym h.config) (sym h.history) h.kept;
-  }
-
-  pub filled_along : (told told' : Option (List Stored)) (wanted : List Stored → List (Result Edit Refused))
-      (config config' : ConfigParts) (r : Result ℕ CommandFault) (journal : Journal D) → config' ≡ config
-      → told' ≡ told → IsFilled may_leave told' wanted config' r journal → IsFilled may_leave told wanted config r journal
-  filled_along told told' wanted config config' r journal same same' h =
-      subst₂ (λ o c. IsFilled may_leave o wanted c r journal) same' same h
+-- what is said of a value holds where it is given
+pub if_ok_at : {A E : Type 0} (P : A → Type 0) (r : Result A E) → IfOk r P → (x : A) → r ≡ Ok x → P x
+if_ok_at P r h x is = subst (λ v. IfOk v P) is h

@@ -1,10 +1,9 @@
 -- A `load` under way: one commit, one step behind another, and a loop of steps.
-use Rattle.std.proofs.Common.{◌≡◌, ◌⊎◌, inl, inr, ℕ, suc, ◌+◌, ◌≤◌, ◌<◌, Bool, true, List, [], ◌∷◌, ◌++◌, map, length, take, drop, get_or, Option, None, Some, Result, Ok, Err, IsErrOf, flat_map, refl, sym, ap, subst, subst₂, ◌∙◌, append_assoc, append-nil, arith}
+use Rattle.std.proofs.Common.{◌≡◌, ◌⊎◌, inl, inr, ℕ, suc, ◌+◌, ◌≤◌, ◌<◌, Bool, true, List, [], ◌∷◌, ◌++◌, map, length, take, drop, get_or, Option, None, Some, Result, Ok, Err, flat_map, refl, sym, ap, subst, subst₂, ◌∙◌, append_assoc, append-nil}
 use mathlib.Core.List.{IsPrefix}
 use Rattle.std.proofs.lemmas.List.{map-append, take_more, take-append-drop}
 use Rattle.std.proofs.lemmas.Grind.{flat_map-append}
 use Rattle.std.proofs.Math.Seq.{take-length, drop-cons}
-use Rattle.fault_counts.specs.Count.{Rose}
 use Rattle.emu_io.specs.declared.tree.Stored.{Stored}
 use Rattle.db_config.specs.declared.parts.ConfigParts.{ConfigParts}
 use Rattle.edit_rules.specs.declared.edit.Edit.{Edit}
@@ -12,17 +11,16 @@ use Rattle.edit_rules.specs.declared.edit.Entry.{Entry}
 use Rattle.edit_journal.specs.declared.journal.Journal.{Journal}
 use Rattle.live_book.specs.declared.fault.EditFault.{EditFault}
 use Rattle.live_book.specs.declared.fault.EditFault.TheVariants as edit_faults
-use Rattle.live_book.specs.Kept.{BookParts, KeepsIn, faults_in}
-use Rattle.live_book.specs.Commits.{Commits, IsAnswer, IsWelcome, LeavesKept, has_journal}
-use Rattle.session_core.specs.declared.line.Refusal.{Refusal}
+use Rattle.live_book.specs.Kept.{BookParts, KeepsIn}
+use Rattle.live_book.specs.Commits.{Commits, IsAnswer, IsWelcome, has_journal}
 use Rattle.session_core.specs.declared.line.Refusal.TheVariants as requests
 use Rattle.store_commands.specs.declared.faults.Refused.{Refused}
 use Rattle.store_commands.specs.declared.faults.Refused.TheVariants as refusals
 use Rattle.store_commands.specs.declared.faults.CommandFault.{CommandFault}
 use Rattle.store_commands.specs.declared.faults.CommandFault.TheVariants as faults
-use Rattle.store_loading.specs.Answers.{Told, Gives, Reads, edit_fault, edit_answer, HasReadCause, HasDiskCause}
+use Rattle.store_loading.specs.Answers.{Told, Gives, Reads, edit_fault, edit_answer}
 use Rattle.store_loading.specs.Wanted.{behind}
-use Rattle.store_loading.specs.Stored.{own_entry, AddsBundle, AddBundles, IsAdded, IsStop, IsRefusedAt}
+use Rattle.store_loading.specs.Stored.{own_entry, AddsBundle, AddBundles, IsAdded, IsStop}
 use Rattle.store_loading.specs.Running.{IsKept, IsBehind, Advances, Stops, Goes}
 
 gives_refused : {A : Type 0} (wanted : Result A Refused) (e : CommandFault) (refused : Refused)

@@ -1,8 +1,8 @@
 -- Lists in order: two with the same elements are one.
-use Rattle.std.proofs.Common.{◌≡◌, ℕ, zero, suc, ◌+◌, ◌<◌, ◌≤◌, Bool, true, false, cond, not, ◌&&◌, List, [], ◌∷◌, length, drop, get_or, IsSorted, is_lt, nat_cmp, Ordering, Less, Equal, Greater, refl, sym, ap, subst, ◌∙◌, true≢false, add-one, arith}
+use Rattle.std.proofs.Common.{◌≡◌, ℕ, suc, ◌<◌, Bool, true, false, cond, not, ◌&&◌, List, [], ◌∷◌, length, drop, get_or, IsSorted, is_lt, nat_cmp, Ordering, Less, Equal, Greater, refl, sym, ap, subst, ◌∙◌, true≢false, add-one, arith}
 use Rattle.std.specs.List.{filter, AllByRecursion}
 use Rattle.std.specs.List.Sorted.{ties, IsStable}
-use Rattle.std.specs.Ordering.{ordering_reverse, is_eq, eq_by_cmp}
+use Rattle.std.specs.Ordering.{ordering_reverse, is_eq}
 use Rattle.std.specs.Cmp.{IsTotalOrder, IsStrictWeakOrder}
 use Rattle.std.specs.Cmp.Lexicographic.{slice_cmp, texts_ties, nat_list_cmp_total, bytes_decides}
 use Rattle.store_loading.specs.Names.{with_name, in_order}

@@ -1,13 +1,11 @@
 -- Readings whose parts are read.
-use Rattle.std.proofs.Common.{◌≡◌, ℕ, List, [], ◌∷◌, map, Option, Some, Result, Ok, Err, IsErrOf, codes, refl, sym, ap, subst, subst₂, ◌∙◌}
+use Rattle.std.proofs.Common.{◌≡◌, ℕ, List, map, Option, Result, Ok, IsErrOf, codes, sym, ap, subst, subst₂, ◌∙◌}
 use Rattle.json_view.specs.Steps.{◌>>=◌}
 use Rattle.emu_io.specs.declared.tree.Stored.{Stored}
 use Rattle.level_items.specs.declared.annot.Annot.{Annot}
-use Rattle.edit_rules.specs.declared.edit.Edit.{Edit}
 use Rattle.edit_rules.specs.declared.edit.Edit.TheVariants as edits
 use Rattle.live_book.specs.Kept.{BookParts}
 use Rattle.store_commands.specs.declared.faults.FileFault.TheVariants as file_faults
-use Rattle.store_commands.specs.declared.faults.Refused.{Refused}
 use Rattle.store_commands.specs.declared.faults.Refused.TheVariants as refusals
 use Rattle.store_commands.specs.declared.faults.CommandFault.{CommandFault}
 use Rattle.store_commands.specs.declared.faults.CommandFault.TheVariants as faults

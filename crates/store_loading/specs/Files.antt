@@ -1,5 +1,5 @@
 -- What a folder's content says of a file or a folder: what stands there, or the refusal.
-use Rattle.std.specs.Prelude.{ℕ, List, Option, None, Some, Result, Ok, Err, ok_or, if◌then◌else◌}
+use Rattle.std.specs.Prelude.{ℕ, List, Option, None, Result, Ok, Err, ok_or, if◌then◌else◌}
 use Rattle.std.specs.Str.{is_utf8}
 use Rattle.serde_json.specs.Data.{Data}
 use Rattle.serde_json.specs.Read.{read}

@@ -1,5 +1,5 @@
 -- The names of a folder's entries, and the paths that are made of them.
-use Rattle.std.specs.Prelude.{ℕ, ◌-◌, Bool, cond, nat_eq, List, [], ◌∷◌, ◌++◌, length, take, drop, Option, Some, None, codes, filter_map}
+use Rattle.std.specs.Prelude.{ℕ, ◌-◌, cond, nat_eq, List, [], ◌∷◌, ◌++◌, length, take, drop, Option, Some, None, codes, filter_map}
 use Rattle.std.specs.Cmp.Lexicographic.{pointwise, slice_cmp}
 use Rattle.std.specs.Ordering.{nat_cmp, is_lt}
 use Rattle.emu_io.specs.declared.entries.FolderEntry.{FolderEntry}

@@ -1,5 +1,5 @@
 -- A `load` under way, step by step.
-use Rattle.std.specs.Prelude.{◌≡◌, ℕ, List, [], ◌++◌, map, true, Option, None, Some, Result, Ok, Err}
+use Rattle.std.specs.Prelude.{◌≡◌, ℕ, List, ◌++◌, map, true, Option, None, Result, Ok, Err}
 use mathlib.Core.List.{IsPrefix}
 use Rattle.emu_io.specs.declared.tree.Stored.{Stored}
 use Rattle.edit_rules.specs.declared.edit.Edit.{Edit}

@@ -1,5 +1,5 @@
 -- What `import` and `load` do to a store.
-use Rattle.std.specs.Prelude.{◌≡◌, ◌⊎◌, ℕ, List, [], ◌∷◌, ◌++◌, length, map, Bool, true, Option, None, Some, Result, Ok, Err}
+use Rattle.std.specs.Prelude.{◌≡◌, ◌⊎◌, ℕ, List, [], ◌∷◌, ◌++◌, length, map, true, Option, None, Some, Result, Ok, Err}
 use mathlib.Core.List.{IsPrefix}
 use Rattle.emu_io.specs.declared.tree.Stored.{Stored}
 use Rattle.emu_names.specs.declared.names.BundleKey.{BundleKey}

@@ -1,4 +1,4 @@
-use Rattle.std.proofs.Common.{◌∙◌, [], ◌∷◌, flat_map, map, length, sym, le_trans, arith}
+use Rattle.std.proofs.Common.{◌∙◌, [], ◌∷◌, flat_map, map, sym, le_trans, arith}
 use Rattle.std.proofs.lemmas.List.Concat.{flat_map_single}
 use Rattle.store_loading.specs.Wanted.{bundle_wanted}
 use Rattle.store_loading.proofs.Going.{each_step, each_stop, each_end, item_is, same_wanted, stop_wanted}

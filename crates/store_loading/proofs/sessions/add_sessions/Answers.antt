@@ -1,4 +1,4 @@
-use Rattle.std.proofs.Common.{◌∙◌, length, le_trans, arith}
+use Rattle.std.proofs.Common.{◌∙◌, le_trans, arith}
 use Rattle.store_loading.specs.Wanted.{session_wanted}
 use Rattle.store_loading.proofs.Going.{each_step, each_stop, each_end, item_is}
 use Rattle.store_loading.proofs.sessions.add_sessions.Goals as goal
