@@ -2,7 +2,6 @@ pub mod CutLemmas
 pub mod ParseLemmas
 pub mod ReadLemmas
 pub mod NextLemmas
-pub mod EditLemmas
 pub mod TextLemmas
 pub mod RunLemmas
 pub mod Rises

@@ -3,11 +3,14 @@
 
 mod cut;
 mod ended;
+mod last;
 mod output;
+mod run;
 mod running;
 mod script;
 mod status;
 mod top;
 
+pub use run::{Ran, run};
 pub use status::Status;
-pub use top::{emu, run_words};
+pub use top::{Exit, emu};
