@@ -3,6 +3,7 @@ pub mod ParseLemmas
 pub mod ReadLemmas
 pub mod NextLemmas
 pub mod TextLemmas
+pub mod KeptLemmas
 pub mod RunLemmas
 pub mod Rises
 pub mod OrderedLemmas

@@ -3,14 +3,14 @@
 
 mod cut;
 mod ended;
+mod in_order;
 mod last;
 mod output;
-mod run;
 mod running;
 mod script;
 mod status;
 mod top;
 
-pub use run::{Ran, run};
+pub use in_order::{Ran, run};
 pub use status::Status;
 pub use top::{Exit, emu};

@@ -3,7 +3,7 @@ ghost use Rattle.std.specs.Prelude.{◌≡◌, true, map, string_bytes};
 ghost use Rattle.emu_cli.specs.Says.{call_of, CallCompletes, CallEnds, CallSays, IsRunWords, RunAsked};
 
 use crate::last::usage;
-use crate::run::{Ran, run};
+use crate::in_order::{Ran, run};
 use crate::status::{Status, code};
 use emu_disk::Disk;
 use emu_io::{Sink, Source};
