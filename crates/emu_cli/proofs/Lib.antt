@@ -4,8 +4,12 @@ pub mod ReadLemmas
 pub mod NextLemmas
 pub mod TextLemmas
 pub mod KeptLemmas
+pub mod DiskLemmas
 pub mod RunLemmas
+pub mod FreshLemmas
+pub mod BookLemmas
 pub mod Rises
 pub mod OrderedLemmas
 pub mod SaysLemmas
+pub mod CallLemmas
 pub mod Words

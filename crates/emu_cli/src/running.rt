@@ -68,8 +68,8 @@ pub(crate) fn begin<D: Disk>(
     number: u32,
 ) -> Result<Running<D>, Book<D>>
     requires { AreAtFront 1 book passes }
-    ensures ok { KeepsIn D.may_leave book.config book.history None book.journal →
-        IfOk result (IsBegun D.may_leave book.config book.history number) }
+    ensures ok { IfOk result (λ running. KeepsIn D.may_leave book.config book.history None book.journal →
+        IsBegun D.may_leave book.config book.history number running) }
     ensures stored { IfOk result (λ running. running.core.book.journal ≡ book.journal) }
     ensures err { IfErr result (λ given. given ≡ book) }
 {
