@@ -12,4 +12,7 @@ pub mod Rises
 pub mod OrderedLemmas
 pub mod SaysLemmas
 pub mod CallLemmas
+pub mod FreshSays
+pub mod DamageLemmas
+pub mod CompleteLemmas
 pub mod Words

@@ -243,16 +243,16 @@ pub record IsSoundFor (base : Base) (text : List ℕ) : Type 0 where
       HeadPassesLimit config → ⊥
 
 -- where there is a store, it tells its bytes
-abbrev pub IsTold : Bool → Option (List ℕ) → Type 0
-IsTold false stored = Unit {0}
-IsTold true stored = (bytes : List ℕ) × (stored ≡ Some bytes)
+abbrev pub IsStoreTold : Bool → Option (List ℕ) → Type 0
+IsStoreTold false stored = Unit {0}
+IsStoreTold true stored = (bytes : List ℕ) × (stored ≡ Some bytes)
 
 -- a call whose outside is faultless: the store, if there is one, is bare or stands for a history; nothing ends the
 -- script early, whatever the maker makes of its queries; and no count of faults rises or stands at its end
 pub record IsFaultless (call : Call) : Type 0 where
   pub base : Base
   pub begins : IsBaseOf call.store call.stored base
-  pub store_known : IsTold call.store call.stored
+  pub store_known : IsStoreTold call.store call.stored
   pub text : List ℕ
   pub known : call.left ≡ Some text
   pub sound : IsSoundFor base text

@@ -1,5 +1,5 @@
 //! The last lines of runs that end early.
-ghost use Rattle.std.specs.Prelude.{◌≡◌, ◌≢◌, IfErr};
+ghost use Rattle.std.specs.Prelude.{◌≡◌, ◌≢◌, ◌≤◌, IfErr};
 ghost use Rattle.script_lines.specs.Texts.{fault_text};
 ghost use Rattle.store_commands.specs.Texts.{damaged_text};
 ghost use Rattle.emu_cli.specs.Reached.{IsTold};
@@ -20,6 +20,7 @@ use store_commands::print_damaged;
 fn write_last<K: Sink>(out: &mut K, text: &Text, status: Status) -> Status
     ensures last { WritesLast result status (K.written out.old) (K.written out.new)
         (K.faults out.old) (K.faults out.new) text.now }
+    ensures later { K.faults out.old ≤ K.faults out.new }
 {
     match write_text(out, text) {
         Ok(()) => status,
@@ -54,6 +55,7 @@ pub(crate) fn damaged<K: Sink>(alloc: Global, at: u64, out: &mut K) -> Status
 fn over<K: Sink>(alloc: Global, out: &mut K) -> Status
     ensures last { WritesLast result Status.Limit (K.written out.old) (K.written out.new)
         (K.faults out.old) (K.faults out.new) limit_text }
+    ensures later { K.faults out.old ≤ K.faults out.new }
 {
     match print_last(alloc, "Limit", 9) {
         Ok(text) => write_last(out, &text, Status::Limit),
@@ -66,6 +68,7 @@ fn at_fault<K: Sink>(alloc: Global, line: u32, fault: &LineFault, out: &mut K) -
     requires { fault.now ≢ LineFault.Memory }
     ensures last { WritesLast result Status.Script (K.written out.old) (K.written out.new)
         (K.faults out.old) (K.faults out.new) (fault_text line fault.now) }
+    ensures later { K.faults out.old ≤ K.faults out.new }
 {
     match print_fault(alloc, line, fault) {
         Ok(text) => write_last(out, &text, Status::Script),
@@ -76,8 +79,9 @@ fn at_fault<K: Sink>(alloc: Global, line: u32, fault: &LineFault, out: &mut K) -
 /// Writes the last line of a run that ended so, if it has one, and answers how the run ends.
 pub(crate) fn close_run<K: Sink>(alloc: Global, ended: Result<(), Ended>, out: &mut K) -> Status
     requires { IfErr ended IsTold }
-    ensures { Closes ended result (K.written out.old) (K.written out.new) (K.faults out.old)
+    ensures closes { Closes ended result (K.written out.old) (K.written out.new) (K.faults out.old)
         (K.faults out.new) }
+    ensures later { K.faults out.old ≤ K.faults out.new }
 {
     match ended {
         Ok(()) => Status::Fine,

@@ -57,6 +57,7 @@ fn one_line<R: Threads + Wait + Sync, K: Sink, D: Disk, P: PatternMaker>(
         (P.refusals patterns.old) before (K.written out.old) →
         RunsLine result D.may_leave D.faults base begin running.new config lines line.now refusals
         (P.refusals patterns.new) before (K.written out.new) }
+    ensures stored { has_journal running.new.core.book.journal ≡ has_journal running.old.core.book.journal }
     ensures cause { IfErr result (λ end. EndHasCause end (K.faults out.old) (K.faults out.new)) }
     ensures later { K.faults out.old ≤ K.faults out.new }
 {
@@ -99,6 +100,7 @@ fn run_rest<R: Threads + Wait + Sync, K: Sink, D: Disk, P: PatternMaker>(
         RunsLines result base (IsKept D.may_leave D.faults base begin running.new.core.book.journal)
         past (lines ++ cut past bytes.now) refusals (P.refusals patterns.new) before
         (K.written out.new) }
+    ensures stored { has_journal running.new.core.book.journal ≡ has_journal running.old.core.book.journal }
     ensures cause { IfErr result (λ end. EndHasCause end (K.faults out.old) (K.faults out.new)) }
     ensures later { K.faults out.old ≤ K.faults out.new }
 {
@@ -135,6 +137,7 @@ fn run_lines<R: Threads + Wait + Sync, K: Sink, D: Disk, P: PatternMaker>(
         RunsScript result base (IsKept D.may_leave D.faults base begin running.new.core.book.journal)
         (IsFailed D.may_leave D.faults begin running.new.core.book.journal) past (lines ++ cut past rest.now) refusals (P.refusals patterns.new) before
         (K.written out.new) }
+    ensures stored { has_journal running.new.core.book.journal ≡ has_journal running.old.core.book.journal }
     ensures cause { IfErr result (λ end. EndHasCause end (K.faults out.old) (K.faults out.new)) }
     ensures later { K.faults out.old ≤ K.faults out.new }
 {
@@ -183,6 +186,7 @@ fn run_begun<R: Threads + Wait + Sync, K: Sink, D: Disk, P: PatternMaker>(
         RunsScript result base (IsKept D.may_leave D.faults base begin running.new.core.book.journal)
         (IsFailed D.may_leave D.faults begin running.new.core.book.journal) past (line ∷ cut past rest.now) refusals (P.refusals patterns.new) (K.written out.old)
         (K.written out.new) }
+    ensures stored { has_journal running.new.core.book.journal ≡ has_journal running.old.core.book.journal }
     ensures cause { IfErr result (λ end. EndHasCause end (K.faults out.old) (K.faults out.new)) }
     ensures later { K.faults out.old ≤ K.faults out.new }
 {
@@ -214,6 +218,7 @@ fn run_made<R: Threads + Wait + Sync, K: Sink, D: Disk, P: PatternMaker>(
         (IsFailed D.may_leave D.faults begin result.journal) past
         (line ∷ cut past rest.now) refusals (P.refusals patterns.new) (K.written out.old)
         (K.written out.new) }
+    ensures stored { has_journal result.journal ≡ has_journal made.book.journal }
     ensures cause { IfErr result.ended (λ end.
         EndHasCause end (K.faults out.old) (K.faults out.new)) }
     ensures later { K.faults out.old ≤ K.faults out.new }
@@ -265,6 +270,7 @@ fn run_configured<R: Threads + Wait + Sync, K: Sink, D: Disk, P: PatternMaker>(
         RunsScript result.ended base (IsKept D.may_leave D.faults base begin result.journal)
         (IsFailed D.may_leave D.faults begin result.journal) past (line ∷ cut past rest.now) refusals
         (P.refusals patterns.new) (K.written out.old) (K.written out.new) }
+    ensures stored { has_journal result.journal ≡ has_journal journal }
     ensures cause { IfErr result.ended (λ end.
         EndHasCause end (K.faults out.old) (K.faults out.new)) }
     ensures later { K.faults out.old ≤ K.faults out.new }
@@ -315,6 +321,7 @@ pub(crate) fn run_script<R: Threads + Wait + Sync, K: Sink, D: Disk, P: PatternM
         RunsScript result.ended base (IsKept D.may_leave D.faults base begin result.journal)
         (IsFailed D.may_leave D.faults begin result.journal) past (cut past bytes.now)
         (P.refusals patterns.old) (P.refusals patterns.new) (K.written out.old) (K.written out.new) }
+    ensures stored { has_journal result.journal ≡ has_journal journal }
     ensures cause { IfErr result.ended (λ end.
         EndHasCause end (K.faults out.old) (K.faults out.new)) }
     ensures later { K.faults out.old ≤ K.faults out.new }
@@ -354,6 +361,7 @@ pub(crate) fn run_over<R: Threads + Wait + Sync, K: Sink, D: Disk, P: PatternMak
         (IsFailed D.may_leave D.faults begin result.journal) past (cut past bytes.now)
         (P.refusals patterns.old) (P.refusals patterns.new)
         (K.written out.old) (K.written out.new) }
+    ensures stored { has_journal result.journal ≡ true }
     ensures cause { IfErr result.ended (λ end.
         EndHasCause end (K.faults out.old) (K.faults out.new)) }
     ensures later { K.faults out.old ≤ K.faults out.new }

@@ -1,4 +1,4 @@
-use Rattle.std.proofs.Common.{◌∷◌, ◌++◌, arith}
+use Rattle.std.proofs.Common.{◌∷◌, ◌++◌, ◌∙◌, arith}
 use Rattle.emu_cli.specs.Cuts.{cut}
 use Rattle.emu_cli.specs.Reached.{IsKept}
 use Rattle.emu_cli.proofs.RunLemmas.{ends_in, lines_more, lines_end, split_more, rest_is}
@@ -15,6 +15,7 @@ lines-preserved g c = record {
   ran = λ base begin config lines refusals before r.
       let i = c.lines.invariant.ran base begin config lines refusals before r in
       lines_more g.D.Disk.may_leave g.D.Disk.faults base begin config (lines ++ cut c.args.past c.args.bytes.now) c.in-Some.line.now (cut c.args.past c.in-Some.after.now) i.done c.one_line.new.running refusals (g.P.PatternMaker.refusals c.one_line.new.patterns) before (g.K.Sink.written c.one_line.new.out) (split_more (lines ++ cut c.args.past c.args.bytes.now) i.done (cut c.args.past c.lines.rest.now) (c.in-Some.line.now ∷ cut c.args.past c.in-Some.after.now) i.split c.in-Some.ensures.lines) (c.in-Ok.ensures.ran base begin config i.done refusals before i.reached);
+  stored = c.in-Ok.ensures.stored ∙ c.lines.invariant.stored;
   later = omega (arith, c.lines.invariant.later, c.in-Ok.ensures.later);
 }
 
