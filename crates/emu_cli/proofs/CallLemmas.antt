@@ -18,8 +18,9 @@ use Rattle.emu_cli.specs.declared.ended.Ended.TheVariants as ends
 use Rattle.emu_cli.specs.declared.status.Status.{Status}
 use Rattle.emu_cli.specs.declared.status.Status.TheVariants as statuses
 use Rattle.emu_cli.specs.Scripts.{read_from}
+use Rattle.emu_cli.specs.Runs.{usage_text}
 use Rattle.emu_cli.specs.Bases.{Base, wants_by, IsBaseOf, EachOf}
-use Rattle.emu_cli.specs.Says.{Call, call_of, Says, BrokeOff, Unopened, WritesLast, Completes, IsFaultless, code_of, CallEnds, SaysUsage, IsRunWords, IsNoCommand}
+use Rattle.emu_cli.specs.Says.{Call, call_of, Says, BrokeOff, Unopened, WritesLast, Completes, IsFaultless, code_of, SaysUsage}
 use Rattle.emu_cli.specs.Reached.{IsDone, EndHasCause, IsTold}
 use Rattle.emu_cli.specs.Ran.{IsUnread, BeginsBefore, SaysUnopened, WritesNone}
 use Rattle.emu_cli.proofs.SaysLemmas.{says_unread, says_unopened}
@@ -62,16 +63,23 @@ module _ {D : Type 0} (faults : D → ℕ) (old new : D) (stored left before aft
   says_no_store (opens.Damaged at) status no (inr (inl h)) =
       subst (λ st. Says st call images images_after) (sym h.0) (record {
         cause = h.1;
-        output = inr (inr (record { stored = refl; leaves = none_new; last = damaged_text at; line = inr (at, (record { stored = refl; damaged = no }, refl)); output = h.2 }));
+        output = inr (inr (record { stored = refl; leaves = none_new; last = damaged_text at; line = inr (at, record { stored = refl; damaged = no }, refl); output = h.2 }));
       })
   says_no_store (opens.Damaged at) status no (inr (inr h)) =
       subst (λ st. Says st call images images_after) (sym h.0)
-      (inr (inr (record { stored = refl; leaves = none_new; last = damaged_text at; line = inr (at, (record { stored = refl; damaged = no }, refl)); output = h.1 })))
+      (inr (inr (record { stored = refl; leaves = none_new; last = damaged_text at; line = inr (at, record { stored = refl; damaged = no }, refl); output = h.1 })))
   says_no_store opens.StoreFull status no h = absurd no
   says_no_store opens.Memory status no h =
       subst (λ st. Says st call images images_after) (sym h.0)
       (inr (inr (record { stored = refl; leaves = none_new; last = []; line = inl refl; output = (0, subst (λ now. Appends before now []) (sym h.1) (Appends-nil before)) })))
 
--- where the words are no command
-pub ends_usage : (words : List (List ℕ)) (call : Bool → Call) (before images : List ℕ → Type 0) (status : Status) → IsNoCommand words → SaysUsage status (call false) → CallEnds words call before images status
-ends_usage words call before images status none h = inr (none, h)
+-- the last line, as a status says it
+pub usage_says : (status : Status) (before after : Option (List ℕ)) (w ws : ℕ) (call : Call) → call.written ≡ before → call.written_after ≡ after → call.writes ≡ w → call.writes_after ≡ ws → WritesLast status statuses.Usage before after w ws usage_text → SaysUsage status call
+usage_says status before after w ws call b a o n (inl h) = subst (λ st. SaysUsage st call) (sym h.0) (rw (b, a) h.1)
+usage_says status before after w ws call b a o n (inr (inl h)) = subst (λ st. SaysUsage st call) (sym h.0) (rw (o, n) h.1, rw (b, a) h.2)
+usage_says status before after w ws call b a o n (inr (inr h)) = subst (λ st. SaysUsage st call) (sym h.0) (rw (b, a) h.1)
+
+-- The codes of a call that completes.
+pub complete_code : (status : Status) (code : ℕ) → code ≡ code_of status → (status ≡ statuses.Fine) ⊎ (status ≡ statuses.Memory) → (code ≡ 0) ⊎ (code ≡ 8)
+complete_code status code is (inl h) = inl (is ∙ ap code_of h)
+complete_code status code is (inr h) = inr (is ∙ ap code_of h)

@@ -37,7 +37,7 @@ bytes_same h t = cc
 
 of_told : (stored : Option (List ℕ)) (bytes : List ℕ) (P : List ℕ → Type 0) → stored ≡ Some bytes → OfRead stored P → P bytes
 of_told None bytes P h o = absurd (no_text bytes h)
-of_told (Some y) bytes P h o = subst P (bytes_same h o.1.0) o.1.1
+of_told (Some y) bytes P h o = subst P (bytes_same h o.1) o.2
 
 abbrev ok_bodies : List Body → Result (List Body) ℕ
 ok_bodies found = Ok found

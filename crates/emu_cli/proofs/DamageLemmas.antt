@@ -123,10 +123,10 @@ next_fits config history front text legal few n (inr (inr full)) =
 wrong_store : (config : ConfigParts) (history : List Entry) (front : List (List ℕ)) (text : List ℕ) (rest : List (List ℕ)) → IsStorable config history → codes_of config history ≡ front ++ text ∷ rest → IsWrongBehind front text → ⊥
 wrong_store config history [] text rest s h none = none config (subst (λ t. IsHeadCode t config) (first_same h) s.head)
 wrong_store config history (head ∷ texts) text rest s h w =
-    let codes = w.1.1.0 in
+    let codes = w.2 in
     let same : w.0 ≡ config = one_head head w.0 config codes.is_head (subst (λ t. IsHeadCode t config) (first_same h) s.head) in
-    let n = next_of history w.1.0 texts text rest s.coded (rest_same h) codes.are_entries in
-    next_fits config history w.1.0 text s.is_history.legal s.is_history.few n (subst (λ c. IsNoNext c w.1.0 text) same w.1.1.1)
+    let n = next_of history w.1 texts text rest s.coded (rest_same h) codes.are_entries in
+    next_fits config history w.1 text s.is_history.legal s.is_history.few n (subst (λ c. IsNoNext c w.1 text) same w.3)
 
 pub not_damaged_store : (c : List ℕ) (config : ConfigParts) (history : List Entry) (at : ℕ) → Stands config history c → IsDamagedAt c at → ⊥
 not_damaged_store c config history at stands (inl h) = no_error (placed 8 (codes_of config history)) at (sym stands.stands ∙ h)

@@ -47,7 +47,7 @@ left_refused : (lines : List Line) (replies : List Reply) (l : Line) (reply : Re
     (left ≡ None) ⊎ (left ≡ lost) ⊎ ((next : Entry) × (left ≡ Some next) × IsDiskRefused l reply next) → IfRefused (lines ++ l ∷ []) (replies ++ reply ∷ []) left
 left_refused lines replies l reply lost left same why (inl h) = subst (λ x. IfRefused (lines ++ l ∷ []) (replies ++ reply ∷ []) x) (sym h) tt
 left_refused lines replies l reply lost left same why (inr (inl h)) = subst (λ x. IfRefused (lines ++ l ∷ []) (replies ++ reply ∷ []) x) (sym h) (if_more lines replies l reply lost why)
-left_refused lines replies l reply lost left same why (inr (inr h)) = subst (λ x. IfRefused (lines ++ l ∷ []) (replies ++ reply ∷ []) x) (sym h.1.0) (refused_last lines replies l reply h.0 same h.1.1)
+left_refused lines replies l reply lost left same why (inr (inr h)) = subst (λ x. IfRefused (lines ++ l ∷ []) (replies ++ reply ∷ []) x) (sym h.1) (refused_last lines replies l reply h.0 same h.2)
 
 own_refused : (l : Line) (reply : Reply) (next : Entry) → orders.IsDiskRefused l reply next → IsDiskRefused l reply next
 own_refused l reply next h = record { edit = h.edit; asks = h.asks; entry = h.entry; refused = h.refused }
@@ -55,7 +55,7 @@ own_refused l reply next h = record { edit = h.edit; asks = h.asks; entry = h.en
 own_which : (l : Line) (reply : Reply) (lost left : Option Entry) → (left ≡ None) ⊎ (left ≡ lost) ⊎ ((next : Entry) × (left ≡ Some next) × orders.IsDiskRefused l reply next) → (left ≡ None) ⊎ (left ≡ lost) ⊎ ((next : Entry) × (left ≡ Some next) × IsDiskRefused l reply next)
 own_which l reply lost left (inl h) = inl h
 own_which l reply lost left (inr (inl h)) = inr (inl h)
-own_which l reply lost left (inr (inr h)) = inr (inr (h.0, (h.1.0, own_refused l reply h.0 h.1.1)))
+own_which l reply lost left (inr (inr h)) = inr (inr (h.0, h.1, own_refused l reply h.0 h.2))
 
 -- The count of the disk.
 

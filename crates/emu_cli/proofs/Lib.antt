@@ -15,4 +15,3 @@ pub mod CallLemmas
 pub mod FreshSays
 pub mod DamageLemmas
 pub mod CompleteLemmas
-pub mod Words

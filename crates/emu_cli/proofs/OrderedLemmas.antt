@@ -165,7 +165,7 @@ legal_stands config history c s = (both_right (is_made config) (is_valid config)
 pub legal_base : (store : Bool) (stored : Option (List ℕ)) (base : Base) → IsBaseOf store stored base → IsLegalBase base
 legal_base false stored no_store h = tt
 legal_base true stored bare_store h = tt
-legal_base true stored (store_of config history) h = legal_stands config history h.0 h.1.1
+legal_base true stored (store_of config history) h = legal_stands config history h.0 h.2
 legal_base false stored bare_store h = absurd h
 legal_base false stored (store_of config history) h = absurd h
 legal_base true stored no_store h = absurd h

@@ -12,7 +12,7 @@ too_large_push [] l = omega arith
 too_large_push (k ∷ lines) l =
     let rest : too_large_in (lines ++ l ∷ []) ≡ too_large_in lines + times_too_large l.made = too_large_push lines l in omega arith
 
-rose_both : (j k a b c : ℕ) → RoseBy j a b → RoseBy k b c → RoseBy (j + k) a c
+pub rose_both : (j k a b c : ℕ) → RoseBy j a b → RoseBy k b c → RoseBy (j + k) a c
 rose_both j k a b c h g = omega arith
 
 rose_later : (j a b c : ℕ) → RoseBy j a b → b ≤ c → RoseBy j a c

@@ -81,12 +81,12 @@ pub record IsAt {D : Type 0} (base : Base) (running : Running D) (config : Confi
 
 -- the run stands behind the line of its configuration, or before the first line where the store has one
 pub record IsBegun {D : Type 0} (may_leave : D → List ℕ → Type 0) (config : ConfigParts) (opening : List Entry)
-    (number : ℕ) (running : Running D) : Type 0 where
+    (count : ℕ) (running : Running D) : Type 0 where
   pub book : running.core.book.config ≡ config
   pub state : state_of running.core ≡ start config opening
   pub kept : KeepsIn may_leave config opening None running.core.book.journal
   pub earlier : running.earlier ≡ []
-  pub number : running.number ≡ number
+  pub number : running.number ≡ count
 
 -- the lines so far were read and run, and their replies written
 pub record Reached {D : Type 0} (may_leave : D → List ℕ → Type 0) (faults : D → ℕ) (base : Base) (begin : ℕ)

@@ -1,5 +1,5 @@
 -- What the status of a run says.
-use Rattle.std.specs.Prelude.{◌≡◌, ◌⊎◌, ◌<◌, ◌-◌, ◌^◌, ℕ, Bool, true, false, List, [], ◌∷◌, ◌++◌, length, take, Option, Some, None, Ok, Err, codes}
+use Rattle.std.specs.Prelude.{◌≡◌, ◌⊎◌, ◌<◌, ◌-◌, ◌^◌, ℕ, Bool, true, false, List, [], ◌∷◌, ◌++◌, length, take, Option, Some, None, Ok, Err}
 use Rattle.std.specs.Io.KnownBytes.{Appends, IsAtEnd}
 use Rattle.fault_counts.specs.Count.{Rose}
 use Rattle.emu_io.specs.Fronts.{Tells, WritesFront}
@@ -11,6 +11,8 @@ use Rattle.script_lines.specs.declared.faults.ReadLine.TheVariants as reads
 use Rattle.live_book.specs.Histories.{OfRead, IsBare, Stands, IsDamagedAt, HeadPassesLimit}
 use Rattle.live_book.specs.Opens.{DuringNew}
 use Rattle.store_commands.specs.Texts.{damaged_text}
+use Rattle.cli_words.specs.declared.words.Words.TheVariants as forms
+use Rattle.cli_words.specs.Forms.{words_of}
 use Rattle.emu_cli.specs.declared.status.Status.{Status}
 use Rattle.emu_cli.specs.declared.status.Status.TheVariants as statuses
 use Rattle.emu_cli.specs.Scripts.{AskedLine, AreRead, Parsed, read_from, with_read, parse, parse_line, lines_of, script_of, front_of, IsSound, Stop, limit, at_fault}
@@ -271,15 +273,14 @@ Completes call status = IsFaultless call → (status ≡ statuses.Fine) ⊎ (sta
 
 -- the words ask for a run, without a store or with one
 abbrev pub IsRunWords : List (List ℕ) → Bool → Type 0
-IsRunWords words false = words ≡ codes "run" ∷ []
-IsRunWords words true = words ≡ codes "run" ∷ codes "--store" ∷ []
+IsRunWords words store = words_of words ≡ Some (forms.Run store)
 
--- the words are no command
-abbrev pub IsNoCommand : List (List ℕ) → Type 0
-IsNoCommand words = (store : Bool) → IsRunWords words store → ⊥
+-- the words ask for no run
+abbrev pub IsNoRun : List (List ℕ) → Type 0
+IsNoRun words = (store : Bool) → IsRunWords words store → ⊥
 
 -- what is said where the words are no command: the last line was written, or a front of it, and a write failed or
--- memory ran out; no image is new
+-- memory ran out
 abbrev pub SaysUsage : Status → Call → Type 0
 SaysUsage statuses.Usage call = Appends call.written call.written_after usage_text
 SaysUsage statuses.Write call =
@@ -287,16 +288,15 @@ SaysUsage statuses.Write call =
 SaysUsage statuses.Memory call = WritesFront call.written call.written_after usage_text
 SaysUsage status call = ⊥
 
--- what the words ask for, where they are a command
-abbrev pub RunAsked : List (List ℕ) → Option Bool → Type 0
-RunAsked words (Some store) = IsRunWords words store
-RunAsked words None = IsNoCommand words
+-- memory ran out before the words were known, and nothing was written
+abbrev pub SaysNothing : Status → Call → Type 0
+SaysNothing status call = (status ≡ statuses.Memory) × Appends call.written call.written_after []
 
 -- what a status says of a call by its words; the call is given with a store and without
 abbrev pub CallEnds : List (List ℕ) → (Bool → Call) → (List ℕ → Type 0) → (List ℕ → Type 0) → Status → Type 0
 CallEnds words call before images status =
     ((store : Bool) × IsRunWords words store × Says status (call store) before images)
-    ⊎ (IsNoCommand words × SaysUsage status (call false))
+    ⊎ ((IsNoRun words × SaysUsage status (call false)) ⊎ SaysNothing status (call false))
 
 -- what the code that a call answers says of it
 abbrev pub CallSays : List (List ℕ) → (Bool → Call) → (List ℕ → Type 0) → (List ℕ → Type 0) → ℕ → Type 0
@@ -304,6 +304,10 @@ CallSays words call before images code =
     (status : Status) × (code ≡ code_of status) × CallEnds words call before images status
 
 -- where nothing is wrong outside or in the script, only want of memory keeps a run from its end
+abbrev pub RunCompletes : List (List ℕ) → (Bool → Call) → Status → Type 0
+RunCompletes words call status = (store : Bool) → IsRunWords words store → Completes (call store) status
+
+-- the same of the code
 abbrev pub CallCompletes : List (List ℕ) → (Bool → Call) → ℕ → Type 0
 CallCompletes words call code =
     (store : Bool) → IsRunWords words store → IsFaultless (call store) → (code ≡ 0) ⊎ (code ≡ 8)

@@ -1,10 +1,11 @@
 //! The top call.
 ghost use Rattle.std.specs.Prelude.{◌≡◌, true, map, string_bytes};
-ghost use Rattle.emu_cli.specs.Says.{call_of, CallCompletes, CallEnds, CallSays, IsRunWords, RunAsked};
+ghost use Rattle.emu_cli.specs.Says.{call_of, CallCompletes, CallEnds, CallSays, IsRunWords, RunCompletes};
 
 use crate::last::usage;
 use crate::in_order::{Ran, run};
 use crate::status::{Status, code};
+use cli_words::{Words, WordsFault, read_words};
 use emu_disk::Disk;
 use emu_io::{Sink, Source};
 use label_match::PatternMaker;
@@ -18,17 +19,6 @@ pub struct Exit<D: Disk> {
     pub status: u8,
     /// The disk.
     pub disk: D,
-}
-
-/// Whether the words ask for a run with a store, where they ask for a run: `run`, alone or with `--store`.
-fn run_asked(words: &[String]) -> Option<bool>
-    ensures { RunAsked (map (λ w. string_bytes w) words.now) result }
-{
-    match words {
-        [word] if word.as_str() == "run" => Some(false),
-        [word, option] if word.as_str() == "run" && option.as_str() == "--store" => Some(true),
-        _ => None,
-    }
 }
 
 /// Runs the program on its words, and answers how the run ends.
@@ -46,11 +36,20 @@ fn perform<R: Threads + Wait + Sync, S: Source, K: Sink, D: Disk, P: PatternMake
         (K.written out.new) (S.faults script.old) (S.faults script.new) (K.faults out.old)
         (K.faults out.new) (P.refusals patterns.old) (P.refusals patterns.new) (D.faults disk)
         (D.faults result.disk)) (D.may_leave disk) (D.may_leave result.disk) result.status }
+    ensures complete { RunCompletes (map (λ w. string_bytes w) words.now) (λ store. call_of store
+        (D.reads disk) (S.left script.old) (S.left script.new) (K.written out.old)
+        (K.written out.new) (S.faults script.old) (S.faults script.new) (K.faults out.old)
+        (K.faults out.new) (P.refusals patterns.old) (P.refusals patterns.new) (D.faults disk)
+        (D.faults result.disk)) result.status }
     ensures untouched { (IsRunWords (map (λ w. string_bytes w) words.now) true → ⊥) → result.disk ≡ disk }
 {
-    match run_asked(words) {
-        Some(store) => run(rt, alloc, store, script, out, disk, patterns),
-        None => Ran {
+    match read_words(alloc, words) {
+        Ok(Words::Run { store }) => run(rt, alloc, store, script, out, disk, patterns),
+        Err(WordsFault::Memory) => Ran {
+            status: Status::Memory,
+            disk,
+        },
+        Ok(_) | Err(WordsFault::Usage) => Ran {
             status: usage(alloc, out),
             disk,
         },

@@ -1,4 +1,6 @@
-use Rattle.std.proofs.Common.{inl, refl}
+use Rattle.std.proofs.Common.{inl, refl, sym, subst}
+use Rattle.emu_cli.specs.declared.ended.Ended.TheVariants as ends
+use Rattle.emu_cli.specs.Reached.{IsKept, EndsOnLine}
 use Rattle.script_lines.specs.Made.{times_too_large}
 use Rattle.emu_cli.proofs.RunLemmas.{ends_unread, reached_blank, runs_request, broke_here}
 use Rattle.emu_cli.proofs.script.one_line.Goals as goal
@@ -15,4 +17,5 @@ returns-in-Ok-clause-ran g c = λ base begin config lines refusals before r. run
 pub returns-in-Err-take-clause-ran : goal.returns-in-Err-take-clause-ran
 returns-in-Err-take-clause-ran g c = λ base begin config lines refusals before r.
     let read = rw c.in-Ok-Request.field-0-is at c.in-Ok-Request.ensures.next in
-    inl (broke_here g.D.Disk.may_leave g.D.Disk.faults base begin config lines c.args.running.now (times_too_large read.made) refusals (g.P.PatternMaker.refusals c.args.patterns.now) (g.P.PatternMaker.refusals c.read_next.new.patterns) before (g.K.Sink.written c.args.out.now) r read.rose)
+    subst (λ run. EndsOnLine ends.Memory base (IsKept g.D.Disk.may_leave g.D.Disk.faults base begin run.core.book.journal) lines c.args.line.now refusals (g.P.PatternMaker.refusals c.read_next.new.patterns) before (g.K.Sink.written c.args.out.now)) (sym c.in-Err-take.ensures.err)
+    (inl (broke_here g.D.Disk.may_leave g.D.Disk.faults base begin config lines c.args.running.now (times_too_large read.made) refusals (g.P.PatternMaker.refusals c.args.patterns.now) (g.P.PatternMaker.refusals c.read_next.new.patterns) before (g.K.Sink.written c.args.out.now) r read.rose))
