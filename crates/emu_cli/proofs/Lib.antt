@@ -13,5 +13,6 @@ pub mod OrderedLemmas
 pub mod SaysLemmas
 pub mod CallLemmas
 pub mod FreshSays
+pub mod OpenLemmas
 pub mod DamageLemmas
 pub mod CompleteLemmas
