@@ -1,5 +1,5 @@
 -- What a status says, of a whole call.
-use Rattle.std.proofs.Common.{◌≡◌, ◌⊎◌, inl, inr, ℕ, ◌+◌, ◌<◌, ◌≤◌, ◌-◌, ◌^◌, Bool, true, false, List, [], ◌∷◌, take, Option, Some, None, Result, Ok, Err, IfErr, refl, sym, ◌∙◌, ap, subst, arith}
+use Rattle.std.proofs.Common.{◌≡◌, ◌≢◌, ◌⊎◌, inl, inr, ℕ, ◌+◌, ◌<◌, ◌≤◌, ◌-◌, ◌^◌, Bool, true, false, List, [], ◌∷◌, take, Option, Some, None, Result, Ok, Err, IfErr, refl, sym, ◌∙◌, ap, subst, arith}
 use Rattle.std.specs.Io.KnownBytes.{Appends}
 use Rattle.std.proofs.KnownBytes.{Appends-nil}
 use Rattle.fault_counts.specs.Count.{Rose}
@@ -49,6 +49,10 @@ module _ (store : Bool) (stored left left_after : Option (List ℕ)) (r rs m f f
       subst (λ st. Says st (call_of store stored left left_after now now r rs w w m m f fs) before images) (sym is) (says_unopened store stored left left_after r rs m m f fs base begins before images now w (cause refl) d)
   unread_says read_faults.Memory status now w is cause d =
       subst (λ st. Says st (call_of store stored left left_after now now r rs w w m m f fs) before images) (sym is) (says_unread store stored left left_after r rs m m f fs base begins before images now w w (omega arith) d)
+
+-- a store that is not opened is never full
+pub not_full : {D : Type 0} (stored : Option (List ℕ)) (faults : D → ℕ) (old new : D) (fault : OpenFault) → IsNoStoreFor stored faults old fault new → fault ≢ opens.StoreFull
+not_full stored faults old new fault no same = subst (λ f. IsNoStoreFor stored faults old f new) same no
 
 -- the store could not be opened
 module _ {D : Type 0} (faults : D → ℕ) (old new : D) (stored left before after : Option (List ℕ)) (r w ws m : ℕ) (images images_after : List ℕ → Type 0) (none_new : EachOf images_after images) where

@@ -12,12 +12,11 @@ use Rattle.edit_journal.specs.declared.journal.Journal.{Journal}
 use Rattle.live_book.specs.Kept.{KeepsIn, faults_in}
 use Rattle.live_book.specs.Commits.{has_journal}
 use Rattle.live_book.specs.Opens.{IsEmpty}
-use Rattle.session_run.specs.Orders.{Answers, LeftBehind, state_of}
-use Rattle.session_run.specs.Orders as orders
+use Rattle.session_run.specs.Orders.{Answers, IsDiskRefused, LeftBehind, state_of}
 use Rattle.script_lines.specs.declared.faults.ReadLine.TheVariants as reads
 use Rattle.emu_cli.specs.declared.running.Running.{Running}
 use Rattle.emu_cli.specs.Scripts.{Parsed, read_from, with_read}
-use Rattle.emu_cli.specs.Bases.{Base, is_stored, opening_by, config_by, counted, fresh_base, store_of, IsDiskRefused, WasRefused, IfRefused}
+use Rattle.emu_cli.specs.Bases.{Base, is_stored, opening_by, config_by, counted, fresh_base, store_of, WasRefused, IfRefused}
 use Rattle.emu_cli.specs.Runs.{replies_by, history_by}
 use Rattle.emu_cli.specs.Taken.{TakesLine}
 use Rattle.emu_cli.specs.Reached.{IsAt, IsKept, KeepsStore, KeepsHistory}
@@ -48,14 +47,6 @@ left_refused : (lines : List Line) (replies : List Reply) (l : Line) (reply : Re
 left_refused lines replies l reply lost left same why (inl h) = subst (λ x. IfRefused (lines ++ l ∷ []) (replies ++ reply ∷ []) x) (sym h) tt
 left_refused lines replies l reply lost left same why (inr (inl h)) = subst (λ x. IfRefused (lines ++ l ∷ []) (replies ++ reply ∷ []) x) (sym h) (if_more lines replies l reply lost why)
 left_refused lines replies l reply lost left same why (inr (inr h)) = subst (λ x. IfRefused (lines ++ l ∷ []) (replies ++ reply ∷ []) x) (sym h.1) (refused_last lines replies l reply h.0 same h.2)
-
-own_refused : (l : Line) (reply : Reply) (next : Entry) → orders.IsDiskRefused l reply next → IsDiskRefused l reply next
-own_refused l reply next h = record { edit = h.edit; asks = h.asks; entry = h.entry; refused = h.refused }
-
-own_which : (l : Line) (reply : Reply) (lost left : Option Entry) → (left ≡ None) ⊎ (left ≡ lost) ⊎ ((next : Entry) × (left ≡ Some next) × orders.IsDiskRefused l reply next) → (left ≡ None) ⊎ (left ≡ lost) ⊎ ((next : Entry) × (left ≡ Some next) × IsDiskRefused l reply next)
-own_which l reply lost left (inl h) = inl h
-own_which l reply lost left (inr (inl h)) = inr (inl h)
-own_which l reply lost left (inr (inr h)) = inr (inr (h.0, h.1, own_refused l reply h.0 h.2))
 
 -- The count of the disk.
 
@@ -134,7 +125,7 @@ module _ {D : Type 0} (may_leave : D → List ℕ → Type 0) (faults : D → �
       lost = left.left;
       why =
           subst (λ rs. IfRefused (p.requests ++ l ∷ []) rs left.left) (sym replies_are)
-          (left_refused p.requests (replies_by base p outages) l reply before.lost left.left counts before.why (own_which l reply before.lost left.left left.which));
+          (left_refused p.requests (replies_by base p outages) l reply before.lost left.left counts before.why left.which);
       keeps =
           subst (λ h. KeepsIn may_leave config h left.left new.core.book.journal) (sym new_history)
           (subst (λ c. KeepsIn may_leave c new.core.book.history left.left new.core.book.journal) new_config left.keeps);

@@ -1,14 +1,10 @@
 -- What a run begins with: no store, a bare store, or a store with a history; and what it then leaves there.
-use Rattle.std.specs.Prelude.{◌≡◌, ◌⊎◌, ℕ, Bool, true, false, List, [], ◌∷◌, Option, Some, None, Ok}
+use Rattle.std.specs.Prelude.{◌⊎◌, ℕ, Bool, true, false, List, [], ◌∷◌, Option, Some, None}
 use Rattle.db_config.specs.declared.parts.ConfigParts.{ConfigParts}
-use Rattle.edit_rules.specs.declared.edit.Edit.{Edit}
 use Rattle.edit_rules.specs.declared.edit.Entry.{Entry}
-use Rattle.session_core.specs.declared.line.Answer.TheVariants.{Refused}
-use Rattle.session_core.specs.declared.line.Refusal.TheVariants as refusals
-use Rattle.session_core.specs.declared.line.Request.TheVariants as requests
 use Rattle.session_core.specs.declared.line.Line.{Line}
 use Rattle.session_core.specs.declared.line.Reply.{Reply}
-use Rattle.session_core.specs.Answers.{entry_of}
+use Rattle.session_run.specs.Orders.{IsDiskRefused}
 use Rattle.live_book.specs.Histories.{OfRead, Stands, IsBare}
 use Rattle.live_book.specs.Kept.{StandsOrLost}
 
@@ -67,14 +63,7 @@ fresh_base true = bare_store
 abbrev pub EachOf : (List ℕ → Type 0) → (List ℕ → Type 0) → Type 0
 EachOf images P = (c : List ℕ) → images c → P c
 
--- the disk refused the edit of a line, which would have been this entry
-pub record IsDiskRefused (l : Line) (reply : Reply) (next : Entry) : Type 0 where
-  pub edit : Edit
-  pub asks : l.request ≡ requests.Edit (Ok edit)
-  pub entry : next ≡ entry_of l edit
-  pub refused : reply.answer ≡ Refused refusals.Disk
-
--- the same of one of these lines, each of which has its reply
+-- the disk refused the edit of one of these lines, which would have been this entry; each line has its reply
 abbrev pub WasRefused : List Line → List Reply → Entry → Type 0
 WasRefused (l ∷ lines) (reply ∷ replies) next = IsDiskRefused l reply next ⊎ WasRefused lines replies next
 WasRefused _ _ next = ⊥

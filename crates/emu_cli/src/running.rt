@@ -71,6 +71,7 @@ pub(crate) fn begin<D: Disk>(
     ensures ok { IfOk result (λ running. KeepsIn D.may_leave book.config book.history None book.journal →
         IsBegun D.may_leave book.config book.history number running) }
     ensures stored { IfOk result (λ running. running.core.book.journal ≡ book.journal) }
+    ensures earlier { IfOk result (λ running. running.earlier ≡ []) }
     ensures err { IfErr result (λ given. given ≡ book) }
 {
     let mut passes = passes;

@@ -74,7 +74,7 @@ fn a_run_goes_on_over_the_store_of_another(rt: HostRuntime) -> Result<(), Fail> 
     let second = run_stored(&rt, alloc, &[QUERY, BUNDLE], first.disk)?;
     let wanted = [
         "{\"line\":1,\"n\":1,\"segments\":[]}",
-        "{\"line\":2,\"n\":1,\"refused\":{\"rule\":\"BundleExists\"}}",
+        "{\"line\":2,\"n\":1,\"refused\":{\"rule\":\"BundleTaken\"}}",
     ];
     assert_eq!(rt; second.ran.status, 0);
     assert_eq!(rt; second.ran.output.as_slice(), joined(alloc, &wanted, "\n")?.as_slice());
