@@ -113,3 +113,9 @@ broke_store may_leave faults begin config history journal is low keeps lines m n
   done = kept_store may_leave faults begin config history journal is low keeps;
   output = (0, Appends-nil now);
 }
+
+-- the same of an end
+pub end_journal : {D : Type 0} (may_leave : D → List ℕ → Type 0) (faults : D → ℕ) (end : Ended) (base : Base) (begin : ℕ) (past : Bool) (lines : List (List ℕ)) (m n : ℕ) (before after : Option (List ℕ)) (journal given : Option (Journal D)) → given ≡ journal →
+    EndsScript end base (IsKept may_leave faults base begin journal) (IsFailed may_leave faults begin journal) past lines m n before after → EndsScript end base (IsKept may_leave faults base begin given) (IsFailed may_leave faults begin given) past lines m n before after
+end_journal may_leave faults end base begin past lines m n before after journal given same ran =
+    subst (λ j. EndsScript end base (IsKept may_leave faults base begin j) (IsFailed may_leave faults begin j) past lines m n before after) (sym same) ran

@@ -20,7 +20,10 @@ use Rattle.emu_cli.specs.declared.status.Status.TheVariants as statuses
 use Rattle.emu_cli.specs.Scripts.{read_from}
 use Rattle.emu_cli.specs.Runs.{usage_text}
 use Rattle.emu_cli.specs.Bases.{Base, wants_by, IsBaseOf, EachOf}
-use Rattle.emu_cli.specs.Says.{Call, call_of, Says, BrokeOff, Unopened, WritesLast, Completes, IsFaultless, code_of, SaysUsage}
+use Rattle.cli_words.specs.declared.words.Words.{Words}
+use Rattle.cli_words.specs.declared.words.Words.TheVariants as forms
+use Rattle.cli_words.specs.Forms.{words_of}
+use Rattle.emu_cli.specs.Says.{Call, call_of, Says, BrokeOff, Unopened, WritesLast, Completes, IsFaultless, code_of, SaysUsage, IsRunWords, IsNoRun, run_asked}
 use Rattle.emu_cli.specs.Reached.{IsDone, EndHasCause, IsTold}
 use Rattle.emu_cli.specs.Ran.{IsUnread, BeginsBefore, SaysUnopened, WritesNone}
 use Rattle.emu_cli.proofs.SaysLemmas.{says_unread, says_unopened}
@@ -87,3 +90,42 @@ usage_says status before after w ws call b a o n (inr (inr h)) = subst (λ st. S
 pub complete_code : (status : Status) (code : ℕ) → code ≡ code_of status → (status ≡ statuses.Fine) ⊎ (status ≡ statuses.Memory) → (code ≡ 0) ⊎ (code ≡ 8)
 complete_code status code is (inl h) = inl (is ∙ ap code_of h)
 complete_code status code is (inr h) = inr (is ∙ ap code_of h)
+
+-- What the words ask for.
+
+abbrev some_words : Words → Option Words
+some_words w = Some w
+
+abbrev some_flag : Bool → Option Bool
+some_flag b = Some b
+
+no_flag : (b : Bool) → None ≡ some_flag b → ⊥
+no_flag b h = cc
+
+flag_same : {a b : Bool} → some_flag a ≡ some_flag b → a ≡ b
+flag_same h = cc
+
+words_same : {v w : Words} → some_words v ≡ some_words w → v ≡ w
+words_same h = cc
+
+pub asked_run : (words : List (List ℕ)) (asked : Words) (store : Bool) → words_of words ≡ Some asked → run_asked asked ≡ Some store → IsRunWords words store
+asked_run words (forms.Run s) store h e = h ∙ ap (λ b. some_words (forms.Run b)) (flag_same e)
+asked_run words (forms.Live s n) store h e = absurd (no_flag store e)
+asked_run words (forms.Ask eql time) store h e = absurd (no_flag store e)
+asked_run words (forms.Load name) store h e = absurd (no_flag store e)
+asked_run words (forms.Import session bundle rate file) store h e = absurd (no_flag store e)
+asked_run words (forms.Export session bundle) store h e = absurd (no_flag store e)
+asked_run words forms.History store h e = absurd (no_flag store e)
+asked_run words (forms.Work number bundles) store h e = absurd (no_flag store e)
+
+pub asked_none : (words : List (List ℕ)) (asked : Words) → words_of words ≡ Some asked → run_asked asked ≡ None → IsNoRun words
+asked_none words asked h e = λ store r. no_flag store (sym e ∙ ap run_asked (words_same (sym h ∙ r)))
+
+pub usage_none : (words : List (List ℕ)) → words_of words ≡ None → IsNoRun words
+usage_none words h = λ store r. no_words (forms.Run store) (sym h ∙ r)
+    where
+      no_words : (w : Words) → None ≡ some_words w → ⊥
+      no_words w e = cc
+
+pub run_same : (words : List (List ℕ)) (a b : Bool) → IsRunWords words a → IsRunWords words b → a ≡ b
+run_same words a b h k = flag_same (ap run_asked (words_same (sym h ∙ k)))

@@ -11,6 +11,7 @@ use Rattle.script_lines.specs.declared.faults.ReadLine.TheVariants as reads
 use Rattle.live_book.specs.Histories.{OfRead, IsBare, Stands, IsDamagedAt, HeadPassesLimit}
 use Rattle.live_book.specs.Opens.{DuringNew}
 use Rattle.store_commands.specs.Texts.{damaged_text}
+use Rattle.cli_words.specs.declared.words.Words.{Words}
 use Rattle.cli_words.specs.declared.words.Words.TheVariants as forms
 use Rattle.cli_words.specs.Forms.{words_of}
 use Rattle.emu_cli.specs.declared.status.Status.{Status}
@@ -274,6 +275,11 @@ Completes call status = IsFaultless call → (status ≡ statuses.Fine) ⊎ (sta
 -- the words ask for a run, without a store or with one
 abbrev pub IsRunWords : List (List ℕ) → Bool → Type 0
 IsRunWords words store = words_of words ≡ Some (forms.Run store)
+
+-- whether a run that is asked for is one with a store; nothing where no run is asked for
+abbrev pub run_asked : Words → Option Bool
+run_asked (forms.Run store) = Some store
+run_asked words = None
 
 -- the words ask for no run
 abbrev pub IsNoRun : List (List ℕ) → Type 0

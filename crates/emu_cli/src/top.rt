@@ -1,6 +1,6 @@
 //! The top call.
 ghost use Rattle.std.specs.Prelude.{◌≡◌, true, map, string_bytes};
-ghost use Rattle.emu_cli.specs.Says.{call_of, CallCompletes, CallEnds, CallSays, IsRunWords, RunCompletes};
+ghost use Rattle.emu_cli.specs.Says.{call_of, CallCompletes, CallEnds, CallSays, IsRunWords, RunCompletes, run_asked};
 
 use crate::last::usage;
 use crate::in_order::{Ran, run};
@@ -19,6 +19,17 @@ pub struct Exit<D: Disk> {
     pub status: u8,
     /// The disk.
     pub disk: D,
+}
+
+/// Whether a run that is asked for is one with a store; nothing where no run is asked for.
+fn run_asked(asked: &Words) -> Option<bool>
+    ensures { result ≡ run_asked asked.now }
+{
+    match asked {
+        Words::Run { store } => Some(*store),
+        Words::Live { .. } | Words::Ask { .. } | Words::Load { .. } | Words::Import { .. } => None,
+        Words::Export { .. } | Words::History | Words::Work { .. } => None,
+    }
 }
 
 /// Runs the program on its words, and answers how the run ends.
@@ -44,13 +55,19 @@ fn perform<R: Threads + Wait + Sync, S: Source, K: Sink, D: Disk, P: PatternMake
     ensures untouched { (IsRunWords (map (λ w. string_bytes w) words.now) true → ⊥) → result.disk ≡ disk }
 {
     match read_words(alloc, words) {
-        Ok(Words::Run { store }) => run(rt, alloc, store, script, out, disk, patterns),
-        Err(WordsFault::Memory) => Ran {
-            status: Status::Memory,
+        Ok(asked) => match run_asked(&asked) {
+            Some(store) => run(rt, alloc, store, script, out, disk, patterns),
+            None => Ran {
+                status: usage(alloc, out),
+                disk,
+            },
+        },
+        Err(WordsFault::Usage) => Ran {
+            status: usage(alloc, out),
             disk,
         },
-        Ok(_) | Err(WordsFault::Usage) => Ran {
-            status: usage(alloc, out),
+        Err(WordsFault::Memory) => Ran {
+            status: Status::Memory,
             disk,
         },
     }
