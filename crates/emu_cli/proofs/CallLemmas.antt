@@ -4,6 +4,7 @@ use Rattle.std.specs.Io.KnownBytes.{Appends}
 use Rattle.std.proofs.KnownBytes.{Appends-nil}
 use Rattle.fault_counts.specs.Count.{Rose}
 use Rattle.emu_names.specs.declared.limits.TheConstants.{SCRIPT_BYTES}
+use Rattle.emu_io.specs.declared.whole.Front.{Front}
 use Rattle.emu_io.specs.declared.faults.ReadFault.{ReadFault}
 use Rattle.emu_io.specs.declared.faults.ReadFault.TheVariants as read_faults
 use Rattle.emu_io.specs.Fronts.{TakesFront, IsFrontOf, WritesFront}
@@ -44,6 +45,9 @@ told_ended (Err end) before now h = told_end end before now h
 pub begins_before : {D : Type 0} (faults : D → ℕ) (journal : Option (Journal D)) (disk : D) → faults disk ≤ faults_in faults journal → BeginsBefore faults journal disk
 begins_before faults None disk h = tt
 begins_before faults (Some journal) disk h = h
+
+abbrev pub err_fault : ReadFault → Result Front ReadFault
+err_fault fault = Err fault
 
 -- the script could not be read
 module _ (store : Bool) (stored left left_after : Option (List ℕ)) (r rs m f fs : ℕ) (base : Base) (begins : IsBaseOf store stored base) (before images : List ℕ → Type 0) where

@@ -23,6 +23,7 @@ use std::thread::Threads;
 use version_gate::Passes;
 
 /// How a run ended, and its disk.
+#[derive(Drop)]
 pub struct Ran<D: Disk> {
     /// How it ended.
     pub status: Status,

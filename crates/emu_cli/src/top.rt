@@ -14,6 +14,7 @@ use std::sync::Wait;
 use std::thread::Threads;
 
 /// How a call ended, and its disk.
+#[derive(Drop)]
 pub struct Exit<D: Disk> {
     /// The program's status.
     pub status: u8,

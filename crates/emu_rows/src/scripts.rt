@@ -91,7 +91,10 @@ pub fn run_with<R: Threads + Wait + Sync, P: PatternMaker>(
     }
     let mut source = ListSource::new(script, Vec::from_slice(alloc, bad_reads)?);
     let mut sink = ListSink::new(alloc, Vec::from_slice(alloc, bad_writes)?);
-    let disk = SureDisk::new(alloc, 0)?;
+    let disk = match SureDisk::new(alloc, 0) {
+        Ok(disk) => disk,
+        Err(_) => return Err(AllocError),
+    };
     let exit = emu(
         rt,
         alloc,

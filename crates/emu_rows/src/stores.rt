@@ -117,6 +117,6 @@ fn bytes_that_are_no_store(rt: HostRuntime) -> Result<(), Fail> {
     let wanted = ["{\"at\":0,\"cause\":\"Damaged\",\"status\":7}"];
     assert_eq!(rt; stored.ran.status, 7);
     assert_eq!(rt; stored.ran.output.as_slice(), joined(alloc, &wanted, "\n")?.as_slice());
-    assert_eq!(rt; stored.disk.bytes(), b"NOTASTORE!");
+    assert_eq!(rt; stored.disk.bytes(), b"NOTASTORE!".as_slice());
     Ok(())
 }

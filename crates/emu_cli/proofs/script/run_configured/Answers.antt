@@ -4,7 +4,7 @@ use Rattle.emu_cli.proofs.script.run_configured.Goals as goal
 
 pub returns-in-Err-clause-ran : goal.returns-in-Err-clause-ran
 returns-in-Err-clause-ran g c = λ base begin line refusals same low h.
-    no_book_ends g.D.Disk.may_leave g.D.Disk.moment g.D.Disk.left_since g.D.Disk.counts_now g.D.Disk.faults begin c.args.config line (cut c.args.past c.args.rest.now) refusals (g.P.PatternMaker.refusals c.args.patterns.now) (g.K.Sink.written c.args.out.now) c.args.past h base c.args.journal c.in-Err.refused.journal c.in-Err.refused.fault c.no_book.result same low c.requires c.no_book.ensures c.in-Err.ensures.refused c.in-Err.ensures.any_moment_err
+    no_book_ends g.D.Disk.may_leave g.D.Disk.moment g.D.Disk.left_since g.met.D.Disk.counts_now g.D.Disk.faults begin c.args.config line (cut c.args.past c.args.rest.now) refusals (g.P.PatternMaker.refusals c.args.patterns.now) (g.K.Sink.written c.args.out.now) c.args.past h base c.args.journal c.in-Err.refused.journal c.in-Err.refused.fault c.no_book.result same low c.requires c.no_book.ensures c.in-Err.ensures.refused c.in-Err.ensures.any_moment_err
 
 pub returns-in-Ok-clause-ran : goal.returns-in-Ok-clause-ran
 returns-in-Ok-clause-ran g c = λ base begin line refusals same low h.
