@@ -1,4 +1,4 @@
--- A run over a book: how it begins, and how it ends where there is no book.
+-- A run over a book: how it begins, and how it ends where there is why book.
 use Rattle.std.proofs.Common.{◌≡◌, ℕ, ◌+◌, ◌≤◌, Bool, true, false, List, [], ◌∷◌, Option, Some, None, Result, Ok, Err, refl, sym, ◌∙◌, ap, subst, arith}
 use Rattle.fault_counts.specs.Count.{Rose, RoseBy}
 use Rattle.db_config.specs.declared.parts.ConfigParts.{ConfigParts}
@@ -41,45 +41,45 @@ module _ {D : Type 0} (may_leave : D → List ℕ → Type 0) (moment : D → �
 
   module _ (faults : D → ℕ) (begin : ℕ) (config : ConfigParts) (line : List ℕ) (rest : List (List ℕ)) (m n : ℕ) (now : Option (List ℕ)) (past : Bool)
       (h : IsLineRead line 1 true [] m n (Ok (reads.Config config))) where
-    -- why no book could be made
+    -- why why book could be made
     fresh_ends : (stored : Bool) (old new : Option (Journal D)) (fault : OpenFault) (end : Ended) → has_journal old ≡ stored → counted (fresh_base stored) begin ≤ faults_in faults old → IsEmpty may_leave old → IsEndFor fault end → IsNoBookFor may_leave faults config old fault new →
         CrashLeaves moment left_since old new (DuringNoBook fault config) → EndsScript end (fresh_base stored) (IsKept may_leave faults (fresh_base stored) begin new) (IsFailed may_leave faults begin new) past (line ∷ rest) m n now now
-    fresh_ends true old new opens.StoreFull end is low empty e no crash =
+    fresh_ends true old new opens.StoreFull end is low empty e why crash =
         subst (λ x. EndsScript x bare_store (IsKept may_leave faults bare_store begin new) (IsFailed may_leave faults begin new) past (line ∷ rest) m n now now) (sym e) (record {
           config = config;
           gave = gave_config config line rest m n now h;
           stored = refl;
           wants = refl;
-          over = no.0.1;
-          done = subst (λ j. IsKept may_leave faults bare_store begin j (read_from true) []) (sym no.1) (kept_none may_leave faults begin true old is low empty);
+          over = why.0.1;
+          done = subst (λ j. IsKept may_leave faults bare_store begin j (read_from true) []) (sym why.1) (kept_none may_leave faults begin true old is low empty);
         })
-    fresh_ends false old new opens.StoreFull end is low empty e no crash = absurd (let other : false ≡ true = sym is ∙ no.0.0 in cc)
-    fresh_ends true old new opens.Disk end is low empty e no crash =
+    fresh_ends false old new opens.StoreFull end is low empty e why crash = absurd (let other : false ≡ true = sym is ∙ why.0.0 in cc)
+    fresh_ends true old new opens.Disk end is low empty e why crash =
         subst (λ x. EndsScript x bare_store (IsKept may_leave faults bare_store begin new) (IsFailed may_leave faults begin new) past (line ∷ rest) m n now now) (sym e) (record {
           config = config;
           gave = gave_config config line rest m n now h;
           stored = refl;
           wants = refl;
           failed = record {
-            cause = rose_from begin (faults_in faults old) (faults_in faults new) low no.2;
+            cause = rose_from begin (faults_in faults old) (faults_in faults new) low why.2;
             images = λ own same. crash_leaves old new own (DuringNew config) same is crash;
           };
         })
       where
         rose_from : (a b c : ℕ) → a ≤ b → Rose b c → Rose a c
         rose_from a b c l g = omega arith
-    fresh_ends false old new opens.Disk end is low empty e no crash = absurd (let other : false ≡ true = sym is ∙ no.0 in cc)
-    fresh_ends stored old new (opens.Damaged at) end is low empty e no crash = absurd no
-    fresh_ends stored old new opens.Memory end is low empty e no crash =
+    fresh_ends false old new opens.Disk end is low empty e why crash = absurd (let other : false ≡ true = sym is ∙ why.0 in cc)
+    fresh_ends stored old new (opens.Damaged at) end is low empty e why crash = absurd why
+    fresh_ends stored old new opens.Memory end is low empty e why crash =
         subst (λ x. EndsScript x (fresh_base stored) (IsKept may_leave faults (fresh_base stored) begin new) (IsFailed may_leave faults begin new) past (line ∷ rest) m n now now) (sym e)
-        (subst (λ j. EndsScript ends.Memory (fresh_base stored) (IsKept may_leave faults (fresh_base stored) begin j) (IsFailed may_leave faults begin j) past (line ∷ rest) m n now now) (sym no)
+        (subst (λ j. EndsScript ends.Memory (fresh_base stored) (IsKept may_leave faults (fresh_base stored) begin j) (IsFailed may_leave faults begin j) past (line ∷ rest) m n now now) (sym why)
         (broke_unbegun may_leave faults begin stored old is low empty (line ∷ rest) (times_too_large h.made) m n now h.rose))
 
     pub no_book_ends : (base : Base) (old new : Option (Journal D)) (fault : OpenFault) (end : Ended) → base ≡ fresh_base (has_journal old) → IsBeginOf faults base old begin → IsEmpty may_leave old → IsEndFor fault end → IsNoBookFor may_leave faults config old fault new →
         CrashLeaves moment left_since old new (DuringNoBook fault config) → EndsScript end base (IsKept may_leave faults base begin new) (IsFailed may_leave faults begin new) past (line ∷ rest) m n now now
-    no_book_ends base old new fault end same low empty e no crash =
+    no_book_ends base old new fault end same low empty e why crash =
         subst (λ x. EndsScript end x (IsKept may_leave faults x begin new) (IsFailed may_leave faults begin new) past (line ∷ rest) m n now now) (sym same)
-        (fresh_ends (has_journal old) old new fault end refl (subst (λ b. IsBeginOf faults b old begin) same low) empty e no crash)
+        (fresh_ends (has_journal old) old new fault end refl (subst (λ b. IsBeginOf faults b old begin) same low) empty e why crash)
 
 -- What a run over a new book is given.
 module _ {D : Type 0} (may_leave : D → List ℕ → Type 0) (faults : D → ℕ) (config : ConfigParts) (old : Option (Journal D)) (book : BookParts D) (new : IsNew may_leave config (has_journal old) book) where

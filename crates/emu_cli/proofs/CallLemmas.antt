@@ -59,7 +59,7 @@ module _ (store : Bool) (stored left left_after : Option (List ℕ)) (r rs m f f
 
 -- a store that is not opened is never full
 pub not_full : {D : Type 0} (stored : Option (List ℕ)) (faults : D → ℕ) (old new : D) (fault : OpenFault) → IsNoStoreFor stored faults old fault new → fault ≢ opens.StoreFull
-not_full stored faults old new fault no same = subst (λ f. IsNoStoreFor stored faults old f new) same no
+not_full stored faults old new fault why same = subst (λ f. IsNoStoreFor stored faults old f new) same why
 
 -- the store could not be opened
 module _ {D : Type 0} (faults : D → ℕ) (old new : D) (stored left before after : Option (List ℕ)) (r w ws m : ℕ) (images images_after : List ℕ → Type 0) (none_new : EachOf images_after images) where
@@ -67,20 +67,20 @@ module _ {D : Type 0} (faults : D → ℕ) (old new : D) (stored left before aft
   call = call_of true stored left left before after r r w ws m m (faults old) (faults new)
 
   pub says_no_store : (fault : OpenFault) (status : Status) → IsNoStoreFor stored faults old fault new → SaysUnopened fault status before after w ws → Says status call images images_after
-  says_no_store opens.Disk status no h =
-      subst (λ st. Says st call images images_after) (sym h.0) (record { stored = refl; cause = no; leaves = inl none_new; output = subst (λ now. Appends before now []) (sym h.1) (Appends-nil before) })
-  says_no_store (opens.Damaged at) status no (inl h) =
-      subst (λ st. Says st call images images_after) (sym h.0) (record { at = at; damage = record { stored = refl; damaged = no }; leaves = none_new; output = h.1 })
-  says_no_store (opens.Damaged at) status no (inr (inl h)) =
+  says_no_store opens.Disk status why h =
+      subst (λ st. Says st call images images_after) (sym h.0) (record { stored = refl; cause = why; leaves = inl none_new; output = subst (λ now. Appends before now []) (sym h.1) (Appends-nil before) })
+  says_no_store (opens.Damaged at) status why (inl h) =
+      subst (λ st. Says st call images images_after) (sym h.0) (record { at = at; damage = record { stored = refl; damaged = why }; leaves = none_new; output = h.1 })
+  says_no_store (opens.Damaged at) status why (inr (inl h)) =
       subst (λ st. Says st call images images_after) (sym h.0) (record {
         cause = h.1;
-        output = inr (inr (record { stored = refl; leaves = none_new; last = damaged_text at; line = inr (at, record { stored = refl; damaged = no }, refl); output = h.2 }));
+        output = inr (inr (record { stored = refl; leaves = none_new; last = damaged_text at; line = inr (at, record { stored = refl; damaged = why }, refl); output = h.2 }));
       })
-  says_no_store (opens.Damaged at) status no (inr (inr h)) =
+  says_no_store (opens.Damaged at) status why (inr (inr h)) =
       subst (λ st. Says st call images images_after) (sym h.0)
-      (inr (inr (record { stored = refl; leaves = none_new; last = damaged_text at; line = inr (at, record { stored = refl; damaged = no }, refl); output = h.1 })))
-  says_no_store opens.StoreFull status no h = absurd no
-  says_no_store opens.Memory status no h =
+      (inr (inr (record { stored = refl; leaves = none_new; last = damaged_text at; line = inr (at, record { stored = refl; damaged = why }, refl); output = h.1 })))
+  says_no_store opens.StoreFull status why h = absurd why
+  says_no_store opens.Memory status why h =
       subst (λ st. Says st call images images_after) (sym h.0)
       (inr (inr (record { stored = refl; leaves = none_new; last = []; line = inl refl; output = (0, subst (λ now. Appends before now []) (sym h.1) (Appends-nil before)) })))
 

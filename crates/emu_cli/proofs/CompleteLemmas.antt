@@ -9,7 +9,7 @@ use Rattle.edit_journal.specs.Store.{bodies, placed, body_at}
 use Rattle.live_book.specs.Histories.{OfRead, IsBare, Stands, IsDamagedAt, codes_of}
 use Rattle.emu_cli.specs.declared.status.Status.{Status}
 use Rattle.emu_cli.specs.declared.status.Status.TheVariants as statuses
-use Rattle.emu_cli.specs.Scripts.{lines_of, Stop, limit, at_fault}
+use Rattle.emu_cli.specs.Scripts.{IsSound, Stop, limit, at_fault}
 use Rattle.emu_cli.specs.Bases.{Base, no_store, bare_store, store_of, wants_by, is_stored, IsBaseOf}
 use Rattle.emu_cli.specs.Says.{Call, Says, EndedEarly, TooLong, IsDamage, IsFaultless, IsSoundFor, IsStoreTold, code_of}
 use Rattle.emu_cli.proofs.DamageLemmas.{not_damaged_bare, not_damaged_store}
@@ -79,12 +79,14 @@ module _ (call : Call) (f : IsFaultless call) where
   not_early images stop e =
       let text : f.text ≡ e.text = told_is call.left f.text e.text f.known e.told in
       let wants : wants_by f.base ≡ wants_by e.base = wants_same call.store call.stored f.base e.base f.store_known f.begins e.begins in
-      f.sound.sound e.lines stop (rw text e.read.bytes) e.read.made (rw (text, wants) e.script)
+      let sound : IsSound (wants_by e.base) e.text = subst (λ w. IsSound w e.text) wants (subst (λ t. IsSound (wants_by f.base) t) text f.sound.sound) in
+      sound e.lines stop e.read.bytes e.read.made e.script
 
   not_long : (images Writes : List ℕ → Type 0) → TooLong call images Writes → ⊥
   not_long images Writes t =
       let text : f.text ≡ t.gives.text = told_is call.left f.text t.gives.text f.known t.gives.told in
-      f.sound.room t.gives.first t.config (stored_is call.stored f.base (subst (λ s. IsBaseOf s call.stored f.base) t.gives.stored f.begins)) (rw text t.gives.read.bytes) t.gives.given t.over
+      let sound : IsSoundFor f.base t.gives.text = subst (λ x. IsSoundFor f.base x) text f.sound in
+      sound.room t.gives.first t.config (stored_is call.stored f.base (subst (λ s. IsBaseOf s call.stored f.base) t.gives.stored f.begins)) t.gives.read.bytes t.gives.given t.over
 
   not_damaged : (at : ℕ) → IsDamage call at → ⊥
   not_damaged at d =

@@ -39,6 +39,7 @@ one_head text c d a b = one_value _ head_law text c d a.0 b.0
 -- The texts of bodies at their places.
 
 texts_placed : (texts : List (List ℕ)) (at : ℕ) → texts_of (placed at texts) ≡ texts
+unfolding body_at
 texts_placed [] at = refl
 texts_placed (text ∷ texts) at = ap (λ ts. text ∷ ts) (texts_placed texts (at + 5 + length text))
 

@@ -27,6 +27,7 @@ const REFUSED: [&str; 3] = [
 ];
 
 /// How a run over a store ended and what it wrote, and its disk.
+#[derive(Drop)]
 struct Stored {
     ran: Ran,
     disk: MemoryDisk,
