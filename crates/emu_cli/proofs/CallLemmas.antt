@@ -127,9 +127,13 @@ asked_none words asked h e = λ store r. no_flag store (sym e ∙ ap run_asked (
 
 pub usage_none : (words : List (List ℕ)) → words_of words ≡ None → IsNoRun words
 usage_none words h = λ store r. no_words (forms.Run store) (sym h ∙ r)
-    where
-      no_words : (w : Words) → None ≡ some_words w → ⊥
-      no_words w e = cc
+  where
+    no_words : (w : Words) → None ≡ some_words w → ⊥
+    no_words w e = cc
 
 pub run_same : (words : List (List ℕ)) (a b : Bool) → IsRunWords words a → IsRunWords words b → a ≡ b
 run_same words a b h k = flag_same (ap run_asked (words_same (sym h ∙ k)))
+
+pub store_false : (words : List (List ℕ)) (store : Bool) → IsRunWords words store → (IsRunWords words true → ⊥) → store ≡ false
+store_false words true h other = absurd (other h)
+store_false words false h other = refl

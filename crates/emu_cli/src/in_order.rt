@@ -74,8 +74,9 @@ fn run_fresh<R: Threads + Wait + Sync, S: Source, K: Sink, D: Disk, P: PatternMa
         },
         Ok(front) => {
             let bytes = front.bytes.as_slice();
-            let RunEnd { ended, journal } =
-                run_script(rt, alloc, journal, front.past, bytes, out, patterns);
+            let RunEnd { ended, journal } = run_script(
+                rt, alloc, journal, front.past, bytes, out, patterns,
+            );
             Left {
                 status: close_run(alloc, ended, out),
                 journal,
@@ -113,8 +114,9 @@ fn run_opened<R: Threads + Wait + Sync, S: Source, K: Sink, D: Disk, P: PatternM
         },
         Ok(front) => {
             let bytes = front.bytes.as_slice();
-            let RunEnd { ended, journal } =
-                run_over(rt, alloc, book, passes, front.past, bytes, out, patterns);
+            let RunEnd { ended, journal } = run_over(
+                rt, alloc, book, passes, front.past, bytes, out, patterns,
+            );
             Left {
                 status: close_run(alloc, ended, out),
                 journal,

@@ -2,8 +2,8 @@
 ghost use Rattle.std.specs.Prelude.{◌≡◌, true, map, string_bytes};
 ghost use Rattle.emu_cli.specs.Says.{call_of, CallCompletes, CallEnds, CallSays, IsRunWords, RunCompletes, run_asked};
 
-use crate::last::usage;
 use crate::in_order::{Ran, run};
+use crate::last::usage;
 use crate::status::{Status, code};
 use cli_words::{Words, WordsFault, read_words};
 use emu_disk::Disk;

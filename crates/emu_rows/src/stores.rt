@@ -71,18 +71,27 @@ fn a_run_goes_on_over_the_store_of_another(rt: HostRuntime) -> Result<(), Fail> 
     let disk = MemoryDisk::new(alloc, &[])?;
     let first = run_stored(&rt, alloc, &[CONFIG, BUNDLE, QUERY], disk)?;
     assert_eq!(rt; first.ran.status, 0);
-    assert_eq!(rt; first.ran.output.as_slice(), joined(alloc, &REPLIES, "\n")?.as_slice());
+    assert_eq!(rt;
+        first.ran.output.as_slice(),
+        joined(alloc, &REPLIES, "\n")?.as_slice()
+    );
     let second = run_stored(&rt, alloc, &[QUERY, BUNDLE], first.disk)?;
     let wanted = [
         "{\"line\":1,\"n\":1,\"segments\":[]}",
         "{\"line\":2,\"n\":1,\"refused\":{\"rule\":\"BundleTaken\"}}",
     ];
     assert_eq!(rt; second.ran.status, 0);
-    assert_eq!(rt; second.ran.output.as_slice(), joined(alloc, &wanted, "\n")?.as_slice());
+    assert_eq!(rt;
+        second.ran.output.as_slice(),
+        joined(alloc, &wanted, "\n")?.as_slice()
+    );
     let third = run_stored(&rt, alloc, &[CONFIG], second.disk)?;
     let wanted = ["{\"cause\":\"ConfigPlace\",\"line\":1,\"status\":3}"];
     assert_eq!(rt; third.ran.status, 3);
-    assert_eq!(rt; third.ran.output.as_slice(), joined(alloc, &wanted, "\n")?.as_slice());
+    assert_eq!(rt;
+        third.ran.output.as_slice(),
+        joined(alloc, &wanted, "\n")?.as_slice()
+    );
     Ok(())
 }
 
@@ -117,7 +126,10 @@ fn bytes_that_are_no_store(rt: HostRuntime) -> Result<(), Fail> {
     let stored = run_stored(&rt, alloc, &[CONFIG], disk)?;
     let wanted = ["{\"at\":0,\"cause\":\"Damaged\",\"status\":7}"];
     assert_eq!(rt; stored.ran.status, 7);
-    assert_eq!(rt; stored.ran.output.as_slice(), joined(alloc, &wanted, "\n")?.as_slice());
+    assert_eq!(rt;
+        stored.ran.output.as_slice(),
+        joined(alloc, &wanted, "\n")?.as_slice()
+    );
     assert_eq!(rt; stored.disk.bytes(), b"NOTASTORE!".as_slice());
     Ok(())
 }
