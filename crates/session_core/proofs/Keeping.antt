@@ -39,7 +39,7 @@ held_longer : (c : ConfigParts) (H more : List Entry) (o : Option Held) → IsHe
 held_longer c H more None h = tt
 held_longer c H more (Some held) h = moment_longer c H more held h
 
-slots_longer : (c : ConfigParts) (H more : List Entry) (xs : List (Option Held)) → AreHeld c H xs → AreHeld c (H ++ more) xs
+pub slots_longer : (c : ConfigParts) (H more : List Entry) (xs : List (Option Held)) → AreHeld c H xs → AreHeld c (H ++ more) xs
 slots_longer c H more xs h = record {
   places = h.places;
   each = λ s. held_longer c H more (slot xs s) (h.each s);
@@ -64,7 +64,7 @@ empty_each c H zero s = tt
 empty_each c H (suc n) zero = tt
 empty_each c H (suc n) (suc s) = empty_each c H n s
 
-slots_empty : (c : ConfigParts) (H : List Entry) → AreHeld c H (replicate session_places None)
+pub slots_empty : (c : ConfigParts) (H : List Entry) → AreHeld c H (replicate session_places None)
 slots_empty c H = record {
   places = refl;
   each = empty_each c H session_places;
@@ -179,7 +179,7 @@ looked_step c l ask H bs ls ls2 qs r e =
     let told : Reply × List (Option Held) → Option Reply × State = λ t. (Some t.0, state_of c H t.1 qs) in
     rw (slot_map opened_by ls l.session.0) (look_cases c l ask H bs ls qs (slot ls l.session.0) ∙ ap told (sym e))
 
-looked_kept : (c : ConfigParts) (head : Head) (ask : Ask) (H : List Entry) (bs : DatabaseParts) (ls : List (Option Held)) (held : Option Held) → after c H ≡ Ok bs → AreHeld c H ls → AreHeld c H (looked head ask (length H) bs ls held).1
+pub looked_kept : (c : ConfigParts) (head : Head) (ask : Ask) (H : List Entry) (bs : DatabaseParts) (ls : List (Option Held)) (held : Option Held) → after c H ≡ Ok bs → AreHeld c H ls → AreHeld c H (looked head ask (length H) bs ls held).1
 looked_kept c head ask H bs ls None e h = slots_put c H ls head.session.0 (Some (held_at head ask (length H) bs)) (moment_now c H bs head ask e) h
 looked_kept c head ask H bs ls (Some held) e h = h
 
@@ -223,7 +223,7 @@ answer_kept : (c : ConfigParts) (line : ℕ) (s : SessionNo) (H : List Entry) (l
 answer_kept c line s H ls held true h = h
 answer_kept c line s H ls held false h = slots_put c H ls s.0 None tt h
 
-closed_kept : (c : ConfigParts) (line : ℕ) (s : SessionNo) (H : List Entry) (ls : List (Option Held)) (held : Option Held) → AreHeld c H ls → AreHeld c H (look_closed line s ls held).1
+pub closed_kept : (c : ConfigParts) (line : ℕ) (s : SessionNo) (H : List Entry) (ls : List (Option Held)) (held : Option Held) → AreHeld c H ls → AreHeld c H (look_closed line s ls held).1
 closed_kept c line s H ls None h = h
 closed_kept c line s H ls (Some held) h = answer_kept c line s H ls held (lacks_memory held.ask) h
 

@@ -1,5 +1,5 @@
 -- One bundle more of a segment list.
-use Rattle.std.proofs.Common.{◌≡◌, ℕ, ◌+◌, Bool, true, false, ◌||◌, List, ◌∷◌, ◌++◌, drop, add-one, append_assoc, ap, ◌∙◌, sym, subst, Some, Err, slice_get}
+use Rattle.std.proofs.Common.{◌≡◌, ℕ, ◌+◌, Bool, true, false, ◌||◌, List, ◌∷◌, ◌++◌, drop, add-one, append_assoc, ap, ◌∙◌, sym, subst, refl, Some, Err, slice_get}
 use Rattle.bundle_state.specs.Bundle.{BundleParts}
 use Rattle.db_config.specs.declared.parts.ConfigParts.{ConfigParts}
 use Rattle.edit_rules.specs.Database.{DatabaseParts}
@@ -10,6 +10,9 @@ use Rattle.eql_model.specs.Meaning.{has_too_many}
 use Rattle.eql_model.specs.Rows.{rows, segment_list}
 use Rattle.eql_model.specs.declared.faults.MatchFault.{MatchFault}
 use Rattle.eql_model.specs.declared.faults.MatchFault.TheVariants as faults
+use Rattle.session_core.specs.declared.line.Answer.TheVariants.{Segments, Refused}
+use Rattle.session_core.specs.declared.line.Refusal.TheVariants as refusals
+use Rattle.session_core.specs.Answers.{matched_answer}
 use Rattle.session_core.specs.Queries.{any_has_too_many, AddsRows, ListsRows}
 
 module _ (c : ConfigParts) (a : AskedParts) (bundles : List BundleParts) (place : ℕ) (b : BundleParts) (found : slice_get bundles place ≡ Some b) where
@@ -49,3 +52,15 @@ refused faults.TooManyTuples c a database place b old new own found there many =
     subst (λ k. any_has_too_many k database.bundles a ≡ true) own
     (many_there c a database.bundles place b found (any_has_too_many c database.bundles a) there many)
 refused faults.Memory c a database place b old new own found there many = tt
+
+-- The answer of what was listed.
+
+module _ (database : DatabaseParts) (a : AskedParts) where
+  pub answer_of_rows : (list : List Row) → list ≡ segment_list database.config database.bundles a
+      → any_has_too_many database.config database.bundles a ≡ false
+      → Segments list ≡ matched_answer database a (any_has_too_many database.config database.bundles a)
+  answer_of_rows list rows_are few = rw few (ap (λ rs. Segments rs) rows_are)
+
+  pub answer_of_too_many : any_has_too_many database.config database.bundles a ≡ true
+      → Refused refusals.TooManyTuples ≡ matched_answer database a (any_has_too_many database.config database.bundles a)
+  answer_of_too_many many = rw many refl

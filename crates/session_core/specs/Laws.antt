@@ -76,7 +76,7 @@ abbrev pub RecordedIsAccepted : Type 0
 RecordedIsAccepted = (store : Bool) (before now : ℕ)
     → Legal example_config [] (add_line ∷ []) (no_memory_reply ∷ []) example_history store before now → ⊥
 
--- The example's sizes in a store, counted by hand: a head, the entry with the annotation, and one that takes an
+-- The lengths of the example's codes, counted by hand: a head, the entry with the annotation, and one that takes an
 -- item out.
 abbrev pub ExampleSizes : Type 0
 ExampleSizes =

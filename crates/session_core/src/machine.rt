@@ -9,7 +9,7 @@ ghost use Rattle.std.specs.Prelude.{◌≡◌, ◌⊎◌, ◌++◌, ◌<◌, ◌
 use crate::event::{Event, Events};
 use crate::line::{Answer, Command, Line, Replies, Reply, Request};
 use crate::moves::{Head, begin_query, close_look, close_query, open_look, replay, try_given};
-use crate::slots::Slots;
+use crate::slots::{Held, Slots};
 use db_config::Config;
 use edit_rules::{Database, Entries};
 use emu_names::{Fault, Memory, SessionNo};
@@ -26,8 +26,8 @@ pub struct Core {
     alloc: Global,
     entries: Entries,
     database: Database,
-    looks: Slots,
-    queries: Slots,
+    looks: Slots<Held>,
+    queries: Slots<Held>,
 }
 
 impl Model for Core {

@@ -98,7 +98,7 @@ fn try_edit(
 }
 
 /// The reply to a line whose TextGrid has a fault. Want of memory is answered as such, with no number.
-fn refuse_grid(head: Head, n: u64, fault: GridFault) -> Reply
+pub fn refuse_grid(head: Head, n: u64, fault: GridFault) -> Reply
     ensures { result ≡ grid_told head n fault }
 {
     match fault {
@@ -148,7 +148,7 @@ pub fn open_look(
     alloc: Global,
     database: &Database,
     n: u64,
-    looks: &mut Slots,
+    looks: &mut Slots<Held>,
     head: Head,
     ask: Ask,
 ) -> Result<Reply, Memory>
@@ -173,7 +173,7 @@ pub fn begin_query(
     alloc: Global,
     database: &Database,
     n: u64,
-    queries: &mut Slots,
+    queries: &mut Slots<Held>,
     head: Head,
     ask: Ask,
 ) -> Result<(), Memory>
@@ -195,7 +195,7 @@ fn answer_held(alloc: Global, held: &Held) -> Result<Answer, Memory>
 }
 
 /// The reply to a line at which memory ran out.
-fn memory_reply(line: u32, session: SessionNo) -> Reply
+pub fn memory_reply(line: u32, session: SessionNo) -> Reply
     ensures { result ≡ reply_of line session None memory }
 {
     Reply {
@@ -227,7 +227,7 @@ fn query_reply(alloc: Global, line: u32, session: SessionNo, held: &Held) -> Res
 /// read, leaves it open.
 pub fn close_look(
     alloc: Global,
-    looks: &mut Slots,
+    looks: &mut Slots<Held>,
     line: u32,
     session: SessionNo,
 ) -> Result<Reply, Memory>
@@ -265,7 +265,7 @@ pub fn close_look(
 /// closes it too.
 pub fn close_query(
     alloc: Global,
-    queries: &mut Slots,
+    queries: &mut Slots<Held>,
     line: u32,
     session: SessionNo,
 ) -> Result<Option<Reply>, Memory>

@@ -2,6 +2,8 @@
 ghost use Rattle.std.specs.Prelude.{◌≡◌, ◌++◌, false, IfOk, OnOk};
 ghost use Rattle.std.specs.Option.{option_copied};
 ghost use Rattle.bundle_state.specs.Built.{FitsConfig};
+ghost use Rattle.edit_rules.specs.Database.{DatabaseParts};
+ghost use Rattle.eql_resolve.specs.Asked.{AskedParts};
 ghost use Rattle.eql_resolve.specs.Resolve.{asked as asked_of};
 ghost use Rattle.eql_resolve.specs.Sound.{IsResolvedBy};
 ghost use Rattle.eql_model.specs.Rows.{Answers};
@@ -55,7 +57,7 @@ pub fn lacks_memory(ask: &Ask) -> bool
 }
 
 /// The refusal of a query for the fault of its text or of its patterns. Want of memory is answered as such.
-fn refuse_text(fault: PrepareFault) -> Answer
+pub fn refuse_text(fault: PrepareFault) -> Answer
     ensures { result ≡ prepare_answer fault (is_memory_of fault) }
 {
     if is_memory_of(fault) {
@@ -113,17 +115,27 @@ fn list_rows(alloc: Global, database: &Database, asked: &Asked) -> Result<Segmen
     Ok(rows)
 }
 
+/// The answer to a query, of what the listing of its rows gave. The only failure is want of memory.
+#[tactic(auto, using(crate::proofs::RowLists::answer_of_rows, crate::proofs::RowLists::answer_of_too_many))]
+pub fn answer_listed(listed: Result<SegmentList, MatchFault>) -> Result<Answer, Memory>
+    ensures { (database : DatabaseParts) (asked : AskedParts) → ListsRows listed database asked
+        → IfOk result (λ given. given ≡ matched_answer database asked
+        (any_has_too_many database.config database.bundles asked)) }
+{
+    match listed {
+        Ok(rows) => Ok(Answer::Segments(rows)),
+        Err(MatchFault::TooManyTuples) => Ok(Answer::Refused(Refusal::TooManyTuples)),
+        Err(MatchFault::Memory) => Err(Memory),
+    }
+}
+
 /// The answer to a query whose names were found.
 fn answer_asked(alloc: Global, database: &Database, asked: &Asked) -> Result<Answer, Memory>
     requires { IsResolvedBy database.now.config asked.now }
     ensures { IfOk result (λ given. given ≡ matched_answer database.now asked.now
         (any_has_too_many database.now.config database.now.bundles asked.now)) }
 {
-    match list_rows(alloc, database, asked) {
-        Ok(rows) => Ok(Answer::Segments(rows)),
-        Err(MatchFault::TooManyTuples) => Ok(Answer::Refused(Refusal::TooManyTuples)),
-        Err(MatchFault::Memory) => Err(Memory),
-    }
+    answer_listed(list_rows(alloc, database, asked))
 }
 
 /// The answer to a query that was prepared, with the name of the level of the times where it is given.

@@ -22,21 +22,17 @@ pub struct Held {
     pub database: Database,
 }
 
-/// A place for each session of a script, and one for the program itself, which is 0.
+/// A place for each session of a script, and one for the program itself, which is 0. At each there may stand
+/// a value.
 #[derive(Drop)]
-pub struct Slots {
-    list: Vec<Option<Held>>,
+pub struct Slots<T> {
+    list: Vec<Option<T>>,
 }
 
-impl Model for Slots {
+impl<T> Model for Slots<T> {
     ghost use Rattle.std.specs.Prelude.{List, Option};
-    ghost use Rattle.session_core.specs.declared.slots.Held.{Held};
-    ghost use Rattle.std.specs.Coded.{codes};
-    ghost use Rattle.eql_resolve.specs.Codes.{tree_code};
 
-    ghost Value = { List (Option Held) };
-
-    ghost coded = { Prim.hlevel (codes, tree_code) };
+    ghost Value = { List (Option T) };
 
     ghost view = { λ s. s.list.items };
 }
@@ -44,9 +40,9 @@ impl Model for Slots {
 /// How many places there are.
 const SESSION_PLACES: usize = SESSIONS as usize + 1;
 
-impl Slots {
-    /// The places, with nothing held. The only refusal is want of memory.
-    pub fn new(alloc: Global) -> Result<Slots, Memory>
+impl<T: Drop> Slots<T> {
+    /// The places, with nothing there. The only refusal is want of memory.
+    pub fn new(alloc: Global) -> Result<Slots<T>, Memory>
         ensures { IfOk result (λ slots. slots ≡ replicate session_places None) }
     {
         let mut list = Vec::with_capacity(alloc, SESSION_PLACES)?;
@@ -57,7 +53,7 @@ impl Slots {
     }
 
     /// What stands at a place.
-    pub fn get(&self, place: usize) -> &Option<Held>
+    pub fn get(&self, place: usize) -> &Option<T>
         requires { place < length self.now }
         ensures { result.now ≡ slot self.now place }
     {
@@ -65,15 +61,15 @@ impl Slots {
     }
 
     /// Puts this at a place, and lets go of what stood there.
-    pub fn put(&mut self, place: usize, held: Option<Held>)
+    pub fn put(&mut self, place: usize, value: Option<T>)
         requires { place < length self.old }
-        ensures { self.new ≡ put_slot self.old place held }
+        ensures { self.new ≡ put_slot self.old place value }
     {
-        self.list[place] = held;
+        self.list[place] = value;
     }
 
     /// Takes what stands at a place.
-    pub fn take(&mut self, place: usize) -> Option<Held>
+    pub fn take(&mut self, place: usize) -> Option<T>
         requires { place < length self.old }
         ensures taken { result ≡ slot self.old place }
         ensures left { self.new ≡ put_slot self.old place None }

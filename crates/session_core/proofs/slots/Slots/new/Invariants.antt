@@ -2,4 +2,4 @@ use Rattle.std.proofs.Common.{◌≡◌, None, replicate}
 use Rattle.session_core.proofs.slots.Slots.new.Given as goal
 
 abbrev pub invariant-loop-place : goal.invariant-loop-place
-invariant-loop-place l = l.list.items ≡ replicate l._place None
+invariant-loop-place g l = l.list.items ≡ replicate l._place None

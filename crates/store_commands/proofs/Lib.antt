@@ -1,0 +1,4 @@
+mod Ordered
+mod Printed
+mod Pieces
+mod Asks
