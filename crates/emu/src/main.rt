@@ -2,6 +2,7 @@
 #![tactic(auto)]
 
 use emu_cli::emu;
+use emu_disk::FileDisk;
 use emu_io::{InputSource, OutputSink};
 use label_match::RegexMaker;
 use std::process::ExitCode;
@@ -33,13 +34,14 @@ fn main(rt: HostRuntime) -> ExitCode {
     let mut script = InputSource::new(rt.reader());
     let mut out = OutputSink::new(io::writer(&rt));
     let mut patterns = RegexMaker::new();
-    let status = emu(
+    let exit = emu(
         &rt,
         rt.alloc(),
         words.as_slice(),
         &mut script,
         &mut out,
+        FileDisk::new(&rt),
         &mut patterns,
     );
-    ExitCode::from(status)
+    ExitCode::from(exit.status)
 }

@@ -5,14 +5,14 @@ use Rattle.std.proofs.lemmas.List.Elements.{All-push}
 use Rattle.std.proofs.Math.Seq.{take-append_seam, drop-append_seam}
 use Rattle.fault_counts.specs.Count.{RoseBy}
 use Rattle.script_lines.specs.Made.{Made, times_too_large}
-use Rattle.emu_cli.specs.Scripts.{AskedLine, asked_line, lines_in, IsAnswered, too_large_in, AreRead, Parsed, nothing_read, parse, Stop, end_from, script_from}
+use Rattle.emu_cli.specs.Scripts.{AskedLine, asked_line, lines_in, IsAnswered, too_large_in, AreRead, Parsed, read_from, parse, Stop, end_from, script_from}
 
 too_large_push : (lines : List AskedLine) (l : AskedLine) → too_large_in (lines ++ l ∷ []) ≡ too_large_in lines + times_too_large l.made
 too_large_push [] l = omega arith
 too_large_push (k ∷ lines) l =
     let rest : too_large_in (lines ++ l ∷ []) ≡ too_large_in lines + times_too_large l.made = too_large_push lines l in omega arith
 
-rose_both : (j k a b c : ℕ) → RoseBy j a b → RoseBy k b c → RoseBy (j + k) a c
+pub rose_both : (j k a b c : ℕ) → RoseBy j a b → RoseBy k b c → RoseBy (j + k) a c
 rose_both j k a b c h g = omega arith
 
 rose_later : (j a b c : ℕ) → RoseBy j a b → b ≤ c → RoseBy j a c
@@ -61,6 +61,6 @@ pub read_front : (lines : List AskedLine) (all done rest : List (List ℕ)) (m n
 read_front lines all done rest m n split r = read_same lines done (take (length lines) all) m n (sym (front_is lines all done rest r.bytes split)) r
 
 -- what a script is, once its first lines were read
-pub script_behind : (past : Bool) (lines : List AskedLine) (all done rest : List (List ℕ)) (m n : ℕ) (first : Result Parsed Stop) → all ≡ done ++ rest → AreRead lines done m n → parse nothing_read lines ≡ first → script_from past all lines ≡ end_from past rest first
-script_behind past lines all done rest m n first split r h =
-    ap (λ left. end_from past left (parse nothing_read lines)) (rest_is lines all done rest r.bytes split) ∙ ap (end_from past rest) h
+pub script_behind : (wants past : Bool) (lines : List AskedLine) (all done rest : List (List ℕ)) (m n : ℕ) (first : Result Parsed Stop) → all ≡ done ++ rest → AreRead lines done m n → parse (read_from wants) lines ≡ first → script_from wants past all lines ≡ end_from past rest first
+script_behind wants past lines all done rest m n first split r h =
+    ap (λ left. end_from past left (parse (read_from wants) lines)) (rest_is lines all done rest r.bytes split) ∙ ap (end_from past rest) h

@@ -1,5 +1,5 @@
 -- What a status says, from what was read, run and written.
-use Rattle.std.proofs.Common.{◌≡◌, ◌⊎◌, inl, inr, ◌↔◌, ℕ, ◌+◌, ◌<◌, ◌≤◌, ◌-◌, ◌^◌, Bool, true, false, IsTrue, List, [], ◌∷◌, length, take, drop, Option, Some, None, Result, Ok, Err, refl, sym, ◌∙◌, ap, subst, arith, nat_lt, append-nil}
+use Rattle.std.proofs.Common.{◌≡◌, ◌⊎◌, inl, inr, ◌↔◌, ℕ, ◌+◌, ◌<◌, ◌≤◌, ◌-◌, ◌^◌, Bool, true, false, IsTrue, IfErr, List, [], ◌∷◌, ◌++◌, length, take, drop, Option, Some, None, Result, Ok, Err, refl, sym, ◌∙◌, ap, subst, arith, nat_lt, append-nil}
 use Rattle.std.proofs.lemmas.Bool.{ltb-true, ltb-false}
 use Rattle.std.specs.Io.KnownBytes.{Appends, IsAtEnd}
 use Rattle.std.proofs.KnownBytes.{Appends-nil}
@@ -7,17 +7,25 @@ use Rattle.std.proofs.Math.Seq.{take-length}
 use Rattle.fault_counts.specs.Count.{Rose}
 use Rattle.emu_names.specs.declared.limits.TheConstants.{SCRIPT_BYTES}
 use Rattle.emu_io.specs.Fronts.{Tells, TakesFront, IsFrontOf, WritesFront}
+use Rattle.db_config.specs.declared.parts.ConfigParts.{ConfigParts}
+use Rattle.session_core.specs.InOrder.{Outage}
 use Rattle.script_lines.specs.declared.faults.LineFault.{LineFault}
+use Rattle.live_book.specs.Histories.{OfRead, IsBare}
+use Rattle.emu_cli.specs.declared.ended.Ended.{Ended}
+use Rattle.emu_cli.specs.declared.ended.Ended.TheVariants as ends
 use Rattle.emu_cli.specs.declared.status.Status.{Status}
 use Rattle.emu_cli.specs.declared.status.Status.TheVariants as statuses
 use Rattle.emu_cli.specs.Cuts.{cut}
-use Rattle.emu_cli.specs.Scripts.{AskedLine, AreRead, Parsed, nothing_read, parse, end_behind, end_from, if_over, passes_limit, is_past, lines_of, script_from, script_of, front_of, IsSound, Stop, limit, at_fault}
-use Rattle.emu_cli.specs.Runs.{run_text, history_of, IsRun, usage_text, stop_text}
-use Rattle.emu_cli.specs.Says.{Call, call_of, IsCommand, Says, EndedEarly, BrokeOff, WritesLast, IsFaultless, code_of}
-use Rattle.emu_cli.specs.Reached.{BrokeIn, RanScript, StoppedScript}
+use Rattle.emu_cli.specs.Scripts.{AskedLine, AreRead, Parsed, read_from, parse, end_behind, end_from, if_over, passes_limit, is_past, lines_of, script_from, script_of, front_of, Stop, limit, at_fault}
+use Rattle.emu_cli.specs.Bases.{Base, no_store, bare_store, store_of, wants_by, is_stored, opening_by, config_by, IsBaseOf, EachOf, LeavesStore}
+use Rattle.emu_cli.specs.Runs.{run_text, replies_by, history_by, setting_by, IsRunFrom, usage_text, limit_text, stop_text}
+use Rattle.emu_cli.specs.Says.{Call, call_of, Leaves, Gives, TooLong, Says, EndedEarly, BrokeOff, WritesLast}
+use Rattle.emu_cli.specs.Reached.{IsDone, BrokeIn, RanScript, StoppedScript, IsTooLong, IsUnwritten, GaveConfig, RunsScript, EndHasCause}
+use Rattle.emu_cli.specs.Ran.{Closes, IsUnread}
 use Rattle.emu_cli.proofs.ReadLemmas.{read_none, read_same}
-use Rattle.emu_cli.proofs.TextLemmas.{front_more, whole_more}
-use Rattle.emu_cli.proofs.OrderedLemmas.{legal_run}
+use Rattle.emu_cli.proofs.TextLemmas.{front_more, front_all, whole_more}
+use Rattle.emu_cli.proofs.DiskLemmas.{FailedBy}
+use Rattle.emu_cli.proofs.OrderedLemmas.{IsLegalBase, legal_base, legal_run}
 
 -- The script that was read.
 
@@ -43,9 +51,9 @@ script_read left past bytes f =
       past_is = same;
     }
 
-script_is : (left : Option (List ℕ)) (past : Bool) (bytes : List ℕ) (s : Script left past bytes) (lines : List AskedLine) → script_of s.text lines ≡ script_from past (cut past bytes) lines
-script_is left past bytes s lines =
-    ap (λ all. script_from (is_past s.text) all lines) s.lines ∙ ap (λ over. script_from over (cut past bytes) lines) s.past_is
+script_is : (wants : Bool) (left : Option (List ℕ)) (past : Bool) (bytes : List ℕ) (s : Script left past bytes) (lines : List AskedLine) → script_of wants s.text lines ≡ script_from wants past (cut past bytes) lines
+script_is wants left past bytes s lines =
+    ap (λ all. script_from wants (is_past s.text) all lines) s.lines ∙ ap (λ over. script_from wants over (cut past bytes) lines) s.past_is
 
 -- the lines that were read are the text's
 read_whole : (left : Option (List ℕ)) (past : Bool) (bytes : List ℕ) (s : Script left past bytes) (lines : List AskedLine) (m n : ℕ) → AreRead lines (cut past bytes) m n → AreRead lines (lines_of s.text) m n
@@ -74,122 +82,32 @@ end_of : (left after : Option (List ℕ)) (bytes : List ℕ) (past : Bool) (rest
 end_of left after bytes true rest first q t h = absurd (not_past rest first q h)
 end_of left after bytes false rest first q t h = t.1
 
--- 0
-pub says_fine : (words : List (List ℕ)) (left left_after written written_after : Option (List ℕ)) (r rs w ws m n : ℕ) (past : Bool) (bytes : List ℕ) → IsCommand words →
-    IsFrontOf left SCRIPT_BYTES bytes past → TakesFront left left_after bytes past → RanScript past (cut past bytes) m n written written_after →
-    Says statuses.Fine (call_of words left left_after written written_after r rs w ws m n)
-says_fine words left left_after written written_after r rs w ws m n past bytes command front taken ran =
-    let s = script_read left past bytes front in record {
-      command = command;
-      text = s.text;
-      told = s.told;
-      at_end = end_of left left_after bytes past (drop (length ran.asked) (cut past bytes)) (parse nothing_read ran.asked) ran.parsed taken ran.script;
-      lines = ran.asked;
-      read = read_whole left past bytes s ran.asked m n ran.read;
-      parsed = ran.parsed;
-      script = script_is left past bytes s ran.asked ∙ ran.script;
-      outages = ran.outages;
-      history = history_of ran.parsed ran.outages;
-      run = legal_run ran.asked ran.parsed ran.outages ran.whole ran.each;
-      output = ran.output;
-    }
+-- A bare store, by what a run begins with.
 
--- the run of the lines before something that ends a script early
-early_run : (past : Bool) (lines : List (List ℕ)) (stop : Stop) (m n : ℕ) (before now : Option (List ℕ)) (e : StoppedScript stop past lines m n before now) → IsRun (front_of e.asked) e.outages (history_of (front_of e.asked) e.outages)
-early_run past lines stop m n before now e = legal_run (take e.done e.asked) (front_of e.asked) e.outages e.front e.each
+bare_of : (store : Bool) (stored : Option (List ℕ)) (base : Base) → IsBaseOf store stored base → is_stored base ≡ true → wants_by base ≡ true → (store ≡ true) × OfRead stored IsBare
+bare_of true stored bare_store h s w = (refl, h)
+bare_of true stored (store_of config history) h s w = absurd (cc)
+bare_of true stored no_store h s w = absurd h
+bare_of false stored no_store h s w = absurd (cc)
+bare_of false stored bare_store h s w = absurd h
+bare_of false stored (store_of config history) h s w = absurd h
 
--- 3 and 9, where the last line was written
-ended_early : (words : List (List ℕ)) (left left_after before mid after : Option (List ℕ)) (r rs w ws m n : ℕ) (past : Bool) (bytes : List ℕ) (stop : Stop) → IsCommand words →
-    IsFrontOf left SCRIPT_BYTES bytes past → StoppedScript stop past (cut past bytes) m n before mid → Appends mid after (stop_text stop) →
-    EndedEarly (call_of words left left_after before after r rs w ws m n) stop
-ended_early words left left_after before mid after r rs w ws m n past bytes stop command front e last =
-    let s = script_read left past bytes front in record {
-      command = command;
-      text = s.text;
-      told = s.told;
-      lines = e.asked;
-      read = read_first left past bytes s e.asked m n e.read;
-      script = script_is left past bytes s e.asked ∙ e.script;
-      outages = e.outages;
-      history = history_of (front_of e.asked) e.outages;
-      run = early_run past (cut past bytes) stop m n before mid e;
-      output = whole_more before mid after (run_text (front_of e.asked) e.outages) (stop_text stop) e.output last;
-    }
+bare_left : (base : Base) (images : List ℕ → Type 0) → is_stored base ≡ true → wants_by base ≡ true → LeavesStore (is_stored base) (config_by base None) [] (replies_by base (read_from true) []) (history_by base (read_from true) []) images → EachOf images IsBare
+bare_left bare_store images s w h = h
+bare_left no_store images s w h = absurd (cc)
+bare_left (store_of config history) images s w h = absurd (cc)
 
--- 5 and 8, where a front of the last line was written
-broke_early : (words : List (List ℕ)) (left left_after before mid after : Option (List ℕ)) (r rs w ws m n : ℕ) (past : Bool) (bytes : List ℕ) (stop : Stop) → IsCommand words →
-    IsFrontOf left SCRIPT_BYTES bytes past → StoppedScript stop past (cut past bytes) m n before mid → WritesFront mid after (stop_text stop) →
-    BrokeOff (call_of words left left_after before after r rs w ws m n)
-broke_early words left left_after before mid after r rs w ws m n past bytes stop command front e last =
-    let s = script_read left past bytes front in inl (record {
-      command = command;
-      text = s.text;
-      told = s.told;
-      lines = e.asked;
-      read = read_first left past bytes s e.asked m n e.read;
-      done = e.done;
-      parsed = front_of e.asked;
-      script = e.front;
-      outages = e.outages;
-      history = history_of (front_of e.asked) e.outages;
-      run = early_run past (cut past bytes) stop m n before mid e;
-      last = stop_text stop;
-      line = inr (record { stop = stop; script = script_is left past bytes s e.asked ∙ e.script; front = refl; line = refl });
-      output = front_more before mid after (run_text (front_of e.asked) e.outages) (stop_text stop) e.output last;
-    })
+opening_is : (base : Base) → history_by base (read_from (wants_by base)) [] ≡ opening_by base
+opening_is no_store = refl
+opening_is bare_store = refl
+opening_is (store_of config history) = refl
 
--- 5 and 8, where the run broke off
-pub broke_off : (words : List (List ℕ)) (left left_after before after : Option (List ℕ)) (r rs w ws m n : ℕ) (past : Bool) (bytes : List ℕ) → IsCommand words →
-    IsFrontOf left SCRIPT_BYTES bytes past → BrokeIn (cut past bytes) m n before after →
-    BrokeOff (call_of words left left_after before after r rs w ws m n)
-broke_off words left left_after before after r rs w ws m n past bytes command front b =
-    let s = script_read left past bytes front in inl (record {
-      command = command;
-      text = s.text;
-      told = s.told;
-      lines = b.asked;
-      read = read_first left past bytes s b.asked m n b.read;
-      done = length b.asked;
-      parsed = b.parsed;
-      script = ap (parse nothing_read) (take-length b.asked) ∙ b.script;
-      outages = b.outages;
-      history = history_of b.parsed b.outages;
-      run = legal_run b.asked b.parsed b.outages b.script b.each;
-      last = [];
-      line = inl refl;
-      output = subst (λ t. WritesFront before after t) (sym (append-nil (run_text b.parsed b.outages))) b.output;
-    })
+unread_text : (base : Base) → run_text base (read_from (wants_by base)) [] ≡ []
+unread_text no_store = refl
+unread_text bare_store = refl
+unread_text (store_of config history) = refl
 
--- 9
-pub says_over : (words : List (List ℕ)) (left left_after before mid after : Option (List ℕ)) (r rs w mids ws m n : ℕ) (past : Bool) (bytes : List ℕ) (status : Status) → IsCommand words →
-    IsFrontOf left SCRIPT_BYTES bytes past → StoppedScript limit past (cut past bytes) m n before mid → w ≤ mids → WritesLast status statuses.Limit mid after mids ws (stop_text limit) →
-    Says status (call_of words left left_after before after r rs w ws m n)
-says_over words left left_after before mid after r rs w mids ws m n past bytes status command front e later (inl h) =
-    subst (λ st. Says st (call_of words left left_after before after r rs w ws m n)) (sym h.0) (ended_early words left left_after before mid after r rs w ws m n past bytes limit command front e h.1)
-says_over words left left_after before mid after r rs w mids ws m n past bytes status command front e later (inr (inl h)) =
-    subst (λ st. Says st (call_of words left left_after before after r rs w ws m n)) (sym h.0) (record { cause = omega (arith, h.1); output = broke_early words left left_after before mid after r rs w ws m n past bytes limit command front e h.2 })
-says_over words left left_after before mid after r rs w mids ws m n past bytes status command front e later (inr (inr h)) =
-    subst (λ st. Says st (call_of words left left_after before after r rs w ws m n)) (sym h.0) (broke_early words left left_after before mid after r rs w ws m n past bytes limit command front e h.1)
-
--- 3
-pub says_fault : (words : List (List ℕ)) (left left_after before mid after : Option (List ℕ)) (r rs w mids ws m n : ℕ) (past : Bool) (bytes : List ℕ) (number : ℕ) (fault : LineFault) (status : Status) → IsCommand words →
-    IsFrontOf left SCRIPT_BYTES bytes past → StoppedScript (at_fault number fault) past (cut past bytes) m n before mid → w ≤ mids → WritesLast status statuses.Script mid after mids ws (stop_text (at_fault number fault)) →
-    Says status (call_of words left left_after before after r rs w ws m n)
-says_fault words left left_after before mid after r rs w mids ws m n past bytes number fault status command front e later (inl h) =
-    subst (λ st. Says st (call_of words left left_after before after r rs w ws m n)) (sym h.0) (record { number = number; fault = fault; stopped = ended_early words left left_after before mid after r rs w ws m n past bytes (at_fault number fault) command front e h.1 })
-says_fault words left left_after before mid after r rs w mids ws m n past bytes number fault status command front e later (inr (inl h)) =
-    subst (λ st. Says st (call_of words left left_after before after r rs w ws m n)) (sym h.0) (record { cause = omega (arith, h.1); output = broke_early words left left_after before mid after r rs w ws m n past bytes (at_fault number fault) command front e h.2 })
-says_fault words left left_after before mid after r rs w mids ws m n past bytes number fault status command front e later (inr (inr h)) =
-    subst (λ st. Says st (call_of words left left_after before after r rs w ws m n)) (sym h.0) (broke_early words left left_after before mid after r rs w ws m n past bytes (at_fault number fault) command front e h.1)
-
--- 2
-pub says_usage : (words : List (List ℕ)) (left before after : Option (List ℕ)) (r w ws m : ℕ) (status : Status) → (IsCommand words → ⊥) → WritesLast status statuses.Usage before after w ws usage_text →
-    Says status (call_of words left left before after r r w ws m m)
-says_usage words left before after r w ws m status none (inl h) = subst (λ st. Says st (call_of words left left before after r r w ws m m)) (sym h.0) (record { words = none; output = h.1 })
-says_usage words left before after r w ws m status none (inr (inl h)) = subst (λ st. Says st (call_of words left left before after r r w ws m m)) (sym h.0) (record { cause = h.1; output = inr (record { words = none; output = h.2 }) })
-says_usage words left before after r w ws m status none (inr (inr h)) = subst (λ st. Says st (call_of words left left before after r r w ws m m)) (sym h.0) (inr (record { words = none; output = h.1 }))
-
--- memory ran out before the script was read
+-- the text that a source tells, or some text
 abbrev some_text : Option (List ℕ) → List ℕ
 some_text None = []
 some_text (Some known) = known
@@ -198,59 +116,201 @@ told_some : (left : Option (List ℕ)) → Tells left (some_text left)
 told_some None = tt
 told_some (Some known) = refl
 
-pub says_unread : (words : List (List ℕ)) (left left_after now : Option (List ℕ)) (r rs w m : ℕ) → IsCommand words → BrokeOff (call_of words left left_after now now r rs w w m m)
-says_unread words left left_after now r rs w m command = inl (record {
-  command = command;
-  text = some_text left;
-  told = told_some left;
-  lines = [];
-  read = read_none m m (omega arith);
-  done = 0;
-  parsed = nothing_read;
-  script = refl;
-  outages = [];
-  history = [];
-  run = legal_run [] nothing_read [] refl refl;
-  last = [];
-  line = inl refl;
-  output = (0, Appends-nil now);
-})
+module _ (store : Bool) (stored left left_after : Option (List ℕ)) (r rs m n f fs : ℕ) (base : Base) (begins : IsBaseOf store stored base)
+    (before_images images : List ℕ → Type 0) where
+  abbrev call : Option (List ℕ) → Option (List ℕ) → ℕ → ℕ → Call
+  call before after w ws = call_of store stored left left_after before after r rs w ws m n f fs
 
--- Completeness.
+  legal : IsLegalBase base
+  legal = legal_base store stored base begins
 
-abbrev some_bytes : List ℕ → Option (List ℕ)
-some_bytes x = Some x
+  abbrev Done : Parsed → List Outage → Type 0
+  Done = IsDone base f fs images
 
-abbrev no_bytes : Option (List ℕ)
-no_bytes = None
+  abbrev Failed : ConfigParts → Type 0
+  Failed = FailedBy f fs images
 
-no_text : (known : List ℕ) → no_bytes ≡ some_bytes known → ⊥
-no_text known h = cc
+  abbrev Said : Status → Option (List ℕ) → Option (List ℕ) → ℕ → ℕ → Type 0
+  Said status before after w ws = Says status (call before after w ws) before_images images
 
-text_same : {x known text : List ℕ} → some_bytes x ≡ some_bytes known → x ≡ text → known ≡ text
-text_same h t = cc
+  run_is : (lines : List AskedLine) (p : Parsed) (outages : List Outage) → parse (read_from (wants_by base)) lines ≡ Ok p → Done p outages → IsRunFrom (setting_by base p f fs) p outages (history_by base p outages)
+  run_is lines p outages h d = legal_run base legal f fs images lines p outages h d
 
-told_is : (left : Option (List ℕ)) (known text : List ℕ) → left ≡ Some known → Tells left text → known ≡ text
-told_is None known text h t = absurd (no_text known h)
-told_is (Some x) known text h t = text_same h t
+  -- before the first line
+  pub says_unread : (now : Option (List ℕ)) (w ws : ℕ) → m ≤ n → Done (read_from (wants_by base)) [] → BrokeOff (call now now w ws) before_images images
+  says_unread now w ws later d = inl (record {
+    base = base;
+    begins = begins;
+    text = some_text left;
+    told = told_some left;
+    lines = [];
+    read = read_none m n later;
+    done = 0;
+    parsed = read_from (wants_by base);
+    script = refl;
+    outages = [];
+    history = history_by base (read_from (wants_by base)) [];
+    run = run_is [] (read_from (wants_by base)) [] refl d;
+    leaves = d.left;
+    last = [];
+    line = inl refl;
+    output = (0, Appends-nil now);
+  })
 
-not_early : (call : Call) (stop : Stop) → IsFaultless call → EndedEarly call stop → ⊥
-not_early call stop f e =
-    let sound : IsSound e.text = subst (λ t. IsSound t) (told_is call.left f.text e.text f.known e.told) f.sound in
-    sound e.lines stop e.read.bytes e.read.made e.script
+  pub says_unopened : (now : Option (List ℕ)) (w : ℕ) → Rose r rs → Done (read_from (wants_by base)) [] → Said statuses.Read now now w w
+  says_unopened now w cause d = record {
+    base = base;
+    begins = begins;
+    cause = cause;
+    leaves = subst (λ h. Leaves base (read_from (wants_by base)) [] h images) (opening_is base) d.left;
+    output = Appends-nil now;
+  }
 
-not_risen : (before now : ℕ) → now ≡ before → before < 2 ^ 64 - 1 → Rose before now → ⊥
-not_risen before now same room rose = absurd (omega arith)
+  module _ (past : Bool) (bytes : List ℕ) (front : IsFrontOf left SCRIPT_BYTES bytes past) where
+    abbrev script : Script left past bytes
+    script = script_read left past bytes front
 
--- where nothing is wrong outside or in the script, a run ends well or for want of memory
-pub complete : (status : Status) (call : Call) → Says status call → IsFaultless call → (code_of status ≡ 0) ⊎ (code_of status ≡ 8)
-complete statuses.Fine call says f = inl refl
-complete statuses.Usage call says f = absurd (says.words f.command)
-complete statuses.Script call says f = absurd (not_early call (at_fault says.number says.fault) f says.stopped)
-complete statuses.Read call says f = absurd (not_risen call.reads call.reads_after f.reads f.reads_room says.cause)
-complete statuses.Write call says f = absurd (not_risen call.writes call.writes_after f.writes f.writes_room says.cause)
-complete statuses.Memory call says f = inr refl
-complete statuses.Limit call says f = absurd (not_early call limit f says)
+    text_is : (lines : List AskedLine) → script_of (wants_by base) script.text lines ≡ script_from (wants_by base) past (cut past bytes) lines
+    text_is lines = script_is (wants_by base) left past bytes script lines
 
-pub complete_code : (result : ℕ) (status : Status) (call : Call) → result ≡ code_of status → Says status call → IsFaultless call → (result ≡ 0) ⊎ (result ≡ 8)
-complete_code result status call same says f = subst (λ n. (n ≡ 0) ⊎ (n ≡ 8)) (sym same) (complete status call says f)
+    -- 0
+    says_fine : (before after : Option (List ℕ)) (w ws : ℕ) → TakesFront left left_after bytes past → RanScript base Done past (cut past bytes) m n before after → Said statuses.Fine before after w ws
+    says_fine before after w ws taken ran = record {
+      base = base;
+      begins = begins;
+      text = script.text;
+      told = script.told;
+      at_end = end_of left left_after bytes past (drop (length ran.asked) (cut past bytes)) (parse (read_from (wants_by base)) ran.asked) ran.parsed taken ran.script;
+      lines = ran.asked;
+      read = read_whole left past bytes script ran.asked m n ran.read;
+      parsed = ran.parsed;
+      script = text_is ran.asked ∙ ran.script;
+      outages = ran.outages;
+      history = history_by base ran.parsed ran.outages;
+      run = run_is ran.asked ran.parsed ran.outages ran.whole ran.done;
+      leaves = ran.done.left;
+      output = ran.output;
+    }
+
+    -- 3 and 9, where the last line was written
+    ended_early : (stop : Stop) (before mid after : Option (List ℕ)) (w ws : ℕ) → StoppedScript base Done stop past (cut past bytes) m n before mid → Appends mid after (stop_text stop) → EndedEarly (call before after w ws) images stop
+    ended_early stop before mid after w ws e last = record {
+      base = base;
+      begins = begins;
+      text = script.text;
+      told = script.told;
+      lines = e.asked;
+      read = read_first left past bytes script e.asked m n e.read;
+      script = text_is e.asked ∙ e.script;
+      outages = e.outages;
+      history = history_by base (front_of (wants_by base) e.asked) e.outages;
+      run = run_is (take e.done_lines e.asked) (front_of (wants_by base) e.asked) e.outages e.front e.done;
+      leaves = e.done.left;
+      output = whole_more before mid after (run_text base (front_of (wants_by base) e.asked) e.outages) (stop_text stop) e.output last;
+    }
+
+    -- 5 and 8, where a front of the last line was written
+    broke_early : (stop : Stop) (before mid after : Option (List ℕ)) (w ws : ℕ) → StoppedScript base Done stop past (cut past bytes) m n before mid → WritesFront mid after (stop_text stop) → BrokeOff (call before after w ws) before_images images
+    broke_early stop before mid after w ws e last = inl (record {
+      base = base;
+      begins = begins;
+      text = script.text;
+      told = script.told;
+      lines = e.asked;
+      read = read_first left past bytes script e.asked m n e.read;
+      done = e.done_lines;
+      parsed = front_of (wants_by base) e.asked;
+      script = e.front;
+      outages = e.outages;
+      history = history_by base (front_of (wants_by base) e.asked) e.outages;
+      run = run_is (take e.done_lines e.asked) (front_of (wants_by base) e.asked) e.outages e.front e.done;
+      leaves = e.done.left;
+      last = stop_text stop;
+      line = inr (record { stop = stop; script = text_is e.asked ∙ e.script; front = refl; line = refl });
+      output = front_more before mid after (run_text base (front_of (wants_by base) e.asked) e.outages) (stop_text stop) e.output last;
+    })
+
+    -- 5 and 8, where the run broke off
+    broke_off : (before after : Option (List ℕ)) (w ws : ℕ) → BrokeIn base Done (cut past bytes) m n before after → BrokeOff (call before after w ws) before_images images
+    broke_off before after w ws b = inl (record {
+      base = base;
+      begins = begins;
+      text = script.text;
+      told = script.told;
+      lines = b.asked;
+      read = read_first left past bytes script b.asked m n b.read;
+      done = length b.asked;
+      parsed = b.parsed;
+      script = ap (parse (read_from (wants_by base))) (take-length b.asked) ∙ b.script;
+      outages = b.outages;
+      history = history_by base b.parsed b.outages;
+      run = run_is b.asked b.parsed b.outages b.script b.done;
+      leaves = b.done.left;
+      last = [];
+      line = inl refl;
+      output = subst (λ t. WritesFront before after t) (sym (append-nil (run_text base b.parsed b.outages))) b.output;
+    })
+
+    -- the first line gave the configuration of a bare store
+    gives : (before mid after : Option (List ℕ)) (w ws : ℕ) (config : ConfigParts) → is_stored base ≡ true → wants_by base ≡ true → GaveConfig config (cut past bytes) m n before mid → Gives (call before after w ws) config
+    gives before mid after w ws config s wants g = record {
+      stored = (bare_of store stored base begins s wants).0;
+      bare = (bare_of store stored base begins s wants).1;
+      text = script.text;
+      told = script.told;
+      first = g.first;
+      read = read_same (g.first ∷ []) (take 1 (cut past bytes)) (take 1 (lines_of script.text)) m n (sym (ap (take 1) script.lines)) g.read;
+      given = g.given;
+    }
+
+    too_long : (Writes : List ℕ → Type 0) (before mid after : Option (List ℕ)) (w ws : ℕ) → IsTooLong base Done (cut past bytes) m n before mid → Writes limit_text → TooLong (call before after w ws) images Writes
+    too_long Writes before mid after w ws t written = record {
+      config = t.config;
+      gives = gives before mid after w ws t.config t.stored t.wants t.gave;
+      over = t.over;
+      leaves = bare_left base images t.stored t.wants t.done.left;
+      output = written;
+    }
+
+    -- a last line behind a run that was stopped
+    says_stopped : (status own : Status) (stop : Stop) (before mid after : Option (List ℕ)) (w mids ws : ℕ) → (EndedEarly (call before after w ws) images stop → Said own before after w ws) → StoppedScript base Done stop past (cut past bytes) m n before mid → w ≤ mids →
+        WritesLast status own mid after mids ws (stop_text stop) → Said status before after w ws
+    says_stopped status own stop before mid after w mids ws make e later (inl h) = subst (λ st. Said st before after w ws) (sym h.0) (make (ended_early stop before mid after w ws e h.1))
+    says_stopped status own stop before mid after w mids ws make e later (inr (inl h)) = subst (λ st. Said st before after w ws) (sym h.0) (record { cause = omega (arith, h.1); output = broke_early stop before mid after w ws e h.2 })
+    says_stopped status own stop before mid after w mids ws make e later (inr (inr h)) = subst (λ st. Said st before after w ws) (sym h.0) (broke_early stop before mid after w ws e h.1)
+
+    -- the last line where the store has no room for the configuration
+    says_long : (status : Status) (before mid after : Option (List ℕ)) (w mids ws : ℕ) → IsTooLong base Done (cut past bytes) m n before mid → w ≤ mids → WritesLast status statuses.Limit mid after mids ws limit_text → Said status before after w ws
+    says_long status before mid after w mids ws t later (inl h) = subst (λ st. Said st before after w ws) (sym h.0) (inr (too_long (Appends before after) before mid after w ws t (whole_more before mid after [] limit_text t.gave.output h.1)))
+    says_long status before mid after w mids ws t later (inr (inl h)) =
+        subst (λ st. Said st before after w ws) (sym h.0) (record { cause = omega (arith, h.1); output = inr (inl (too_long (WritesFront before after) before mid after w ws t (front_more before mid after [] limit_text t.gave.output h.2))) })
+    says_long status before mid after w mids ws t later (inr (inr h)) = subst (λ st. Said st before after w ws) (sym h.0) (inr (inl (too_long (WritesFront before after) before mid after w ws t (front_more before mid after [] limit_text t.gave.output h.1))))
+
+    -- 6
+    says_unwritten : (before after : Option (List ℕ)) (w ws : ℕ) → IsUnwritten base Failed (cut past bytes) m n before after → Said statuses.Disk before after w ws
+    says_unwritten before after w ws u = record {
+      stored = (bare_of store stored base begins u.stored u.wants).0;
+      cause = u.failed.cause;
+      leaves = inr (record { config = u.config; gives = gives before after after w ws u.config u.stored u.wants u.gave; each = u.failed.each });
+      output = u.gave.output;
+    }
+
+    later_rose : (w mids ws : ℕ) → mids ≤ ws → Rose w mids → Rose w ws
+    later_rose w mids ws h g = omega arith
+
+    -- nothing more was written
+    silent : (status own : Status) (before mid after : Option (List ℕ)) (w ws : ℕ) → (status ≡ own) × (after ≡ mid) → Said own before mid w ws → Said status before after w ws
+    silent status own before mid after w ws h said = subst (λ st. Said st before after w ws) (sym h.0) (subst (λ now. Said own before now w ws) (sym h.1) said)
+
+    -- whatever ended the run
+    pub says_ended : {A : Type 0} (result : Result A Ended) (status : Status) (before mid after : Option (List ℕ)) (w mids ws : ℕ) → TakesFront left left_after bytes past → RunsScript result base Done Failed past (cut past bytes) m n before mid →
+        IfErr result (λ end. EndHasCause end w mids) → w ≤ mids → mids ≤ ws → Closes result status mid after mids ws → Said status before after w ws
+    says_ended (Ok x) status before mid after w mids ws taken ran cause later then c = silent status statuses.Fine before mid after w ws c (says_fine before mid w ws taken ran)
+    says_ended (Err ends.Limit) status before mid after w mids ws taken ran cause later then c = says_stopped status statuses.Limit limit before mid after w mids ws (λ e. inl e) ran later c
+    says_ended (Err (ends.AtFault number fault)) status before mid after w mids ws taken ran cause later then c =
+        says_stopped status statuses.Script (at_fault number fault) before mid after w mids ws (λ e. record { number = number; fault = fault; stopped = e }) ran later c
+    says_ended (Err ends.NoRoom) status before mid after w mids ws taken ran cause later then c = says_long status before mid after w mids ws ran later c
+    says_ended (Err ends.Disk) status before mid after w mids ws taken ran cause later then c = silent status statuses.Disk before mid after w ws c (says_unwritten before mid w ws ran)
+    says_ended (Err ends.Write) status before mid after w mids ws taken ran cause later then c =
+        silent status statuses.Write before mid after w ws c (record { cause = later_rose w mids ws then cause; output = broke_off before mid w ws ran })
+    says_ended (Err ends.Memory) status before mid after w mids ws taken ran cause later then c = silent status statuses.Memory before mid after w ws c (broke_off before mid w ws ran)

@@ -1,7 +1,9 @@
 pub mod Cuts
 pub mod Scripts
+pub mod Bases
 pub mod Runs
 pub mod Says
 pub mod Turns
 pub mod Taken
 pub mod Reached
+pub mod Ran

@@ -16,6 +16,7 @@ use Rattle.session_core.specs.Legal.{Legal}
 use Rattle.script_lines.specs.Texts.{reply_text, fault_text}
 use Rattle.script_lines.specs.LastLines.{last_text}
 use Rattle.emu_cli.specs.Scripts.{Parsed, Stop, limit, at_fault}
+use Rattle.emu_cli.specs.Bases.{Base, config_by, opening_by, is_stored, counted}
 
 -- the reply to the line of the configuration, which is the first
 abbrev pub config_reply : Reply
@@ -29,10 +30,6 @@ pub record Setting : Type 0 where
   pub store : Bool
   pub faults : ℕ
   pub faults_after : ℕ
-
--- without a store a run has the script's configuration, no history before it and no disk
-abbrev pub alone : Parsed → Setting
-alone p = record { config = p.config; opening = []; store = false; faults = 0; faults_after = 0 }
 
 -- the replies to requests, and the state behind them once there is a configuration
 abbrev pub run_from : List Entry → Bool → Option ConfigParts → List Line → List Outage → List Reply × Option State
@@ -90,19 +87,29 @@ pub record IsRunFrom (setting : Setting) (p : Parsed) (outages : List Outage) (h
   pub made : history ≡ history_from setting p outages
   pub run : Runs setting setting.config p.requests (replies_from setting p outages) history
 
--- The same without a store.
+-- The same by what a run begins with.
 
--- what a run writes
-abbrev pub run_text : Parsed → List Outage → List ℕ
-run_text p outages = text_from (alone p) p outages
+-- the setting of a run, by the disk's count of faults before and after it
+abbrev pub setting_by : Base → Parsed → ℕ → ℕ → Setting
+setting_by base p faults faults_after = record {
+  config = config_by base p.config;
+  opening = opening_by base;
+  store = is_stored base;
+  faults = counted base faults;
+  faults_after = counted base faults_after;
+}
+
+-- the replies to the requests
+abbrev pub replies_by : Base → Parsed → List Outage → List Reply
+replies_by base p outages = replies_from (setting_by base p 0 0) p outages
 
 -- the history that a run leaves
-abbrev pub history_of : Parsed → List Outage → List Entry
-history_of p outages = history_from (alone p) p outages
+abbrev pub history_by : Base → Parsed → List Outage → List Entry
+history_by base p outages = history_from (setting_by base p 0 0) p outages
 
--- a run of the requests of a script, and the history that it leaves
-abbrev pub IsRun : Parsed → List Outage → List Entry → Type 0
-IsRun p outages history = IsRunFrom (alone p) p outages history
+-- what a run writes
+abbrev pub run_text : Base → Parsed → List Outage → List ℕ
+run_text base p outages = text_from (setting_by base p 0 0) p outages
 
 -- The last line of a run that ends early.
 

@@ -1,15 +1,24 @@
 -- What the status of a run says.
-use Rattle.std.specs.Prelude.{◌≡◌, ◌⊎◌, ◌<◌, ◌-◌, ◌^◌, ℕ, List, [], ◌∷◌, ◌++◌, length, take, Option, Some, Ok, Err, codes}
+use Rattle.std.specs.Prelude.{◌≡◌, ◌⊎◌, ◌<◌, ◌-◌, ◌^◌, ℕ, Bool, true, false, List, [], ◌∷◌, ◌++◌, length, take, Option, Some, None, Ok, Err}
 use Rattle.std.specs.Io.KnownBytes.{Appends, IsAtEnd}
 use Rattle.fault_counts.specs.Count.{Rose}
 use Rattle.emu_io.specs.Fronts.{Tells, WritesFront}
+use Rattle.db_config.specs.declared.parts.ConfigParts.{ConfigParts}
 use Rattle.edit_rules.specs.declared.edit.Entry.{Entry}
 use Rattle.session_core.specs.InOrder.{Outage}
 use Rattle.script_lines.specs.declared.faults.LineFault.{LineFault}
+use Rattle.script_lines.specs.declared.faults.ReadLine.TheVariants as reads
+use Rattle.live_book.specs.Histories.{OfRead, IsBare, Stands, IsDamagedAt, HeadPassesLimit}
+use Rattle.live_book.specs.Opens.{DuringNew}
+use Rattle.store_commands.specs.Texts.{damaged_text}
+use Rattle.cli_words.specs.declared.words.Words.{Words}
+use Rattle.cli_words.specs.declared.words.Words.TheVariants as forms
+use Rattle.cli_words.specs.Forms.{words_of}
 use Rattle.emu_cli.specs.declared.status.Status.{Status}
 use Rattle.emu_cli.specs.declared.status.Status.TheVariants as statuses
-use Rattle.emu_cli.specs.Scripts.{AskedLine, AreRead, Parsed, nothing_read, parse, lines_of, script_of, front_of, IsSound, Stop, limit, at_fault}
-use Rattle.emu_cli.specs.Runs.{run_text, IsRun, usage_text, stop_text}
+use Rattle.emu_cli.specs.Scripts.{AskedLine, AreRead, Parsed, read_from, with_read, parse, parse_line, lines_of, script_of, front_of, IsSound, Stop, limit, at_fault}
+use Rattle.emu_cli.specs.Bases.{Base, wants_by, is_stored, opening_by, config_by, IsBaseOf, EachOf, LeavesStore}
+use Rattle.emu_cli.specs.Runs.{run_text, replies_by, setting_by, IsRunFrom, usage_text, limit_text, stop_text}
 
 -- the program's numbers of the statuses
 abbrev pub code_of : Status → ℕ
@@ -18,18 +27,19 @@ code_of statuses.Usage = 2
 code_of statuses.Script = 3
 code_of statuses.Read = 4
 code_of statuses.Write = 5
+code_of statuses.Disk = 6
+code_of statuses.Damaged = 7
 code_of statuses.Memory = 8
 code_of statuses.Limit = 9
+code_of statuses.Refused = 10
 
--- the words are a command: exactly the one word `run`
-abbrev pub IsCommand : List (List ℕ) → Type 0
-IsCommand words = words ≡ codes "run" ∷ []
-
--- Of a call: the words, what the source had left before and after it, what the sink held before and
--- after it, and before and after it the two counts of faults and the count of the maker's refusals. Where
--- the source does not tell what it has left, the script is some text; where it tells, the script is that.
+-- Of a call that runs a script: whether it has a store, and what a read of the disk gives before it; what the source
+-- had left before and after it, what the sink held before and after it, and before and after it the counts of
+-- faults of the source, of the sink and of the disk, and the count of the maker's refusals. Where the source does
+-- not tell what it has left, the script is some text; where it tells, the script is that. So it is with the disk.
 pub record Call : Type 0 where
-  pub words : List (List ℕ)
+  pub store : Bool
+  pub stored : Option (List ℕ)
   pub left : Option (List ℕ)
   pub left_after : Option (List ℕ)
   pub written : Option (List ℕ)
@@ -40,13 +50,17 @@ pub record Call : Type 0 where
   pub writes_after : ℕ
   pub refusals : ℕ
   pub refusals_after : ℕ
+  pub faults : ℕ
+  pub faults_after : ℕ
 
 -- a call of these parts
-abbrev pub call_of : List (List ℕ) → Option (List ℕ) → Option (List ℕ) → Option (List ℕ) → Option (List ℕ) →
-    ℕ → ℕ → ℕ → ℕ → ℕ → ℕ → Call
-call_of words left left_after written written_after reads reads_after writes writes_after refusals refusals_after =
+abbrev pub call_of : Bool → Option (List ℕ) → Option (List ℕ) → Option (List ℕ) → Option (List ℕ) → Option (List ℕ) →
+    ℕ → ℕ → ℕ → ℕ → ℕ → ℕ → ℕ → ℕ → Call
+call_of store stored left left_after written written_after reads reads_after writes writes_after
+    refusals refusals_after faults faults_after =
     record {
-      words = words;
+      store = store;
+      stored = stored;
       left = left;
       left_after = left_after;
       written = written;
@@ -57,124 +71,252 @@ call_of words left left_after written written_after reads reads_after writes wri
       writes_after = writes_after;
       refusals = refusals;
       refusals_after = refusals_after;
+      faults = faults;
+      faults_after = faults_after;
     }
+
+-- what a crash at the exit may leave of the store of a run
+abbrev pub Leaves : Base → Parsed → List Outage → List Entry → (List ℕ → Type 0) → Type 0
+Leaves base p outages history images =
+    LeavesStore (is_stored base) (config_by base p.config) p.requests (replies_by base p outages) history images
 
 -- 0: the script was read to its end, each line with what the maker made of its query, nothing ends it
 -- early, and what was written is the text of a legal run of all its requests
-pub record RanWhole (call : Call) : Type 0 where
-  pub command : IsCommand call.words
+pub record RanWhole (call : Call) (images : List ℕ → Type 0) : Type 0 where
+  pub base : Base
+  pub begins : IsBaseOf call.store call.stored base
   pub text : List ℕ
   pub told : Tells call.left text
   pub at_end : IsAtEnd call.left_after
   pub lines : List AskedLine
   pub read : AreRead lines (lines_of text) call.refusals call.refusals_after
   pub parsed : Parsed
-  pub script : script_of text lines ≡ Some (Ok parsed)
+  pub script : script_of (wants_by base) text lines ≡ Some (Ok parsed)
   pub outages : List Outage
   pub history : List Entry
-  pub run : IsRun parsed outages history
-  pub output : Appends call.written call.written_after (run_text parsed outages)
+  pub run : IsRunFrom (setting_by base parsed call.faults call.faults_after) parsed outages history
+  pub leaves : Leaves base parsed outages history images
+  pub output : Appends call.written call.written_after (run_text base parsed outages)
 
 -- 3 and 9: a line at fault, which was read, or a limit ends the script; the lines before it were run, and
 -- what was written is the text of their legal run and then the last line
-pub record EndedEarly (call : Call) (stop : Stop) : Type 0 where
-  pub command : IsCommand call.words
+pub record EndedEarly (call : Call) (images : List ℕ → Type 0) (stop : Stop) : Type 0 where
+  pub base : Base
+  pub begins : IsBaseOf call.store call.stored base
   pub text : List ℕ
   pub told : Tells call.left text
   pub lines : List AskedLine
   pub read : AreRead lines (take (length lines) (lines_of text)) call.refusals call.refusals_after
-  pub script : script_of text lines ≡ Some (Err stop)
+  pub script : script_of (wants_by base) text lines ≡ Some (Err stop)
   pub outages : List Outage
   pub history : List Entry
-  pub run : IsRun (front_of lines) outages history
-  pub output : Appends call.written call.written_after (run_text (front_of lines) outages ++ stop_text stop)
+  pub run : IsRunFrom (setting_by base (front_of (wants_by base) lines) call.faults call.faults_after)
+      (front_of (wants_by base) lines) outages history
+  pub leaves : Leaves base (front_of (wants_by base) lines) outages history images
+  pub output : Appends call.written call.written_after
+      (run_text base (front_of (wants_by base) lines) outages ++ stop_text stop)
 
 -- 3: the first line at fault
-pub record FoundFault (call : Call) : Type 0 where
+pub record FoundFault (call : Call) (images : List ℕ → Type 0) : Type 0 where
   pub number : ℕ
   pub fault : LineFault
-  pub stopped : EndedEarly call (at_fault number fault)
+  pub stopped : EndedEarly call images (at_fault number fault)
 
--- 2: the words are no command, and what was written is the last line
-pub record NoCommand (call : Call) : Type 0 where
-  pub words : IsCommand call.words → ⊥
-  pub output : Appends call.written call.written_after usage_text
+-- the store is bare, and the first line of the script was read and gives this configuration
+pub record Gives (call : Call) (config : ConfigParts) : Type 0 where
+  pub stored : call.store ≡ true
+  pub bare : OfRead call.stored IsBare
+  pub text : List ℕ
+  pub told : Tells call.left text
+  pub first : AskedLine
+  pub read : AreRead (first ∷ []) (take 1 (lines_of text)) call.refusals call.refusals_after
+  pub given : parse_line (read_from true) first ≡ Ok (with_read (read_from true) (reads.Config config))
+
+-- 9: the store has no room for the script's configuration; it stays bare, no line is done, and the last line alone
+-- was written
+pub record TooLong (call : Call) (images : List ℕ → Type 0) (Writes : List ℕ → Type 0) : Type 0 where
+  pub config : ConfigParts
+  pub gives : Gives call config
+  pub over : HeadPassesLimit config
+  pub leaves : EachOf images IsBare
+  pub output : Writes limit_text
+
+-- the store was damaged at a place
+pub record IsDamage (call : Call) (at : ℕ) : Type 0 where
+  pub stored : call.store ≡ true
+  pub damaged : OfRead call.stored (λ c. IsDamagedAt c at)
+
+-- 7: the store stands for no configuration and history; the last line alone was written, and no image is new
+pub record FoundDamage (call : Call) (before images : List ℕ → Type 0) : Type 0 where
+  pub at : ℕ
+  pub damage : IsDamage call at
+  pub leaves : EachOf images before
+  pub output : Appends call.written call.written_after (damaged_text at)
 
 -- the last line of a run that was to end early, behind the run of all lines before
-pub record IsLastLine (text : List ℕ) (lines : List AskedLine) (parsed : Parsed) (last : List ℕ) : Type 0 where
+pub record IsLastLine (base : Base) (text : List ℕ) (lines : List AskedLine) (parsed : Parsed) (last : List ℕ)
+    : Type 0 where
   pub stop : Stop
-  pub script : script_of text lines ≡ Some (Err stop)
-  pub front : parsed ≡ front_of lines
+  pub script : script_of (wants_by base) text lines ≡ Some (Err stop)
+  pub front : parsed ≡ front_of (wants_by base) lines
   pub line : last ≡ stop_text stop
 
--- 5 and 8, where the words are a command: what was written is a front of the text of a legal run of
--- the first of the lines that were read, a line being among them also where its reply could not be
--- written, or of the text of such a run and the last line
-pub record Unfinished (call : Call) : Type 0 where
-  pub command : IsCommand call.words
+-- 5 and 8: what was written is a front of the text of a legal run of the first of the lines that were read, a line
+-- being among them also where its reply could not be written, or of the text of such a run and the last line
+pub record Unfinished (call : Call) (images : List ℕ → Type 0) : Type 0 where
+  pub base : Base
+  pub begins : IsBaseOf call.store call.stored base
   pub text : List ℕ
   pub told : Tells call.left text
   pub lines : List AskedLine
   pub read : AreRead lines (take (length lines) (lines_of text)) call.refusals call.refusals_after
   pub done : ℕ
   pub parsed : Parsed
-  pub script : parse nothing_read (take done lines) ≡ Ok parsed
+  pub script : parse (read_from (wants_by base)) (take done lines) ≡ Ok parsed
   pub outages : List Outage
   pub history : List Entry
-  pub run : IsRun parsed outages history
+  pub run : IsRunFrom (setting_by base parsed call.faults call.faults_after) parsed outages history
+  pub leaves : Leaves base parsed outages history images
   pub last : List ℕ
-  pub line : (last ≡ []) ⊎ IsLastLine text lines parsed last
-  pub output : WritesFront call.written call.written_after (run_text parsed outages ++ last)
+  pub line : (last ≡ []) ⊎ IsLastLine base text lines parsed last
+  pub output : WritesFront call.written call.written_after (run_text base parsed outages ++ last)
 
--- 5 and 8, where the words are no command: what was written is a front of the last line
-pub record UnfinishedUsage (call : Call) : Type 0 where
-  pub words : IsCommand call.words → ⊥
-  pub output : WritesFront call.written call.written_after usage_text
+-- 5 and 8, where the store was not opened: what was written is a front of the last line, if there is one, and no
+-- image is new
+pub record Unopened (call : Call) (before images : List ℕ → Type 0) : Type 0 where
+  pub stored : call.store ≡ true
+  pub leaves : EachOf images before
+  pub last : List ℕ
+  pub line : (last ≡ []) ⊎ ((at : ℕ) × IsDamage call at × (last ≡ damaged_text at))
+  pub output : WritesFront call.written call.written_after last
 
 -- 5 and 8: a front of what was to be written
-abbrev pub BrokeOff : Call → Type 0
-BrokeOff call = Unfinished call ⊎ UnfinishedUsage call
+abbrev pub BrokeOff : Call → (List ℕ → Type 0) → (List ℕ → Type 0) → Type 0
+BrokeOff call before images =
+    Unfinished call images
+    ⊎ (TooLong call images (WritesFront call.written call.written_after) ⊎ Unopened call before images)
 
 -- 4: a read failed; the script is read before its first line is run, so no line was done
-pub record ReadFailed (call : Call) : Type 0 where
-  pub command : IsCommand call.words
+pub record ReadFailed (call : Call) (images : List ℕ → Type 0) : Type 0 where
+  pub base : Base
+  pub begins : IsBaseOf call.store call.stored base
   pub cause : Rose call.reads call.reads_after
+  pub leaves : Leaves base (read_from (wants_by base)) [] (opening_by base) images
   pub output : Appends call.written call.written_after []
 
 -- 5: a write failed
-pub record WriteFailed (call : Call) : Type 0 where
+pub record WriteFailed (call : Call) (before images : List ℕ → Type 0) : Type 0 where
   pub cause : Rose call.writes call.writes_after
-  pub output : BrokeOff call
+  pub output : BrokeOff call before images
 
--- what each status says of a call
-abbrev pub Says : Status → Call → Type 0
-Says statuses.Fine call = RanWhole call
-Says statuses.Usage call = NoCommand call
-Says statuses.Script call = FoundFault call
-Says statuses.Read call = ReadFailed call
-Says statuses.Write call = WriteFailed call
-Says statuses.Memory call = BrokeOff call
-Says statuses.Limit call = EndedEarly call limit
+-- the configuration of a script could not be written: each image is bare, or has the configuration alone
+pub record LeavesConfig (call : Call) (images : List ℕ → Type 0) : Type 0 where
+  pub config : ConfigParts
+  pub gives : Gives call config
+  pub each : EachOf images (DuringNew config)
 
--- a call whose outside is faultless: the words are a command, nothing ends the script early, whatever the
--- maker makes of its queries, and neither count of faults rises or stands at its end
+-- 6: the disk failed while the store was opened, so that no image is new, or while the script's configuration was
+-- written; nothing was written, and no line was done
+pub record DiskFailed (call : Call) (before images : List ℕ → Type 0) : Type 0 where
+  pub stored : call.store ≡ true
+  pub cause : Rose call.faults call.faults_after
+  pub leaves : EachOf images before ⊎ LeavesConfig call images
+  pub output : Appends call.written call.written_after []
+
+-- what each status says of a call, of the images of its disk before it, and of those after it
+abbrev pub Says : Status → Call → (List ℕ → Type 0) → (List ℕ → Type 0) → Type 0
+Says statuses.Fine call before images = RanWhole call images
+Says statuses.Usage call before images = ⊥
+Says statuses.Script call before images = FoundFault call images
+Says statuses.Read call before images = ReadFailed call images
+Says statuses.Write call before images = WriteFailed call before images
+Says statuses.Disk call before images = DiskFailed call before images
+Says statuses.Damaged call before images = FoundDamage call before images
+Says statuses.Memory call before images = BrokeOff call before images
+Says statuses.Limit call before images =
+    EndedEarly call images limit ⊎ TooLong call images (Appends call.written call.written_after)
+Says statuses.Refused call before images = ⊥
+
+-- the script is sound, and a bare store has room for the configuration that it gives
+pub record IsSoundFor (base : Base) (text : List ℕ) : Type 0 where
+  pub sound : IsSound (wants_by base) text
+  pub room : (first : AskedLine) (config : ConfigParts) → is_stored base ≡ true →
+      (first.line ∷ [] ≡ take 1 (lines_of text)) →
+      parse_line (read_from true) first ≡ Ok (with_read (read_from true) (reads.Config config)) →
+      HeadPassesLimit config → ⊥
+
+-- where there is a store, it tells its bytes
+abbrev pub IsStoreTold : Bool → Option (List ℕ) → Type 0
+IsStoreTold false stored = Unit {0}
+IsStoreTold true stored = (bytes : List ℕ) × (stored ≡ Some bytes)
+
+-- a call whose outside is faultless: the store, if there is one, is bare or stands for a history; nothing ends the
+-- script early, whatever the maker makes of its queries; and no count of faults rises or stands at its end
 pub record IsFaultless (call : Call) : Type 0 where
-  pub command : IsCommand call.words
+  pub base : Base
+  pub begins : IsBaseOf call.store call.stored base
+  pub store_known : IsStoreTold call.store call.stored
   pub text : List ℕ
   pub known : call.left ≡ Some text
-  pub sound : IsSound text
+  pub sound : IsSoundFor base text
   pub reads : call.reads_after ≡ call.reads
   pub writes : call.writes_after ≡ call.writes
+  pub faults : call.faults_after ≡ call.faults
   pub reads_room : call.reads < 2 ^ 64 - 1
   pub writes_room : call.writes < 2 ^ 64 - 1
-
--- what the code that a call answers says of it
-abbrev pub CallSays : Call → ℕ → Type 0
-CallSays call code = (status : Status) × (code ≡ code_of status) × Says status call
+  pub faults_room : call.faults < 2 ^ 64 - 1
 
 -- where nothing is wrong outside or in the script, only want of memory keeps a run from its end
-abbrev pub CallCompletes : Call → ℕ → Type 0
-CallCompletes call code = IsFaultless call → (code ≡ 0) ⊎ (code ≡ 8)
+abbrev pub Completes : Call → Status → Type 0
+Completes call status = IsFaultless call → (status ≡ statuses.Fine) ⊎ (status ≡ statuses.Memory)
+
+-- The top call.
+
+-- the words ask for a run, without a store or with one
+abbrev pub IsRunWords : List (List ℕ) → Bool → Type 0
+IsRunWords words store = words_of words ≡ Some (forms.Run store)
+
+-- whether a run that is asked for is one with a store; nothing where no run is asked for
+abbrev pub run_asked : Words → Option Bool
+run_asked (forms.Run store) = Some store
+run_asked words = None
+
+-- the words ask for no run
+abbrev pub IsNoRun : List (List ℕ) → Type 0
+IsNoRun words = (store : Bool) → IsRunWords words store → ⊥
+
+-- what is said where the words are no command: the last line was written, or a front of it, and a write failed or
+-- memory ran out
+abbrev pub SaysUsage : Status → Call → Type 0
+SaysUsage statuses.Usage call = Appends call.written call.written_after usage_text
+SaysUsage statuses.Write call =
+    Rose call.writes call.writes_after × WritesFront call.written call.written_after usage_text
+SaysUsage statuses.Memory call = WritesFront call.written call.written_after usage_text
+SaysUsage status call = ⊥
+
+-- memory ran out before the words were known, and nothing was written
+abbrev pub SaysNothing : Status → Call → Type 0
+SaysNothing status call = (status ≡ statuses.Memory) × Appends call.written call.written_after []
+
+-- what a status says of a call by its words; the call is given with a store and without
+abbrev pub CallEnds : List (List ℕ) → (Bool → Call) → (List ℕ → Type 0) → (List ℕ → Type 0) → Status → Type 0
+CallEnds words call before images status =
+    ((store : Bool) × IsRunWords words store × Says status (call store) before images)
+    ⊎ ((IsNoRun words × SaysUsage status (call false)) ⊎ SaysNothing status (call false))
+
+-- what the code that a call answers says of it
+abbrev pub CallSays : List (List ℕ) → (Bool → Call) → (List ℕ → Type 0) → (List ℕ → Type 0) → ℕ → Type 0
+CallSays words call before images code =
+    (status : Status) × (code ≡ code_of status) × CallEnds words call before images status
+
+-- where nothing is wrong outside or in the script, only want of memory keeps a run from its end
+abbrev pub RunCompletes : List (List ℕ) → (Bool → Call) → Status → Type 0
+RunCompletes words call status = (store : Bool) → IsRunWords words store → Completes (call store) status
+
+-- the same of the code
+abbrev pub CallCompletes : List (List ℕ) → (Bool → Call) → ℕ → Type 0
+CallCompletes words call code =
+    (store : Bool) → IsRunWords words store → IsFaultless (call store) → (code ≡ 0) ⊎ (code ≡ 8)
 
 -- a last line was written, and the run ends as it says; or a front of it, and a write failed or
 -- memory ran out

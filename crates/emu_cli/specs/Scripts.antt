@@ -53,10 +53,6 @@ pub record Parsed : Type 0 where
 abbrev pub read_from : Bool → Parsed
 read_from wants = record { number = 0; wants = wants; config = None; requests = [] }
 
--- without a store the first line gives the configuration
-abbrev pub nothing_read : Parsed
-nothing_read = read_from true
-
 -- what ends a script early: a line, the number of lines or the script passes its limit, or a line,
 -- given by its number, is at fault
 pub data Stop : Type 0 where
@@ -146,10 +142,10 @@ abbrev pub end_from : Bool → List (List ℕ) → Result Parsed Stop → Option
 end_from past rest (Ok p) = end_behind past rest p
 end_from past rest (Err stop) = Some (Err stop)
 
--- what a script of these lines is, or what ends it first, once the first of them were read; none where
--- it goes on behind those
-abbrev pub script_from : Bool → List (List ℕ) → List AskedLine → Option (Result Parsed Stop)
-script_from past all lines = end_from past (drop (length lines) all) (parse nothing_read lines)
+-- what a script of these lines, which has to give a configuration or not, is, or what ends it first, once the
+-- first of them were read; none where it goes on behind those
+abbrev pub script_from : Bool → Bool → List (List ℕ) → List AskedLine → Option (Result Parsed Stop)
+script_from wants past all lines = end_from past (drop (length lines) all) (parse (read_from wants) lines)
 
 -- whether a script passes its limit of bytes
 abbrev pub is_past : List ℕ → Bool
@@ -160,15 +156,15 @@ abbrev pub lines_of : List ℕ → List (List ℕ)
 lines_of text = cut (is_past text) (take SCRIPT_BYTES text)
 
 -- a script as a whole, once the first of its lines were read: what it is, or what ends it first
-abbrev pub script_of : List ℕ → List AskedLine → Option (Result Parsed Stop)
-script_of text lines = script_from (is_past text) (lines_of text) lines
+abbrev pub script_of : Bool → List ℕ → List AskedLine → Option (Result Parsed Stop)
+script_of wants text lines = script_from wants (is_past text) (lines_of text) lines
 
 -- what was read before that end
-abbrev pub front_of : List AskedLine → Parsed
-front_of lines = parsed_front nothing_read lines
+abbrev pub front_of : Bool → List AskedLine → Parsed
+front_of wants lines = parsed_front (read_from wants) lines
 
 -- whatever the maker makes of the queries, no line of a script is at fault and no limit is passed
-abbrev pub IsSound : List ℕ → Type 0
-IsSound text = (lines : List AskedLine) (stop : Stop) →
+abbrev pub IsSound : Bool → List ℕ → Type 0
+IsSound wants text = (lines : List AskedLine) (stop : Stop) →
     lines_in lines ≡ take (length lines) (lines_of text) → All IsAnswered lines →
-    script_of text lines ≡ Some (Err stop) → ⊥
+    script_of wants text lines ≡ Some (Err stop) → ⊥

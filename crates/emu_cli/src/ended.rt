@@ -8,6 +8,10 @@ pub enum Ended {
     Limit,
     /// The line of this number is at fault.
     AtFault(u32, LineFault),
+    /// The store has no room for the script's configuration.
+    NoRoom,
+    /// The script's configuration could not be written into the store.
+    Disk,
     /// A write failed.
     Write,
     /// Memory ran out.

@@ -3,11 +3,14 @@
 
 mod cut;
 mod ended;
+mod in_order;
+mod last;
 mod output;
 mod running;
 mod script;
 mod status;
 mod top;
 
+pub use in_order::{Ran, run};
 pub use status::Status;
-pub use top::{emu, run_words};
+pub use top::{Exit, emu};

@@ -1,107 +1,36 @@
-//! A run between two lines: the core, the numbers of the requests so far, and the line's number.
-ghost use Rattle.std.specs.Prelude.{◌≡◌, ◌+◌, ◌<◌, ◌∷◌, [], IfOk, OnOk, OnErr, false};
+//! A run between two lines: the book in order, the numbers of the requests so far, and the line's number.
+ghost use Rattle.std.specs.Prelude.{◌≡◌, ◌+◌, ◌<◌, [], None, IfOk, IfErr, OnOk};
 ghost use Rattle.emu_names.specs.declared.limits.TheConstants.{SCRIPT_LINES};
-ghost use Rattle.session_core.specs.declared.line.Ask.{Ask};
-ghost use Rattle.session_core.specs.InOrder.{Outage, one_turn};
-ghost use Rattle.session_core.specs.Answers.{memory};
-ghost use Rattle.session_core.specs.Steps.{reply_of, session_places, start};
-ghost use Rattle.emu_cli.specs.Turns.{given_by, ReadsNext};
+ghost use Rattle.session_core.specs.Steps.{start};
+ghost use Rattle.live_book.specs.Kept.{KeepsIn};
+ghost use Rattle.live_book.specs.Opens.{AreAtFront};
 ghost use Rattle.script_lines.specs.Known.{Known};
+ghost use Rattle.emu_cli.specs.Reached.{IsBegun};
+ghost use Rattle.emu_cli.specs.Turns.{IsUnreadFor, ReadsNext};
 
 use crate::ended::Ended;
-use db_config::Config;
-use edit_rules::Entries;
+use edit_journal::Journal;
+use emu_disk::Disk;
+use emu_names::Memory;
 use emu_names::limits::{LINE_BYTES, SCRIPT_LINES};
-use emu_names::{Memory, SessionNo};
 use label_match::PatternMaker;
+use live_book::{Book, Published};
 use script_lines::{LineFault, LineSet, ReadLine, read_line};
-use session_core::{Answer, Command, Core, Event, Line, Refusal, Reply, Request};
+use session_core::{Line, Reply};
+use session_run::{InOrder, new_in_order};
 use std::alloc::Global;
+use std::sync::Wait;
+use std::thread::Threads;
+use version_gate::Passes;
 
-/// A run between two lines.
-#[derive(Drop)]
-pub struct Running {
-    /// The core.
-    pub core: Core,
+/// A run between two lines. It is no `Drop`, since its book is none: end it by [`close`].
+pub struct Running<D: Disk> {
+    /// The book in order.
+    pub core: InOrder<D>,
     /// The numbers of the requests so far.
     pub earlier: LineSet,
     /// The number of the lines so far.
     pub number: u32,
-}
-
-/// What the core gave at a line's last event: its reply, or want of memory.
-fn given(line: u32, session: SessionNo, made: Result<Option<Reply>, Memory>) -> Reply
-    ensures { result ≡ given_by line session made }
-{
-    match made {
-        Ok(Some(reply)) => reply,
-        Ok(None) => out_of_memory(line, session),
-        Err(_) => out_of_memory(line, session),
-    }
-}
-
-/// The reply to a line at which memory ran out.
-fn out_of_memory(line: u32, session: SessionNo) -> Reply
-    ensures { result ≡ reply_of line session None memory }
-{
-    Reply {
-        line,
-        session,
-        n: None,
-        answer: Answer::Refused(Refusal::Memory),
-    }
-}
-
-/// Answers a line: a query is looked at and finished at once, everything else is one event.
-fn answer(core: &mut Core, line: Line) -> Reply
-    requires { line.session.0 < session_places }
-    ensures { (outage : Outage) × (one_turn false core.old line outage ≡ (result, core.new)) }
-{
-    let number = line.line;
-    let session = line.session;
-    match line.request {
-        Request::Edit(_) => given(number, session, core.step(Event::Edit { line })),
-        Request::Look(_) => given(number, session, core.step(Event::Look { line })),
-        Request::After(_) => given(number, session, core.step(Event::Look { line })),
-        Request::Finish => {
-            let command = Command::Finish;
-            given(
-                number,
-                session,
-                core.step(Event::Finish {
-                    line: number,
-                    session,
-                    command,
-                }),
-            )
-        }
-        Request::Query(_) => query(core, line),
-    }
-}
-
-/// Answers the line of a query, by a look and its finish.
-fn query(core: &mut Core, line: Line) -> Reply
-    requires { line.session.0 < session_places }
-    ensures { (ask : Ask) → line.request ≡ Request.Query ask →
-        (outage : Outage) × (one_turn false core.old line outage ≡ (result, core.new)) }
-{
-    let number = line.line;
-    let session = line.session;
-    match core.step(Event::Look { line }) {
-        Err(_) => out_of_memory(number, session),
-        Ok(_) => {
-            let command = Command::Query;
-            given(
-                number,
-                session,
-                core.step(Event::Finish {
-                    line: number,
-                    session,
-                    command,
-                }),
-            )
-        }
-    }
 }
 
 /// The next line of a script, behind `number` lines, or the limit or the fault that ends the script
@@ -118,6 +47,7 @@ pub(crate) fn read_next<P: PatternMaker>(
     ensures next { ReadsNext result line.now (number + 1) wants_config earlier.now
         (P.refusals patterns.old) (P.refusals patterns.new) }
     ensures known { IfOk result (Known (number + 1) wants_config earlier.now) }
+    ensures why { IfErr result IsUnreadFor }
     ensures room { OnOk result (number < SCRIPT_LINES) }
 {
     if number >= SCRIPT_LINES || line.len() > LINE_BYTES {
@@ -130,24 +60,47 @@ pub(crate) fn read_next<P: PatternMaker>(
     }
 }
 
-/// The run behind the line of the configuration. No history breaks no rule, so that the only refusal
-/// is want of memory.
-pub(crate) fn begin(alloc: Global, config: Config) -> Result<Running, Memory>
-    ensures core { IfOk result (λ running. running.core ≡ start config []) }
+/// The run over a book, behind so many lines, or the book for want of memory.
+pub(crate) fn begin<D: Disk>(
+    alloc: Global,
+    book: Book<D>,
+    passes: Passes<Published>,
+    number: u32,
+) -> Result<Running<D>, Book<D>>
+    requires { AreAtFront 1 book passes }
+    ensures ok { IfOk result (λ running. KeepsIn D.may_leave book.config book.history None book.journal →
+        IsBegun D.may_leave book.config book.history number running) }
+    ensures stored { IfOk result (λ running. running.core.book.journal ≡ book.journal) }
     ensures earlier { IfOk result (λ running. running.earlier ≡ []) }
-    ensures number { IfOk result (λ running. running.number ≡ 1) }
+    ensures err { IfErr result (λ given. given ≡ book) }
 {
-    match Core::new(alloc, config, Entries::new(alloc)) {
-        Ok(core) => Ok(Running {
-            core,
-            earlier: LineSet::new(alloc),
-            number: 1,
-        }),
-        Err(_) => Err(Memory),
+    let mut passes = passes;
+    match passes.pop() {
+        None => unreachable!(),
+        Some(pass) => match new_in_order(alloc, book, pass) {
+            Ok(core) => Ok(Running {
+                core,
+                earlier: LineSet::new(alloc),
+                number,
+            }),
+            Err(book) => Err(book),
+        },
     }
 }
 
-impl Running {
+/// Ends a run, and gives up the journal of its book.
+pub(crate) fn close<R: Wait, D: Disk>(rt: &R, running: Running<D>) -> Option<Journal<D>>
+    ensures { result ≡ running.core.book.journal }
+{
+    let Running {
+        core,
+        earlier: _earlier,
+        number: _,
+    } = running;
+    core.close().into_journal(rt)
+}
+
+impl<D: Disk> Running<D> {
     ghost use Rattle.std.specs.Prelude.{◌≡◌, ◌<◌, All, IfOk, OnErr};
     ghost use Rattle.emu_names.specs.declared.limits.TheConstants.{SCRIPT_LINES};
     ghost use Rattle.emu_cli.specs.Taken.{TakesLine};
@@ -155,15 +108,20 @@ impl Running {
 
     /// Answers a request. The only refusal is want of memory before the request is done, which
     /// changes nothing.
-    pub(crate) fn take(&mut self, line: Line) -> Result<Reply, Memory>
+    pub(crate) fn take<R: Threads + Wait + Sync>(
+        &mut self,
+        rt: &R,
+        line: Line,
+    ) -> Result<Reply, Memory>
         requires room { self.old.number < SCRIPT_LINES }
         requires place { line.session.0 < session_places }
         requires rises { All (λ n. n < line.line) self.old.earlier }
-        ensures ok { IfOk result (λ reply. TakesLine self.old line reply self.new) }
+        ensures ok { IfOk result (λ reply. TakesLine D.may_leave D.moment D.left_since D.faults self.old
+            line reply self.new) }
         ensures err { OnErr result (self.new ≡ self.old) }
     {
         self.earlier.add(line.line)?;
-        let reply = answer(&mut self.core, line);
+        let reply = self.core.answer(rt, line);
         self.number += 1;
         Ok(reply)
     }

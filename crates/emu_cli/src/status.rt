@@ -15,10 +15,17 @@ pub enum Status {
     Read,
     /// 5: the output could not be written.
     Write,
+    /// 6: the disk failed while the store was opened or its configuration written.
+    Disk,
+    /// 7: the store stands for no configuration and history.
+    Damaged,
     /// 8: memory ran out.
     Memory,
-    /// 9: a line, the number of lines or the script passes its limit.
+    /// 9: a line, the number of lines or the script passes its limit, or the store has no room for the script's
+    /// configuration.
     Limit,
+    /// 10: the command refuses.
+    Refused,
 }
 
 /// The program's number of a status.
@@ -31,7 +38,10 @@ pub(crate) fn code(status: Status) -> u8
         Status::Script => 3,
         Status::Read => 4,
         Status::Write => 5,
+        Status::Disk => 6,
+        Status::Damaged => 7,
         Status::Memory => 8,
         Status::Limit => 9,
+        Status::Refused => 10,
     }
 }

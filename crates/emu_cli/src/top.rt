@@ -1,174 +1,106 @@
 //! The top call.
-ghost use Rattle.std.specs.Prelude.{◌≢◌, ◌↔◌, ℕ, List, IsTrue, map, string_bytes};
-ghost use Rattle.script_lines.specs.Texts.{fault_text};
-ghost use Rattle.emu_cli.specs.Says.{call_of, CallCompletes, CallSays, IsCommand, Says, WritesLast};
-ghost use Rattle.emu_cli.specs.Runs.{limit_text, usage_text};
+ghost use Rattle.std.specs.Prelude.{◌≡◌, true, map, string_bytes};
+ghost use Rattle.emu_cli.specs.Says.{call_of, CallCompletes, CallEnds, CallSays, IsRunWords, RunCompletes, run_asked};
 
-use crate::ended::Ended;
-use crate::output::write_text;
-use crate::script::run_script;
+use crate::in_order::{Ran, run};
+use crate::last::usage;
 use crate::status::{Status, code};
-use emu_io::{ReadFault, Sink, Source, read_front};
-use emu_names::Text;
-use emu_names::limits::SCRIPT_BYTES;
+use cli_words::{Words, WordsFault, read_words};
+use emu_disk::Disk;
+use emu_io::{Sink, Source};
 use label_match::PatternMaker;
-use script_lines::{LineFault, print_fault, print_last};
 use std::alloc::Global;
 use std::sync::Wait;
 use std::thread::Threads;
 
-/// Whether the words are a command: exactly the one word `run`.
-fn is_command(words: &[String]) -> bool
-    ensures { IsTrue result ↔ IsCommand (map (λ w. string_bytes w) words.now) }
-{
-    match words {
-        [word] => word.as_str() == "run",
-        _ => false,
-    }
+/// How a call ended, and its disk.
+#[derive(Drop)]
+pub struct Exit<D: Disk> {
+    /// The program's status.
+    pub status: u8,
+    /// The disk.
+    pub disk: D,
 }
 
-/// Writes the last line of a run that ends with `status`, and answers how the run ends.
-fn write_last<K: Sink>(out: &mut K, text: &Text, status: Status) -> Status
-    ensures last { WritesLast result status (K.written out.old) (K.written out.new)
-        (K.faults out.old) (K.faults out.new) text.now }
+/// Whether a run that is asked for is one with a store; nothing where no run is asked for.
+fn run_asked(asked: &Words) -> Option<bool>
+    ensures { result ≡ run_asked asked.now }
 {
-    match write_text(out, text) {
-        Ok(()) => status,
-        Err(Ended::Write) => Status::Write,
-        Err(_) => Status::Memory,
-    }
-}
-
-/// Writes that the words are no command.
-fn usage<K: Sink>(alloc: Global, out: &mut K) -> Status
-    ensures last { WritesLast result Status.Usage (K.written out.old) (K.written out.new)
-        (K.faults out.old) (K.faults out.new) usage_text }
-{
-    match print_last(alloc, "Usage", 2) {
-        Ok(text) => write_last(out, &text, Status::Usage),
-        Err(_) => Status::Memory,
-    }
-}
-
-/// Writes that a limit is passed.
-fn over<K: Sink>(alloc: Global, out: &mut K) -> Status
-    ensures last { WritesLast result Status.Limit (K.written out.old) (K.written out.new)
-        (K.faults out.old) (K.faults out.new) limit_text }
-{
-    match print_last(alloc, "Limit", 9) {
-        Ok(text) => write_last(out, &text, Status::Limit),
-        Err(_) => Status::Memory,
-    }
-}
-
-/// Writes that a line is at fault.
-fn at_fault<K: Sink>(alloc: Global, line: u32, fault: &LineFault, out: &mut K) -> Status
-    requires { fault.now ≢ LineFault.Memory }
-    ensures last { WritesLast result Status.Script (K.written out.old) (K.written out.new)
-        (K.faults out.old) (K.faults out.new) (fault_text line fault.now) }
-{
-    match print_fault(alloc, line, fault) {
-        Ok(text) => write_last(out, &text, Status::Script),
-        Err(_) => Status::Memory,
-    }
-}
-
-/// Runs the script of the source, and writes its replies and perhaps a last line.
-fn run_source<S: Source, K: Sink, P: PatternMaker>(
-    alloc: Global,
-    script: &mut S,
-    out: &mut K,
-    patterns: &mut P,
-) -> Status
-    ensures says { (words : List (List ℕ)) → IsCommand words → Says result (call_of words
-        (S.left script.old) (S.left script.new) (K.written out.old) (K.written out.new)
-        (S.faults script.old) (S.faults script.new) (K.faults out.old) (K.faults out.new)
-        (P.refusals patterns.old) (P.refusals patterns.new)) }
-{
-    let front = match read_front(alloc, script, SCRIPT_BYTES) {
-        Ok(front) => front,
-        Err(ReadFault::Failed) => return Status::Read,
-        Err(ReadFault::Memory) => return Status::Memory,
-    };
-    match run_script(alloc, front.past, front.bytes.as_slice(), out, patterns) {
-        Ok(()) => Status::Fine,
-        Err(Ended::Limit) => over(alloc, out),
-        Err(Ended::AtFault(line, fault)) => at_fault(alloc, line, &fault, out),
-        Err(Ended::Write) => Status::Write,
-        Err(Ended::Memory) => Status::Memory,
+    match asked {
+        Words::Run { store } => Some(*store),
+        Words::Live { .. } | Words::Ask { .. } | Words::Load { .. } | Words::Import { .. } => None,
+        Words::Export { .. } | Words::History | Words::Work { .. } => None,
     }
 }
 
 /// Runs the program on its words, and answers how the run ends.
-fn perform<S: Source, K: Sink, P: PatternMaker>(
+fn perform<R: Threads + Wait + Sync, S: Source, K: Sink, D: Disk, P: PatternMaker>(
+    rt: &R,
     alloc: Global,
     words: &[String],
     script: &mut S,
     out: &mut K,
+    disk: D,
     patterns: &mut P,
-) -> Status
-    ensures says { Says result (call_of (map (λ w. string_bytes w) words.now)
-        (S.left script.old) (S.left script.new) (K.written out.old) (K.written out.new)
-        (S.faults script.old) (S.faults script.new) (K.faults out.old) (K.faults out.new)
-        (P.refusals patterns.old) (P.refusals patterns.new)) }
+) -> Ran<D>
+    ensures says { CallEnds (map (λ w. string_bytes w) words.now) (λ store. call_of store
+        (D.reads disk) (S.left script.old) (S.left script.new) (K.written out.old)
+        (K.written out.new) (S.faults script.old) (S.faults script.new) (K.faults out.old)
+        (K.faults out.new) (P.refusals patterns.old) (P.refusals patterns.new) (D.faults disk)
+        (D.faults result.disk)) (D.may_leave disk) (D.may_leave result.disk) result.status }
+    ensures complete { RunCompletes (map (λ w. string_bytes w) words.now) (λ store. call_of store
+        (D.reads disk) (S.left script.old) (S.left script.new) (K.written out.old)
+        (K.written out.new) (S.faults script.old) (S.faults script.new) (K.faults out.old)
+        (K.faults out.new) (P.refusals patterns.old) (P.refusals patterns.new) (D.faults disk)
+        (D.faults result.disk)) result.status }
+    ensures untouched { (IsRunWords (map (λ w. string_bytes w) words.now) true → ⊥) → result.disk ≡ disk }
 {
-    if is_command(words) {
-        run_source(alloc, script, out, patterns)
-    } else {
-        usage(alloc, out)
+    match read_words(alloc, words) {
+        Ok(asked) => match run_asked(&asked) {
+            Some(store) => run(rt, alloc, store, script, out, disk, patterns),
+            None => Ran {
+                status: usage(alloc, out),
+                disk,
+            },
+        },
+        Err(WordsFault::Usage) => Ran {
+            status: usage(alloc, out),
+            disk,
+        },
+        Err(WordsFault::Memory) => Ran {
+            status: Status::Memory,
+            disk,
+        },
     }
 }
 
-/// Runs the program on its words: `run` runs the script of the source, in its order. The maker makes
-/// the patterns of each line's query when the line is read. This call waits for nobody, and returns.
-/// What it answers is the program's status:
-///
-/// - 0: the input was read to its end, and every request has its reply.
-/// - 2: the words are no command.
-/// - 3: a line is no request; the lines before it were run, and the last line names it.
-/// - 4: the script could not be read. It is read before its first line is run.
-/// - 5: the output could not be written.
-/// - 8: memory ran out.
-/// - 9: a line has over 16,777,216 bytes, there are over 200,000 lines, or the script has over
-///   268,435,456 bytes; the lines before were run.
-pub fn run_words<S: Source, K: Sink, P: PatternMaker>(
+/// Runs the program on its words: `run` runs the script of the source, in its order, with `--store` over the store on
+/// the disk. The disk is handed back. The status is 0, 3 to 6, 8 or 9 as [`run`] answers `Fine`, `Script`, `Read`,
+/// `Write`, `Disk`, `Memory` or `Limit`, 7 for `Damaged`, and 2 where the words are no command.
+pub fn emu<R: Threads + Wait + Sync, S: Source, K: Sink, D: Disk, P: PatternMaker>(
+    rt: &R,
     alloc: Global,
     words: &[String],
     script: &mut S,
     out: &mut K,
+    disk: D,
     patterns: &mut P,
-) -> u8
-    ensures says { CallSays (call_of (map (λ w. string_bytes w) words.now)
-        (S.left script.old) (S.left script.new) (K.written out.old) (K.written out.new)
-        (S.faults script.old) (S.faults script.new) (K.faults out.old) (K.faults out.new)
-        (P.refusals patterns.old) (P.refusals patterns.new)) result }
-    ensures complete { CallCompletes (call_of (map (λ w. string_bytes w) words.now)
-        (S.left script.old) (S.left script.new) (K.written out.old) (K.written out.new)
-        (S.faults script.old) (S.faults script.new) (K.faults out.old) (K.faults out.new)
-        (P.refusals patterns.old) (P.refusals patterns.new)) result }
+) -> Exit<D>
+    ensures says { CallSays (map (λ w. string_bytes w) words.now) (λ store. call_of store
+        (D.reads disk) (S.left script.old) (S.left script.new) (K.written out.old)
+        (K.written out.new) (S.faults script.old) (S.faults script.new) (K.faults out.old)
+        (K.faults out.new) (P.refusals patterns.old) (P.refusals patterns.new) (D.faults disk)
+        (D.faults result.disk)) (D.may_leave disk) (D.may_leave result.disk) result.status }
+    ensures complete { CallCompletes (map (λ w. string_bytes w) words.now) (λ store. call_of store
+        (D.reads disk) (S.left script.old) (S.left script.new) (K.written out.old)
+        (K.written out.new) (S.faults script.old) (S.faults script.new) (K.faults out.old)
+        (K.faults out.new) (P.refusals patterns.old) (P.refusals patterns.new) (D.faults disk)
+        (D.faults result.disk)) result.status }
+    ensures untouched { (IsRunWords (map (λ w. string_bytes w) words.now) true → ⊥) → result.disk ≡ disk }
 {
-    let status = perform(alloc, words, script, out, patterns);
-    code(status)
-}
-
-/// Runs the program on its words with a handle of its own, as later commands need one: today every
-/// command is one of `run_words`, which says what the status means.
-pub fn emu<R: Threads + Wait + Sync, S: Source, K: Sink, P: PatternMaker>(
-    _rt: &R,
-    alloc: Global,
-    words: &[String],
-    script: &mut S,
-    out: &mut K,
-    patterns: &mut P,
-) -> u8
-    ensures says { CallSays (call_of (map (λ w. string_bytes w) words.now)
-        (S.left script.old) (S.left script.new) (K.written out.old) (K.written out.new)
-        (S.faults script.old) (S.faults script.new) (K.faults out.old) (K.faults out.new)
-        (P.refusals patterns.old) (P.refusals patterns.new)) result }
-    ensures complete { CallCompletes (call_of (map (λ w. string_bytes w) words.now)
-        (S.left script.old) (S.left script.new) (K.written out.old) (K.written out.new)
-        (S.faults script.old) (S.faults script.new) (K.faults out.old) (K.faults out.new)
-        (P.refusals patterns.old) (P.refusals patterns.new)) result }
-{
-    run_words(alloc, words, script, out, patterns)
+    let Ran { status, disk } = perform(rt, alloc, words, script, out, disk, patterns);
+    Exit {
+        status: code(status),
+        disk,
+    }
 }

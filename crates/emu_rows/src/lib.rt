@@ -34,4 +34,6 @@ mod scripts;
 #[cfg(test)]
 mod sessions;
 #[cfg(test)]
+mod stores;
+#[cfg(test)]
 mod worked;

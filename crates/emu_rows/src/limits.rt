@@ -1,6 +1,7 @@
 //! The limits of a line, of the number of lines and of a script, each at the limit and one past it.
 use crate::scripts::CONFIG;
 use emu_cli::emu;
+use emu_disk::SureDisk;
 use emu_io::{Failed, ListSink, Source};
 use label_match::RegexMaker;
 use std::io::Read;
@@ -79,9 +80,10 @@ fn ends_with(
         words.as_slice(),
         &mut source,
         &mut sink,
+        SureDisk::new(rt.alloc(), 0)?,
         &mut patterns,
     );
-    assert_eq!(rt; ended, status, "width {width}, {len} bytes");
+    assert_eq!(rt; ended.status, status, "width {width}, {len} bytes");
     let want = if status == 0 { WITHIN } else { OVER };
     assert_eq!(rt; sink.bytes(), want);
     Ok(())

@@ -49,7 +49,7 @@ fn words_that_are_no_command(rt: HostRuntime) -> Result<(), Fail> {
         &[],
         &["fly"],
         &["run", "run"],
-        &["run", "--store"],
+        &["run", "--store", "--store"],
         &["Run"],
     ];
     for words in &wrong {

@@ -1,5 +1,6 @@
 //! Lines of scripts, and runs of the program over sources and sinks in memory.
 use emu_cli::emu;
+use emu_disk::SureDisk;
 use emu_io::{ListSink, ListSource};
 use label_match::{PatternMaker, RegexMaker};
 use std::alloc::{AllocError, Global};
@@ -90,7 +91,20 @@ pub fn run_with<R: Threads + Wait + Sync, P: PatternMaker>(
     }
     let mut source = ListSource::new(script, Vec::from_slice(alloc, bad_reads)?);
     let mut sink = ListSink::new(alloc, Vec::from_slice(alloc, bad_writes)?);
-    let status = emu(rt, alloc, all.as_slice(), &mut source, &mut sink, patterns);
+    let disk = match SureDisk::new(alloc, 0) {
+        Ok(disk) => disk,
+        Err(_) => return Err(AllocError),
+    };
+    let exit = emu(
+        rt,
+        alloc,
+        all.as_slice(),
+        &mut source,
+        &mut sink,
+        disk,
+        patterns,
+    );
+    let status = exit.status;
     let output = Vec::from_slice(alloc, sink.bytes())?;
     Ok(Ran { status, output })
 }

@@ -1,5 +1,7 @@
-use Rattle.std.proofs.Common.{◌≤◌, ℕ, All, List, ◌++◌, length, Option}
+use Rattle.std.proofs.Common.{◌≡◌, ◌≤◌, ℕ, All, List, ◌++◌, length, Option}
 use Rattle.db_config.specs.declared.parts.ConfigParts.{ConfigParts}
+use Rattle.live_book.specs.Commits.{has_journal}
+use Rattle.emu_cli.specs.Bases.{Base}
 use Rattle.emu_cli.specs.Cuts.{cut}
 use Rattle.emu_cli.specs.Reached.{Reached, InLines}
 use Rattle.emu_cli.proofs.script.run_rest.Given as goal
@@ -8,7 +10,8 @@ use Rattle.emu_cli.proofs.script.run_rest.Given as goal
 abbrev pub invariant-lines : goal.invariant-lines
 invariant-lines g l = record {
   rises : All (λ n. n ≤ l.running.number) l.running.earlier;
-  ran : (config : ConfigParts) (lines : List (List ℕ)) (refusals : ℕ) (before : Option (List ℕ)) → Reached config lines l.fn.running refusals (g.P.PatternMaker.refusals l.fn.patterns) before (g.K.Sink.written l.fn.out) → InLines config (lines ++ cut l.past l.bytes) (cut l.past l.rest) l.running refusals (g.P.PatternMaker.refusals l.patterns) before (g.K.Sink.written l.out);
+  ran : (base : Base) (begin : ℕ) (config : ConfigParts) (lines : List (List ℕ)) (refusals : ℕ) (before : Option (List ℕ)) → Reached g.D.Disk.may_leave g.D.Disk.faults base begin config lines l.fn.running refusals (g.P.PatternMaker.refusals l.fn.patterns) before (g.K.Sink.written l.fn.out) → InLines g.D.Disk.may_leave g.D.Disk.faults base begin config (lines ++ cut l.past l.bytes) (cut l.past l.rest) l.running refusals (g.P.PatternMaker.refusals l.patterns) before (g.K.Sink.written l.out);
+  stored : has_journal l.running.core.book.journal ≡ has_journal l.fn.running.core.book.journal;
   later : g.K.Sink.faults l.fn.out ≤ g.K.Sink.faults l.out;
 }
 

@@ -1,0 +1,139 @@
+-- What a status says, of a whole call.
+use Rattle.std.proofs.Common.{◌≡◌, ◌≢◌, ◌⊎◌, inl, inr, ℕ, ◌+◌, ◌<◌, ◌≤◌, ◌-◌, ◌^◌, Bool, true, false, List, [], ◌∷◌, take, Option, Some, None, Result, Ok, Err, IfErr, refl, sym, ◌∙◌, ap, subst, arith}
+use Rattle.std.specs.Io.KnownBytes.{Appends}
+use Rattle.std.proofs.KnownBytes.{Appends-nil}
+use Rattle.fault_counts.specs.Count.{Rose}
+use Rattle.emu_names.specs.declared.limits.TheConstants.{SCRIPT_BYTES}
+use Rattle.emu_io.specs.declared.whole.Front.{Front}
+use Rattle.emu_io.specs.declared.faults.ReadFault.{ReadFault}
+use Rattle.emu_io.specs.declared.faults.ReadFault.TheVariants as read_faults
+use Rattle.emu_io.specs.Fronts.{TakesFront, IsFrontOf, WritesFront}
+use Rattle.edit_journal.specs.declared.journal.Journal.{Journal}
+use Rattle.live_book.specs.declared.fault.OpenFault.{OpenFault}
+use Rattle.live_book.specs.declared.fault.OpenFault.TheVariants as opens
+use Rattle.live_book.specs.Kept.{faults_in}
+use Rattle.live_book.specs.Opens.{IsNoStoreFor}
+use Rattle.store_commands.specs.Texts.{damaged_text}
+use Rattle.emu_cli.specs.declared.ended.Ended.{Ended}
+use Rattle.emu_cli.specs.declared.ended.Ended.TheVariants as ends
+use Rattle.emu_cli.specs.declared.status.Status.{Status}
+use Rattle.emu_cli.specs.declared.status.Status.TheVariants as statuses
+use Rattle.emu_cli.specs.Scripts.{read_from}
+use Rattle.emu_cli.specs.Runs.{usage_text}
+use Rattle.emu_cli.specs.Bases.{Base, wants_by, IsBaseOf, EachOf}
+use Rattle.cli_words.specs.declared.words.Words.{Words}
+use Rattle.cli_words.specs.declared.words.Words.TheVariants as forms
+use Rattle.cli_words.specs.Forms.{words_of}
+use Rattle.emu_cli.specs.Says.{Call, call_of, Says, BrokeOff, Unopened, WritesLast, Completes, IsFaultless, code_of, SaysUsage, IsRunWords, IsNoRun, run_asked}
+use Rattle.emu_cli.specs.Reached.{IsDone, EndHasCause, IsTold}
+use Rattle.emu_cli.specs.Ran.{IsUnread, BeginsBefore, SaysUnopened, WritesNone}
+use Rattle.emu_cli.proofs.SaysLemmas.{says_unread, says_unopened}
+
+-- an end that has its cause has a fault that is told
+pub told_end : (end : Ended) (before now : ℕ) → EndHasCause end before now → IsTold end
+told_end ends.Limit before now h = tt
+told_end (ends.AtFault number fault) before now h = h
+told_end ends.NoRoom before now h = tt
+told_end ends.Disk before now h = tt
+told_end ends.Write before now h = tt
+told_end ends.Memory before now h = tt
+
+pub told_ended : {A : Type 0} (result : Result A Ended) (before now : ℕ) → IfErr result (λ end. EndHasCause end before now) → IfErr result IsTold
+told_ended (Ok x) before now h = tt
+told_ended (Err end) before now h = told_end end before now h
+
+pub begins_before : {D : Type 0} (faults : D → ℕ) (journal : Option (Journal D)) (disk : D) → faults disk ≤ faults_in faults journal → BeginsBefore faults journal disk
+begins_before faults None disk h = tt
+begins_before faults (Some journal) disk h = h
+
+abbrev pub err_fault : ReadFault → Result Front ReadFault
+err_fault fault = Err fault
+
+-- the script could not be read
+module _ (store : Bool) (stored left left_after : Option (List ℕ)) (r rs m f fs : ℕ) (base : Base) (begins : IsBaseOf store stored base) (before images : List ℕ → Type 0) where
+  pub unread_says : (fault : ReadFault) (status : Status) (now : Option (List ℕ)) (w : ℕ) → IsUnread fault status → (fault ≡ read_faults.Failed → Rose r rs) → IsDone base f fs images (read_from (wants_by base)) [] → Says status (call_of store stored left left_after now now r rs w w m m f fs) before images
+  unread_says read_faults.Failed status now w is cause d =
+      subst (λ st. Says st (call_of store stored left left_after now now r rs w w m m f fs) before images) (sym is) (says_unopened store stored left left_after r rs m m f fs base begins before images now w (cause refl) d)
+  unread_says read_faults.Memory status now w is cause d =
+      subst (λ st. Says st (call_of store stored left left_after now now r rs w w m m f fs) before images) (sym is) (says_unread store stored left left_after r rs m m f fs base begins before images now w w (omega arith) d)
+
+-- a store that is not opened is never full
+pub not_full : {D : Type 0} (stored : Option (List ℕ)) (faults : D → ℕ) (old new : D) (fault : OpenFault) → IsNoStoreFor stored faults old fault new → fault ≢ opens.StoreFull
+not_full stored faults old new fault why same = subst (λ f. IsNoStoreFor stored faults old f new) same why
+
+-- the store could not be opened
+module _ {D : Type 0} (faults : D → ℕ) (old new : D) (stored left before after : Option (List ℕ)) (r w ws m : ℕ) (images images_after : List ℕ → Type 0) (none_new : EachOf images_after images) where
+  abbrev call : Call
+  call = call_of true stored left left before after r r w ws m m (faults old) (faults new)
+
+  pub says_no_store : (fault : OpenFault) (status : Status) → IsNoStoreFor stored faults old fault new → SaysUnopened fault status before after w ws → Says status call images images_after
+  says_no_store opens.Disk status why h =
+      subst (λ st. Says st call images images_after) (sym h.0) (record { stored = refl; cause = why; leaves = inl none_new; output = subst (λ now. Appends before now []) (sym h.1) (Appends-nil before) })
+  says_no_store (opens.Damaged at) status why (inl h) =
+      subst (λ st. Says st call images images_after) (sym h.0) (record { at = at; damage = record { stored = refl; damaged = why }; leaves = none_new; output = h.1 })
+  says_no_store (opens.Damaged at) status why (inr (inl h)) =
+      subst (λ st. Says st call images images_after) (sym h.0) (record {
+        cause = h.1;
+        output = inr (inr (record { stored = refl; leaves = none_new; last = damaged_text at; line = inr (at, record { stored = refl; damaged = why }, refl); output = h.2 }));
+      })
+  says_no_store (opens.Damaged at) status why (inr (inr h)) =
+      subst (λ st. Says st call images images_after) (sym h.0)
+      (inr (inr (record { stored = refl; leaves = none_new; last = damaged_text at; line = inr (at, record { stored = refl; damaged = why }, refl); output = h.1 })))
+  says_no_store opens.StoreFull status why h = absurd why
+  says_no_store opens.Memory status why h =
+      subst (λ st. Says st call images images_after) (sym h.0)
+      (inr (inr (record { stored = refl; leaves = none_new; last = []; line = inl refl; output = (0, subst (λ now. Appends before now []) (sym h.1) (Appends-nil before)) })))
+
+-- the last line, as a status says it
+pub usage_says : (status : Status) (before after : Option (List ℕ)) (w ws : ℕ) (call : Call) → call.written ≡ before → call.written_after ≡ after → call.writes ≡ w → call.writes_after ≡ ws → WritesLast status statuses.Usage before after w ws usage_text → SaysUsage status call
+usage_says status before after w ws call b a o n (inl h) = subst (λ st. SaysUsage st call) (sym h.0) (rw (b, a) h.1)
+usage_says status before after w ws call b a o n (inr (inl h)) = subst (λ st. SaysUsage st call) (sym h.0) (rw (o, n) h.1, rw (b, a) h.2)
+usage_says status before after w ws call b a o n (inr (inr h)) = subst (λ st. SaysUsage st call) (sym h.0) (rw (b, a) h.1)
+
+-- The codes of a call that completes.
+pub complete_code : (status : Status) (code : ℕ) → code ≡ code_of status → (status ≡ statuses.Fine) ⊎ (status ≡ statuses.Memory) → (code ≡ 0) ⊎ (code ≡ 8)
+complete_code status code is (inl h) = inl (is ∙ ap code_of h)
+complete_code status code is (inr h) = inr (is ∙ ap code_of h)
+
+-- What the words ask for.
+
+abbrev some_words : Words → Option Words
+some_words w = Some w
+
+abbrev some_flag : Bool → Option Bool
+some_flag b = Some b
+
+no_flag : (b : Bool) → None ≡ some_flag b → ⊥
+no_flag b h = cc
+
+flag_same : {a b : Bool} → some_flag a ≡ some_flag b → a ≡ b
+flag_same h = cc
+
+words_same : {v w : Words} → some_words v ≡ some_words w → v ≡ w
+words_same h = cc
+
+pub asked_run : (words : List (List ℕ)) (asked : Words) (store : Bool) → words_of words ≡ Some asked → run_asked asked ≡ Some store → IsRunWords words store
+asked_run words (forms.Run s) store h e = h ∙ ap (λ b. some_words (forms.Run b)) (flag_same e)
+asked_run words (forms.Live s n) store h e = absurd (no_flag store e)
+asked_run words (forms.Ask eql time) store h e = absurd (no_flag store e)
+asked_run words (forms.Load name) store h e = absurd (no_flag store e)
+asked_run words (forms.Import session bundle rate file) store h e = absurd (no_flag store e)
+asked_run words (forms.Export session bundle) store h e = absurd (no_flag store e)
+asked_run words forms.History store h e = absurd (no_flag store e)
+asked_run words (forms.Work number bundles) store h e = absurd (no_flag store e)
+
+pub asked_none : (words : List (List ℕ)) (asked : Words) → words_of words ≡ Some asked → run_asked asked ≡ None → IsNoRun words
+asked_none words asked h e = λ store r. no_flag store (sym e ∙ ap run_asked (words_same (sym h ∙ r)))
+
+pub usage_none : (words : List (List ℕ)) → words_of words ≡ None → IsNoRun words
+usage_none words h = λ store r. no_words (forms.Run store) (sym h ∙ r)
+  where
+    no_words : (w : Words) → None ≡ some_words w → ⊥
+    no_words w e = cc
+
+pub run_same : (words : List (List ℕ)) (a b : Bool) → IsRunWords words a → IsRunWords words b → a ≡ b
+run_same words a b h k = flag_same (ap run_asked (words_same (sym h ∙ k)))
+
+pub store_false : (words : List (List ℕ)) (store : Bool) → IsRunWords words store → (IsRunWords words true → ⊥) → store ≡ false
+store_false words true h other = absurd (other h)
+store_false words false h other = refl

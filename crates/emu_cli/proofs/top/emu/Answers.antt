@@ -1,0 +1,5 @@
+use Rattle.emu_cli.proofs.CallLemmas.{complete_code}
+use Rattle.emu_cli.proofs.top.emu.Goals as goal
+
+pub returns-clause-complete : goal.returns-clause-complete
+returns-clause-complete g c = λ store r faultless. complete_code c.perform-status.result.status c.code.result c.code.ensures (c.perform-status.ensures.complete store r faultless)

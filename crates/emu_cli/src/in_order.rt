@@ -1,0 +1,283 @@
+//! The command `run`: the store is opened, if there is one, the script is read, run and answered, and the disk is
+//! given back.
+ghost use Rattle.std.specs.Prelude.{◌≡◌, ◌≢◌, ◌≤◌, ℕ, List, Bool, true, false, None, Option};
+ghost use Rattle.live_book.specs.Kept.{KeepsIn, faults_in};
+ghost use Rattle.live_book.specs.Commits.{has_journal};
+ghost use Rattle.live_book.specs.Opens.{AreAtFront, IsEmpty, IsOpenedAs, journal_in};
+ghost use Rattle.emu_cli.specs.Bases.{IsBaseOf, fresh_base, store_of};
+ghost use Rattle.emu_cli.specs.Ran.{BeginsBefore, HasDisk, IsUnread, SaysUnopened};
+ghost use Rattle.emu_cli.specs.Says.{call_of, Completes, Says};
+
+use crate::last::{close_run, damaged};
+use crate::script::{READERS, RunEnd, run_over, run_script};
+use crate::status::Status;
+use edit_journal::Journal;
+use emu_disk::Disk;
+use emu_io::{ReadFault, Sink, Source, read_front};
+use emu_names::limits::SCRIPT_BYTES;
+use label_match::PatternMaker;
+use live_book::{Book, NoStore, OpenFault, Opened, Published, open_store};
+use std::alloc::Global;
+use std::sync::Wait;
+use std::thread::Threads;
+use version_gate::Passes;
+
+/// How a run ended, and its disk.
+#[derive(Drop)]
+pub struct Ran<D: Disk> {
+    /// How it ended.
+    pub status: Status,
+    /// The disk.
+    pub disk: D,
+}
+
+/// How a run ended, and the journal of its store.
+struct Left<D: Disk> {
+    status: Status,
+    journal: Option<Journal<D>>,
+}
+
+/// How a run ends whose script could not be read.
+fn unread(fault: ReadFault) -> Status
+    ensures { IsUnread fault result }
+{
+    match fault {
+        ReadFault::Failed => Status::Read,
+        ReadFault::Memory => Status::Memory,
+    }
+}
+
+/// Runs the script of the source, which has to give its configuration, and writes its replies and perhaps a last
+/// line. The journal, if there is one, has no bodies.
+fn run_fresh<R: Threads + Wait + Sync, S: Source, K: Sink, D: Disk, P: PatternMaker>(
+    rt: &R,
+    alloc: Global,
+    journal: Option<Journal<D>>,
+    script: &mut S,
+    out: &mut K,
+    patterns: &mut P,
+) -> Left<D>
+    requires { IsEmpty D.may_leave journal }
+    ensures says { (store : Bool) (begin disk : D) → has_journal journal ≡ store →
+        IsBaseOf store (D.reads begin) (fresh_base store) → BeginsBefore D.faults journal begin →
+        HasDisk result.journal disk → Says result.status (call_of store (D.reads begin)
+        (S.left script.old) (S.left script.new) (K.written out.old) (K.written out.new)
+        (S.faults script.old) (S.faults script.new) (K.faults out.old) (K.faults out.new)
+        (P.refusals patterns.old) (P.refusals patterns.new) (D.faults begin) (D.faults disk))
+        (D.may_leave begin) (D.may_leave disk) }
+    ensures stored { has_journal result.journal ≡ has_journal journal }
+{
+    match read_front(alloc, script, SCRIPT_BYTES) {
+        Err(fault) => Left {
+            status: unread(fault),
+            journal,
+        },
+        Ok(front) => {
+            let bytes = front.bytes.as_slice();
+            let RunEnd { ended, journal } = run_script(
+                rt, alloc, journal, front.past, bytes, out, patterns,
+            );
+            Left {
+                status: close_run(alloc, ended, out),
+                journal,
+            }
+        }
+    }
+}
+
+/// Runs the script of the source over the book of an opened store, and writes its replies and perhaps a last line.
+fn run_opened<R: Threads + Wait + Sync, S: Source, K: Sink, D: Disk, P: PatternMaker>(
+    rt: &R,
+    alloc: Global,
+    book: Book<D>,
+    passes: Passes<Published>,
+    script: &mut S,
+    out: &mut K,
+    patterns: &mut P,
+) -> Left<D>
+    requires passes { AreAtFront 1 book passes }
+    requires stored { has_journal book.journal ≡ true }
+    ensures says { (begin disk : D) → KeepsIn D.may_leave book.config book.history None book.journal →
+        IsBaseOf true (D.reads begin) (store_of book.config book.history) →
+        BeginsBefore D.faults book.journal begin → HasDisk result.journal disk →
+        Says result.status (call_of true (D.reads begin)
+        (S.left script.old) (S.left script.new) (K.written out.old) (K.written out.new)
+        (S.faults script.old) (S.faults script.new) (K.faults out.old) (K.faults out.new)
+        (P.refusals patterns.old) (P.refusals patterns.new) (D.faults begin) (D.faults disk))
+        (D.may_leave begin) (D.may_leave disk) }
+    ensures stored { has_journal result.journal ≡ true }
+{
+    match read_front(alloc, script, SCRIPT_BYTES) {
+        Err(fault) => Left {
+            status: unread(fault),
+            journal: book.into_journal(rt),
+        },
+        Ok(front) => {
+            let bytes = front.bytes.as_slice();
+            let RunEnd { ended, journal } = run_over(
+                rt, alloc, book, passes, front.past, bytes, out, patterns,
+            );
+            Left {
+                status: close_run(alloc, ended, out),
+                journal,
+            }
+        }
+    }
+}
+
+/// Writes why the store was not opened, where that has a last line, and answers how the run ends.
+fn unopened<K: Sink>(alloc: Global, fault: OpenFault, out: &mut K) -> Status
+    requires { fault ≢ OpenFault.StoreFull }
+    ensures { SaysUnopened fault result (K.written out.old) (K.written out.new) (K.faults out.old)
+        (K.faults out.new) }
+{
+    match fault {
+        OpenFault::Disk => Status::Disk,
+        OpenFault::Damaged(at) => damaged(alloc, at, out),
+        OpenFault::StoreFull => unreachable!(),
+        OpenFault::Memory => Status::Memory,
+    }
+}
+
+/// The disk of a run's store.
+fn give_back<D: Disk>(left: Left<D>) -> Ran<D>
+    requires { has_journal left.journal ≡ true }
+    ensures disk { HasDisk left.journal result.disk }
+    ensures status { result.status ≡ left.status }
+{
+    let Left { status, journal } = left;
+    match journal {
+        Some(journal) => Ran {
+            status,
+            disk: journal.into_disk(),
+        },
+        None => unreachable!(),
+    }
+}
+
+/// Runs the script of the source over an opened store.
+fn run_over_store<R: Threads + Wait + Sync, S: Source, K: Sink, D: Disk, P: PatternMaker>(
+    rt: &R,
+    alloc: Global,
+    opened: Opened<D>,
+    script: &mut S,
+    out: &mut K,
+    patterns: &mut P,
+) -> Ran<D>
+    requires { (reads : Option (List ℕ)) ×
+        IsOpenedAs D.may_leave reads 1 opened.book opened.journal opened.passes }
+    ensures says { (begin : D) →
+        IsOpenedAs D.may_leave (D.reads begin) 1 opened.book opened.journal opened.passes →
+        D.faults begin ≤ faults_in D.faults (journal_in opened.book opened.journal) →
+        Says result.status (call_of true (D.reads begin)
+        (S.left script.old) (S.left script.new) (K.written out.old) (K.written out.new)
+        (S.faults script.old) (S.faults script.new) (K.faults out.old) (K.faults out.new)
+        (P.refusals patterns.old) (P.refusals patterns.new) (D.faults begin) (D.faults result.disk))
+        (D.may_leave begin) (D.may_leave result.disk) }
+{
+    let Opened {
+        book,
+        journal,
+        passes,
+    } = opened;
+    match book {
+        Some(book) => match journal {
+            None => give_back(run_opened(rt, alloc, book, passes, script, out, patterns)),
+            Some(_) => unreachable!(),
+        },
+        None => give_back(run_fresh(rt, alloc, journal, script, out, patterns)),
+    }
+}
+
+/// Runs the script of the source with a store: opens it, and goes on with what it has.
+fn run_stored<R: Threads + Wait + Sync, S: Source, K: Sink, D: Disk, P: PatternMaker>(
+    rt: &R,
+    alloc: Global,
+    script: &mut S,
+    out: &mut K,
+    disk: D,
+    patterns: &mut P,
+) -> Ran<D>
+    ensures says { Says result.status (call_of true (D.reads disk)
+        (S.left script.old) (S.left script.new) (K.written out.old) (K.written out.new)
+        (S.faults script.old) (S.faults script.new) (K.faults out.old) (K.faults out.new)
+        (P.refusals patterns.old) (P.refusals patterns.new) (D.faults disk) (D.faults result.disk))
+        (D.may_leave disk) (D.may_leave result.disk) }
+{
+    match open_store(rt, alloc, disk, READERS) {
+        Ok(opened) => run_over_store(rt, alloc, opened, script, out, patterns),
+        Err(refused) => {
+            let NoStore { fault, disk } = refused;
+            Ran {
+                status: unopened(alloc, fault, out),
+                disk,
+            }
+        }
+    }
+}
+
+/// Runs the script of the source without a store; the disk is not called.
+fn run_alone<R: Threads + Wait + Sync, S: Source, K: Sink, D: Disk, P: PatternMaker>(
+    rt: &R,
+    alloc: Global,
+    script: &mut S,
+    out: &mut K,
+    disk: D,
+    patterns: &mut P,
+) -> Ran<D>
+    ensures says { Says result.status (call_of false (D.reads disk)
+        (S.left script.old) (S.left script.new) (K.written out.old) (K.written out.new)
+        (S.faults script.old) (S.faults script.new) (K.faults out.old) (K.faults out.new)
+        (P.refusals patterns.old) (P.refusals patterns.new) (D.faults disk) (D.faults result.disk))
+        (D.may_leave disk) (D.may_leave result.disk) }
+    ensures untouched { result.disk ≡ disk }
+{
+    let journal: Option<Journal<D>> = None;
+    let Left { status, journal } = run_fresh(rt, alloc, journal, script, out, patterns);
+    match journal {
+        None => Ran { status, disk },
+        Some(_) => unreachable!(),
+    }
+}
+
+/// Runs the script of the source in its order, with a store or without, and writes each reply before the next line is
+/// run. The maker makes the patterns of each line's query when the line is read. With a store, that is opened before
+/// the script is read; where it has a configuration, the script gives none. The disk is handed back. It may wait for
+/// passes that read.
+///
+/// - `Fine`: the input was read to its end, and every request has its reply.
+/// - `Script`: a line is no request; the lines before it were run, and the last line names it.
+/// - `Read`: the script could not be read. It is read before its first line is run.
+/// - `Write`: the output could not be written.
+/// - `Disk`: the disk failed while the store was opened or its configuration written; nothing was written.
+/// - `Damaged`: the store stands for no configuration and history; the last line names the place.
+/// - `Memory`: memory ran out.
+/// - `Limit`: a line has over 16,777,216 bytes, there are over 200,000 lines, or the script has over 268,435,456
+///   bytes; the lines before were run. Or the code of the script's configuration has over 268,435,442 bytes.
+pub fn run<R: Threads + Wait + Sync, S: Source, K: Sink, D: Disk, P: PatternMaker>(
+    rt: &R,
+    alloc: Global,
+    store: bool,
+    script: &mut S,
+    out: &mut K,
+    disk: D,
+    patterns: &mut P,
+) -> Ran<D>
+    ensures says { Says result.status (call_of store (D.reads disk)
+        (S.left script.old) (S.left script.new) (K.written out.old) (K.written out.new)
+        (S.faults script.old) (S.faults script.new) (K.faults out.old) (K.faults out.new)
+        (P.refusals patterns.old) (P.refusals patterns.new) (D.faults disk) (D.faults result.disk))
+        (D.may_leave disk) (D.may_leave result.disk) }
+    ensures complete { Completes (call_of store (D.reads disk)
+        (S.left script.old) (S.left script.new) (K.written out.old) (K.written out.new)
+        (S.faults script.old) (S.faults script.new) (K.faults out.old) (K.faults out.new)
+        (P.refusals patterns.old) (P.refusals patterns.new) (D.faults disk) (D.faults result.disk))
+        result.status }
+    ensures untouched { store ≡ false → result.disk ≡ disk }
+{
+    if store {
+        run_stored(rt, alloc, script, out, disk, patterns)
+    } else {
+        run_alone(rt, alloc, script, out, disk, patterns)
+    }
+}
