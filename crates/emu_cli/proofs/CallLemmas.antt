@@ -24,7 +24,9 @@ use Rattle.emu_cli.specs.Bases.{Base, wants_by, IsBaseOf, EachOf}
 use Rattle.cli_words.specs.declared.words.Words.{Words}
 use Rattle.cli_words.specs.declared.words.Words.TheVariants as forms
 use Rattle.cli_words.specs.Forms.{words_of}
-use Rattle.emu_cli.specs.Says.{Call, call_of, Says, BrokeOff, Unopened, WritesLast, Completes, IsFaultless, code_of, SaysUsage, IsRunWords, IsNoRun, run_asked}
+use Rattle.store_calls.specs.declared.ending.Ending.{Ending}
+use Rattle.store_calls.specs.Ends.{is_of_store}
+use Rattle.emu_cli.specs.Says.{Call, call_of, CallEnds, Says, SaysStore, BrokeOff, Unopened, WritesLast, Completes, IsFaultless, code_of, SaysUsage, IsRunWords, IsNoRun, AsksForStore, IsNoCommand, run_asked}
 use Rattle.emu_cli.specs.Reached.{IsDone, EndHasCause, IsTold}
 use Rattle.emu_cli.specs.Ran.{IsUnread, BeginsBefore, SaysUnopened, WritesNone}
 use Rattle.emu_cli.proofs.SaysLemmas.{says_unread, says_unopened}
@@ -137,3 +139,29 @@ run_same words a b h k = flag_same (ap run_asked (words_same (sym h ∙ k)))
 pub store_false : (words : List (List ℕ)) (store : Bool) → IsRunWords words store → (IsRunWords words true → ⊥) → store ≡ false
 store_false words true h other = absurd (other h)
 store_false words false h other = refl
+
+-- Commands on the store.
+
+store_words : (words : List (List ℕ)) (asked : Words) → words_of words ≡ Some asked → AsksForStore words → is_of_store asked ≡ true
+store_words words asked h (command, k, is) = ap is_of_store (words_same (sym h ∙ k)) ∙ is
+
+not_both : (b : Bool) → b ≡ true → b ≡ false → ⊥
+not_both b h k = cc
+
+-- a command that is no run is one on the store, or none that the program does
+pub other_ends : (words : List (List ℕ)) (asked : Words) (call : Bool → Call) (before images : List ℕ → Type 0) (Ends : Words → Ending → Type 0) (Writes : Status → Ending → Type 0) (status : Status) (b : Bool) → is_of_store asked ≡ b → words_of words ≡ Some asked → run_asked asked ≡ None →
+    (is_of_store asked ≡ true → (ending : Ending) × Ends asked ending × Writes status ending) → (is_of_store asked ≡ false → SaysUsage status (call false)) →
+    CallEnds words call before images (λ st. SaysStore words Ends (Writes st)) status
+other_ends words asked call before images Ends Writes status true is h n stored none = inr (inr (inr (asked, h, is, stored is)))
+other_ends words asked call before images Ends Writes status false is h n stored none =
+    inr (inl (record { no_run = asked_none words asked h n; no_store = λ asks. not_both (is_of_store asked) (store_words words asked h asks) is }, none is))
+
+pub other_store : (words : List (List ℕ)) (asked : Words) (b : Bool) → is_of_store asked ≡ b → words_of words ≡ Some asked → (AsksForStore words → ⊥) → is_of_store asked ≡ false
+other_store words asked true is h none = absurd (none (asked, h, is))
+other_store words asked false is h none = is
+
+pub no_command : (words : List (List ℕ)) → words_of words ≡ None → IsNoCommand words
+no_command words h = record { no_run = usage_none words h; no_store = λ asks. no_words asks.0 (sym h ∙ asks.1) }
+    where
+      no_words : (w : Words) → None ≡ some_words w → ⊥
+      no_words w e = cc

@@ -12,7 +12,11 @@ use Rattle.live_book.specs.Histories.{OfRead, IsBare, Stands, IsDamagedAt, HeadP
 use Rattle.live_book.specs.Opens.{DuringNew}
 use Rattle.store_commands.specs.Texts.{damaged_text}
 use Rattle.cli_words.specs.declared.words.Words.{Words}
+use Rattle.cli_words.specs.declared.words.Words.{Words}
 use Rattle.cli_words.specs.declared.words.Words.TheVariants as forms
+use Rattle.store_calls.specs.declared.ending.Ending.{Ending}
+use Rattle.store_calls.specs.declared.ending.Ending.TheVariants as endings
+use Rattle.store_calls.specs.Ends.{is_of_store}
 use Rattle.cli_words.specs.Forms.{words_of}
 use Rattle.emu_cli.specs.declared.status.Status.{Status}
 use Rattle.emu_cli.specs.declared.status.Status.TheVariants as statuses
@@ -298,16 +302,55 @@ SaysUsage status call = ⊥
 abbrev pub SaysNothing : Status → Call → Type 0
 SaysNothing status call = (status ≡ statuses.Memory) × Appends call.written call.written_after []
 
--- what a status says of a call by its words; the call is given with a store and without
-abbrev pub CallEnds : List (List ℕ) → (Bool → Call) → (List ℕ → Type 0) → (List ℕ → Type 0) → Status → Type 0
-CallEnds words call before images status =
+-- a last line was written, and the run ends as it says; or a front of it, and a write failed or
+-- memory ran out
+abbrev pub WritesLast : Status → Status → Option (List ℕ) → Option (List ℕ) → ℕ → ℕ → List ℕ → Type 0
+WritesLast result status before now faults faults_now text =
+    ((result ≡ status) × Appends before now text)
+    ⊎ (((result ≡ statuses.Write) × Rose faults faults_now × WritesFront before now text)
+    ⊎ ((result ≡ statuses.Memory) × WritesFront before now text))
+
+-- the words ask for a command on the store
+abbrev pub AsksForStore : List (List ℕ) → Type 0
+AsksForStore words = (command : Words) × (words_of words ≡ Some command) × (is_of_store command ≡ true)
+
+-- the words ask for nothing that the program does
+pub record IsNoCommand (words : List (List ℕ)) : Type 0 where
+  pub no_run : IsNoRun words
+  pub no_store : AsksForStore words → ⊥
+
+-- a command on the store that the words ask for ended so, and the status goes with the ending
+abbrev pub SaysStore : List (List ℕ) → (Words → Ending → Type 0) → (Ending → Type 0) → Type 0
+SaysStore words Ends Writes =
+    (command : Words) × (words_of words ≡ Some command) × (is_of_store command ≡ true)
+    × (ending : Ending) × Ends command ending × Writes ending
+
+-- What a status says of a call by its words. The call is given with a store and without; `Stores` is what it says of a
+-- command on the store.
+abbrev pub CallEnds : List (List ℕ) → (Bool → Call) → (List ℕ → Type 0) → (List ℕ → Type 0) → (Status → Type 0)
+    → Status → Type 0
+CallEnds words call before images Stores status =
     ((store : Bool) × IsRunWords words store × Says status (call store) before images)
-    ⊎ ((IsNoRun words × SaysUsage status (call false)) ⊎ SaysNothing status (call false))
+    ⊎ ((IsNoCommand words × SaysUsage status (call false)) ⊎ (SaysNothing status (call false) ⊎ Stores status))
 
 -- what the code that a call answers says of it
-abbrev pub CallSays : List (List ℕ) → (Bool → Call) → (List ℕ → Type 0) → (List ℕ → Type 0) → ℕ → Type 0
-CallSays words call before images code =
-    (status : Status) × (code ≡ code_of status) × CallEnds words call before images status
+abbrev pub CallSays : List (List ℕ) → (Bool → Call) → (List ℕ → Type 0) → (List ℕ → Type 0) → (Status → Type 0)
+    → ℕ → Type 0
+CallSays words call before images Stores code =
+    (status : Status) × (code ≡ code_of status) × CallEnds words call before images Stores status
+
+-- the text of an ending was written, and the status is its own; or a front of the text, and a write failed or memory ran
+-- out; or there is no text
+abbrev pub Finishes : Status → Option (List ℕ) → Option (List ℕ) → ℕ → ℕ → Ending → Type 0
+Finishes status before now writes writes_now (endings.Fine text) =
+    WritesLast status statuses.Fine before now writes writes_now text
+Finishes status before now writes writes_now (endings.Refused text) =
+    WritesLast status statuses.Refused before now writes writes_now text
+Finishes status before now writes writes_now (endings.Damaged text) =
+    WritesLast status statuses.Damaged before now writes writes_now text
+Finishes status before now writes writes_now endings.Read = (status ≡ statuses.Read) × Appends before now []
+Finishes status before now writes writes_now endings.Disk = (status ≡ statuses.Disk) × Appends before now []
+Finishes status before now writes writes_now endings.Memory = (status ≡ statuses.Memory) × Appends before now []
 
 -- where nothing is wrong outside or in the script, only want of memory keeps a run from its end
 abbrev pub RunCompletes : List (List ℕ) → (Bool → Call) → Status → Type 0
@@ -317,11 +360,3 @@ RunCompletes words call status = (store : Bool) → IsRunWords words store → C
 abbrev pub CallCompletes : List (List ℕ) → (Bool → Call) → ℕ → Type 0
 CallCompletes words call code =
     (store : Bool) → IsRunWords words store → IsFaultless (call store) → (code ≡ 0) ⊎ (code ≡ 8)
-
--- a last line was written, and the run ends as it says; or a front of it, and a write failed or
--- memory ran out
-abbrev pub WritesLast : Status → Status → Option (List ℕ) → Option (List ℕ) → ℕ → ℕ → List ℕ → Type 0
-WritesLast result status before now faults faults_now text =
-    ((result ≡ status) × Appends before now text)
-    ⊎ (((result ≡ statuses.Write) × Rose faults faults_now × WritesFront before now text)
-    ⊎ ((result ≡ statuses.Memory) × WritesFront before now text))

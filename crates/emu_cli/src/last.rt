@@ -4,7 +4,7 @@ ghost use Rattle.script_lines.specs.Texts.{fault_text};
 ghost use Rattle.store_commands.specs.Texts.{damaged_text};
 ghost use Rattle.emu_cli.specs.Reached.{IsTold};
 ghost use Rattle.emu_cli.specs.Ran.{Closes};
-ghost use Rattle.emu_cli.specs.Says.{WritesLast};
+ghost use Rattle.emu_cli.specs.Says.{Finishes, WritesLast};
 ghost use Rattle.emu_cli.specs.Runs.{limit_text, usage_text};
 
 use crate::ended::Ended;
@@ -14,6 +14,7 @@ use emu_io::Sink;
 use emu_names::Text;
 use script_lines::{LineFault, print_fault, print_last};
 use std::alloc::Global;
+use store_calls::Ending;
 use store_commands::print_damaged;
 
 /// Writes the last line of a run that ends with `status`, and answers how the run ends.
@@ -91,5 +92,20 @@ pub(crate) fn close_run<K: Sink>(alloc: Global, ended: Result<(), Ended>, out: &
         Err(Ended::Disk) => Status::Disk,
         Err(Ended::Write) => Status::Write,
         Err(Ended::Memory) => Status::Memory,
+    }
+}
+
+/// Writes the text with which a command on the store ends, if it has one, and answers how it ends.
+pub(crate) fn finish<K: Sink>(out: &mut K, ending: &Ending) -> Status
+    ensures { Finishes result (K.written out.old) (K.written out.new) (K.faults out.old) (K.faults out.new)
+        ending.now }
+{
+    match ending {
+        Ending::Fine(text) => write_last(out, text, Status::Fine),
+        Ending::Refused(text) => write_last(out, text, Status::Refused),
+        Ending::Damaged(text) => write_last(out, text, Status::Damaged),
+        Ending::Read => Status::Read,
+        Ending::Disk => Status::Disk,
+        Ending::Memory => Status::Memory,
     }
 }

@@ -1,17 +1,21 @@
 //! The top call.
-ghost use Rattle.std.specs.Prelude.{◌≡◌, true, map, string_bytes};
-ghost use Rattle.emu_cli.specs.Says.{call_of, CallCompletes, CallEnds, CallSays, IsRunWords, RunCompletes, run_asked};
+ghost use Rattle.std.specs.Prelude.{◌≡◌, true, false, map, string_bytes};
+ghost use Rattle.store_calls.specs.declared.ending.Ending.{Ending as Ends};
+ghost use Rattle.store_calls.specs.Ends.{EndsOnStore, HasRate, is_of_store, outside_of};
+ghost use Rattle.emu_cli.specs.Runs.{usage_text};
+ghost use Rattle.emu_cli.specs.Says.{AsksForStore, call_of, CallCompletes, CallEnds, CallSays, Finishes, IsRunWords, RunCompletes, SaysStore, WritesLast, run_asked};
 
 use crate::in_order::{Ran, run};
-use crate::last::usage;
+use crate::last::{finish, usage};
 use crate::status::{Status, code};
-use cli_words::{Words, WordsFault, read_words};
+use cli_words::{Words, WordsFault};
 use emu_disk::Disk;
-use emu_io::{Sink, Source};
+use emu_io::{Folder, Gate, Sink, Source};
 use label_match::PatternMaker;
 use std::alloc::Global;
 use std::sync::Wait;
 use std::thread::Threads;
+use store_calls::{StoreEnd, is_of_store, on_store, read_command};
 
 /// How a call ended, and its disk.
 #[derive(Drop)]
@@ -33,35 +37,121 @@ fn run_asked(asked: &Words) -> Option<bool>
     }
 }
 
-/// Runs the program on its words, and answers how the run ends.
-fn perform<R: Threads + Wait + Sync, S: Source, K: Sink, D: Disk, P: PatternMaker>(
+/// Runs a command on the store, and writes its text.
+fn perform_on_store<
+    R: Threads + Wait + Sync,
+    K: Sink,
+    F: Folder,
+    D: Disk,
+    P: PatternMaker,
+    G: Gate + Sync,
+>(
+    rt: &R,
+    alloc: Global,
+    command: &Words,
+    out: &mut K,
+    folder: &mut F,
+    disk: D,
+    patterns: &mut P,
+    gate: &G,
+) -> Ran<D>
+    requires kind { is_of_store command.now ≡ true }
+    requires rate { HasRate command.now }
+    ensures { (ending : Ends) × EndsOnStore D.may_leave D.moment D.left_since D.faults
+        (outside_of (F.content folder.old) (D.reads disk) (F.faults folder.old) (F.faults folder.new)
+        (F.misses folder.old) (F.misses folder.new) (D.faults disk) (D.faults result.disk))
+        (P.refusals patterns.old) (P.refusals patterns.new) command.now ending disk result.disk
+        × Finishes result.status (K.written out.old) (K.written out.new) (K.faults out.old) (K.faults out.new) ending }
+{
+    let StoreEnd { ending, disk } = on_store(rt, alloc, command, folder, disk, patterns, gate);
+    Ran {
+        status: finish(out, &ending),
+        disk,
+    }
+}
+
+/// Runs a command that is no run: on the store, or none that the program does.
+fn perform_other<
+    R: Threads + Wait + Sync,
+    K: Sink,
+    F: Folder,
+    D: Disk,
+    P: PatternMaker,
+    G: Gate + Sync,
+>(
+    rt: &R,
+    alloc: Global,
+    command: &Words,
+    out: &mut K,
+    folder: &mut F,
+    disk: D,
+    patterns: &mut P,
+    gate: &G,
+) -> Ran<D>
+    requires rate { HasRate command.now }
+    ensures store { is_of_store command.now ≡ true → (ending : Ends) × EndsOnStore D.may_leave D.moment D.left_since D.faults
+        (outside_of (F.content folder.old) (D.reads disk) (F.faults folder.old) (F.faults folder.new)
+        (F.misses folder.old) (F.misses folder.new) (D.faults disk) (D.faults result.disk))
+        (P.refusals patterns.old) (P.refusals patterns.new) command.now ending disk result.disk
+        × Finishes result.status (K.written out.old) (K.written out.new) (K.faults out.old) (K.faults out.new) ending }
+    ensures usage { is_of_store command.now ≡ false → WritesLast result.status Status.Usage
+        (K.written out.old) (K.written out.new) (K.faults out.old) (K.faults out.new) usage_text }
+    ensures untouched { is_of_store command.now ≡ false → result.disk ≡ disk }
+{
+    if is_of_store(command) {
+        perform_on_store(rt, alloc, command, out, folder, disk, patterns, gate)
+    } else {
+        Ran {
+            status: usage(alloc, out),
+            disk,
+        }
+    }
+}
+
+/// Runs the program on its words, and answers how it ends.
+fn perform<
+    R: Threads + Wait + Sync,
+    S: Source,
+    K: Sink,
+    F: Folder,
+    D: Disk,
+    P: PatternMaker,
+    G: Gate + Sync,
+>(
     rt: &R,
     alloc: Global,
     words: &[String],
     script: &mut S,
     out: &mut K,
+    folder: &mut F,
     disk: D,
     patterns: &mut P,
+    gate: &G,
 ) -> Ran<D>
     ensures says { CallEnds (map (λ w. string_bytes w) words.now) (λ store. call_of store
         (D.reads disk) (S.left script.old) (S.left script.new) (K.written out.old)
         (K.written out.new) (S.faults script.old) (S.faults script.new) (K.faults out.old)
         (K.faults out.new) (P.refusals patterns.old) (P.refusals patterns.new) (D.faults disk)
-        (D.faults result.disk)) (D.may_leave disk) (D.may_leave result.disk) result.status }
+        (D.faults result.disk)) (D.may_leave disk) (D.may_leave result.disk)
+        (λ status. SaysStore (map (λ w. string_bytes w) words.now)
+        (λ command ending. EndsOnStore D.may_leave D.moment D.left_since D.faults
+        (outside_of (F.content folder.old) (D.reads disk) (F.faults folder.old) (F.faults folder.new)
+        (F.misses folder.old) (F.misses folder.new) (D.faults disk) (D.faults result.disk))
+        (P.refusals patterns.old) (P.refusals patterns.new) command ending disk result.disk)
+        (Finishes status (K.written out.old) (K.written out.new) (K.faults out.old) (K.faults out.new)))
+        result.status }
     ensures complete { RunCompletes (map (λ w. string_bytes w) words.now) (λ store. call_of store
         (D.reads disk) (S.left script.old) (S.left script.new) (K.written out.old)
         (K.written out.new) (S.faults script.old) (S.faults script.new) (K.faults out.old)
         (K.faults out.new) (P.refusals patterns.old) (P.refusals patterns.new) (D.faults disk)
         (D.faults result.disk)) result.status }
-    ensures untouched { (IsRunWords (map (λ w. string_bytes w) words.now) true → ⊥) → result.disk ≡ disk }
+    ensures untouched { (IsRunWords (map (λ w. string_bytes w) words.now) true → ⊥)
+        → (AsksForStore (map (λ w. string_bytes w) words.now) → ⊥) → result.disk ≡ disk }
 {
-    match read_words(alloc, words) {
+    match read_command(alloc, words) {
         Ok(asked) => match run_asked(&asked) {
             Some(store) => run(rt, alloc, store, script, out, disk, patterns),
-            None => Ran {
-                status: usage(alloc, out),
-                disk,
-            },
+            None => perform_other(rt, alloc, &asked, out, folder, disk, patterns, gate),
         },
         Err(WordsFault::Usage) => Ran {
             status: usage(alloc, out),
@@ -74,31 +164,63 @@ fn perform<R: Threads + Wait + Sync, S: Source, K: Sink, D: Disk, P: PatternMake
     }
 }
 
-/// Runs the program on its words: `run` runs the script of the source, in its order, with `--store` over the store on
-/// the disk. The disk is handed back. The status is 0, 3 to 6, 8 or 9 as [`run`] answers `Fine`, `Script`, `Read`,
-/// `Write`, `Disk`, `Memory` or `Limit`, 7 for `Damaged`, and 2 where the words are no command.
-pub fn emu<R: Threads + Wait + Sync, S: Source, K: Sink, D: Disk, P: PatternMaker>(
+/// Runs the program on its words, and hands the disk back.
+///
+/// `run` runs the script of the source, in its order, with `--store` over the store on the disk. `history`, `export` and
+/// `ask` read the store; `import` and `load` add bundles to it from files of the folder. The gate is told of the pieces
+/// of the query of `ask`. The status is
+///
+/// - 0: the input was read to its end, and every request has its reply; or the command's text was written.
+/// - 2: the words are no command.
+/// - 3: a line of the script is no request; the lines before it were run, and the last line names it.
+/// - 4: the script or the folder could not be read.
+/// - 5: the output could not be written.
+/// - 6: the disk failed, while the store was opened, its configuration written, or a bundle stored by `load` or `import`.
+/// - 7: the store stands for no configuration and history; the last line names the place.
+/// - 8: memory ran out.
+/// - 9: a line has over 16,777,216 bytes, there are over 200,000 lines, or the script has over 268,435,456 bytes; or the
+///   store has no room for the script's configuration.
+/// - 10: the command is refused, and the last line says why.
+pub fn emu<
+    R: Threads + Wait + Sync,
+    S: Source,
+    K: Sink,
+    F: Folder,
+    D: Disk,
+    P: PatternMaker,
+    G: Gate + Sync,
+>(
     rt: &R,
     alloc: Global,
     words: &[String],
     script: &mut S,
     out: &mut K,
+    folder: &mut F,
     disk: D,
     patterns: &mut P,
+    gate: &G,
 ) -> Exit<D>
     ensures says { CallSays (map (λ w. string_bytes w) words.now) (λ store. call_of store
         (D.reads disk) (S.left script.old) (S.left script.new) (K.written out.old)
         (K.written out.new) (S.faults script.old) (S.faults script.new) (K.faults out.old)
         (K.faults out.new) (P.refusals patterns.old) (P.refusals patterns.new) (D.faults disk)
-        (D.faults result.disk)) (D.may_leave disk) (D.may_leave result.disk) result.status }
+        (D.faults result.disk)) (D.may_leave disk) (D.may_leave result.disk)
+        (λ status. SaysStore (map (λ w. string_bytes w) words.now)
+        (λ command ending. EndsOnStore D.may_leave D.moment D.left_since D.faults
+        (outside_of (F.content folder.old) (D.reads disk) (F.faults folder.old) (F.faults folder.new)
+        (F.misses folder.old) (F.misses folder.new) (D.faults disk) (D.faults result.disk))
+        (P.refusals patterns.old) (P.refusals patterns.new) command ending disk result.disk)
+        (Finishes status (K.written out.old) (K.written out.new) (K.faults out.old) (K.faults out.new)))
+        result.status }
     ensures complete { CallCompletes (map (λ w. string_bytes w) words.now) (λ store. call_of store
         (D.reads disk) (S.left script.old) (S.left script.new) (K.written out.old)
         (K.written out.new) (S.faults script.old) (S.faults script.new) (K.faults out.old)
         (K.faults out.new) (P.refusals patterns.old) (P.refusals patterns.new) (D.faults disk)
         (D.faults result.disk)) result.status }
-    ensures untouched { (IsRunWords (map (λ w. string_bytes w) words.now) true → ⊥) → result.disk ≡ disk }
+    ensures untouched { (IsRunWords (map (λ w. string_bytes w) words.now) true → ⊥)
+        → (AsksForStore (map (λ w. string_bytes w) words.now) → ⊥) → result.disk ≡ disk }
 {
-    let Ran { status, disk } = perform(rt, alloc, words, script, out, disk, patterns);
+    let Ran { status, disk } = perform(rt, alloc, words, script, out, folder, disk, patterns, gate);
     Exit {
         status: code(status),
         disk,

@@ -1,0 +1,3 @@
+mod Rates
+mod Images
+mod Opened
