@@ -3,7 +3,7 @@
 
 use emu_cli::emu;
 use emu_disk::FileDisk;
-use emu_io::{InputSource, OutputSink};
+use emu_io::{InputSource, OpenGate, OutputSink, RealFolder};
 use label_match::RegexMaker;
 use std::process::ExitCode;
 use std::rt::Env;
@@ -33,6 +33,7 @@ fn main(rt: HostRuntime) -> ExitCode {
     };
     let mut script = InputSource::new(rt.reader());
     let mut out = OutputSink::new(io::writer(&rt));
+    let mut folder = RealFolder::new(&rt);
     let mut patterns = RegexMaker::new();
     let exit = emu(
         &rt,
@@ -40,8 +41,10 @@ fn main(rt: HostRuntime) -> ExitCode {
         words.as_slice(),
         &mut script,
         &mut out,
+        &mut folder,
         FileDisk::new(&rt),
         &mut patterns,
+        &OpenGate,
     );
     ExitCode::from(exit.status)
 }

@@ -2,7 +2,7 @@
 use crate::scripts::CONFIG;
 use emu_cli::emu;
 use emu_disk::SureDisk;
-use emu_io::{Failed, ListSink, Source};
+use emu_io::{Failed, ListSink, OpenGate, Source, SureFolder};
 use label_match::RegexMaker;
 use std::io::Read;
 use std::process::Abort;
@@ -80,8 +80,10 @@ fn ends_with(
         words.as_slice(),
         &mut source,
         &mut sink,
+        &mut SureFolder::new(Vec::new(rt.alloc())),
         SureDisk::new(rt.alloc(), 0)?,
         &mut patterns,
+        &OpenGate,
     );
     assert_eq!(rt; ended.status, status, "width {width}, {len} bytes");
     let want = if status == 0 { WITHIN } else { OVER };

@@ -1,7 +1,7 @@
 //! Lines of scripts, and runs of the program over sources and sinks in memory.
 use emu_cli::emu;
 use emu_disk::SureDisk;
-use emu_io::{ListSink, ListSource};
+use emu_io::{ListSink, ListSource, OpenGate, SureFolder};
 use label_match::{PatternMaker, RegexMaker};
 use std::alloc::{AllocError, Global};
 use std::process::Abort;
@@ -101,8 +101,10 @@ pub fn run_with<R: Threads + Wait + Sync, P: PatternMaker>(
         all.as_slice(),
         &mut source,
         &mut sink,
+        &mut SureFolder::new(Vec::new(alloc)),
         disk,
         patterns,
+        &OpenGate,
     );
     let status = exit.status;
     let output = Vec::from_slice(alloc, sink.bytes())?;

@@ -3,7 +3,7 @@
 use crate::scripts::{BUNDLE, CONFIG, Ran, joined};
 use emu_cli::emu;
 use emu_disk::MemoryDisk;
-use emu_io::{ListSink, ListSource};
+use emu_io::{ListSink, ListSource, OpenGate, SureFolder};
 use label_match::RegexMaker;
 use std::alloc::{AllocError, Global};
 use std::sync::Wait;
@@ -52,8 +52,10 @@ fn run_stored<R: Threads + Wait + Sync>(
         words.as_slice(),
         &mut source,
         &mut sink,
+        &mut SureFolder::new(Vec::new(alloc)),
         disk,
         &mut patterns,
+        &OpenGate,
     );
     let ran = Ran {
         status: exit.status,
