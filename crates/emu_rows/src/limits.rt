@@ -1,7 +1,6 @@
 //! The limits of a line, of the number of lines and of a script, each at the limit and one past it.
-use crate::scripts::CONFIG;
-use emu_cli::emu;
-use emu_io::{Failed, ListSink, Source};
+use crate::scripts::{CONFIG, run_from};
+use emu_io::{Failed, Source};
 use label_match::RegexMaker;
 use std::io::Read;
 use std::process::Abort;
@@ -63,27 +62,17 @@ fn ends_with(
     len: u64,
     status: u8,
 ) -> Result<(), Fail> {
-    let mut words = Vec::new(rt.alloc());
-    words.push(String::from_str(rt.alloc(), "run")?)?;
     let mut source = Blanks {
         head: CONFIG.as_bytes(),
         left: len.saturating_sub(CONFIG.len() as u64),
         width,
         column: width,
     };
-    let mut sink = ListSink::new(rt.alloc(), Vec::new(rt.alloc()));
     let mut patterns = RegexMaker::new();
-    let ended = emu(
-        rt,
-        rt.alloc(),
-        words.as_slice(),
-        &mut source,
-        &mut sink,
-        &mut patterns,
-    );
-    assert_eq!(rt; ended, status, "width {width}, {len} bytes");
+    let ran = run_from(rt, rt.alloc(), &["run"], &mut source, &[], &mut patterns)?;
     let want = if status == 0 { WITHIN } else { OVER };
-    assert_eq!(rt; sink.bytes(), want);
+    assert_eq!(rt; ran.status, status, "width {width}, {len} bytes");
+    assert_eq!(rt; ran.output.as_slice(), want);
     Ok(())
 }
 

@@ -13,8 +13,10 @@ const FEW: LinkKind = LinkKind::OneToMany;
 
 const MANY: LinkKind = LinkKind::ManyToMany;
 
-/// Links to be added: the definition, its kind, the two ids, and the rule that is broken with its id.
-static ROWS: [(u32, LinkKind, u32, u32, u8, u32); 12] = [
+/// A link to be added: the definition, its kind, the two ids, and the rule that is broken with its id.
+type Row = (u32, LinkKind, u32, u32, u8, u32);
+
+static ROWS: [Row; 12] = [
     (0, FEW, 1, 2, 0, 0),
     (0, FEW, 1, 3, 0, 0),
     // a pair that is there, whatever the definition
@@ -45,12 +47,22 @@ fn number_of(added: &Result<(), Fault>) -> (u8, u32) {
     }
 }
 
+/// The rule that adding a link breaks, with its id.
+fn add(links: &mut Links, row: &Row) -> (u8, u32) {
+    let (definition, kind, from, to, _, _) = *row;
+    number_of(&links.add(definition, kind, ItemId(from), ItemId(to)))
+}
+
+/// Adds the links of the table, and compares each answer.
+fn add_all(rt: &impl Abort, links: &mut Links) {
+    for row in &ROWS {
+        assert_eq!(rt; add(links, row), (row.4, row.5), "{} {}", row.2, row.3);
+    }
+}
+
 fn some_links(rt: &impl Abort, alloc: Global) -> Links {
     let mut links = Links::new(alloc);
-    for &(definition, kind, from, to, rule, id) in &ROWS {
-        let added = links.add(definition, kind, ItemId(from), ItemId(to));
-        assert_eq!(rt; number_of(&added), (rule, id), "{from} {to}");
-    }
+    add_all(rt, &mut links);
     links
 }
 
