@@ -41,21 +41,30 @@ fn is_kept(alloc: Global, text: &str) -> Result<bool, NameFault> {
     Ok(name.as_str() == text && copied == name)
 }
 
+/// Whether a piece of text, so many times in a row, is a name, and whether a name of it is kept.
+fn answers(
+    alloc: Global,
+    piece: &str,
+    count: usize,
+) -> Result<(bool, Result<bool, NameFault>), AllocError> {
+    let text = repeated(alloc, piece, count)?;
+    let kept = match is_kept(alloc, text.as_str()) {
+        Ok(kept) => Ok(kept),
+        Err(fault) => Err(fault.copy()),
+    };
+    Ok((is_name(text.as_str()), kept))
+}
+
 #[test]
 fn names_are_clean_and_have_a_limit(rt: HostRuntime) -> Result<(), Fail> {
     for &(piece, count, good) in &NAMES {
-        let text = repeated(rt.alloc(), piece, count)?;
-        let kept = is_kept(rt.alloc(), text.as_str()).map_err(|fault| fault.copy());
+        let found = answers(rt.alloc(), piece, count)?;
         let wanted = if good {
-            Ok(true)
+            (true, Ok(true))
         } else {
-            Err(NameFault::BadName)
+            (false, Err(NameFault::BadName))
         };
-        assert_eq!(rt;
-            (is_name(text.as_str()), kept),
-            (good, wanted),
-            "{count} {piece}"
-        );
+        assert_eq!(rt; found, wanted, "{count} {piece}");
     }
     Ok(())
 }
@@ -92,42 +101,51 @@ fn are_in_order(
 
 #[test]
 fn keys_are_in_order(rt: HostRuntime) -> Result<(), Fail> {
-    for (earlier, later) in KEYS.iter().zip(&KEYS[1..]) {
-        assert!(rt;
-            are_in_order(rt.alloc(), *earlier, *later)?,
-            "{} {}",
-            later.0,
-            later.1
-        );
+    let mut earlier = KEYS[0];
+    for &later in &KEYS[1..] {
+        let rises = are_in_order(rt.alloc(), earlier, later)?;
+        assert!(rt; rises, "{later:?}");
+        earlier = later;
     }
     Ok(())
 }
 
-/// The numbers of a set of ids, in its order.
-fn numbers(alloc: Global, ids: &BTreeSet<ItemId>) -> Result<Vec<u32>, AllocError> {
-    let mut seen = Vec::new(alloc);
-    for id in ids {
-        seen.push(id.copy().0)?;
+/// Numbers in no order, and the same ones in order, each once.
+static NUMBERS: [u32; 4] = [9, 2, 10, 2];
+
+static IN_ORDER: [u32; 3] = [2, 9, 10];
+
+/// The set of some ids.
+fn set_of(alloc: Global, numbers: &[u32]) -> Result<BTreeSet<ItemId>, AllocError> {
+    let mut ids = BTreeSet::new(alloc);
+    for &number in numbers {
+        ids.insert(ItemId(number))?;
     }
-    Ok(seen)
+    Ok(ids)
+}
+
+/// Whether a set has these ids, in this order.
+fn are(ids: &BTreeSet<ItemId>, numbers: &[u32]) -> bool {
+    ids.len() == numbers.len()
+        && ids
+            .iter()
+            .zip(numbers)
+            .all(|(id, number)| id.copy().0 == *number)
 }
 
 #[test]
 fn ids_are_in_order(rt: HostRuntime) -> Result<(), Fail> {
-    let mut ids = BTreeSet::new(rt.alloc());
-    for number in [9, 2, 10, 2] {
-        ids.insert(ItemId(number))?;
-    }
-    let seen = numbers(rt.alloc(), &ids)?;
-    assert_eq!(rt; seen.as_slice(), [2, 9, 10].as_slice());
+    let ids = set_of(rt.alloc(), &NUMBERS)?;
+    assert!(rt; are(&ids, &IN_ORDER));
     Ok(())
 }
 
 #[test]
 fn plain_values_are_copied(rt: HostRuntime) {
-    assert!(rt; SessionNo(2).copy() < SessionNo(16));
-    assert_eq!(rt; LevelKind::Event.copy(), LevelKind::Event);
-    assert_eq!(rt; LinkKind::OneToMany.copy(), LinkKind::OneToMany);
+    let rises = SessionNo(2).copy() < SessionNo(16);
+    let level = LevelKind::Event.copy() == LevelKind::Event;
+    let link = LinkKind::OneToMany.copy() == LinkKind::OneToMany;
+    assert!(rt; rises && level && link);
 }
 
 /// The words of the rules, in the order of their numbers, from 1.
@@ -231,14 +249,17 @@ fn rules_have_numbers_and_words(rt: HostRuntime) -> Result<(), Fail> {
     Ok(())
 }
 
+/// What is counted, with its word.
+static COUNTED: [(What, &str); 4] = [
+    (What::Bundles, "Bundles"),
+    (What::BundleItems, "BundleItems"),
+    (What::AllItems, "AllItems"),
+    (What::BundleLinks, "BundleLinks"),
+];
+
 #[test]
 fn counted_things_have_words(rt: HostRuntime) {
-    for (what, word) in [
-        (What::Bundles, "Bundles"),
-        (What::BundleItems, "BundleItems"),
-        (What::AllItems, "AllItems"),
-        (What::BundleLinks, "BundleLinks"),
-    ] {
+    for &(what, word) in &COUNTED {
         assert_eq!(rt; what.copy().word(), word);
     }
 }

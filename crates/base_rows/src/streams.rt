@@ -65,14 +65,17 @@ fn front_is(
     Ok((front.bytes.as_slice() == kept.as_bytes(), front.past))
 }
 
+/// The most bytes, what is kept of `hello`, and whether there is more.
+static FRONTS: [(usize, &str, bool); 4] = [
+    (6, "hello", false),
+    (5, "hello", false),
+    (4, "hell", true),
+    (0, "", true),
+];
+
 #[test]
 fn no_more_than_the_most_is_kept(rt: HostRuntime) -> Result<(), Fail> {
-    for (most, kept, past) in [
-        (6, "hello", false),
-        (5, "hello", false),
-        (4, "hell", true),
-        (0, "", true),
-    ] {
+    for &(most, kept, past) in &FRONTS {
         let mut source = SureSource::new(bytes(rt.alloc(), b"hello")?);
         let found = front_is(rt.alloc(), &mut source, most, kept);
         let ended = source.left().is_empty();
@@ -99,37 +102,50 @@ impl Sink for Narrow {
     }
 }
 
+/// Whether `abc` is written whole where a call fails, whether no fault is counted, and whether the sink
+/// then has this text.
+fn written(alloc: Global, call: u64, text: &str) -> Result<(bool, bool, bool), Memory> {
+    let mut narrow = Narrow {
+        sink: ListSink::new(alloc, vec![in alloc; call]?),
+    };
+    let done = write_all(&mut narrow, b"abc").is_ok();
+    let counts = narrow.sink.faults() == 0;
+    Ok((done, counts, narrow.sink.bytes() == text.as_bytes()))
+}
+
+/// A call that fails, and what is written before it.
+static WRITES: [(u64, &str); 4] = [(1, ""), (2, "a"), (3, "ab"), (4, "abc")];
+
 #[test]
 fn each_write_fails_in_turn(rt: HostRuntime) -> Result<(), Fail> {
-    for (call, written) in [(1, ""), (2, "a"), (3, "ab"), (4, "abc")] {
-        let mut narrow = Narrow {
-            sink: ListSink::new(rt.alloc(), vec![in rt.alloc(); call]?),
-        };
-        let done = write_all(&mut narrow, b"abc").is_ok();
-        let found = (done, narrow.sink.faults() == 0);
-        let same = narrow.sink.bytes() == written.as_bytes();
-        assert_eq!(rt;
-            (found, same),
-            ((call == 4, call == 4), true),
-            "call {call}"
-        );
+    for &(call, text) in &WRITES {
+        let found = written(rt.alloc(), call, text)?;
+        assert_eq!(rt; found, (call == 4, call == 4, true), "call {call}");
     }
     Ok(())
+}
+
+/// Texts, whether each is written where there is room for three bytes, and the faults that are counted then.
+static ROOM: [(&str, bool, u64); 5] = [
+    ("ab", true, 0),
+    ("cd", false, 1),
+    ("", true, 1),
+    ("c", true, 1),
+    ("d", false, 2),
+];
+
+/// Writes the texts, and compares.
+fn expect_room(rt: &impl Abort, sink: &mut SureSink) {
+    for &(text, good, faults) in &ROOM {
+        let done = write_all(sink, text.as_bytes()).is_ok();
+        assert_eq!(rt; (done, sink.faults()), (good, faults), "{text}");
+    }
 }
 
 #[test]
 fn room_is_not_passed(rt: HostRuntime) -> Result<(), Fail> {
     let mut sink = SureSink::new(rt.alloc(), 3)?;
-    for (text, good, faults) in [
-        ("ab", true, 0),
-        ("cd", false, 1),
-        ("", true, 1),
-        ("c", true, 1),
-        ("d", false, 2),
-    ] {
-        let done = write_all(&mut sink, text.as_bytes()).is_ok();
-        assert_eq!(rt; (done, sink.faults()), (good, faults), "{text}");
-    }
+    expect_room(&rt, &mut sink);
     assert_eq!(rt; sink.bytes(), b"abc".as_slice());
     Ok(())
 }
@@ -174,32 +190,36 @@ fn refuses<W: Write + Drop>(rt: &impl Abort, writer: W) {
     assert_eq!(rt; (answer, sink.faults()), (Err(Failed), 1));
 }
 
-/// What a source gives, written to a sink over a list.
-fn passed_on(rt: &impl Abort, alloc: Global, bytes: &[u8]) -> Result<Vec<u8>, Failed> {
+/// Writes to a sink over a list: the faults that are counted, and what the list then has.
+fn passed_on(alloc: Global, bytes: &[u8]) -> (Result<u64, Failed>, Vec<u8>) {
     let mut sink = OutputSink::new(Vec::new(alloc));
-    write_all(&mut sink, bytes)?;
-    assert_eq!(rt; sink.faults(), 0);
-    Ok(sink.into_inner())
+    let answer = write_all(&mut sink, bytes);
+    let faults = sink.faults();
+    (answer.map(|()| faults), sink.into_inner())
 }
 
 #[test]
 fn adapters_pass_bytes_on(rt: HostRuntime) -> Result<(), Fail> {
     let mut source = InputSource::new(b"hello".as_slice());
     let front = read_front(rt.alloc(), &mut source, 5)?;
-    assert_eq!(rt; source.faults(), 0);
-    let written = passed_on(&rt, rt.alloc(), front.bytes.as_slice())?;
+    let (answer, written) = passed_on(rt.alloc(), front.bytes.as_slice());
+    assert_eq!(rt; (source.faults(), answer), (0, Ok(0)));
     assert_eq!(rt; written.as_slice(), b"hello".as_slice());
     Ok(())
 }
 
+/// A reader of which each call fails is told to fail, and its fault is counted.
+fn fails(rt: &impl Abort, alloc: Global) {
+    let mut broken = InputSource::new(Broken);
+    let found = read_front(alloc, &mut broken, 5).err();
+    assert_eq!(rt; (found, broken.faults()), (Some(ReadFault::Failed), 1));
+}
+
 #[test]
 fn adapters_count_faults(rt: HostRuntime) {
-    let mut broken = InputSource::new(Broken);
-    let found = read_front(rt.alloc(), &mut broken, 5).err();
-    assert_eq!(rt; (found, broken.faults()), (Some(ReadFault::Failed), 1));
+    fails(&rt, rt.alloc());
     refuses(&rt, Broken);
     refuses(&rt, Full);
-    let input = InputSource::new(rt.stdin()).faults();
-    let output = OutputSink::new(rt.stdout()).faults();
-    assert_eq!(rt; (input, output), (0, 0));
+    assert_eq!(rt; InputSource::new(rt.stdin()).faults(), 0);
+    assert_eq!(rt; OutputSink::new(rt.stdout()).faults(), 0);
 }
