@@ -76,24 +76,25 @@ fn ends_with(
     Ok(())
 }
 
+/// The spaces in a line, the bytes behind the configuration, and the status.
+static LINES: [(u64, u64, u8); 4] = [
+    (0, 200_000, 0),
+    (0, 200_001, 9),
+    (16_777_216, 16_777_217, 0),
+    (16_777_217, 16_777_218, 9),
+];
+
 #[test]
 fn limits_of_lines(rt: HostRuntime) -> Result<(), Fail> {
     let head = CONFIG.len() as u64;
-    for (width, len, status) in [
-        (0, head + 200_000, 0),
-        (0, head + 200_001, 9),
-        (16_777_216, head + 1 + 16_777_216, 0),
-        (16_777_217, head + 1 + 16_777_217, 9),
-    ] {
-        ends_with(&rt, width, len, status)?;
+    for &(width, more, status) in &LINES {
+        ends_with(&rt, width, head.saturating_add(more), status)?;
     }
     Ok(())
 }
 
 #[test]
 fn limit_of_a_script(rt: HostRuntime) -> Result<(), Fail> {
-    for (len, status) in [(268_435_456, 0), (268_435_457, 9)] {
-        ends_with(&rt, 9_999, len, status)?;
-    }
-    Ok(())
+    ends_with(&rt, 9_999, 268_435_456, 0)?;
+    ends_with(&rt, 9_999, 268_435_457, 9)
 }

@@ -386,12 +386,14 @@ fn expect_found(rt: &impl Abort, list: &LevelList, count: u32, further: usize) {
     }
 }
 
+static KINDS: [LevelKind; 3] = [LevelKind::Item, LevelKind::Segment, LevelKind::Event];
+
 /// Whether this many items are built and found in far less time than the square of their number takes.
 #[test]
 fn many_items_are_built_and_found(rt: HostRuntime) -> Result<(), Fail> {
     let alloc = rt.alloc();
     let count = 65_536;
-    for kind in [LevelKind::Item, LevelKind::Segment, LevelKind::Event] {
+    for &kind in &KINDS {
         let list = row_of(&rt, alloc, kind, count)?;
         expect_found(&rt, &list, count, 0);
     }

@@ -104,14 +104,21 @@ fn remove(links: &mut Links, from: u32, to: u32) -> u8 {
     number_of(&links.remove(ItemId(from), ItemId(to))).0
 }
 
+/// Links to be taken out, with the rule that is broken.
+static REMOVALS: [(u32, u32, u8); 3] = [(3, 1, 23), (1, 3, 0), (1, 3, 23)];
+
+fn remove_all(rt: &impl Abort, links: &mut Links) {
+    for &(from, to, rule) in &REMOVALS {
+        assert_eq!(rt; remove(links, from, to), rule);
+    }
+}
+
 #[test]
 fn links_are_added_and_taken_out(rt: HostRuntime) -> Result<(), Fail> {
     let mut links = some_links(&rt, rt.alloc());
     is_shared_by_threads(&links);
     check(&rt, &links, &ADDED);
-    for (from, to, rule) in [(3, 1, 23), (1, 3, 0), (1, 3, 23)] {
-        assert_eq!(rt; remove(&mut links, from, to), rule);
-    }
+    remove_all(&rt, &mut links);
     let copied = links.copy(rt.alloc())?;
     check(&rt, &copied, &REMOVED);
     links.remove_item(ItemId(5));

@@ -98,13 +98,19 @@ fn built(alloc: Global, config: &Config, key: BundleKey, annot: &Annot) -> Resul
     Bundle::build(alloc, config, key, annot)
 }
 
-/// The bundle b1 of an annotation, with its columns.
-fn indexed(alloc: Global, config: &Config, annot: &Annot) -> Result<Indexed, Fail>
-    ensures { IfOk result (λ made. FitsConfig config.now made.bundle) }
-{
+/// The key of the bundle b1.
+fn key_of(alloc: Global) -> Result<BundleKey, Fail> {
     let session = Name::new(alloc, "s1")?;
     let bundle = Name::new(alloc, "b1")?;
-    let bundle = built(alloc, config, BundleKey { session, bundle }, annot)?;
+    Ok(BundleKey { session, bundle })
+}
+
+/// The bundle b1, with its columns.
+fn indexed(alloc: Global, config: &Config) -> Result<Indexed, Fail>
+    ensures { IfOk result (λ made. FitsConfig config.now made.bundle) }
+{
+    let annot = annot_of(alloc, BUNDLE)?;
+    let bundle = built(alloc, config, key_of(alloc)?, &annot)?;
     Ok(Indexed::new(alloc, bundle)?)
 }
 
@@ -153,6 +159,30 @@ fn plain(
     }
 }
 
+/// What a query asks.
+fn asked_of(alloc: Global, config: &Config, text: &str) -> Result<Asked, Fail>
+    ensures { IfOk result (λ asked. IsResolvedBy config.now asked) }
+{
+    let mut maker = RegexMaker::new();
+    let prepared = prepare(alloc, &mut maker, text)?;
+    Ok(resolve(alloc, config, &prepared, None)?)
+}
+
+/// What both evaluators find.
+fn answers(
+    alloc: Global,
+    config: &Config,
+    indexed: &Indexed,
+    text: &str,
+) -> Result<(String, String), Fail>
+    requires { FitsConfig config.now indexed.now.bundle }
+{
+    let asked = asked_of(alloc, config, text)?;
+    let quick = fast(alloc, config, indexed, &asked)?;
+    let slow = plain(alloc, config, indexed.bundle(), &asked)?;
+    Ok((quick, slow))
+}
+
 /// Asks both evaluators one query.
 fn ask(
     rt: &impl Abort,
@@ -164,23 +194,25 @@ fn ask(
     requires { FitsConfig config.now indexed.now.bundle }
 {
     let (text, wanted) = *row;
-    let mut maker = RegexMaker::new();
-    let prepared = prepare(alloc, &mut maker, text)?;
-    let asked = resolve(alloc, config, &prepared, None)?;
-    let found = fast(alloc, config, indexed, &asked)?;
-    assert_eq!(rt; found.as_str(), wanted, "{text}");
-    let found = plain(alloc, config, indexed.bundle(), &asked)?;
-    assert_eq!(rt; found.as_str(), wanted, "{text}, plainly");
+    let (quick, slow) = answers(alloc, config, indexed, text)?;
+    assert_eq!(rt; quick.as_str(), wanted, "{text}");
+    assert_eq!(rt; slow.as_str(), wanted, "{text}, plainly");
+    Ok(())
+}
+
+/// Asks all queries of the table.
+fn ask_all(rt: &impl Abort, alloc: Global, config: &Config, indexed: &Indexed) -> Result<(), Fail>
+    requires { FitsConfig config.now indexed.now.bundle }
+{
+    for row in &ROWS {
+        ask(rt, alloc, config, indexed, row)?;
+    }
     Ok(())
 }
 
 #[test]
 fn results_are_those_of_the_table(rt: HostRuntime) -> Result<(), Fail> {
     let config = config_of(rt.alloc(), DATABASE)?;
-    let annot = annot_of(rt.alloc(), BUNDLE)?;
-    let indexed = indexed(rt.alloc(), &config, &annot)?;
-    for row in &ROWS {
-        ask(&rt, rt.alloc(), &config, &indexed, row)?;
-    }
-    Ok(())
+    let indexed = indexed(rt.alloc(), &config)?;
+    ask_all(&rt, rt.alloc(), &config, &indexed)
 }

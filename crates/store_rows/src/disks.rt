@@ -1,5 +1,6 @@
 //! Each disk on its happy path, the failures that are asked for, the images that fates pick, and a real file.
 use emu_disk::{Call, Disk, Failed, Fate, FileDisk, MemoryDisk, SureDisk};
+use std::alloc::Global;
 use std::process::Abort;
 use std::test::Fail;
 use std::{env, fs, process};
@@ -121,12 +122,6 @@ fn expect_filled<D: Disk>(rt: &impl Abort, disk: &mut D) -> Result<(), Failed> {
     Ok(())
 }
 
-/// Finds no byte, and makes no file by a sync.
-fn expect_nothing<D: Disk>(rt: &impl Abort, disk: &mut D) -> Result<(), Failed> {
-    assert_eq!(rt; read_ten(disk, 0)?.1, 0);
-    disk.sync()
-}
-
 /// Goes to a folder of its own, and gives its path.
 fn in_a_folder(rt: &HostRuntime) -> Result<String, Fail> {
     let id = process::id(rt.process());
@@ -136,21 +131,22 @@ fn in_a_folder(rt: &HostRuntime) -> Result<String, Fail> {
     Ok(folder)
 }
 
-/// Fills the file of a disk, and finds it filled by another one.
-fn expect_file(rt: &HostRuntime) -> Result<(), Fail> {
+/// Fills the file of a disk. How many bytes a read gave before, and whether a sync made the file.
+fn fill_file(rt: &HostRuntime) -> Result<(usize, bool), Fail> {
     let mut disk = FileDisk::new(rt);
     is_sendable(&disk);
-    expect_nothing(rt, &mut disk)?;
-    assert_eq!(rt; fs::exists(rt, "emu.store")?, false);
+    let (_, count) = read_ten(&mut disk, 0)?;
+    disk.sync()?;
+    let there = fs::exists(rt, "emu.store")?;
     fill(&mut disk)?;
-    expect_filled(rt, &mut FileDisk::new(rt))?;
-    Ok(())
+    Ok((count, there))
 }
 
 #[test]
 fn a_real_file(rt: HostRuntime) -> Result<(), Fail> {
     let folder = in_a_folder(&rt)?;
-    expect_file(&rt)?;
+    assert_eq!(rt; fill_file(&rt)?, (0, false));
+    expect_filled(&rt, &mut FileDisk::new(&rt))?;
     fs::remove_file(&rt, "emu.store")?;
     fs::remove_dir(&rt, folder.as_str())?;
     Ok(())

@@ -100,12 +100,12 @@ fn a_body_that_is_too_large(rt: HostRuntime) -> Result<(), Fail> {
 }
 
 /// A journal over a store, of which some calls of the disk fail.
-fn failing(alloc: Global, store: &[u8], places: &[u64]) -> Result<Journal<MemoryDisk>, JournalFault>
+fn failing(alloc: Global, store: &[u8], places: &[u64]) -> Result<Journal<MemoryDisk>, Fail>
     ensures { IfOk result (λ journal. IsHeld images_of journal) }
 {
     let mut disk = MemoryDisk::new(alloc, store)?;
     disk.fail_at(places)?;
-    opened(alloc, disk)
+    Ok(opened(alloc, disk)?)
 }
 
 /// Appends `AB`.
@@ -199,7 +199,8 @@ static DAMAGED: [(&str, u64); 6] = [
 fn places_of_damage(rt: HostRuntime) -> Result<(), Fail> {
     let alloc = rt.alloc();
     for &(store, at) in &DAMAGED {
-        let found = failing(alloc, store.as_bytes(), &[]).err();
+        let disk = MemoryDisk::new(alloc, store.as_bytes())?;
+        let found = opened(alloc, disk).err();
         assert_eq!(rt; found, Some(JournalFault::Damaged(at)), "{store}");
     }
     Ok(())
