@@ -252,34 +252,19 @@ fn members_that_may_be_missing(rt: HostRuntime) -> Result<(), Fail> {
 }
 
 /// The most that a number may be, and the first numbers that are read then; no other one is.
-static WHOLES: [(u64, [Option<u64>; 5]); 3] = [
-    (
-        u64::MAX,
-        [
-            Some(0),
-            Some(7),
-            Some(8),
-            Some(9223372036854775808),
-            Some(u64::MAX),
-        ],
-    ),
-    (7, [Some(0), Some(7), None, None, None]),
-    (0, [Some(0), None, None, None, None]),
+static WHOLES: [(u64, &[u64]); 3] = [
+    (u64::MAX, &[0, 7, 8, 9223372036854775808, u64::MAX]),
+    (7, &[0, 7]),
+    (0, &[0]),
 ];
 
 /// Compares the whole numbers of a list.
-fn expect_wholes(
-    rt: &impl Abort,
-    numbers: &View,
-    most: u64,
-    wants: &[Option<u64>; 5],
-) -> Result<(), Fail> {
+fn expect_wholes(rt: &impl Abort, numbers: &View, most: u64, wants: &[u64]) -> Result<(), Fail> {
     let count = numbers.list_len()?;
     assert_eq!(rt; count, 13);
     for place in 0..count {
-        let want = if place < 5 { wants[place] } else { None };
         let found = numbers.at(place)?.whole(most).ok();
-        assert_eq!(rt; found, want, "{place} to {most}");
+        assert_eq!(rt; found, wants.get(place).copied(), "{place} to {most}");
     }
     Ok(())
 }
@@ -287,8 +272,8 @@ fn expect_wholes(
 /// Compares the whole numbers of the list of numbers.
 fn expect_numbers(rt: &impl Abort, root: &View) -> Result<(), Fail> {
     let numbers = root.member("numbers", Wanted::List)?;
-    for row in &WHOLES {
-        expect_wholes(rt, &numbers, row.0, &row.1)?;
+    for &(most, wants) in &WHOLES {
+        expect_wholes(rt, &numbers, most, wants)?;
     }
     Ok(())
 }

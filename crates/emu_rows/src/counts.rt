@@ -36,7 +36,7 @@ fn added(alloc: Global, config: &Config, counts: Counts, count: u32) -> Result<&
 }
 
 /// The bundles and items of a database, the words of a new bundle, and what ends the edit.
-static ROWS: [(u64, u64, u32, &str); 6] = [
+static ROWS: [(u32, u32, u32, &str); 6] = [
     (0, 0, 65536, "none"),
     (0, 0, 65537, "BundleItems"),
     (9999, 1_966_080, 33920, "none"),

@@ -10,7 +10,7 @@ use db_config::{Config, read_config};
 use emu_names::{BundleKey, Fault, Name};
 use eql_match::match_bundle;
 use eql_model::{Span, match_plain};
-use eql_resolve::{Asked, prepare, resolve};
+use eql_resolve::{Asked, Prepared, prepare, resolve};
 use json_view::View;
 use label_match::RegexMaker;
 use level_items::Annot;
@@ -159,13 +159,19 @@ fn plain(
     }
 }
 
-/// What a query asks.
-fn asked_of(alloc: Global, config: &Config, text: &str) -> Result<Asked, Fail>
-    ensures { IfOk result (λ asked. IsResolvedBy config.now asked) }
+/// What both evaluators find of a prepared query.
+fn found(
+    alloc: Global,
+    config: &Config,
+    indexed: &Indexed,
+    prepared: &Prepared,
+) -> Result<(String, String), Fail>
+    requires { FitsConfig config.now indexed.now.bundle }
 {
-    let mut maker = RegexMaker::new();
-    let prepared = prepare(alloc, &mut maker, text)?;
-    Ok(resolve(alloc, config, &prepared, None)?)
+    let asked = resolve(alloc, config, prepared, None)?;
+    let quick = fast(alloc, config, indexed, &asked)?;
+    let slow = plain(alloc, config, indexed.bundle(), &asked)?;
+    Ok((quick, slow))
 }
 
 /// What both evaluators find.
@@ -177,10 +183,9 @@ fn answers(
 ) -> Result<(String, String), Fail>
     requires { FitsConfig config.now indexed.now.bundle }
 {
-    let asked = asked_of(alloc, config, text)?;
-    let quick = fast(alloc, config, indexed, &asked)?;
-    let slow = plain(alloc, config, indexed.bundle(), &asked)?;
-    Ok((quick, slow))
+    let mut maker = RegexMaker::new();
+    let prepared = prepare(alloc, &mut maker, text)?;
+    found(alloc, config, indexed, &prepared)
 }
 
 /// Asks both evaluators one query.
