@@ -1,5 +1,5 @@
 //! One JSON value, and what each call makes of its parts.
-use json_view::{View, ViewFault, Wanted};
+use json_view::{Shape, View, ViewFault, Wanted};
 use serde_json::Value;
 use std::alloc::{AllocError, Global};
 use std::process::Abort;
@@ -182,13 +182,6 @@ fn expect_of_root(rt: &impl Abort, alloc: Global, root: &View) -> Result<(), Fai
     expect_of_lists(rt, alloc, root)
 }
 
-#[test]
-fn faults_have_their_path(rt: HostRuntime) -> Result<(), Fail> {
-    let value = Value::from_str(rt.alloc(), TEXT)?;
-    let root = View::root(rt.alloc(), &value)?;
-    expect_of_root(&rt, rt.alloc(), &root)
-}
-
 /// The forms, each with its word.
 static FORMS: [(Wanted, &str); 8] = [
     (Wanted::Object, "object"),
@@ -208,17 +201,17 @@ fn each_form_has_its_word(rt: HostRuntime) {
     }
 }
 
-#[test]
-fn shapes_are_copied(rt: HostRuntime) -> Result<(), Fail> {
-    let value = Value::from_str(rt.alloc(), TEXT)?;
-    let root = View::root(rt.alloc(), &value)?;
+/// Whether a shape's copy has the root's path and the form `Kind`.
+fn is_copied(alloc: Global, shape: &Shape) -> Result<bool, AllocError> {
+    let copy = shape.copy(alloc)?;
+    let path = copy.path.copy(alloc)?;
+    Ok(path.as_str() == "$" && copy.wanted == Wanted::Kind)
+}
+
+/// Copies a refusal of the root.
+fn expect_copies(rt: &impl Abort, alloc: Global, root: &View) -> Result<(), Fail> {
     match root.refuse(Wanted::Kind) {
-        ViewFault::Shape(shape) => {
-            let copy = shape.copy(rt.alloc())?;
-            let path = copy.path.copy(rt.alloc())?;
-            assert_eq!(rt; path.as_str(), "$");
-            assert_eq!(rt; copy.wanted, Wanted::Kind);
-        }
+        ViewFault::Shape(shape) => assert!(rt; is_copied(alloc, &shape)?),
         ViewFault::Memory => assert!(rt; false, "memory ran out"),
     }
     Ok(())
@@ -242,13 +235,6 @@ fn expect_there(rt: &impl Abort, root: &View) -> Result<(), Fail> {
     assert_eq!(rt; root.member("twice", Wanted::Whole)?.whole(9)?, 2);
     assert_eq!(rt; root.member("text", Wanted::Text)?.text()?, "hi");
     Ok(())
-}
-
-#[test]
-fn members_that_may_be_missing(rt: HostRuntime) -> Result<(), Fail> {
-    let value = Value::from_str(rt.alloc(), TEXT)?;
-    let root = View::root(rt.alloc(), &value)?;
-    expect_there(&rt, &root)
 }
 
 /// The most that a number may be, and the first numbers that are read then; no other one is.
@@ -278,13 +264,6 @@ fn expect_numbers(rt: &impl Abort, root: &View) -> Result<(), Fail> {
     Ok(())
 }
 
-#[test]
-fn whole_numbers(rt: HostRuntime) -> Result<(), Fail> {
-    let value = Value::from_str(rt.alloc(), TEXT)?;
-    let root = View::root(rt.alloc(), &value)?;
-    expect_numbers(&rt, &root)
-}
-
 /// Compares the texts of a list.
 fn expect_texts(rt: &impl Abort, list: &View, wanted: &[&str]) -> Result<(), Fail> {
     let texts = list.texts()?;
@@ -302,18 +281,37 @@ fn expect_texts(rt: &impl Abort, list: &View, wanted: &[&str]) -> Result<(), Fai
 /// Members, and their texts.
 static LISTS: [(&str, &[&str]); 3] = [("texts", &["x", "", "y"]), ("empty", &[""]), ("none", &[])];
 
+/// Compares the texts of a member.
+fn expect_texts_of(rt: &impl Abort, root: &View, name: &str, wanted: &[&str]) -> Result<(), Fail> {
+    let list = root.member(name, Wanted::List)?;
+    expect_texts(rt, &list, wanted)
+}
+
 /// Compares the texts of the members.
 fn expect_lists(rt: &impl Abort, root: &View) -> Result<(), Fail> {
     for &(name, wanted) in &LISTS {
-        let list = root.member(name, Wanted::List)?;
-        expect_texts(rt, &list, wanted)?;
+        expect_texts_of(rt, root, name, wanted)?;
     }
     Ok(())
 }
 
+/// All that is asked of the root and its members.
+fn expect_parts(rt: &impl Abort, alloc: Global, root: &View) -> Result<(), Fail> {
+    expect_of_root(rt, alloc, root)?;
+    expect_copies(rt, alloc, root)?;
+    expect_there(rt, root)?;
+    expect_numbers(rt, root)?;
+    expect_lists(rt, root)
+}
+
+/// All that is asked of the views of a value.
+fn expect_views(rt: &impl Abort, alloc: Global, value: &Value) -> Result<(), Fail> {
+    let root = View::root(alloc, value)?;
+    expect_parts(rt, alloc, &root)
+}
+
 #[test]
-fn lists_of_texts(rt: HostRuntime) -> Result<(), Fail> {
+fn views_of_a_value(rt: HostRuntime) -> Result<(), Fail> {
     let value = Value::from_str(rt.alloc(), TEXT)?;
-    let root = View::root(rt.alloc(), &value)?;
-    expect_lists(&rt, &root)
+    expect_views(&rt, rt.alloc(), &value)
 }
