@@ -51,22 +51,19 @@ fn core(alloc: Global, config: Config, history: Entries) -> Result<Core, Fault> 
     Core::new(alloc, config, history)
 }
 
-/// The replies of a core to the events.
-fn replies(alloc: Global, core: &mut Core) -> Result<Replies, Memory> {
-    let events = events(alloc)?;
+/// The replies of a core to events.
+fn replies(mut core: Core, events: Events) -> Result<Replies, Memory>
+    requires { All (λ event. place_of event < session_places) events.items }
+{
     core.run(events)
-}
-
-/// The replies of a core without a history.
-fn first_replies(alloc: Global) -> Result<Replies, Fail> {
-    let config = config(alloc)?;
-    let mut core = core(alloc, config, Entries::new(alloc))?;
-    Ok(replies(alloc, &mut core)?)
 }
 
 #[test]
 fn a_query_is_run(rt: HostRuntime) -> Result<(), Fail> {
-    let replies = first_replies(rt.alloc())?;
+    let events = events(rt.alloc())?;
+    let config = config(rt.alloc())?;
+    let core = core(rt.alloc(), config, Entries::new(rt.alloc()))?;
+    let replies = replies(core, events)?;
     assert_eq!(rt; replies.len(), 1);
     let text = print_reply(rt.alloc(), replies.get(0))?;
     assert_eq!(rt; text.as_str(), "{\"line\":2,\"n\":0,\"segments\":[]}\n");

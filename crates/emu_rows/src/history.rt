@@ -1,32 +1,36 @@
 //! A history that is full.
-use crate::scripts::{BUNDLE, CONFIG, joined, push_lines, run};
+use crate::scripts::{BUNDLE, CONFIG, run};
 use std::alloc::{AllocError, Global};
 use std::test::Fail;
 
-/// The lines that set the label of an item to n, and to m.
-static PAIR: [&str; 2] = [
-    r#"{"s":1,"do":"set_label","session":"s1","bundle":"b1","id":2,"attribute":"Phonetic","value":"n"}"#,
-    r#"{"s":1,"do":"set_label","session":"s1","bundle":"b1","id":2,"attribute":"Phonetic","value":"m"}"#,
-];
-
-/// The line that sets the label of an item that is not there.
-const OF_NONE: &str =
-    r#"{"s":1,"do":"set_label","session":"s1","bundle":"b1","id":9,"attribute":"Phonetic","value":"m"}"#;
+/// The line that sets the label of an item.
+fn set_label(alloc: Global, id: u32, label: &str) -> Result<String, AllocError> {
+    format!(in alloc;
+        "{{\"s\":1,\"do\":\"set_label\",\"session\":\"s1\",\"bundle\":\"b1\",\"id\":{id},\"attribute\":\"Phonetic\",\"value\":\"{label}\"}}\n"
+    )
+}
 
 /// A bundle, so many pairs of edits of one label, one such edit more, and then one too many of an item that
 /// is there and of one that is not.
-fn script(alloc: Global, pairs: u32) -> Result<Vec<u8>, AllocError> {
-    let mut bytes = joined(alloc, &[CONFIG, BUNDLE], "\n")?;
-    for _pair in 0..=pairs {
-        push_lines(&mut bytes, &PAIR, "\n")?;
+fn script(alloc: Global, pairs: u32) -> Result<String, AllocError> {
+    let to_n = set_label(alloc, 2, "n")?;
+    let to_m = set_label(alloc, 2, "m")?;
+    let of_none = set_label(alloc, 9, "m")?;
+    let mut text = format!(in alloc; "{CONFIG}\n{BUNDLE}\n")?;
+    for _pair in 0..pairs {
+        text.push_str(to_n.as_str())?;
+        text.push_str(to_m.as_str())?;
     }
-    push_lines(&mut bytes, &[OF_NONE], "\n")?;
-    Ok(bytes)
+    text.push_str(to_n.as_str())?;
+    text.push_str(to_m.as_str())?;
+    text.push_str(of_none.as_str())?;
+    Ok(text)
 }
 
 #[test]
 fn a_full_history_takes_no_edit(rt: HostRuntime) -> Result<(), Fail> {
-    let bytes = script(rt.alloc(), 49_999)?;
+    let text = script(rt.alloc(), 49_999)?;
+    let bytes = Vec::from_slice(rt.alloc(), text.as_bytes())?;
     let ran = run(&rt, rt.alloc(), &["run"], bytes, &[], &[])?;
     assert_eq!(rt; ran.status, 0);
     let last =

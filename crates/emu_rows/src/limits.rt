@@ -1,6 +1,7 @@
 //! The limits of a line, of the number of lines and of a script, each at the limit and one past it.
-use crate::scripts::{CONFIG, run_from};
-use emu_io::{Failed, Source};
+use crate::scripts::CONFIG;
+use emu_cli::emu;
+use emu_io::{Failed, ListSink, Source};
 use label_match::RegexMaker;
 use std::io::Read;
 use std::process::Abort;
@@ -62,39 +63,48 @@ fn ends_with(
     len: u64,
     status: u8,
 ) -> Result<(), Fail> {
+    let mut words = Vec::new(rt.alloc());
+    words.push(String::from_str(rt.alloc(), "run")?)?;
     let mut source = Blanks {
         head: CONFIG.as_bytes(),
         left: len.saturating_sub(CONFIG.len() as u64),
         width,
         column: width,
     };
+    let mut sink = ListSink::new(rt.alloc(), Vec::new(rt.alloc()));
     let mut patterns = RegexMaker::new();
-    let ran = run_from(rt, rt.alloc(), &["run"], &mut source, &[], &mut patterns)?;
+    let ended = emu(
+        rt,
+        rt.alloc(),
+        words.as_slice(),
+        &mut source,
+        &mut sink,
+        &mut patterns,
+    );
+    assert_eq!(rt; ended, status, "width {width}, {len} bytes");
     let want = if status == 0 { WITHIN } else { OVER };
-    assert_eq!(rt; ran.status, status, "width {width}, {len} bytes");
-    assert_eq!(rt; ran.output.as_slice(), want);
+    assert_eq!(rt; sink.bytes(), want);
     Ok(())
 }
-
-/// The spaces in a line, the bytes behind the configuration, and the status.
-static LINES: [(u64, u64, u8); 4] = [
-    (0, 200_000, 0),
-    (0, 200_001, 9),
-    (16_777_216, 16_777_217, 0),
-    (16_777_217, 16_777_218, 9),
-];
 
 #[test]
 fn limits_of_lines(rt: HostRuntime) -> Result<(), Fail> {
     let head = CONFIG.len() as u64;
-    for &(width, more, status) in &LINES {
-        ends_with(&rt, width, head.saturating_add(more), status)?;
+    for (width, len, status) in [
+        (0, head + 200_000, 0),
+        (0, head + 200_001, 9),
+        (16_777_216, head + 1 + 16_777_216, 0),
+        (16_777_217, head + 1 + 16_777_217, 9),
+    ] {
+        ends_with(&rt, width, len, status)?;
     }
     Ok(())
 }
 
 #[test]
 fn limit_of_a_script(rt: HostRuntime) -> Result<(), Fail> {
-    ends_with(&rt, 9_999, 268_435_456, 0)?;
-    ends_with(&rt, 9_999, 268_435_457, 9)
+    for (len, status) in [(268_435_456, 0), (268_435_457, 9)] {
+        ends_with(&rt, 9_999, len, status)?;
+    }
+    Ok(())
 }

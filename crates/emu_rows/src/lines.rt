@@ -1,5 +1,5 @@
 //! Lines of scripts, each read or refused with its first fault.
-use crate::scripts::{BUNDLE, CONFIG, expect, expect_run, joined};
+use crate::scripts::{BUNDLE, CONFIG, expect, expect_run, joined, repeated};
 use std::alloc::{AllocError, Global};
 use std::process::Abort;
 use std::sync::Wait;
@@ -360,46 +360,25 @@ fn annotations(rt: HostRuntime) -> Result<(), Fail> {
     Ok(())
 }
 
-/// A line, in which one text stands so many times and behind it another one.
-fn long_line(alloc: Global, row: &Long) -> Result<String, AllocError> {
-    let (before, first, second, behind, count, _, _) = *row;
-    let mut line = String::from_str(alloc, before)?;
-    for _ in 0..count {
-        line.push_str(first)?;
+#[test]
+fn queries_have_a_limit(rt: HostRuntime) -> Result<(), Fail> {
+    for (count, wanted) in [(4083, NO_ROW), (4084, TOO_LONG)] {
+        let spaces = repeated(rt.alloc(), " ", count)?;
+        let line = format!(in rt.alloc();
+            "{{\"do\":\"query\",\"s\":1,\"eql\":\"Phonetic == x{spaces}\"}}"
+        )?;
+        expect_line(&rt, rt.alloc(), line.as_str(), 0, wanted)?;
     }
-    for _ in 0..count {
-        line.push_str(second)?;
-    }
-    line.push_str(behind)?;
-    Ok(line)
+    Ok(())
 }
 
-/// What stands before, the two texts, what stands behind, how often, the status, and what is written.
-type Long = (
-    &'static str,
-    &'static str,
-    &'static str,
-    &'static str,
-    usize,
-    u8,
-    &'static str,
-);
-
-const QUERY: &str = "{\"do\":\"query\",\"s\":1,\"eql\":\"Phonetic == x";
-
-/// Queries and nested lists at their limits, and one past.
-static LONG: [Long; 4] = [
-    (QUERY, " ", "", "\"}", 4083, 0, NO_ROW),
-    (QUERY, " ", "", "\"}", 4084, 0, TOO_LONG),
-    ("{\"deep\":", "[", "]", "}", 126, 3, NO_COMMAND),
-    ("{\"deep\":", "[", "]", "}", 127, 3, NO_JSON),
-];
-
 #[test]
-fn queries_and_nesting_have_limits(rt: HostRuntime) -> Result<(), Fail> {
-    for row in &LONG {
-        let line = long_line(rt.alloc(), row)?;
-        expect_line(&rt, rt.alloc(), line.as_str(), row.5, row.6)?;
+fn nesting_has_a_limit(rt: HostRuntime) -> Result<(), Fail> {
+    for (depth, wanted) in [(126, NO_COMMAND), (127, NO_JSON)] {
+        let open = repeated(rt.alloc(), "[", depth)?;
+        let close = repeated(rt.alloc(), "]", depth)?;
+        let line = format!(in rt.alloc(); "{{\"deep\":{open}{close}}}")?;
+        expect_line(&rt, rt.alloc(), line.as_str(), 3, wanted)?;
     }
     Ok(())
 }

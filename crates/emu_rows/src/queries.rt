@@ -1,6 +1,5 @@
 //! Queries of the whole query language, each with its rows or its refusal.
-use crate::scripts::{BUNDLE, CONFIG, Row, expect_rows, joined, run_from};
-use emu_io::ListSource;
+use crate::scripts::{BUNDLE, CONFIG, Row, expect_rows, joined, run_with};
 use label_match::ListMaker;
 use std::test::Fail;
 
@@ -228,9 +227,8 @@ static REFUSED_ONCE: [&str; 4] = [
 fn a_pattern_that_is_too_large_is_refused(rt: HostRuntime) -> Result<(), Fail> {
     let alloc = rt.alloc();
     let script = joined(alloc, &[CONFIG, BUNDLE, BY_PATTERN, BY_PATTERN], "\n")?;
-    let mut source = ListSource::new(script, Vec::new(alloc));
     let mut maker = ListMaker::new(Vec::from_slice(alloc, &[1])?);
-    let ran = run_from(&rt, alloc, &["run"], &mut source, &[], &mut maker)?;
+    let ran = run_with(&rt, alloc, &["run"], script, &[], &[], &mut maker)?;
     let wanted = joined(alloc, &REFUSED_ONCE, "\n")?;
     assert_eq!(rt; ran.output.as_slice(), wanted.as_slice());
     assert_eq!(rt; (ran.status, maker.refusals()), (0, 1));

@@ -48,88 +48,90 @@ fn expect_reply(rt: &impl Abort, alloc: Global, reply: Reply, wanted: &str) -> R
     Ok(())
 }
 
-/// The answer with one row.
-fn of_row(alloc: Global, row: Row) -> Result<Answer, Memory> {
-    let mut rows = SegmentList::new(alloc);
-    rows.push(row)?;
-    Ok(Answer::Segments(rows))
-}
-
-/// A row without times, with signs that are escaped in its texts.
-fn timeless(alloc: Global) -> Result<Row, Memory> {
-    let mut row = row(alloc, "b\"\\", "a\"\\\n\u{1f}\u{e9}\u{1f600}")?;
-    row.start = None;
-    row.end = None;
-    row.sample_start = None;
-    row.sample_end = None;
-    Ok(row)
-}
-
-const OF_ROW: &str =
-    "{\"line\":3,\"n\":1,\"segments\":[{\"attribute\":\"Phonetic\",\"bundle\":\"b1\",\"end\":340175,\"endItem\":2,\"endPos\":1,\"labels\":\"m\",\"level\":\"Phonetic\",\"sampleEnd\":6803,\"sampleRate\":20000,\"sampleStart\":5139,\"session\":\"s1\",\"start\":256925,\"startItem\":2,\"startPos\":1}]}\n";
-
-const OF_TIMELESS: &str =
-    "{\"line\":4,\"n\":18446744073709551615,\"segments\":[{\"attribute\":\"Phonetic\",\"bundle\":\"b\\\"\\\\\",\"end\":null,\"endItem\":2,\"endPos\":1,\"labels\":\"a\\\"\\\\\\n\\u001f\u{e9}\u{1f600}\",\"level\":\"Phonetic\",\"sampleEnd\":null,\"sampleRate\":20000,\"sampleStart\":null,\"session\":\"s1\",\"start\":null,\"startItem\":2,\"startPos\":1}]}\n";
-
 #[test]
 fn rows_in_order(rt: HostRuntime) -> Result<(), Fail> {
     let alloc = rt.alloc();
-    let answer = of_row(alloc, row(alloc, "b1", "m")?)?;
-    expect_reply(&rt, alloc, reply(3, Some(1), answer), OF_ROW)?;
-    let answer = of_row(alloc, timeless(alloc)?)?;
-    expect_reply(&rt, alloc, reply(4, Some(u64::MAX), answer), OF_TIMELESS)
-}
-
-/// The number of the state of each refusal, by its place, and its text.
-static REFUSALS: [(Option<u64>, &str); 9] = [
-    (None, "{\"line\":7,\"refused\":{\"rule\":\"NoLook\"}}\n"),
-    (None, "{\"line\":7,\"refused\":{\"rule\":\"LookOpen\"}}\n"),
-    (None, "{\"line\":7,\"refused\":{\"rule\":\"Memory\"}}\n"),
-    (None, "{\"line\":7,\"refused\":{\"rule\":\"Disk\"}}\n"),
-    (
-        Some(1),
-        "{\"line\":7,\"n\":1,\"refused\":{\"name\":\"a\\\"b\\n\",\"rule\":\"UnknownName\"}}\n",
-    ),
-    (
-        Some(1),
-        "{\"line\":7,\"n\":1,\"refused\":{\"name\":\"Word\",\"rule\":\"NoLevel\"}}\n",
-    ),
-    (
-        Some(0),
-        "{\"line\":7,\"n\":0,\"refused\":{\"id\":1,\"rule\":\"Overlap\"}}\n",
-    ),
-    (
-        Some(9),
-        "{\"line\":7,\"n\":9,\"refused\":{\"rule\":\"TooMany\",\"what\":\"Bundles\"}}\n",
-    ),
-    (
-        Some(9),
-        "{\"line\":7,\"n\":9,\"refused\":{\"rule\":\"LabelTooLong\"}}\n",
-    ),
-];
-
-/// The refusal of a place of the table.
-fn refusal(alloc: Global, place: u32) -> Result<Refusal, Memory> {
-    Ok(match place {
-        0 => Refusal::NoLook,
-        1 => Refusal::LookOpen,
-        2 => Refusal::Memory,
-        3 => Refusal::Disk,
-        4 => Refusal::Resolve(AskFault::UnknownName(Text::new(alloc, "a\"b\n")?)),
-        5 => Refusal::Rule(Broken::NoLevel(Text::new(alloc, "Word")?)),
-        6 => Refusal::Rule(Broken::Overlap(ItemId(1))),
-        7 => Refusal::Rule(Broken::TooMany(What::Bundles)),
-        _ => Refusal::Rule(Broken::LabelTooLong),
-    })
+    let mut rows = SegmentList::new(alloc);
+    rows.push(row(alloc, "b1", "m")?)?;
+    let wanted =
+        "{\"line\":3,\"n\":1,\"segments\":[{\"attribute\":\"Phonetic\",\"bundle\":\"b1\",\"end\":340175,\"endItem\":2,\"endPos\":1,\"labels\":\"m\",\"level\":\"Phonetic\",\"sampleEnd\":6803,\"sampleRate\":20000,\"sampleStart\":5139,\"session\":\"s1\",\"start\":256925,\"startItem\":2,\"startPos\":1}]}\n";
+    expect_reply(
+        &rt,
+        alloc,
+        reply(3, Some(1), Answer::Segments(rows)),
+        wanted,
+    )?;
+    let mut rows = SegmentList::new(alloc);
+    let mut timeless = row(alloc, "b\"\\", "a\"\\\n\u{1f}\u{e9}\u{1f600}")?;
+    timeless.start = None;
+    timeless.end = None;
+    timeless.sample_start = None;
+    timeless.sample_end = None;
+    rows.push(timeless)?;
+    let wanted =
+        "{\"line\":4,\"n\":18446744073709551615,\"segments\":[{\"attribute\":\"Phonetic\",\"bundle\":\"b\\\"\\\\\",\"end\":null,\"endItem\":2,\"endPos\":1,\"labels\":\"a\\\"\\\\\\n\\u001f\u{e9}\u{1f600}\",\"level\":\"Phonetic\",\"sampleEnd\":null,\"sampleRate\":20000,\"sampleStart\":null,\"session\":\"s1\",\"start\":null,\"startItem\":2,\"startPos\":1}]}\n";
+    expect_reply(
+        &rt,
+        alloc,
+        reply(4, Some(u64::MAX), Answer::Segments(rows)),
+        wanted,
+    )
 }
 
 #[test]
 fn refusals(rt: HostRuntime) -> Result<(), Fail> {
-    let mut place = 0_u32;
-    for &(n, wanted) in &REFUSALS {
-        let answer = Answer::Refused(refusal(rt.alloc(), place)?);
-        expect_reply(&rt, rt.alloc(), reply(7, n, answer), wanted)?;
-        place = place.saturating_add(1);
+    let alloc = rt.alloc();
+    let name = Text::new(alloc, "a\"b\n")?;
+    let unknown = Refusal::Resolve(AskFault::UnknownName(name));
+    let level = Refusal::Rule(Broken::NoLevel(Text::new(alloc, "Word")?));
+    for (n, refusal, wanted) in [
+        (
+            None,
+            Refusal::NoLook,
+            "{\"line\":7,\"refused\":{\"rule\":\"NoLook\"}}\n",
+        ),
+        (
+            None,
+            Refusal::LookOpen,
+            "{\"line\":7,\"refused\":{\"rule\":\"LookOpen\"}}\n",
+        ),
+        (
+            None,
+            Refusal::Memory,
+            "{\"line\":7,\"refused\":{\"rule\":\"Memory\"}}\n",
+        ),
+        (
+            None,
+            Refusal::Disk,
+            "{\"line\":7,\"refused\":{\"rule\":\"Disk\"}}\n",
+        ),
+        (
+            Some(1),
+            unknown,
+            "{\"line\":7,\"n\":1,\"refused\":{\"name\":\"a\\\"b\\n\",\"rule\":\"UnknownName\"}}\n",
+        ),
+        (
+            Some(1),
+            level,
+            "{\"line\":7,\"n\":1,\"refused\":{\"name\":\"Word\",\"rule\":\"NoLevel\"}}\n",
+        ),
+        (
+            Some(0),
+            Refusal::Rule(Broken::Overlap(ItemId(1))),
+            "{\"line\":7,\"n\":0,\"refused\":{\"id\":1,\"rule\":\"Overlap\"}}\n",
+        ),
+        (
+            Some(9),
+            Refusal::Rule(Broken::TooMany(What::Bundles)),
+            "{\"line\":7,\"n\":9,\"refused\":{\"rule\":\"TooMany\",\"what\":\"Bundles\"}}\n",
+        ),
+        (
+            Some(9),
+            Refusal::Rule(Broken::LabelTooLong),
+            "{\"line\":7,\"n\":9,\"refused\":{\"rule\":\"LabelTooLong\"}}\n",
+        ),
+    ] {
+        expect_reply(&rt, alloc, reply(7, n, Answer::Refused(refusal)), wanted)?;
     }
     Ok(())
 }

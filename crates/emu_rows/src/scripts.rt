@@ -1,6 +1,6 @@
 //! Lines of scripts, and runs of the program over sources and sinks in memory.
 use emu_cli::emu;
-use emu_io::{ListSink, ListSource, Source};
+use emu_io::{ListSink, ListSource};
 use label_match::{PatternMaker, RegexMaker};
 use std::alloc::{AllocError, Global};
 use std::process::Abort;
@@ -34,19 +34,13 @@ pub struct Ran {
     pub output: Vec<u8>,
 }
 
-/// Adds lines to a script, each with its end.
-pub fn push_lines(bytes: &mut Vec<u8>, lines: &[&str], end: &str) -> Result<(), AllocError> {
+/// The lines of a script, each with its end.
+pub fn joined(alloc: Global, lines: &[&str], end: &str) -> Result<Vec<u8>, AllocError> {
+    let mut bytes = Vec::new(alloc);
     for line in lines {
         bytes.extend_from_slice(line.as_bytes())?;
         bytes.extend_from_slice(end.as_bytes())?;
     }
-    Ok(())
-}
-
-/// The lines of a script, each with its end.
-pub fn joined(alloc: Global, lines: &[&str], end: &str) -> Result<Vec<u8>, AllocError> {
-    let mut bytes = Vec::new(alloc);
-    push_lines(&mut bytes, lines, end)?;
     Ok(bytes)
 }
 
@@ -68,32 +62,35 @@ pub fn run<R: Threads + Wait + Sync>(
     bad_reads: &[u64],
     bad_writes: &[u64],
 ) -> Result<Ran, AllocError> {
-    let mut source = ListSource::new(script, Vec::from_slice(alloc, bad_reads)?);
     let mut patterns = RegexMaker::new();
-    run_from(rt, alloc, words, &mut source, bad_writes, &mut patterns)
+    run_with(
+        rt,
+        alloc,
+        words,
+        script,
+        bad_reads,
+        bad_writes,
+        &mut patterns,
+    )
 }
 
-/// The words of a command line.
-fn words_of(alloc: Global, words: &[&str]) -> Result<Vec<String>, AllocError> {
+/// As `run`, with a maker of patterns.
+pub fn run_with<R: Threads + Wait + Sync, P: PatternMaker>(
+    rt: &R,
+    alloc: Global,
+    words: &[&str],
+    script: Vec<u8>,
+    bad_reads: &[u64],
+    bad_writes: &[u64],
+    patterns: &mut P,
+) -> Result<Ran, AllocError> {
     let mut all = Vec::new(alloc);
     for word in words {
         all.push(String::from_str(alloc, word)?)?;
     }
-    Ok(all)
-}
-
-/// As `run`, over any source, with a maker of patterns.
-pub fn run_from<R: Threads + Wait + Sync, S: Source, P: PatternMaker>(
-    rt: &R,
-    alloc: Global,
-    words: &[&str],
-    source: &mut S,
-    bad_writes: &[u64],
-    patterns: &mut P,
-) -> Result<Ran, AllocError> {
+    let mut source = ListSource::new(script, Vec::from_slice(alloc, bad_reads)?);
     let mut sink = ListSink::new(alloc, Vec::from_slice(alloc, bad_writes)?);
-    let words = words_of(alloc, words)?;
-    let status = emu(rt, alloc, words.as_slice(), source, &mut sink, patterns);
+    let status = emu(rt, alloc, all.as_slice(), &mut source, &mut sink, patterns);
     let output = Vec::from_slice(alloc, sink.bytes())?;
     Ok(Ran { status, output })
 }

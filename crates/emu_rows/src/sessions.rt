@@ -1,88 +1,79 @@
 //! The sixteen sessions, each with a look open beside the looks of the others.
-use crate::scripts::{BUNDLE, CONFIG, OTHER_BUNDLE, Row, expect_rows};
+use crate::scripts::{BUNDLE, CONFIG, OTHER_BUNDLE, run};
+use std::alloc::{AllocError, Global};
 use std::test::Fail;
 
-/// Eight sessions look before the second bundle is added, eight after it; then all finish, and each look
-/// shows the state at its own line.
-static LOOKS: [Row; 1] = [Row {
-    lines: &[
-        CONFIG,
-        BUNDLE,
-        r#"{"s":1,"do":"look","eql":"Phonetic == m"}"#,
-        r#"{"s":2,"do":"look","eql":"Phonetic == m"}"#,
-        r#"{"s":3,"do":"look","eql":"Phonetic == m"}"#,
-        r#"{"s":4,"do":"look","eql":"Phonetic == m"}"#,
-        r#"{"s":5,"do":"look","eql":"Phonetic == m"}"#,
-        r#"{"s":6,"do":"look","eql":"Phonetic == m"}"#,
-        r#"{"s":7,"do":"look","eql":"Phonetic == m"}"#,
-        r#"{"s":8,"do":"look","eql":"Phonetic == m"}"#,
-        OTHER_BUNDLE,
-        r#"{"s":9,"do":"look","eql":"Phonetic == m"}"#,
-        r#"{"s":10,"do":"look","eql":"Phonetic == m"}"#,
-        r#"{"s":11,"do":"look","eql":"Phonetic == m"}"#,
-        r#"{"s":12,"do":"look","eql":"Phonetic == m"}"#,
-        r#"{"s":13,"do":"look","eql":"Phonetic == m"}"#,
-        r#"{"s":14,"do":"look","eql":"Phonetic == m"}"#,
-        r#"{"s":15,"do":"look","eql":"Phonetic == m"}"#,
-        r#"{"s":16,"do":"look","eql":"Phonetic == m"}"#,
-        r#"{"s":1,"do":"finish"}"#,
-        r#"{"s":2,"do":"finish"}"#,
-        r#"{"s":3,"do":"finish"}"#,
-        r#"{"s":4,"do":"finish"}"#,
-        r#"{"s":5,"do":"finish"}"#,
-        r#"{"s":6,"do":"finish"}"#,
-        r#"{"s":7,"do":"finish"}"#,
-        r#"{"s":8,"do":"finish"}"#,
-        r#"{"s":9,"do":"finish"}"#,
-        r#"{"s":10,"do":"finish"}"#,
-        r#"{"s":11,"do":"finish"}"#,
-        r#"{"s":12,"do":"finish"}"#,
-        r#"{"s":13,"do":"finish"}"#,
-        r#"{"s":14,"do":"finish"}"#,
-        r#"{"s":15,"do":"finish"}"#,
-        r#"{"s":16,"do":"finish"}"#,
-    ],
-    status: 0,
-    output: &[
-        r#"{"line":1,"n":0,"ok":"config"}"#,
-        r#"{"line":2,"n":1,"ok":"add_bundle"}"#,
-        r#"{"line":3,"n":1,"ok":"look"}"#,
-        r#"{"line":4,"n":1,"ok":"look"}"#,
-        r#"{"line":5,"n":1,"ok":"look"}"#,
-        r#"{"line":6,"n":1,"ok":"look"}"#,
-        r#"{"line":7,"n":1,"ok":"look"}"#,
-        r#"{"line":8,"n":1,"ok":"look"}"#,
-        r#"{"line":9,"n":1,"ok":"look"}"#,
-        r#"{"line":10,"n":1,"ok":"look"}"#,
-        r#"{"line":11,"n":2,"ok":"add_bundle"}"#,
-        r#"{"line":12,"n":2,"ok":"look"}"#,
-        r#"{"line":13,"n":2,"ok":"look"}"#,
-        r#"{"line":14,"n":2,"ok":"look"}"#,
-        r#"{"line":15,"n":2,"ok":"look"}"#,
-        r#"{"line":16,"n":2,"ok":"look"}"#,
-        r#"{"line":17,"n":2,"ok":"look"}"#,
-        r#"{"line":18,"n":2,"ok":"look"}"#,
-        r#"{"line":19,"n":2,"ok":"look"}"#,
-        r#"{"line":20,"n":1,"segments":[{"attribute":"Phonetic","bundle":"b1","end":340175,"endItem":2,"endPos":1,"labels":"m","level":"Phonetic","sampleEnd":6803,"sampleRate":20000,"sampleStart":5139,"session":"s1","start":256925,"startItem":2,"startPos":1}]}"#,
-        r#"{"line":21,"n":1,"segments":[{"attribute":"Phonetic","bundle":"b1","end":340175,"endItem":2,"endPos":1,"labels":"m","level":"Phonetic","sampleEnd":6803,"sampleRate":20000,"sampleStart":5139,"session":"s1","start":256925,"startItem":2,"startPos":1}]}"#,
-        r#"{"line":22,"n":1,"segments":[{"attribute":"Phonetic","bundle":"b1","end":340175,"endItem":2,"endPos":1,"labels":"m","level":"Phonetic","sampleEnd":6803,"sampleRate":20000,"sampleStart":5139,"session":"s1","start":256925,"startItem":2,"startPos":1}]}"#,
-        r#"{"line":23,"n":1,"segments":[{"attribute":"Phonetic","bundle":"b1","end":340175,"endItem":2,"endPos":1,"labels":"m","level":"Phonetic","sampleEnd":6803,"sampleRate":20000,"sampleStart":5139,"session":"s1","start":256925,"startItem":2,"startPos":1}]}"#,
-        r#"{"line":24,"n":1,"segments":[{"attribute":"Phonetic","bundle":"b1","end":340175,"endItem":2,"endPos":1,"labels":"m","level":"Phonetic","sampleEnd":6803,"sampleRate":20000,"sampleStart":5139,"session":"s1","start":256925,"startItem":2,"startPos":1}]}"#,
-        r#"{"line":25,"n":1,"segments":[{"attribute":"Phonetic","bundle":"b1","end":340175,"endItem":2,"endPos":1,"labels":"m","level":"Phonetic","sampleEnd":6803,"sampleRate":20000,"sampleStart":5139,"session":"s1","start":256925,"startItem":2,"startPos":1}]}"#,
-        r#"{"line":26,"n":1,"segments":[{"attribute":"Phonetic","bundle":"b1","end":340175,"endItem":2,"endPos":1,"labels":"m","level":"Phonetic","sampleEnd":6803,"sampleRate":20000,"sampleStart":5139,"session":"s1","start":256925,"startItem":2,"startPos":1}]}"#,
-        r#"{"line":27,"n":1,"segments":[{"attribute":"Phonetic","bundle":"b1","end":340175,"endItem":2,"endPos":1,"labels":"m","level":"Phonetic","sampleEnd":6803,"sampleRate":20000,"sampleStart":5139,"session":"s1","start":256925,"startItem":2,"startPos":1}]}"#,
-        r#"{"line":28,"n":2,"segments":[{"attribute":"Phonetic","bundle":"b1","end":340175,"endItem":2,"endPos":1,"labels":"m","level":"Phonetic","sampleEnd":6803,"sampleRate":20000,"sampleStart":5139,"session":"s1","start":256925,"startItem":2,"startPos":1},{"attribute":"Phonetic","bundle":"b2","end":340175,"endItem":2,"endPos":1,"labels":"m","level":"Phonetic","sampleEnd":6803,"sampleRate":20000,"sampleStart":5139,"session":"s1","start":256925,"startItem":2,"startPos":1}]}"#,
-        r#"{"line":29,"n":2,"segments":[{"attribute":"Phonetic","bundle":"b1","end":340175,"endItem":2,"endPos":1,"labels":"m","level":"Phonetic","sampleEnd":6803,"sampleRate":20000,"sampleStart":5139,"session":"s1","start":256925,"startItem":2,"startPos":1},{"attribute":"Phonetic","bundle":"b2","end":340175,"endItem":2,"endPos":1,"labels":"m","level":"Phonetic","sampleEnd":6803,"sampleRate":20000,"sampleStart":5139,"session":"s1","start":256925,"startItem":2,"startPos":1}]}"#,
-        r#"{"line":30,"n":2,"segments":[{"attribute":"Phonetic","bundle":"b1","end":340175,"endItem":2,"endPos":1,"labels":"m","level":"Phonetic","sampleEnd":6803,"sampleRate":20000,"sampleStart":5139,"session":"s1","start":256925,"startItem":2,"startPos":1},{"attribute":"Phonetic","bundle":"b2","end":340175,"endItem":2,"endPos":1,"labels":"m","level":"Phonetic","sampleEnd":6803,"sampleRate":20000,"sampleStart":5139,"session":"s1","start":256925,"startItem":2,"startPos":1}]}"#,
-        r#"{"line":31,"n":2,"segments":[{"attribute":"Phonetic","bundle":"b1","end":340175,"endItem":2,"endPos":1,"labels":"m","level":"Phonetic","sampleEnd":6803,"sampleRate":20000,"sampleStart":5139,"session":"s1","start":256925,"startItem":2,"startPos":1},{"attribute":"Phonetic","bundle":"b2","end":340175,"endItem":2,"endPos":1,"labels":"m","level":"Phonetic","sampleEnd":6803,"sampleRate":20000,"sampleStart":5139,"session":"s1","start":256925,"startItem":2,"startPos":1}]}"#,
-        r#"{"line":32,"n":2,"segments":[{"attribute":"Phonetic","bundle":"b1","end":340175,"endItem":2,"endPos":1,"labels":"m","level":"Phonetic","sampleEnd":6803,"sampleRate":20000,"sampleStart":5139,"session":"s1","start":256925,"startItem":2,"startPos":1},{"attribute":"Phonetic","bundle":"b2","end":340175,"endItem":2,"endPos":1,"labels":"m","level":"Phonetic","sampleEnd":6803,"sampleRate":20000,"sampleStart":5139,"session":"s1","start":256925,"startItem":2,"startPos":1}]}"#,
-        r#"{"line":33,"n":2,"segments":[{"attribute":"Phonetic","bundle":"b1","end":340175,"endItem":2,"endPos":1,"labels":"m","level":"Phonetic","sampleEnd":6803,"sampleRate":20000,"sampleStart":5139,"session":"s1","start":256925,"startItem":2,"startPos":1},{"attribute":"Phonetic","bundle":"b2","end":340175,"endItem":2,"endPos":1,"labels":"m","level":"Phonetic","sampleEnd":6803,"sampleRate":20000,"sampleStart":5139,"session":"s1","start":256925,"startItem":2,"startPos":1}]}"#,
-        r#"{"line":34,"n":2,"segments":[{"attribute":"Phonetic","bundle":"b1","end":340175,"endItem":2,"endPos":1,"labels":"m","level":"Phonetic","sampleEnd":6803,"sampleRate":20000,"sampleStart":5139,"session":"s1","start":256925,"startItem":2,"startPos":1},{"attribute":"Phonetic","bundle":"b2","end":340175,"endItem":2,"endPos":1,"labels":"m","level":"Phonetic","sampleEnd":6803,"sampleRate":20000,"sampleStart":5139,"session":"s1","start":256925,"startItem":2,"startPos":1}]}"#,
-        r#"{"line":35,"n":2,"segments":[{"attribute":"Phonetic","bundle":"b1","end":340175,"endItem":2,"endPos":1,"labels":"m","level":"Phonetic","sampleEnd":6803,"sampleRate":20000,"sampleStart":5139,"session":"s1","start":256925,"startItem":2,"startPos":1},{"attribute":"Phonetic","bundle":"b2","end":340175,"endItem":2,"endPos":1,"labels":"m","level":"Phonetic","sampleEnd":6803,"sampleRate":20000,"sampleStart":5139,"session":"s1","start":256925,"startItem":2,"startPos":1}]}"#,
-    ],
-}];
+const OF_B1: &str =
+    "{\"attribute\":\"Phonetic\",\"bundle\":\"b1\",\"end\":340175,\"endItem\":2,\"endPos\":1,\"labels\":\"m\",\"level\":\"Phonetic\",\"sampleEnd\":6803,\"sampleRate\":20000,\"sampleStart\":5139,\"session\":\"s1\",\"start\":256925,\"startItem\":2,\"startPos\":1}";
+
+const OF_B2: &str =
+    "{\"attribute\":\"Phonetic\",\"bundle\":\"b2\",\"end\":340175,\"endItem\":2,\"endPos\":1,\"labels\":\"m\",\"level\":\"Phonetic\",\"sampleEnd\":6803,\"sampleRate\":20000,\"sampleStart\":5139,\"session\":\"s1\",\"start\":256925,\"startItem\":2,\"startPos\":1}";
+
+/// Adds a line for each number from `first` to `last`, the number between two texts.
+fn push_lines(
+    alloc: Global,
+    text: &mut String,
+    first: u32,
+    last: u32,
+    before: &str,
+    behind: &str,
+) -> Result<(), AllocError> {
+    for number in first..=last {
+        let line = format!(in alloc; "{before}{number}{behind}\n")?;
+        text.push_str(line.as_str())?;
+    }
+    Ok(())
+}
+
+/// Eight sessions look before the second bundle is added, eight after it; then all finish.
+fn script(alloc: Global) -> Result<String, AllocError> {
+    let look = ",\"do\":\"look\",\"eql\":\"Phonetic == m\"}";
+    let mut text = format!(in alloc; "{CONFIG}\n{BUNDLE}\n")?;
+    push_lines(alloc, &mut text, 1, 8, "{\"s\":", look)?;
+    text.push_str(OTHER_BUNDLE)?;
+    text.push('\n')?;
+    push_lines(alloc, &mut text, 9, 16, "{\"s\":", look)?;
+    push_lines(alloc, &mut text, 1, 16, "{\"s\":", ",\"do\":\"finish\"}")?;
+    Ok(text)
+}
+
+/// Each look shows the state at its own line.
+fn replies(alloc: Global) -> Result<String, AllocError> {
+    let one = format!(in alloc; ",\"n\":1,\"segments\":[{OF_B1}]}}")?;
+    let two = format!(in alloc; ",\"n\":2,\"segments\":[{OF_B1},{OF_B2}]}}")?;
+    let line = "{\"line\":";
+    let mut text = String::new(alloc);
+    push_lines(alloc, &mut text, 1, 1, line, ",\"n\":0,\"ok\":\"config\"}")?;
+    push_lines(
+        alloc,
+        &mut text,
+        2,
+        2,
+        line,
+        ",\"n\":1,\"ok\":\"add_bundle\"}",
+    )?;
+    push_lines(alloc, &mut text, 3, 10, line, ",\"n\":1,\"ok\":\"look\"}")?;
+    push_lines(
+        alloc,
+        &mut text,
+        11,
+        11,
+        line,
+        ",\"n\":2,\"ok\":\"add_bundle\"}",
+    )?;
+    push_lines(alloc, &mut text, 12, 19, line, ",\"n\":2,\"ok\":\"look\"}")?;
+    push_lines(alloc, &mut text, 20, 27, line, one.as_str())?;
+    push_lines(alloc, &mut text, 28, 35, line, two.as_str())?;
+    Ok(text)
+}
 
 #[test]
 fn sixteen_sessions_look(rt: HostRuntime) -> Result<(), Fail> {
-    expect_rows(&rt, rt.alloc(), &LOOKS)
+    let alloc = rt.alloc();
+    let given = script(alloc)?;
+    let bytes = Vec::from_slice(alloc, given.as_bytes())?;
+    let ran = run(&rt, alloc, &["run"], bytes, &[], &[])?;
+    assert_eq!(rt; ran.status, 0);
+    assert_eq!(rt; ran.output.as_slice(), replies(alloc)?.as_bytes());
+    Ok(())
 }

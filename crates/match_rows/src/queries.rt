@@ -10,7 +10,7 @@ use db_config::{Config, read_config};
 use emu_names::{BundleKey, Fault, Name};
 use eql_match::match_bundle;
 use eql_model::{Span, match_plain};
-use eql_resolve::{Asked, Prepared, prepare, resolve};
+use eql_resolve::{Asked, prepare, resolve};
 use json_view::View;
 use label_match::RegexMaker;
 use level_items::Annot;
@@ -98,19 +98,13 @@ fn built(alloc: Global, config: &Config, key: BundleKey, annot: &Annot) -> Resul
     Bundle::build(alloc, config, key, annot)
 }
 
-/// The key of the bundle b1.
-fn key_of(alloc: Global) -> Result<BundleKey, Fail> {
-    let session = Name::new(alloc, "s1")?;
-    let bundle = Name::new(alloc, "b1")?;
-    Ok(BundleKey { session, bundle })
-}
-
-/// The bundle b1, with its columns.
-fn indexed(alloc: Global, config: &Config) -> Result<Indexed, Fail>
+/// The bundle b1 of an annotation, with its columns.
+fn indexed(alloc: Global, config: &Config, annot: &Annot) -> Result<Indexed, Fail>
     ensures { IfOk result (λ made. FitsConfig config.now made.bundle) }
 {
-    let annot = annot_of(alloc, BUNDLE)?;
-    let bundle = built(alloc, config, key_of(alloc)?, &annot)?;
+    let session = Name::new(alloc, "s1")?;
+    let bundle = Name::new(alloc, "b1")?;
+    let bundle = built(alloc, config, BundleKey { session, bundle }, annot)?;
     Ok(Indexed::new(alloc, bundle)?)
 }
 
@@ -159,35 +153,6 @@ fn plain(
     }
 }
 
-/// What both evaluators find of a prepared query.
-fn found(
-    alloc: Global,
-    config: &Config,
-    indexed: &Indexed,
-    prepared: &Prepared,
-) -> Result<(String, String), Fail>
-    requires { FitsConfig config.now indexed.now.bundle }
-{
-    let asked = resolve(alloc, config, prepared, None)?;
-    let quick = fast(alloc, config, indexed, &asked)?;
-    let slow = plain(alloc, config, indexed.bundle(), &asked)?;
-    Ok((quick, slow))
-}
-
-/// What both evaluators find.
-fn answers(
-    alloc: Global,
-    config: &Config,
-    indexed: &Indexed,
-    text: &str,
-) -> Result<(String, String), Fail>
-    requires { FitsConfig config.now indexed.now.bundle }
-{
-    let mut maker = RegexMaker::new();
-    let prepared = prepare(alloc, &mut maker, text)?;
-    found(alloc, config, indexed, &prepared)
-}
-
 /// Asks both evaluators one query.
 fn ask(
     rt: &impl Abort,
@@ -199,25 +164,23 @@ fn ask(
     requires { FitsConfig config.now indexed.now.bundle }
 {
     let (text, wanted) = *row;
-    let (quick, slow) = answers(alloc, config, indexed, text)?;
-    assert_eq!(rt; quick.as_str(), wanted, "{text}");
-    assert_eq!(rt; slow.as_str(), wanted, "{text}, plainly");
-    Ok(())
-}
-
-/// Asks all queries of the table.
-fn ask_all(rt: &impl Abort, alloc: Global, config: &Config, indexed: &Indexed) -> Result<(), Fail>
-    requires { FitsConfig config.now indexed.now.bundle }
-{
-    for row in &ROWS {
-        ask(rt, alloc, config, indexed, row)?;
-    }
+    let mut maker = RegexMaker::new();
+    let prepared = prepare(alloc, &mut maker, text)?;
+    let asked = resolve(alloc, config, &prepared, None)?;
+    let found = fast(alloc, config, indexed, &asked)?;
+    assert_eq!(rt; found.as_str(), wanted, "{text}");
+    let found = plain(alloc, config, indexed.bundle(), &asked)?;
+    assert_eq!(rt; found.as_str(), wanted, "{text}, plainly");
     Ok(())
 }
 
 #[test]
 fn results_are_those_of_the_table(rt: HostRuntime) -> Result<(), Fail> {
     let config = config_of(rt.alloc(), DATABASE)?;
-    let indexed = indexed(rt.alloc(), &config)?;
-    ask_all(&rt, rt.alloc(), &config, &indexed)
+    let annot = annot_of(rt.alloc(), BUNDLE)?;
+    let indexed = indexed(rt.alloc(), &config, &annot)?;
+    for row in &ROWS {
+        ask(&rt, rt.alloc(), &config, &indexed, row)?;
+    }
+    Ok(())
 }

@@ -163,12 +163,9 @@ fn label_count(query: &Query) -> usize {
     }
 }
 
-/// How many labels are added to one, and how many there are then.
-static MANY: [(usize, usize); 3] = [(0, 1), (99, 100), (2045, 2046)];
-
 #[test]
 fn a_test_has_many_labels(rt: HostRuntime) -> Result<(), Fail> {
-    for &(more, wanted) in &MANY {
+    for (more, wanted) in [(0, 1), (99, 100), (2045, 2046)] {
         let text = text_of(rt.alloc(), "", more, "A == a", "|a")?;
         let query = read_query(rt.alloc(), text.as_str())?;
         assert_eq!(rt; label_count(&query), wanted);

@@ -108,39 +108,31 @@ fn tried<P: PatternMaker>(
     }
 }
 
-/// The text of a pattern, whether it matches a label or why there is none, and the refusals that are
-/// counted then.
-type Try = (&'static str, Result<bool, PatternFault>, u64);
-
-static COUNTED: [Try; 4] = [
-    ("(?:a{1000}){1000}", Err(PatternFault::Size), 1),
-    ("(", Err(PatternFault::Syntax), 1),
-    ("a", Ok(true), 1),
-    ("a{4294967295}", Err(PatternFault::Size), 2),
-];
-
 #[test]
-fn refusals_are_counted(rt: HostRuntime) {
+fn refusals_are_counted(rt: HostRuntime) -> Result<(), Fail> {
     let mut maker = RegexMaker::new();
-    for &(text, wanted, refusals) in &COUNTED {
+    for (text, wanted, refusals) in [
+        ("(?:a{1000}){1000}", Err(PatternFault::Size), 1),
+        ("(", Err(PatternFault::Syntax), 1),
+        ("a", Ok(true), 1),
+        ("a{4294967295}", Err(PatternFault::Size), 2),
+    ] {
         let found = tried(&mut maker, rt.alloc(), text, "a");
         assert!(rt; found == wanted && maker.refusals() == refusals, "{text}");
     }
+    Ok(())
 }
-
-/// What is answered where the first and the fourth call are refused.
-static LISTED: [Try; 5] = [
-    ("[Vm]", Err(PatternFault::Size), 1),
-    ("[Vm]", Ok(true), 1),
-    (")", Err(PatternFault::Syntax), 1),
-    ("(", Err(PatternFault::Size), 2),
-    ("v", Ok(false), 2),
-];
 
 #[test]
 fn listed_calls_are_refused(rt: HostRuntime) -> Result<(), Fail> {
     let mut maker = ListMaker::new(Vec::from_array(rt.alloc(), [1, 4])?);
-    for &(text, wanted, refusals) in &LISTED {
+    for (text, wanted, refusals) in [
+        ("[Vm]", Err(PatternFault::Size), 1),
+        ("[Vm]", Ok(true), 1),
+        (")", Err(PatternFault::Syntax), 1),
+        ("(", Err(PatternFault::Size), 2),
+        ("v", Ok(false), 2),
+    ] {
         let found = tried(&mut maker, rt.alloc(), text, "V");
         assert!(rt; found == wanted && maker.refusals() == refusals, "{text}");
     }

@@ -170,26 +170,23 @@ static PRINTS: [(&str, &str); 44] = [
 
 #[test]
 fn faults_and_places(rt: HostRuntime) {
-    for &(text, fault) in &FAULTS {
-        let found = read_query(rt.alloc(), text).err();
-        assert_eq!(rt; found, Some(fault), "{text}");
+    for (text, fault) in &FAULTS {
+        match read_query(rt.alloc(), text) {
+            Ok(_query) => assert!(rt; false, "{text} is read"),
+            Err(found) => assert_eq!(rt; found, *fault, "{text}"),
+        }
     }
-}
-
-/// The print of a copy of the query that a text spells.
-fn print_of_copy(alloc: Global, text: &str) -> Result<Text, Fail> {
-    let query = read_query(alloc, text)?;
-    let copied = query.copy(alloc)?;
-    Ok(print_query(alloc, &copied)?)
 }
 
 #[test]
 fn texts_and_their_prints(rt: HostRuntime) -> Result<(), Fail> {
-    for &(text, print) in &PRINTS {
-        let printed = print_of_copy(rt.alloc(), text)?;
-        assert_eq!(rt; printed.as_str(), print, "{text}");
-        let again = print_of_copy(rt.alloc(), print)?;
-        assert_eq!(rt; again.as_str(), print, "{text}");
+    for (text, print) in &PRINTS {
+        let query = read_query(rt.alloc(), text)?.copy(rt.alloc())?;
+        let printed = print_query(rt.alloc(), &query)?;
+        assert_eq!(rt; printed.as_str(), *print, "{text}");
+        let again = read_query(rt.alloc(), print)?;
+        let printed_again = print_query(rt.alloc(), &again)?;
+        assert_eq!(rt; printed_again.as_str(), *print, "{text}");
     }
     Ok(())
 }
@@ -252,15 +249,14 @@ fn brackets_have_a_limit(rt: HostRuntime) -> Result<(), Fail> {
     Ok(())
 }
 
-/// How many brackets a text has, and its fault.
-static BRACKETS: [(usize, QueryFault); 2] = [(4096, TooDeep(32)), (4097, TextTooLong)];
-
 #[test]
 fn texts_have_a_limit(rt: HostRuntime) -> Result<(), Fail> {
-    for &(count, fault) in &BRACKETS {
+    for (count, fault) in [(4096, TooDeep(32)), (4097, TextTooLong)] {
         let text = repeated(rt.alloc(), "[", count)?;
-        let found = read_query(rt.alloc(), text.as_str()).err();
-        assert_eq!(rt; found, Some(fault), "{count} brackets");
+        match read_query(rt.alloc(), text.as_str()) {
+            Ok(_query) => assert!(rt; false, "{count} brackets are read"),
+            Err(found) => assert_eq!(rt; found, fault),
+        }
     }
     Ok(())
 }

@@ -118,17 +118,14 @@ fn grouped(alloc: Global, count: usize) -> Result<String, AllocError> {
     Ok(text)
 }
 
-/// How many groups a pattern has, and how many patterns there are then, or the fault.
-static GROUPED: [(usize, Result<usize, PrepareFault>); 3] = [
-    (0, Ok(1)),
-    (100, Ok(1)),
-    (2044, Err(PrepareFault::BadPattern(0))),
-];
-
 /// 2,044 groups fill the 4,096 bytes of a text; patterns are nested 250 deep at most.
 #[test]
 fn groups_in_one_another_have_a_limit(rt: HostRuntime) -> Result<(), Fail> {
-    for &(count, wanted) in &GROUPED {
+    for (count, wanted) in [
+        (0, Ok(1)),
+        (100, Ok(1)),
+        (2044, Err(PrepareFault::BadPattern(0))),
+    ] {
         let text = grouped(rt.alloc(), count)?;
         let mut maker = RegexMaker::new();
         let found = pattern_count(rt.alloc(), &mut maker, text.as_str());

@@ -31,23 +31,14 @@ fn config_of(alloc: Global) -> Result<Config, Fail> {
     Ok(read_config(alloc, &view)?)
 }
 
-/// The session of a bundle.
-fn session_of(alloc: Global, number: u32) -> Result<Name, Fail> {
-    let text = format!(in alloc; "s{:02}", number / 500)?;
-    Ok(Name::new(alloc, text.as_str())?)
-}
-
-/// The name of a bundle.
-fn name_of(alloc: Global, number: u32) -> Result<Name, Fail> {
-    let text = format!(in alloc; "b{number:05}")?;
-    Ok(Name::new(alloc, text.as_str())?)
-}
-
 /// The key of a bundle, whose keys rise as the numbers do.
 fn key_of(alloc: Global, number: u32) -> Result<BundleKey, Fail> {
-    let session = session_of(alloc, number)?;
-    let bundle = name_of(alloc, number)?;
-    Ok(BundleKey { session, bundle })
+    let session = format!(in alloc; "s{:02}", number / 500)?;
+    let bundle = format!(in alloc; "b{number:05}")?;
+    Ok(BundleKey {
+        session: Name::new(alloc, session.as_str())?,
+        bundle: Name::new(alloc, bundle.as_str())?,
+    })
 }
 
 /// An annotation without items.
@@ -135,27 +126,17 @@ fn emptied(alloc: Global, version: Version, step: u32, limit: u32) -> Result<Ver
     Ok(version)
 }
 
-/// Takes half of the bundles out, and then all others.
-fn take_out(rt: &impl Abort, alloc: Global, full: Version, step: u32) -> Result<(), Fail> {
-    let half = emptied(alloc, full, step, 5_000)?;
-    check(rt, alloc, &half, 5_000)?;
-    let empty = emptied(alloc, half, step, COUNT)?;
-    assert_eq!(rt; empty.len(), 0);
-    Ok(())
-}
-
-/// Puts all bundles in and takes them out, beside a version that keeps them.
-fn come_and_go(rt: &impl Abort, alloc: Global, step: u32) -> Result<(), Fail> {
-    let full = filled(alloc, step)?;
-    check(rt, alloc, &full, 0)?;
-    take_out(rt, alloc, full.copy(alloc)?, step)?;
-    check(rt, alloc, &full, 0)
-}
-
 #[test]
 fn bundles_come_and_go(rt: HostRuntime) -> Result<(), Fail> {
-    for &step in &STEPS {
-        come_and_go(&rt, rt.alloc(), step)?;
+    for step in STEPS {
+        let full = filled(rt.alloc(), step)?;
+        check(&rt, rt.alloc(), &full, 0)?;
+        let kept = full.copy(rt.alloc())?;
+        let half = emptied(rt.alloc(), full, step, 5_000)?;
+        check(&rt, rt.alloc(), &half, 5_000)?;
+        let empty = emptied(rt.alloc(), half, step, COUNT)?;
+        assert_eq!(rt; empty.len(), 0);
+        check(&rt, rt.alloc(), &kept, 0)?;
     }
     Ok(())
 }
