@@ -36,84 +36,101 @@ fn shown(alloc: Global, entries: &FolderEntries) -> Result<String, Memory> {
     Ok(text)
 }
 
-/// Listings, as texts, and paths that are no folder.
-static LISTINGS: [(&str, Option<&str>); 6] = [
-    ("t_emuDB", Some("s0_ses/s1_ses/t_DBconfig.json ")),
-    ("t_emuDB/s0_ses", Some("")),
-    ("t_emuDB/s1_ses", Some("b1_bndl/b2_bndl/")),
-    ("t_emuDB/s1_ses/b1_bndl", Some("b1_annot.json ")),
-    ("t_emu", None),
-    ("a.TextGrid", None),
+/// What listing a folder answers: the entries as one text, or the word of the fault.
+fn listing(alloc: Global, folder: &mut SureFolder, path: &str) -> Result<String, Memory> {
+    match folder.list(alloc, path) {
+        Ok(entries) => shown(alloc, &entries),
+        Err(FolderFault::Absent) => Ok(String::from_str(alloc, "absent")?),
+        Err(_) => Ok(String::from_str(alloc, "another fault")?),
+    }
+}
+
+/// Paths, and what listing them answers.
+static LISTINGS: [(&str, &str); 6] = [
+    ("t_emuDB", "s0_ses/s1_ses/t_DBconfig.json "),
+    ("t_emuDB/s0_ses", ""),
+    ("t_emuDB/s1_ses", "b1_bndl/b2_bndl/"),
+    ("t_emuDB/s1_ses/b1_bndl", "b1_annot.json "),
+    ("t_emu", "absent"),
+    ("a.TextGrid", "absent"),
 ];
 
-#[test]
-fn folders_are_listed(rt: HostRuntime) -> Result<(), Fail> {
-    let alloc = rt.alloc();
-    let mut folder = SureFolder::new(stored(alloc)?);
-    for (path, wanted) in &LISTINGS {
-        match folder.list(alloc, path) {
-            Ok(entries) => {
-                let text = shown(alloc, &entries)?;
-                assert_eq!(rt; Some(text.as_str()), *wanted, "{path}");
-            }
-            Err(fault) => {
-                assert_eq!(rt; fault, FolderFault::Absent, "{path}");
-                assert!(rt; wanted.is_none(), "{path}");
-            }
-        }
+/// Compares all listings of a folder.
+fn expect_listings(rt: &impl Abort, alloc: Global, folder: &mut SureFolder) -> Result<(), Memory> {
+    for &(path, wanted) in &LISTINGS {
+        let told = listing(alloc, folder, path)?;
+        assert_eq!(rt; told.as_str(), wanted, "{path}");
     }
-    assert_eq!(rt; folder.misses(), 2);
     Ok(())
 }
 
-/// A path, the text of its file or the fault, and the counts of faults and misses then. The second
-/// and the fourth call fail.
-type Reading = (&'static str, &'static str, Option<FolderFault>, u64, u64);
+#[test]
+fn folders_are_listed(rt: HostRuntime) -> Result<(), Fail> {
+    let mut folder = SureFolder::new(stored(rt.alloc())?);
+    let compared = expect_listings(&rt, rt.alloc(), &mut folder);
+    assert_eq!(rt; (compared, folder.misses()), (Ok(()), 2));
+    Ok(())
+}
+
+/// A path, a text, whether that is the text of the file, or the fault, and the counts of faults and
+/// misses then. The second and the fourth call fail.
+type Reading = (
+    &'static str,
+    &'static str,
+    Result<bool, FolderFault>,
+    u64,
+    u64,
+);
 
 static READINGS: [Reading; 6] = [
-    ("t_emuDB/t_DBconfig.json", "{}", None, 0, 0),
+    ("t_emuDB/t_DBconfig.json", "{}", Ok(true), 0, 0),
     (
         "t_emuDB/t_DBconfig.json",
         "",
-        Some(FolderFault::Failed),
+        Err(FolderFault::Failed),
         1,
         0,
     ),
-    ("t_emuDB/none", "", Some(FolderFault::Absent), 1, 1),
-    ("t_emuDB/none", "", Some(FolderFault::Failed), 2, 1),
-    ("t_emuDB/s0_ses", "", Some(FolderFault::Absent), 2, 2),
-    ("a.TextGrid", "", None, 2, 2),
+    ("t_emuDB/none", "", Err(FolderFault::Absent), 1, 1),
+    ("t_emuDB/none", "", Err(FolderFault::Failed), 2, 1),
+    ("t_emuDB/s0_ses", "", Err(FolderFault::Absent), 2, 2),
+    ("a.TextGrid", "", Ok(true), 2, 2),
 ];
+
+/// Whether this is the text of a file, or the fault.
+fn reading(
+    alloc: Global,
+    folder: &mut MapFolder,
+    path: &str,
+    text: &str,
+) -> Result<bool, FolderFault> {
+    let bytes = folder.read_file(alloc, path)?;
+    Ok(bytes.as_slice() == text.as_bytes())
+}
 
 #[test]
 fn files_are_read_and_listed_calls_fail(rt: HostRuntime) -> Result<(), Fail> {
     let alloc = rt.alloc();
     let mut folder = MapFolder::new(stored(alloc)?, vec![in alloc; 2, 4]?);
-    for (path, text, fault, faults, misses) in &READINGS {
-        match folder.read_file(alloc, path) {
-            Ok(bytes) => {
-                assert_eq!(rt; bytes.as_slice(), text.as_bytes(), "{path}");
-                assert!(rt; fault.is_none(), "{path}");
-            }
-            Err(other) => assert_eq!(rt; Some(other), *fault, "{path}"),
-        }
-        assert_eq!(rt; folder.faults(), *faults, "{path}");
-        assert_eq!(rt; folder.misses(), *misses, "{path}");
+    for &(path, text, wanted, faults, misses) in &READINGS {
+        let answer = reading(alloc, &mut folder, path, text);
+        let counts = (folder.faults(), folder.misses());
+        assert_eq!(rt; (answer, counts), (wanted, (faults, misses)), "{path}");
     }
     Ok(())
 }
 
 #[test]
-fn the_real_folder_counts(rt: HostRuntime) -> Result<(), Fail> {
+fn the_real_folder_counts(rt: HostRuntime) {
     let mut folder = RealFolder::new(&rt);
-    let listed = folder.list(rt.alloc(), "no_emuDB");
-    assert_eq!(rt; listed.err(), Some(FolderFault::Absent));
-    let read = folder.read_file(rt.alloc(), "no_emuDB/no_DBconfig.json");
-    assert_eq!(rt; read.err(), Some(FolderFault::Absent));
-    assert!(rt; folder.list(rt.alloc(), ".").is_ok());
-    assert_eq!(rt; folder.faults(), 0);
-    assert_eq!(rt; folder.misses(), 2);
-    Ok(())
+    let listed = folder.list(rt.alloc(), "no_emuDB").err();
+    let read = folder
+        .read_file(rt.alloc(), "no_emuDB/no_DBconfig.json")
+        .err();
+    let here = folder.list(rt.alloc(), ".").is_ok();
+    let absent = Some(FolderFault::Absent);
+    assert_eq!(rt; (listed, read, here), (absent, absent, true));
+    assert_eq!(rt; (folder.faults(), folder.misses()), (0, 2));
 }
 
 fn answered(line: u32) -> LineMoment {
@@ -132,10 +149,14 @@ fn a_gate_notes_what_it_saw(rt: HostRuntime) -> Result<(), Fail> {
     let gate = HoldGate::new(rt.alloc(), &[pair])?;
     OpenGate.at(5, Moment::Answered);
     gate.at(5, Moment::Piece(0));
-    assert!(rt; !gate.saw(answered(5)));
+    let at_first = gate.saw(answered(5));
     gate.at(5, Moment::Answered);
-    assert!(rt; gate.saw(answered(5)) && !gate.saw_all());
+    let then = (gate.saw(answered(5)), gate.saw_all());
     gate.at(3, Moment::Answered);
-    assert!(rt; gate.saw_all() && !gate.gave_up());
+    let at_last = (gate.saw_all(), gate.gave_up());
+    assert_eq!(rt;
+        (at_first, then, at_last),
+        (false, (true, false), (true, false))
+    );
     Ok(())
 }

@@ -1,14 +1,22 @@
 //! Lists and shared values on their happy paths.
 use emu_lists::{PlainData, Series, Shared};
-use emu_names::{ItemId, Text};
+use emu_names::{ItemId, Memory, Text};
+use std::alloc::Global;
 use std::test::Fail;
+
+/// The ids 1 to 3, of which the first is put in last.
+fn ids(alloc: Global) -> Result<Series<ItemId>, Memory> {
+    let mut list = Series::new(alloc);
+    for number in [2, 3] {
+        list.push(ItemId(number))?;
+    }
+    list.insert(0, ItemId(1))?;
+    Ok(list)
+}
 
 #[test]
 fn lists_grow_and_are_copied(rt: HostRuntime) -> Result<(), Fail> {
-    let mut list = Series::new(rt.alloc());
-    list.push(ItemId(2))?;
-    list.push(ItemId(3))?;
-    list.insert(0, ItemId(1))?;
+    let mut list = ids(rt.alloc())?;
     let copied = list.copy(rt.alloc())?;
     list.truncate(1);
     assert_eq!(rt; list.as_slice(), [ItemId(1)].as_slice());
@@ -16,8 +24,7 @@ fn lists_grow_and_are_copied(rt: HostRuntime) -> Result<(), Fail> {
         copied.as_slice(),
         [ItemId(1), ItemId(2), ItemId(3)].as_slice()
     );
-    assert_eq!(rt; copied.len(), 3);
-    assert!(rt; !copied.is_empty());
+    assert_eq!(rt; (copied.len(), copied.is_empty()), (3, false));
     Ok(())
 }
 

@@ -1,151 +1,181 @@
 //! What no clause says: that calls succeed where memory is ample, and the printed words.
 use emu_names::{
-    Broken, BundleKey, Fault, ItemId, LevelKind, LinkKind, Name, NameFault, SessionNo, Text, What,
-    is_name,
+    Broken, BundleKey, Fault, ItemId, LevelKind, LinkKind, Memory, Name, NameFault, SessionNo,
+    Text, What, is_name,
 };
-use std::alloc::Global;
+use std::alloc::{AllocError, Global};
 use std::collections::BTreeSet;
 use std::process::Abort;
 use std::test::Fail;
 
-fn try_name(rt: &impl Abort, alloc: Global, text: &str, good: bool) -> Result<(), Fail> {
-    assert_eq!(rt; is_name(text), good, "{text}");
-    match Name::new(alloc, text) {
-        Ok(name) => {
-            assert!(rt; good);
-            assert_eq!(rt; name.as_str(), text);
-            assert_eq!(rt; name.copy(alloc)?, name);
-        }
-        Err(fault) => {
-            assert!(rt; !good);
-            assert_eq!(rt; fault.copy(), NameFault::BadName);
-        }
+/// A piece of text, how often it stands in a row, and whether the whole is a name.
+static NAMES: [(&str, usize, bool); 13] = [
+    ("", 1, false),
+    ("a", 1, true),
+    (" ", 1, true),
+    ("msajc003", 1, true),
+    ("caf\u{e9}", 1, true),
+    ("a\u{1f}", 1, false),
+    ("\n", 1, false),
+    ("\u{7f}", 1, false),
+    ("\u{80}", 1, true),
+    ("a", 255, true),
+    ("a", 256, false),
+    ("\u{e9}", 127, true),
+    ("\u{e9}", 128, false),
+];
+
+/// A text, this many times.
+fn repeated(alloc: Global, piece: &str, count: usize) -> Result<String, AllocError> {
+    let mut text = String::new(alloc);
+    for _ in 0..count {
+        text.push_str(piece)?;
     }
-    Ok(())
+    Ok(text)
+}
+
+/// Whether the name of a text and its copy have just this text.
+fn is_kept(alloc: Global, text: &str) -> Result<bool, NameFault> {
+    let name = Name::new(alloc, text)?;
+    let copied = name.copy(alloc)?;
+    Ok(name.as_str() == text && copied == name)
+}
+
+/// Whether a piece of text, so many times in a row, is a name, and whether a name of it is kept.
+fn answers(
+    alloc: Global,
+    piece: &str,
+    count: usize,
+) -> Result<(bool, Result<bool, NameFault>), AllocError> {
+    let text = repeated(alloc, piece, count)?;
+    let kept = match is_kept(alloc, text.as_str()) {
+        Ok(kept) => Ok(kept),
+        Err(fault) => Err(fault.copy()),
+    };
+    Ok((is_name(text.as_str()), kept))
 }
 
 #[test]
-fn names_are_clean(rt: HostRuntime) -> Result<(), Fail> {
-    for (text, good) in [
-        ("", false),
-        ("a", true),
-        (" ", true),
-        ("msajc003", true),
-        ("caf\u{e9}", true),
-        ("a\u{1f}", false),
-        ("\n", false),
-        ("\u{7f}", false),
-        ("\u{80}", true),
-    ] {
-        try_name(&rt, rt.alloc(), text, good)?;
+fn names_are_clean_and_have_a_limit(rt: HostRuntime) -> Result<(), Fail> {
+    for &(piece, count, good) in &NAMES {
+        let found = answers(rt.alloc(), piece, count)?;
+        let wanted = if good {
+            (true, Ok(true))
+        } else {
+            (false, Err(NameFault::BadName))
+        };
+        assert_eq!(rt; found, wanted, "{count} {piece}");
     }
     Ok(())
 }
 
-#[test]
-fn names_have_at_most_255_bytes(rt: HostRuntime) -> Result<(), Fail> {
-    for (piece, count, good) in [
-        ("a", 255, true),
-        ("a", 256, false),
-        ("\u{e9}", 127, true),
-        ("\u{e9}", 128, false),
-    ] {
-        let mut text = String::new(rt.alloc());
-        for _ in 0..count {
-            text.push_str(piece)?;
-        }
-        try_name(&rt, rt.alloc(), text.as_str(), good)?;
-    }
-    Ok(())
-}
-
-fn key(alloc: Global, session: &str, bundle: &str) -> Result<BundleKey, NameFault> {
+fn key(alloc: Global, names: (&str, &str)) -> Result<BundleKey, NameFault> {
     Ok(BundleKey {
-        session: Name::new(alloc, session)?,
-        bundle: Name::new(alloc, bundle)?,
+        session: Name::new(alloc, names.0)?,
+        bundle: Name::new(alloc, names.1)?,
     })
+}
+
+/// Session and bundle of keys that rise.
+static KEYS: [(&str, &str); 7] = [
+    ("0", "z"),
+    ("A", "b"),
+    ("a", "a"),
+    ("a", "ab"),
+    ("a", "b"),
+    ("ab", "a"),
+    ("b", "a"),
+];
+
+/// Whether a key stands before another, of which a copy is the same.
+fn are_in_order(
+    alloc: Global,
+    earlier: (&str, &str),
+    later: (&str, &str),
+) -> Result<bool, NameFault> {
+    let before = key(alloc, earlier)?;
+    let next = key(alloc, later)?;
+    let copied = next.copy(alloc)?;
+    Ok(before < next && copied == next)
 }
 
 #[test]
 fn keys_are_in_order(rt: HostRuntime) -> Result<(), Fail> {
-    let mut before = key(rt.alloc(), "0", "z")?;
-    for (session, bundle) in [
-        ("A", "b"),
-        ("a", "a"),
-        ("a", "ab"),
-        ("a", "b"),
-        ("ab", "a"),
-        ("b", "a"),
-    ] {
-        let next = key(rt.alloc(), session, bundle)?;
-        assert!(rt; before < next, "{session} {bundle}");
-        assert_eq!(rt; next.copy(rt.alloc())?, next);
-        before = next;
+    let mut earlier = KEYS[0];
+    for &later in &KEYS[1..] {
+        let rises = are_in_order(rt.alloc(), earlier, later)?;
+        assert!(rt; rises, "{later:?}");
+        earlier = later;
     }
     Ok(())
+}
+
+/// Numbers in no order, and the same ones in order, each once.
+static NUMBERS: [u32; 4] = [9, 2, 10, 2];
+
+static IN_ORDER: [u32; 3] = [2, 9, 10];
+
+/// The set of some ids.
+fn set_of(alloc: Global, numbers: &[u32]) -> Result<BTreeSet<ItemId>, AllocError> {
+    let mut ids = BTreeSet::new(alloc);
+    for &number in numbers {
+        ids.insert(ItemId(number))?;
+    }
+    Ok(ids)
+}
+
+/// Whether a set has these ids, in this order.
+fn are(ids: &BTreeSet<ItemId>, numbers: &[u32]) -> bool {
+    ids.len() == numbers.len()
+        && ids
+            .iter()
+            .zip(numbers)
+            .all(|(id, number)| id.copy().0 == *number)
 }
 
 #[test]
 fn ids_are_in_order(rt: HostRuntime) -> Result<(), Fail> {
-    let mut ids = BTreeSet::new(rt.alloc());
-    for number in [9, 2, 10, 2] {
-        ids.insert(ItemId(number))?;
-    }
-    let mut seen = Vec::new(rt.alloc());
-    for id in &ids {
-        seen.push(id.copy().0)?;
-    }
-    assert_eq!(rt; seen.as_slice(), [2, 9, 10].as_slice());
-    assert!(rt; SessionNo(2).copy() < SessionNo(16));
-    assert_eq!(rt; LevelKind::Event.copy(), LevelKind::Event);
-    assert_eq!(rt; LinkKind::OneToMany.copy(), LinkKind::OneToMany);
-    Ok(())
-}
-
-/// Compares a rule's number and word, and copies it as a fault.
-fn expect_rule(
-    rt: &impl Abort,
-    alloc: Global,
-    rule: Broken,
-    number: u8,
-    word: &str,
-) -> Result<(), Fail> {
-    assert_eq!(rt; rule.number(), number, "{word}");
-    assert_eq!(rt; rule.word(), word);
-    let fault = Fault::Broken(rule);
-    let copied = fault.copy(alloc)?;
-    assert_eq!(rt; copied, fault);
+    let ids = set_of(rt.alloc(), &NUMBERS)?;
+    assert!(rt; are(&ids, &IN_ORDER));
     Ok(())
 }
 
 #[test]
-fn rules_have_numbers_and_words(rt: HostRuntime) -> Result<(), Fail> {
-    for (rule, number, word) in [
-        (Broken::BundleTaken, 1, "BundleTaken"),
-        (Broken::NoBundle, 2, "NoBundle"),
-        (Broken::TooMany(What::AllItems), 3, "TooMany"),
-        (Broken::RateOut, 4, "RateOut"),
-        (Broken::LabelTooLong, 10, "LabelTooLong"),
-        (Broken::IllegalLabel, 11, "IllegalLabel"),
-        (Broken::IdTaken(ItemId(7)), 12, "IdTaken"),
-        (Broken::NoItem(ItemId(7)), 13, "NoItem"),
-        (Broken::PositionOut, 14, "PositionOut"),
-        (Broken::TimeKind, 15, "TimeKind"),
-        (Broken::TimeOut, 16, "TimeOut"),
-        (Broken::Overlap(ItemId(7)), 17, "Overlap"),
-        (Broken::NotRising(ItemId(7)), 18, "NotRising"),
-        (Broken::NoNeighbour(ItemId(7)), 19, "NoNeighbour"),
-        (Broken::CutOut, 20, "CutOut"),
-        (Broken::NoLinkDefinition, 21, "NoLinkDefinition"),
-        (Broken::LinkExists, 22, "LinkExists"),
-        (Broken::NoLink, 23, "NoLink"),
-        (Broken::OneParent(ItemId(7)), 24, "OneParent"),
-        (Broken::OneChild(ItemId(7)), 25, "OneChild"),
-    ] {
-        expect_rule(&rt, rt.alloc(), rule, number, word)?;
-    }
-    Ok(())
+fn plain_values_are_copied(rt: HostRuntime) {
+    let rises = SessionNo(2).copy() < SessionNo(16);
+    let level = LevelKind::Event.copy() == LevelKind::Event;
+    let link = LinkKind::OneToMany.copy() == LinkKind::OneToMany;
+    assert!(rt; rises && level && link);
 }
+
+/// The words of the rules, in the order of their numbers, from 1.
+static WORDS: [&str; 25] = [
+    "BundleTaken",
+    "NoBundle",
+    "TooMany",
+    "RateOut",
+    "NoLevel",
+    "TwoLevels",
+    "LevelKind",
+    "NoAttribute",
+    "TwoLabels",
+    "LabelTooLong",
+    "IllegalLabel",
+    "IdTaken",
+    "NoItem",
+    "PositionOut",
+    "TimeKind",
+    "TimeOut",
+    "Overlap",
+    "NotRising",
+    "NoNeighbour",
+    "CutOut",
+    "NoLinkDefinition",
+    "LinkExists",
+    "NoLink",
+    "OneParent",
+    "OneChild",
+];
 
 /// The rule with a name, of this number.
 fn named(number: u8, name: Text) -> Broken {
@@ -158,29 +188,78 @@ fn named(number: u8, name: Text) -> Broken {
     }
 }
 
-#[test]
-fn rules_with_names_have_numbers_and_words(rt: HostRuntime) -> Result<(), Fail> {
-    for (number, word) in [
-        (5, "NoLevel"),
-        (6, "TwoLevels"),
-        (7, "LevelKind"),
-        (8, "NoAttribute"),
-        (9, "TwoLabels"),
-    ] {
-        let name = Text::new(rt.alloc(), "Phonetic")?;
-        expect_rule(&rt, rt.alloc(), named(number, name), number, word)?;
+/// The rule without a name, of this number.
+fn unnamed(number: u8, id: ItemId) -> Broken {
+    match number {
+        1 => Broken::BundleTaken,
+        2 => Broken::NoBundle,
+        3 => Broken::TooMany(What::AllItems),
+        4 => Broken::RateOut,
+        10 => Broken::LabelTooLong,
+        11 => Broken::IllegalLabel,
+        12 => Broken::IdTaken(id),
+        13 => Broken::NoItem(id),
+        14 => Broken::PositionOut,
+        15 => Broken::TimeKind,
+        16 => Broken::TimeOut,
+        17 => Broken::Overlap(id),
+        18 => Broken::NotRising(id),
+        19 => Broken::NoNeighbour(id),
+        20 => Broken::CutOut,
+        21 => Broken::NoLinkDefinition,
+        22 => Broken::LinkExists,
+        23 => Broken::NoLink,
+        24 => Broken::OneParent(id),
+        _ => Broken::OneChild(id),
     }
+}
+
+/// The rule of this number.
+fn rule_of(alloc: Global, number: u8) -> Result<Broken, Memory> {
+    if (5..=9).contains(&number) {
+        Ok(named(number, Text::new(alloc, "Phonetic")?))
+    } else {
+        Ok(unnamed(number, ItemId(7)))
+    }
+}
+
+/// Compares a rule's number and word, and copies it as a fault.
+fn expect_rule(
+    rt: &impl Abort,
+    alloc: Global,
+    rule: Broken,
+    number: u8,
+    word: &str,
+) -> Result<(), Memory> {
+    assert_eq!(rt; (rule.number(), rule.word()), (number, word));
+    let fault = Fault::Broken(rule);
+    let copied = fault.copy(alloc)?;
+    assert_eq!(rt; copied, fault);
     Ok(())
 }
 
 #[test]
+fn rules_have_numbers_and_words(rt: HostRuntime) -> Result<(), Fail> {
+    let mut number = 1;
+    for &word in &WORDS {
+        let rule = rule_of(rt.alloc(), number)?;
+        expect_rule(&rt, rt.alloc(), rule, number, word)?;
+        number = number.saturating_add(1);
+    }
+    Ok(())
+}
+
+/// What is counted, with its word.
+static COUNTED: [(What, &str); 4] = [
+    (What::Bundles, "Bundles"),
+    (What::BundleItems, "BundleItems"),
+    (What::AllItems, "AllItems"),
+    (What::BundleLinks, "BundleLinks"),
+];
+
+#[test]
 fn counted_things_have_words(rt: HostRuntime) {
-    for (what, word) in [
-        (What::Bundles, "Bundles"),
-        (What::BundleItems, "BundleItems"),
-        (What::AllItems, "AllItems"),
-        (What::BundleLinks, "BundleLinks"),
-    ] {
+    for &(what, word) in &COUNTED {
         assert_eq!(rt; what.copy().word(), word);
     }
 }

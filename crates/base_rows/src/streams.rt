@@ -13,41 +13,73 @@ fn bytes(alloc: Global, text: &[u8]) -> Result<Vec<u8>, Memory> {
     Ok(Vec::from_slice(alloc, text)?)
 }
 
+/// How many bytes a source has left, of 20,000 at most, all of which are read.
+fn read_len(alloc: Global, source: &mut ListSource) -> Result<usize, ReadFault> {
+    let front = read_front(alloc, source, 20_000)?;
+    Ok(front.bytes.len())
+}
+
+/// A source of 10,000 bytes, of which the call of this number fails.
+fn failing_at(alloc: Global, call: u64) -> Result<ListSource, Memory> {
+    let bytes = vec![in alloc; 7; 10_000]?;
+    Ok(ListSource::new(bytes, vec![in alloc; call]?))
+}
+
+/// A call that fails, how many bytes are read, the faults and the bytes that are left then, and how
+/// many bytes are read when it is asked again.
+type Reads = (
+    u64,
+    Result<usize, ReadFault>,
+    (u64, usize),
+    Result<usize, ReadFault>,
+);
+
+static READS: [Reads; 5] = [
+    (1, Err(ReadFault::Failed), (1, 10_000), Ok(10_000)),
+    (2, Err(ReadFault::Failed), (1, 5_904), Ok(5_904)),
+    (3, Err(ReadFault::Failed), (1, 1_808), Ok(1_808)),
+    (4, Err(ReadFault::Failed), (1, 0), Ok(0)),
+    (5, Ok(10_000), (0, 0), Err(ReadFault::Failed)),
+];
+
 #[test]
 fn each_read_fails_in_turn(rt: HostRuntime) -> Result<(), Fail> {
-    let alloc = rt.alloc();
-    for (call, left) in [(1, 10_000), (2, 5_904), (3, 1_808), (4, 0)] {
-        let mut source = ListSource::new(vec![in alloc; 7; 10_000]?, vec![in alloc; call]?);
-        assert_eq!(rt;
-            read_front(alloc, &mut source, 20_000).err(),
-            Some(ReadFault::Failed)
-        );
-        assert_eq!(rt; source.faults(), 1);
-        assert_eq!(rt; source.left().len(), left, "call {call}");
-        let front = read_front(alloc, &mut source, 20_000)?;
-        assert_eq!(rt; front.bytes.len(), left, "call {call}");
+    for &(call, first, then, again) in &READS {
+        let mut source = failing_at(rt.alloc(), call)?;
+        let found = read_len(rt.alloc(), &mut source);
+        let state = (source.faults(), source.left().len());
+        let second = read_len(rt.alloc(), &mut source);
+        assert_eq!(rt; (found, state, second), (first, then, again), "call {call}");
     }
-    let mut source = ListSource::new(vec![in alloc; 7; 10_000]?, vec![in alloc; 5]?);
-    let front = read_front(alloc, &mut source, 20_000)?;
-    assert_eq!(rt; front.bytes.len(), 10_000);
-    assert_eq!(rt; source.faults(), 0);
     Ok(())
 }
 
+/// Whether the front of a source is this text, and whether there is more.
+fn front_is(
+    alloc: Global,
+    source: &mut SureSource,
+    most: usize,
+    kept: &str,
+) -> Result<(bool, bool), ReadFault> {
+    let front = read_front(alloc, source, most)?;
+    Ok((front.bytes.as_slice() == kept.as_bytes(), front.past))
+}
+
+/// The most bytes, what is kept of `hello`, and whether there is more.
+static FRONTS: [(usize, &str, bool); 4] = [
+    (6, "hello", false),
+    (5, "hello", false),
+    (4, "hell", true),
+    (0, "", true),
+];
+
 #[test]
 fn no_more_than_the_most_is_kept(rt: HostRuntime) -> Result<(), Fail> {
-    let alloc = rt.alloc();
-    for (most, kept, past) in [
-        (6, "hello", false),
-        (5, "hello", false),
-        (4, "hell", true),
-        (0, "", true),
-    ] {
-        let mut source = SureSource::new(bytes(alloc, b"hello")?);
-        let front = read_front(alloc, &mut source, most)?;
-        assert_eq!(rt; front.bytes.as_slice(), kept.as_bytes());
-        assert_eq!(rt; front.past, past, "{most}");
-        assert!(rt; source.left().is_empty());
+    for &(most, kept, past) in &FRONTS {
+        let mut source = SureSource::new(bytes(rt.alloc(), b"hello")?);
+        let found = front_is(rt.alloc(), &mut source, most, kept);
+        let ended = source.left().is_empty();
+        assert_eq!(rt; (found, ended), (Ok((true, past)), true), "{most}");
     }
     Ok(())
 }
@@ -70,38 +102,50 @@ impl Sink for Narrow {
     }
 }
 
+/// Whether `abc` is written whole where a call fails, whether no fault is counted, and whether the sink
+/// then has this text.
+fn written(alloc: Global, call: u64, text: &str) -> Result<(bool, bool, bool), Memory> {
+    let mut narrow = Narrow {
+        sink: ListSink::new(alloc, vec![in alloc; call]?),
+    };
+    let done = write_all(&mut narrow, b"abc").is_ok();
+    let counts = narrow.sink.faults() == 0;
+    Ok((done, counts, narrow.sink.bytes() == text.as_bytes()))
+}
+
+/// A call that fails, and what is written before it.
+static WRITES: [(u64, &str); 4] = [(1, ""), (2, "a"), (3, "ab"), (4, "abc")];
+
 #[test]
 fn each_write_fails_in_turn(rt: HostRuntime) -> Result<(), Fail> {
-    let alloc = rt.alloc();
-    for (call, written) in [(1, ""), (2, "a"), (3, "ab"), (4, "abc")] {
-        let mut narrow = Narrow {
-            sink: ListSink::new(alloc, vec![in alloc; call]?),
-        };
-        let answer = write_all(&mut narrow, b"abc");
-        assert_eq!(rt; answer.is_ok(), call == 4, "call {call}");
-        assert_eq!(rt; narrow.sink.bytes(), written.as_bytes());
-        assert_eq!(rt; narrow.sink.faults() == 0, call == 4);
+    for &(call, text) in &WRITES {
+        let found = written(rt.alloc(), call, text)?;
+        assert_eq!(rt; found, (call == 4, call == 4, true), "call {call}");
     }
     Ok(())
+}
+
+/// Texts, whether each is written where there is room for three bytes, and the faults that are counted then.
+static ROOM: [(&str, bool, u64); 5] = [
+    ("ab", true, 0),
+    ("cd", false, 1),
+    ("", true, 1),
+    ("c", true, 1),
+    ("d", false, 2),
+];
+
+/// Writes the texts, and compares.
+fn expect_room(rt: &impl Abort, sink: &mut SureSink) {
+    for &(text, good, faults) in &ROOM {
+        let done = write_all(sink, text.as_bytes()).is_ok();
+        assert_eq!(rt; (done, sink.faults()), (good, faults), "{text}");
+    }
 }
 
 #[test]
 fn room_is_not_passed(rt: HostRuntime) -> Result<(), Fail> {
     let mut sink = SureSink::new(rt.alloc(), 3)?;
-    for (text, good, faults) in [
-        ("ab", true, 0),
-        ("cd", false, 1),
-        ("", true, 1),
-        ("c", true, 1),
-        ("d", false, 2),
-    ] {
-        assert_eq!(rt;
-            write_all(&mut sink, text.as_bytes()).is_ok(),
-            good,
-            "{text}"
-        );
-        assert_eq!(rt; sink.faults(), faults, "{text}");
-    }
+    expect_room(&rt, &mut sink);
     assert_eq!(rt; sink.bytes(), b"abc".as_slice());
     Ok(())
 }
@@ -142,30 +186,40 @@ impl Write for Full {
 
 fn refuses<W: Write + Drop>(rt: &impl Abort, writer: W) {
     let mut sink = OutputSink::new(writer);
-    assert_eq!(rt; write_all(&mut sink, b"a"), Err(Failed));
-    assert_eq!(rt; sink.faults(), 1);
+    let answer = write_all(&mut sink, b"a");
+    assert_eq!(rt; (answer, sink.faults()), (Err(Failed), 1));
+}
+
+/// Writes to a sink over a list: the faults that are counted, and what the list then has.
+fn passed_on(alloc: Global, bytes: &[u8]) -> (Result<u64, Failed>, Vec<u8>) {
+    let mut sink = OutputSink::new(Vec::new(alloc));
+    let answer = write_all(&mut sink, bytes);
+    let faults = sink.faults();
+    (answer.map(|()| faults), sink.into_inner())
 }
 
 #[test]
 fn adapters_pass_bytes_on(rt: HostRuntime) -> Result<(), Fail> {
-    let alloc = rt.alloc();
     let mut source = InputSource::new(b"hello".as_slice());
-    let front = read_front(alloc, &mut source, 5)?;
-    assert_eq!(rt; source.faults(), 0);
-    let mut sink = OutputSink::new(Vec::new(alloc));
-    write_all(&mut sink, front.bytes.as_slice())?;
-    assert_eq!(rt; sink.faults(), 0);
-    assert_eq!(rt; sink.into_inner().as_slice(), b"hello".as_slice());
+    let front = read_front(rt.alloc(), &mut source, 5)?;
+    let (answer, written) = passed_on(rt.alloc(), front.bytes.as_slice());
+    assert_eq!(rt; (source.faults(), answer), (0, Ok(0)));
+    assert_eq!(rt; written.as_slice(), b"hello".as_slice());
+    Ok(())
+}
 
+/// A reader of which each call fails is told to fail, and its fault is counted.
+fn fails(rt: &impl Abort, alloc: Global) {
     let mut broken = InputSource::new(Broken);
-    assert_eq!(rt;
-        read_front(alloc, &mut broken, 5).err(),
-        Some(ReadFault::Failed)
-    );
-    assert_eq!(rt; broken.faults(), 1);
+    let found = read_front(alloc, &mut broken, 5).err();
+    assert_eq!(rt; (found, broken.faults()), (Some(ReadFault::Failed), 1));
+}
+
+#[test]
+fn adapters_count_faults(rt: HostRuntime) {
+    fails(&rt, rt.alloc());
     refuses(&rt, Broken);
     refuses(&rt, Full);
     assert_eq!(rt; InputSource::new(rt.stdin()).faults(), 0);
     assert_eq!(rt; OutputSink::new(rt.stdout()).faults(), 0);
-    Ok(())
 }

@@ -4,8 +4,8 @@
 use sample_time::NumberFault::{NotANumber, TooManyDigits};
 use sample_time::TimeFault::{NegativeTime, TimeTooLarge};
 use sample_time::{
-    TimeFault, first_sample_from, micros_of_end, micros_of_point, micros_of_start, nearest_sample,
-    read_decimal,
+    NumberFault, TimeFault, first_sample_from, micros_of_end, micros_of_point, micros_of_start,
+    nearest_sample, read_decimal,
 };
 use std::test::Fail;
 
@@ -106,16 +106,8 @@ fn samples_of_times(rt: HostRuntime) -> Result<(), Fail> {
     for &(text, rate, first, nearest) in &SAMPLES {
         assert!(rt; 1 <= rate && rate <= 1_000_000);
         let time = read_decimal(text.as_bytes())?;
-        assert_eq!(rt;
-            first_sample_from(&time, rate),
-            first,
-            "first sample at {text}, rate {rate}"
-        );
-        assert_eq!(rt;
-            nearest_sample(&time, rate),
-            nearest,
-            "nearest to {text}, rate {rate}"
-        );
+        let found = (first_sample_from(&time, rate), nearest_sample(&time, rate));
+        assert_eq!(rt; found, (first, nearest), "{text}, rate {rate}");
     }
     Ok(())
 }
@@ -147,93 +139,85 @@ static DECIMALS: [(&str, bool, u128, i32); 20] = [
 fn decimals_in_one_form(rt: HostRuntime) -> Result<(), Fail> {
     for &(text, negative, digits, exponent) in &DECIMALS {
         let value = read_decimal(text.as_bytes())?;
-        assert_eq!(rt; value.negative, negative, "sign of {text}");
-        assert_eq!(rt; value.digits, digits, "digits of {text}");
-        assert_eq!(rt; value.exponent, exponent, "exponent of {text}");
+        let found = (value.negative, value.digits, value.exponent);
+        assert_eq!(rt; found, (negative, digits, exponent), "{text}");
     }
     Ok(())
 }
 
+/// Texts that are refused, with the fault.
+static REFUSED: [(&str, NumberFault); 30] = [
+    ("", NotANumber),
+    (".5", NotANumber),
+    ("5.", NotANumber),
+    ("+", NotANumber),
+    ("-", NotANumber),
+    ("1e", NotANumber),
+    ("1e+", NotANumber),
+    ("1e5x", NotANumber),
+    ("1.5.2", NotANumber),
+    ("1 ", NotANumber),
+    (" 1", NotANumber),
+    ("1,5", NotANumber),
+    ("0x10", NotANumber),
+    ("inf", NotANumber),
+    ("nan", NotANumber),
+    ("--1", NotANumber),
+    ("+-1", NotANumber),
+    ("1e1.5", NotANumber),
+    ("1_000", NotANumber),
+    ("e5", NotANumber),
+    ("1.e5", NotANumber),
+    ("12345678901234567890x", NotANumber),
+    ("123456789012345678901", TooManyDigits),
+    ("1.00000000000000000001", TooManyDigits),
+    ("0.123456789012345678901", TooManyDigits),
+    ("1e10000", TooManyDigits),
+    ("1e-10000", TooManyDigits),
+    ("0e10000", TooManyDigits),
+    ("1e99999999999999999999", TooManyDigits),
+    ("100000000000000000001e-5", TooManyDigits),
+];
+
 #[test]
 fn texts_that_are_refused(rt: HostRuntime) {
-    for text in [
-        "",
-        ".5",
-        "5.",
-        "+",
-        "-",
-        "1e",
-        "1e+",
-        "1e5x",
-        "1.5.2",
-        "1 ",
-        " 1",
-        "1,5",
-        "0x10",
-        "inf",
-        "nan",
-        "--1",
-        "+-1",
-        "1e1.5",
-        "1_000",
-        "e5",
-        "1.e5",
-        "12345678901234567890x",
-    ] {
-        assert_eq!(rt; read_decimal(text.as_bytes()), Err(NotANumber), "{text}");
-    }
-    for text in [
-        "123456789012345678901",
-        "1.00000000000000000001",
-        "0.123456789012345678901",
-        "1e10000",
-        "1e-10000",
-        "0e10000",
-        "1e99999999999999999999",
-        "100000000000000000001e-5",
-    ] {
-        assert_eq!(rt; read_decimal(text.as_bytes()), Err(TooManyDigits), "{text}");
+    for &(text, fault) in &REFUSED {
+        assert_eq!(rt; read_decimal(text.as_bytes()), Err(fault), "{text}");
     }
 }
 
+/// A sample, a rate, and the microseconds of the start, the end and the point.
+static MICROS: [(u64, u32, u64, u64, u64); 7] = [
+    (0, 20000, 0, 25, 0),
+    (3749, 20000, 187425, 187475, 187450),
+    (5139, 20000, 256925, 256975, 256950),
+    (1, 3, 166666, 500000, 333333),
+    (1, 1000000, 0, 1, 1),
+    (
+        1099511627775,
+        1,
+        1099511627774500000,
+        1099511627775500000,
+        1099511627775000000,
+    ),
+    (
+        1099511627775,
+        1000000,
+        1099511627774,
+        1099511627775,
+        1099511627775,
+    ),
+];
+
 #[test]
 fn microseconds_of_samples(rt: HostRuntime) {
-    for (sample, rate, start, end, point) in [
-        (0, 20000, 0, 25, 0),
-        (3749, 20000, 187425, 187475, 187450),
-        (5139, 20000, 256925, 256975, 256950),
-        (1, 3, 166666, 500000, 333333),
-        (1, 1000000, 0, 1, 1),
-        (
-            1099511627775,
-            1,
-            1099511627774500000,
-            1099511627775500000,
-            1099511627775000000,
-        ),
-        (
-            1099511627775,
-            1000000,
-            1099511627774,
-            1099511627775,
-            1099511627775,
-        ),
-    ] {
+    for &(sample, rate, start, end, point) in &MICROS {
         assert!(rt; sample < 1 << 40 && 1 <= rate && rate <= 1_000_000);
-        assert_eq!(rt;
+        let found = (
             micros_of_start(sample, rate),
-            start,
-            "start of {sample}, rate {rate}"
-        );
-        assert_eq!(rt;
             micros_of_end(sample, rate),
-            end,
-            "end of {sample}, rate {rate}"
-        );
-        assert_eq!(rt;
             micros_of_point(sample, rate),
-            point,
-            "point at {sample}, rate {rate}"
         );
+        assert_eq!(rt; found, (start, end, point), "{sample}, rate {rate}");
     }
 }

@@ -102,6 +102,16 @@ static DEFINITIONS: [(usize, usize, Option<u32>); 5] = [
     (7, 5, None),
 ];
 
+/// Compares the numbers of levels, link definitions and tracks, and some of them.
+fn expect_counts(rt: &impl Abort, config: &Config) {
+    let parts = config.parts();
+    let counts = (config.level_count(), parts.links.len(), parts.tracks.len());
+    assert_eq!(rt; counts, (9, 9, 2));
+    assert!(rt; config.link_kind(5) == LinkKind::ManyToMany);
+    assert!(rt; config.kind(8) == LevelKind::Event);
+    assert_eq!(rt; config.parts().tracks.get(1).as_str(), "fm");
+}
+
 #[test]
 fn definitions_are_found(rt: HostRuntime) -> Result<(), Fail> {
     let config = config_of(rt.alloc(), NINE)?;
@@ -112,11 +122,7 @@ fn definitions_are_found(rt: HostRuntime) -> Result<(), Fail> {
             "{upper} {lower}"
         );
     }
-    assert_eq!(rt; config.parts().links.len(), 9);
-    assert!(rt; config.link_kind(5) == LinkKind::ManyToMany);
-    assert!(rt; config.level_count() == 9 && config.kind(8) == LevelKind::Event);
-    assert_eq!(rt; config.parts().tracks.len(), 2);
-    assert_eq!(rt; config.parts().tracks.get(1).as_str(), "fm");
+    expect_counts(&rt, &config);
     Ok(())
 }
 

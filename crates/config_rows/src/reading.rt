@@ -293,23 +293,30 @@ fn told(alloc: Global, view: &View) -> Result<String, AllocError> {
     }
 }
 
-/// Reads the configuration of a line, and compares.
-fn check(rt: &impl Abort, alloc: Global, config: &str, wanted: &str) -> Result<(), Fail> {
+/// What reading the member `config` of a value answers.
+fn told_of(alloc: Global, value: &Value) -> Result<String, Fail> {
+    let view = View::root(alloc, value)?;
+    let member = view.member("config", Wanted::Object)?;
+    Ok(told(alloc, &member)?)
+}
+
+/// What reading the configuration of a line answers.
+fn answer(alloc: Global, config: &str) -> Result<String, Fail> {
     let line = format!(in alloc; "{{\"do\":\"config\",\"config\":{config}}}")?;
     let value = Value::from_str(alloc, line.as_str())?;
-    let view = View::root(alloc, &value)?;
-    let member = view.member("config", Wanted::Object)?;
-    let told = told(alloc, &member)?;
+    told_of(alloc, &value)
+}
+
+/// Reads the configuration of a line, and compares.
+fn check(rt: &impl Abort, alloc: Global, config: &str, wanted: &str) -> Result<(), Fail> {
+    let told = answer(alloc, config)?;
     assert_eq!(rt; told.as_str(), wanted, "{config}");
     Ok(())
 }
 
 #[test]
 fn configurations_are_read_or_refused(rt: HostRuntime) -> Result<(), Fail> {
-    for &(config, wanted) in &ROWS {
-        check(&rt, rt.alloc(), config, wanted)?;
-    }
-    for &(config, wanted) in &CASES {
+    for &(config, wanted) in ROWS.iter().chain(&CASES) {
         check(&rt, rt.alloc(), config, wanted)?;
     }
     Ok(())
@@ -325,22 +332,24 @@ fn zeros(alloc: Global, before: &str, count: usize, after: &str) -> Result<Strin
     Ok(text)
 }
 
+/// Reads a configuration with a list of so many zeros, and compares.
+fn check_zeros(
+    rt: &impl Abort,
+    alloc: Global,
+    row: &Limit,
+    count: usize,
+    wanted: &str,
+) -> Result<(), Fail> {
+    let config = zeros(alloc, row.0, count, row.2)?;
+    check(rt, alloc, config.as_str(), wanted)
+}
+
 #[test]
 fn lists_have_limits(rt: HostRuntime) -> Result<(), Fail> {
-    for &(before, most, after, past, within) in &LIMITS {
-        let alloc = rt.alloc();
-        check(
-            &rt,
-            alloc,
-            zeros(alloc, before, most + 1, after)?.as_str(),
-            past,
-        )?;
-        check(
-            &rt,
-            alloc,
-            zeros(alloc, before, most, after)?.as_str(),
-            within,
-        )?;
+    for row in &LIMITS {
+        let past = row.1.saturating_add(1);
+        check_zeros(&rt, rt.alloc(), row, past, row.3)?;
+        check_zeros(&rt, rt.alloc(), row, row.1, row.4)?;
     }
     Ok(())
 }

@@ -378,17 +378,24 @@ fn row_of(rt: &impl Abort, alloc: Global, kind: LevelKind, count: u32) -> Result
     Ok(list)
 }
 
+/// Asserts that so many items are found, each so many places further than it was put.
+fn expect_found(rt: &impl Abort, list: &LevelList, count: u32, further: usize) {
+    for number in 0..count {
+        let place = list.find(ItemId(count - number));
+        assert_eq!(rt; place, (number as usize).checked_add(further));
+    }
+}
+
+static KINDS: [LevelKind; 3] = [LevelKind::Item, LevelKind::Segment, LevelKind::Event];
+
 /// Whether this many items are built and found in far less time than the square of their number takes.
 #[test]
 fn many_items_are_built_and_found(rt: HostRuntime) -> Result<(), Fail> {
     let alloc = rt.alloc();
     let count = 65_536;
-    for kind in [LevelKind::Item, LevelKind::Segment, LevelKind::Event] {
+    for &kind in &KINDS {
         let list = row_of(&rt, alloc, kind, count)?;
-        for number in 0..count {
-            let place = list.find(ItemId(count - number));
-            assert_eq!(rt; place, Some(number as usize));
-        }
+        expect_found(&rt, &list, count, 0);
     }
     Ok(())
 }
@@ -414,10 +421,7 @@ fn items_are_found_behind_a_change(rt: HostRuntime) -> Result<(), Fail> {
     let count = 65_536;
     let mut list = row_of(&rt, rt.alloc(), LevelKind::Item, count)?;
     change_front(&rt, &mut list, rt.alloc())?;
-    for number in 0..count {
-        let place = list.find(ItemId(count - number));
-        assert_eq!(rt; place, Some(number as usize + 1));
-    }
+    expect_found(&rt, &list, count, 1);
     Ok(())
 }
 

@@ -13,8 +13,10 @@ const FEW: LinkKind = LinkKind::OneToMany;
 
 const MANY: LinkKind = LinkKind::ManyToMany;
 
-/// Links to be added: the definition, its kind, the two ids, and the rule that is broken with its id.
-static ROWS: [(u32, LinkKind, u32, u32, u8, u32); 12] = [
+/// A link to be added: the definition, its kind, the two ids, and the rule that is broken with its id.
+type Row = (u32, LinkKind, u32, u32, u8, u32);
+
+static ROWS: [Row; 12] = [
     (0, FEW, 1, 2, 0, 0),
     (0, FEW, 1, 3, 0, 0),
     // a pair that is there, whatever the definition
@@ -45,12 +47,22 @@ fn number_of(added: &Result<(), Fault>) -> (u8, u32) {
     }
 }
 
+/// The rule that adding a link breaks, with its id.
+fn add(links: &mut Links, row: &Row) -> (u8, u32) {
+    let (definition, kind, from, to, _, _) = *row;
+    number_of(&links.add(definition, kind, ItemId(from), ItemId(to)))
+}
+
+/// Adds the links of the table, and compares each answer.
+fn add_all(rt: &impl Abort, links: &mut Links) {
+    for row in &ROWS {
+        assert_eq!(rt; add(links, row), (row.4, row.5), "{} {}", row.2, row.3);
+    }
+}
+
 fn some_links(rt: &impl Abort, alloc: Global) -> Links {
     let mut links = Links::new(alloc);
-    for &(definition, kind, from, to, rule, id) in &ROWS {
-        let added = links.add(definition, kind, ItemId(from), ItemId(to));
-        assert_eq!(rt; number_of(&added), (rule, id), "{from} {to}");
-    }
+    add_all(rt, &mut links);
     links
 }
 
@@ -92,14 +104,21 @@ fn remove(links: &mut Links, from: u32, to: u32) -> u8 {
     number_of(&links.remove(ItemId(from), ItemId(to))).0
 }
 
+/// Links to be taken out, with the rule that is broken.
+static REMOVALS: [(u32, u32, u8); 3] = [(3, 1, 23), (1, 3, 0), (1, 3, 23)];
+
+fn remove_all(rt: &impl Abort, links: &mut Links) {
+    for &(from, to, rule) in &REMOVALS {
+        assert_eq!(rt; remove(links, from, to), rule);
+    }
+}
+
 #[test]
 fn links_are_added_and_taken_out(rt: HostRuntime) -> Result<(), Fail> {
     let mut links = some_links(&rt, rt.alloc());
     is_shared_by_threads(&links);
     check(&rt, &links, &ADDED);
-    for (from, to, rule) in [(3, 1, 23), (1, 3, 0), (1, 3, 23)] {
-        assert_eq!(rt; remove(&mut links, from, to), rule);
-    }
+    remove_all(&rt, &mut links);
     let copied = links.copy(rt.alloc())?;
     check(&rt, &copied, &REMOVED);
     links.remove_item(ItemId(5));

@@ -1,5 +1,6 @@
 //! Each disk on its happy path, the failures that are asked for, the images that fates pick, and a real file.
 use emu_disk::{Call, Disk, Failed, Fate, FileDisk, MemoryDisk, SureDisk};
+use std::alloc::Global;
 use std::process::Abort;
 use std::test::Fail;
 use std::{env, fs, process};
@@ -38,35 +39,63 @@ fn expect_failed(rt: &impl Abort, disk: &mut MemoryDisk) {
     assert_eq!(rt; disk.calls()[6] == Call::Sync { done: false }, true);
 }
 
+/// The calls of a disk of which some fail and which stops behind the ninth.
+fn expect_calls(rt: &impl Abort, disk: &mut MemoryDisk) -> Result<(), Fail> {
+    disk.fail_at(&[4, 5, 6, 7])?;
+    disk.stop_after(9);
+    expect_done(rt, disk)?;
+    expect_failed(rt, disk);
+    Ok(())
+}
+
 #[test]
 fn calls_of_a_memory_disk(rt: HostRuntime) -> Result<(), Fail> {
     let mut disk = MemoryDisk::new(rt.alloc(), b"abc")?;
     is_sendable(&disk);
-    disk.fail_at(&[4, 5, 6, 7])?;
-    disk.stop_after(9);
-    expect_done(&rt, &mut disk)?;
-    expect_failed(&rt, &mut disk);
+    expect_calls(&rt, &mut disk)
+}
+
+/// Fates of a write and of a cut, and the image that they pick.
+static IMAGES: [([Fate; 2], &str); 4] = [
+    ([Fate::Whole, Fate::Whole], "..1"),
+    ([Fate::Lost, Fate::Lost], "..cd"),
+    ([Fate::Half, Fate::Lost], "..12"),
+    ([Fate::Filled(b'x'), Fate::Lost], "..xxxx"),
+];
+
+/// Writes and syncs, and then writes and cuts.
+fn write_and_cut(disk: &mut MemoryDisk) -> Result<(), Failed> {
+    disk.write_at(0, b"..")?;
+    disk.sync()?;
+    disk.write_at(2, b"1234")?;
+    disk.cut(3)
+}
+
+/// Compares the images of a disk that was written and cut.
+fn expect_images(rt: &impl Abort, alloc: Global, disk: &mut MemoryDisk) -> Result<(), Fail> {
+    write_and_cut(disk)?;
+    for (fates, wanted) in &IMAGES {
+        let image = disk.image(alloc, fates)?;
+        assert_eq!(rt; image.as_slice(), wanted.as_bytes(), "{fates:?}");
+    }
     Ok(())
 }
 
 #[test]
 fn images_of_a_memory_disk(rt: HostRuntime) -> Result<(), Fail> {
-    let alloc = rt.alloc();
-    let mut disk = MemoryDisk::new(alloc, b"abcd")?;
-    disk.write_at(0, b"..")?;
-    disk.sync()?;
-    disk.write_at(2, b"1234")?;
+    let mut disk = MemoryDisk::new(rt.alloc(), b"abcd")?;
+    expect_images(&rt, rt.alloc(), &mut disk)
+}
+
+/// Writes within the room of six bytes, and past it.
+fn expect_room(rt: &impl Abort, disk: &mut SureDisk) -> Result<(), Failed> {
+    disk.write_at(0, b"abcd")?;
     disk.cut(3)?;
-    let table = [
-        ([Fate::Whole, Fate::Whole], b"..1".as_slice()),
-        ([Fate::Lost, Fate::Lost], b"..cd".as_slice()),
-        ([Fate::Half, Fate::Lost], b"..12".as_slice()),
-        ([Fate::Filled(b'x'), Fate::Lost], b"..xxxx".as_slice()),
-    ];
-    for (fates, wanted) in table {
-        let image = disk.image(alloc, &fates)?;
-        assert_eq!(rt; image.as_slice(), wanted, "{fates:?}");
-    }
+    disk.sync()?;
+    disk.write_at(2, b"X")?;
+    assert_eq!(rt; disk.write_at(0, b"YZ"), Err(Failed));
+    assert_eq!(rt; disk.bytes(), b"abX".as_slice());
+    assert_eq!(rt; read_ten(disk, 1)?.1, 2);
     Ok(())
 }
 
@@ -74,13 +103,7 @@ fn images_of_a_memory_disk(rt: HostRuntime) -> Result<(), Fail> {
 fn room_of_a_sure_disk(rt: HostRuntime) -> Result<(), Fail> {
     let mut disk = SureDisk::new(rt.alloc(), 6)?;
     is_sendable(&disk);
-    disk.write_at(0, b"abcd")?;
-    disk.cut(3)?;
-    disk.sync()?;
-    disk.write_at(2, b"X")?;
-    assert_eq!(rt; disk.write_at(0, b"YZ"), Err(Failed));
-    assert_eq!(rt; disk.bytes(), b"abX".as_slice());
-    assert_eq!(rt; read_ten(&mut disk, 1)?.1, 2);
+    assert_eq!(rt; expect_room(&rt, &mut disk), Ok(()));
     Ok(())
 }
 
@@ -99,19 +122,30 @@ fn expect_filled<D: Disk>(rt: &impl Abort, disk: &mut D) -> Result<(), Failed> {
     Ok(())
 }
 
+/// Goes to a folder of its own, and gives its path.
+fn in_a_folder(rt: &HostRuntime) -> Result<String, Fail> {
+    let id = process::id(rt.process());
+    let folder = format!(in rt.alloc(); "/tmp/emu-disk-{id}")?;
+    fs::create_dir(rt, folder.as_str())?;
+    env::set_current_dir(rt, folder.as_str())?;
+    Ok(folder)
+}
+
+/// Fills the file of a disk. How many bytes a read gave before, and whether a sync made the file.
+fn fill_file(rt: &HostRuntime) -> Result<(usize, bool), Fail> {
+    let mut disk = FileDisk::new(rt);
+    is_sendable(&disk);
+    let (_, count) = read_ten(&mut disk, 0)?;
+    disk.sync()?;
+    let there = fs::exists(rt, "emu.store")?;
+    fill(&mut disk)?;
+    Ok((count, there))
+}
+
 #[test]
 fn a_real_file(rt: HostRuntime) -> Result<(), Fail> {
-    let alloc = rt.alloc();
-    let id = process::id(rt.process());
-    let folder = format!(in alloc; "/tmp/emu-disk-{id}")?;
-    fs::create_dir(&rt, folder.as_str())?;
-    env::set_current_dir(&rt, folder.as_str())?;
-    let mut disk = FileDisk::new(&rt);
-    is_sendable(&disk);
-    assert_eq!(rt; read_ten(&mut disk, 0)?.1, 0);
-    disk.sync()?;
-    assert_eq!(rt; fs::exists(&rt, "emu.store")?, false);
-    fill(&mut disk)?;
+    let folder = in_a_folder(&rt)?;
+    assert_eq!(rt; fill_file(&rt)?, (0, false));
     expect_filled(&rt, &mut FileDisk::new(&rt))?;
     fs::remove_file(&rt, "emu.store")?;
     fs::remove_dir(&rt, folder.as_str())?;

@@ -99,16 +99,31 @@ fn a_body_that_is_too_large(rt: HostRuntime) -> Result<(), Fail> {
     Ok(())
 }
 
+/// A journal over a store, of which some calls of the disk fail.
+fn failing(alloc: Global, store: &[u8], places: &[u64]) -> Result<Journal<MemoryDisk>, Fail>
+    ensures { IfOk result (λ journal. IsHeld images_of journal) }
+{
+    let mut disk = MemoryDisk::new(alloc, store)?;
+    disk.fail_at(places)?;
+    Ok(opened(alloc, disk)?)
+}
+
+/// Appends `AB`.
+fn append(alloc: Global, journal: &mut Journal<MemoryDisk>) -> Result<(), JournalFault>
+    requires { IsHeld images_of journal.old }
+    ensures { IsHeld images_of journal.new }
+{
+    let frame = Frame::new(alloc, b"AB")?;
+    journal.append(&frame)
+}
+
 /// A disk behind an append whose gate came to be in doubt, one that failed to close it, and one that did.
 fn disk_behind_doubt(rt: &impl Abort, alloc: Global) -> Result<MemoryDisk, Fail> {
-    let frame = Frame::new(alloc, b"AB")?;
-    let mut disk = MemoryDisk::new(alloc, b"")?;
-    disk.fail_at(&[7, 9])?;
-    let mut journal = opened(alloc, disk)?;
-    assert_eq!(rt; journal.append(&frame), Err(JournalFault::Disk));
+    let mut journal = failing(alloc, b"", &[7, 9])?;
+    assert_eq!(rt; append(alloc, &mut journal), Err(JournalFault::Disk));
     assert!(rt; journal.failed_last());
-    assert_eq!(rt; journal.append(&frame), Err(JournalFault::Disk));
-    assert_eq!(rt; journal.append(&frame), Ok(()));
+    assert_eq!(rt; append(alloc, &mut journal), Err(JournalFault::Disk));
+    assert_eq!(rt; append(alloc, &mut journal), Ok(()));
     assert!(rt; !journal.failed_last());
     Ok(journal.into_disk())
 }
@@ -124,58 +139,69 @@ fn a_gate_in_doubt_is_closed_first(rt: HostRuntime) -> Result<(), Fail> {
     Ok(())
 }
 
+/// Whether an append is done by a disk that stops behind so many calls, and whether each image then
+/// stands for a list.
+fn stopped(alloc: Global, stop: u64) -> Result<(bool, bool), Fail> {
+    let mut disk = MemoryDisk::new(alloc, &STORE)?;
+    disk.stop_after(stop);
+    let mut journal = opened(alloc, disk)?;
+    let safe = append(alloc, &mut journal).is_ok();
+    let stands = each_image_stands(alloc, &journal.into_disk(), safe)?;
+    Ok((safe, stands))
+}
+
 #[test]
 fn each_stop_with_each_image(rt: HostRuntime) -> Result<(), Fail> {
-    let alloc = rt.alloc();
-    let frame = Frame::new(alloc, b"AB")?;
     for stop in 3..=7 {
-        let mut disk = MemoryDisk::new(alloc, &STORE)?;
-        disk.stop_after(stop);
-        let mut journal = opened(alloc, disk)?;
-        let safe = journal.append(&frame).is_ok();
-        assert_eq!(rt; safe, stop == 7);
-        let disk = journal.into_disk();
-        assert!(rt;
-            each_image_stands(alloc, &disk, safe)?,
-            "after {stop} calls"
+        let found = stopped(rt.alloc(), stop)?;
+        assert_eq!(rt; found, (stop == 7, true), "after {stop} calls");
+    }
+    Ok(())
+}
+
+/// What an append answers.
+type Answer = Result<(), JournalFault>;
+
+/// What two appends answer of which a call of the first one fails, and whether each image then stands
+/// for both.
+fn failed(alloc: Global, place: u64) -> Result<(Answer, Answer, bool), Fail> {
+    let mut journal = failing(alloc, &STORE, &[place])?;
+    let first = append(alloc, &mut journal);
+    let second = append(alloc, &mut journal);
+    let stands = each_image_stands(alloc, &journal.into_disk(), true)?;
+    Ok((first, second, stands))
+}
+
+#[test]
+fn each_failed_call(rt: HostRuntime) -> Result<(), Fail> {
+    for place in 3..7 {
+        let found = failed(rt.alloc(), place)?;
+        assert_eq!(rt;
+            found,
+            (Err(JournalFault::Disk), Ok(()), true),
+            "call {place}"
         );
     }
     Ok(())
 }
 
-#[test]
-fn each_failed_call(rt: HostRuntime) -> Result<(), Fail> {
-    let alloc = rt.alloc();
-    let frame = Frame::new(alloc, b"AB")?;
-    for place in 3..7 {
-        let mut disk = MemoryDisk::new(alloc, &STORE)?;
-        disk.fail_at(&[place])?;
-        let mut journal = opened(alloc, disk)?;
-        assert_eq!(rt; journal.append(&frame), Err(JournalFault::Disk));
-        journal.append(&frame)?;
-        let disk = journal.into_disk();
-        assert!(rt; each_image_stands(alloc, &disk, true)?, "call {place}");
-    }
-    Ok(())
-}
+/// Stores that stand for no list, each with the place of its damage.
+static DAMAGED: [(&str, u64); 6] = [
+    ("NOTASTORE!", 0),
+    ("EMUSTORE\x01\0", 8),
+    ("EMUSTORE\x01\0\0\0\0\0", 8),
+    ("EMUSTORE\x01\0\0\0\x02x", 8),
+    ("EMUSTORE\x01\0\0\0\x01x", 14),
+    ("EMUSTORE\x01\0\0\0\x01x\x01\0\0\0\x09", 14),
+];
 
 #[test]
 fn places_of_damage(rt: HostRuntime) -> Result<(), Fail> {
     let alloc = rt.alloc();
-    let table = [
-        (b"NOTASTORE!".as_slice(), 0),
-        (b"EMUSTORE\x01\0".as_slice(), 8),
-        (b"EMUSTORE\x01\0\0\0\0\0".as_slice(), 8),
-        (b"EMUSTORE\x01\0\0\0\x02x".as_slice(), 8),
-        (b"EMUSTORE\x01\0\0\0\x01x".as_slice(), 14),
-        (b"EMUSTORE\x01\0\0\0\x01x\x01\0\0\0\x09".as_slice(), 14),
-    ];
-    for (store, at) in table {
-        let disk = MemoryDisk::new(alloc, store)?;
-        match opened(alloc, disk) {
-            Ok(_) => assert!(rt; false, "no damage at {at}"),
-            Err(fault) => assert_eq!(rt; fault, JournalFault::Damaged(at)),
-        }
+    for &(store, at) in &DAMAGED {
+        let disk = MemoryDisk::new(alloc, store.as_bytes())?;
+        let found = opened(alloc, disk).err();
+        assert_eq!(rt; found, Some(JournalFault::Damaged(at)), "{store}");
     }
     Ok(())
 }
