@@ -1,6 +1,5 @@
 use Rattle.std.proofs.Common.{inl, inr, refl, sym, subst, map}
 use Rattle.std.specs.Prelude.{string_bytes}
-use Rattle.std.proofs.KnownBytes.{Appends-nil}
 use Rattle.emu_cli.specs.Says.{call_of, Completes}
 use Rattle.emu_cli.proofs.CallLemmas.{asked_run, asked_none, usage_none, usage_says, run_same, store_false}
 use Rattle.emu_cli.proofs.top.perform.Goals as goal
