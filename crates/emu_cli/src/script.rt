@@ -135,7 +135,8 @@ fn run_lines<R: Threads + Wait + Sync, K: Sink, D: Disk, P: PatternMaker>(
         Reached D.may_leave D.faults base begin config lines running.old refusals
         (P.refusals patterns.old) before (K.written out.old) →
         RunsScript result base (IsKept D.may_leave D.faults base begin running.new.core.book.journal)
-        (IsFailed D.may_leave D.faults begin running.new.core.book.journal) past (lines ++ cut past rest.now) refusals (P.refusals patterns.new) before
+        (IsFailed D.may_leave D.faults begin running.new.core.book.journal) past
+        (lines ++ cut past rest.now) refusals (P.refusals patterns.new) before
         (K.written out.new) }
     ensures stored { has_journal running.new.core.book.journal ≡ has_journal running.old.core.book.journal }
     ensures cause { IfErr result (λ end. EndHasCause end (K.faults out.old) (K.faults out.new)) }
@@ -184,7 +185,8 @@ fn run_begun<R: Threads + Wait + Sync, K: Sink, D: Disk, P: PatternMaker>(
         IsLineRead line 1 true [] refusals (P.refusals patterns.old) (Ok (ReadLine.Config config)) →
         IsBegun D.may_leave config [] 1 running.old →
         RunsScript result base (IsKept D.may_leave D.faults base begin running.new.core.book.journal)
-        (IsFailed D.may_leave D.faults begin running.new.core.book.journal) past (line ∷ cut past rest.now) refusals (P.refusals patterns.new) (K.written out.old)
+        (IsFailed D.may_leave D.faults begin running.new.core.book.journal) past
+        (line ∷ cut past rest.now) refusals (P.refusals patterns.new) (K.written out.old)
         (K.written out.new) }
     ensures stored { has_journal running.new.core.book.journal ≡ has_journal running.old.core.book.journal }
     ensures cause { IfErr result (λ end. EndHasCause end (K.faults out.old) (K.faults out.new)) }

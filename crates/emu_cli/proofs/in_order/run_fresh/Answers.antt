@@ -1,6 +1,4 @@
-use Rattle.std.proofs.Common.{ap, [], sym, subst, refl}
-use Rattle.live_book.specs.Commits.{has_journal}
-use Rattle.emu_cli.specs.Bases.{fresh_base}
+use Rattle.std.proofs.Common.{ap}
 use Rattle.emu_cli.proofs.FreshSays.{fresh_unread, fresh_says}
 use Rattle.emu_cli.proofs.CallLemmas.{told_ended, err_fault}
 use Rattle.emu_cli.proofs.in_order.run_fresh.Goals as goal

@@ -1,4 +1,4 @@
-use Rattle.std.proofs.Common.{sym, subst, ◌∙◌, ap}
+use Rattle.std.proofs.Common.{subst, ap}
 use Rattle.emu_cli.specs.Ran.{HasDisk}
 use Rattle.emu_cli.proofs.FreshSays.{store_unread, store_says}
 use Rattle.emu_cli.proofs.CallLemmas.{told_ended, err_fault}

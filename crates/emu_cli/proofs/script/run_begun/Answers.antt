@@ -1,8 +1,5 @@
 use Rattle.std.proofs.Common.{[], ◌∷◌, refl}
-use Rattle.live_book.specs.Commits.{has_journal}
 use Rattle.emu_cli.specs.Cuts.{cut}
-use Rattle.emu_cli.specs.Bases.{fresh_base}
-use Rattle.emu_cli.specs.Reached.{IsKept, IsFailed}
 use Rattle.emu_cli.proofs.FreshLemmas.{fresh_unbegun, fresh_begun}
 use Rattle.emu_cli.proofs.script.run_begun.Goals as goal
 

@@ -1,4 +1,4 @@
-use Rattle.std.proofs.Common.{[], ◌∷◌, None, refl, sym, ◌∙◌, ap, subst}
+use Rattle.std.proofs.Common.{◌∷◌, None, sym, ◌∙◌, ap, subst}
 use Rattle.live_book.specs.Kept.{KeepsIn}
 use Rattle.live_book.specs.Commits.{has_journal}
 use Rattle.emu_cli.specs.declared.ended.Ended.TheVariants as ends

@@ -1,5 +1,4 @@
-use Rattle.std.proofs.Common.{[], arith, refl, sym, ◌∙◌, ap, subst}
-use Rattle.live_book.specs.Kept.{faults_in}
+use Rattle.std.proofs.Common.{[], sym, ◌∙◌, ap, subst}
 use Rattle.live_book.specs.Commits.{has_journal}
 use Rattle.emu_cli.specs.Bases.{store_of}
 use Rattle.emu_cli.specs.declared.ended.Ended.TheVariants as ends

@@ -1,4 +1,4 @@
-use Rattle.std.proofs.Common.{◌∷◌, sym, subst}
+use Rattle.std.proofs.Common.{sym, subst}
 use Rattle.emu_cli.specs.Cuts.{cut}
 use Rattle.emu_cli.specs.Reached.{IsKept, IsFailed, RunsScript}
 use Rattle.emu_cli.proofs.FreshLemmas.{fresh_first, fresh_lines}
