@@ -1,20 +1,25 @@
 -- Readings whose parts are read.
-use Rattle.std.proofs.Common.{◌≡◌, ℕ, List, map, Option, Result, Ok, IsErrOf, codes, sym, ap, subst, subst₂, ◌∙◌}
+use Rattle.std.proofs.Common.{◌≡◌, ℕ, List, map, Option, Result, Ok, IsErrOf, codes, sym, ap, subst, subst₂, ◌∙◌, Err}
 use Rattle.json_view.specs.Steps.{◌>>=◌}
 use Rattle.emu_io.specs.declared.tree.Stored.{Stored}
 use Rattle.level_items.specs.declared.annot.Annot.{Annot}
+use Rattle.edit_rules.specs.declared.edit.Edit.{Edit}
 use Rattle.edit_rules.specs.declared.edit.Edit.TheVariants as edits
 use Rattle.live_book.specs.Kept.{BookParts}
 use Rattle.store_commands.specs.declared.faults.FileFault.TheVariants as file_faults
+use Rattle.store_commands.specs.declared.faults.Refused.{Refused}
 use Rattle.store_commands.specs.declared.faults.Refused.TheVariants as refusals
 use Rattle.store_commands.specs.declared.faults.CommandFault.{CommandFault}
 use Rattle.store_commands.specs.declared.faults.CommandFault.TheVariants as faults
 use Rattle.store_loading.specs.declared.sessions.Session.{Session}
-use Rattle.store_loading.specs.Answers.{Told, Reads}
+use Rattle.store_loading.specs.Answers.{Told, Gives, Reads}
 use Rattle.store_loading.specs.Running.{Goes}
 use Rattle.store_loading.specs.Names.{path_in}
 use Rattle.store_loading.specs.Wanted.{named, names_in, annot_in, key_of, bundle_path, bundle_wanted, bundles_of, session_path, session_in, session_wanted}
 use Rattle.store_loading.proofs.Going.{names_go, goes_along}
+
+abbrev err_at : (A : Type 0) → CommandFault → Result A CommandFault
+err_at A e = Err e
 
 abbrev ok_at : {A : Type 0} → A → Result A CommandFault
 ok_at x = Ok x
@@ -43,6 +48,36 @@ bundle_read told path session bundle below file name session' annot is_below is_
       ∙ ap (λ r. r >>= λ a. Ok (edits.AddBundle (key_of session name) a)) (subst annot_at place (h c known))
       ∙ ap (λ s. Ok (edits.AddBundle (key_of s name) annot)) (sym is_session));
   no_disk = no_err (edits.AddBundle (key_of session' name) annot) faults.Disk;
+}
+
+gives_stop : {A B : Type 0} (wanted : Result A Refused) (next : A → Result B Refused) (e : CommandFault)
+    → Gives wanted (Err e) → Gives (wanted >>= next) (Err e)
+gives_stop wanted next (faults.Refused refused) h = ap (λ r. r >>= next) h
+gives_stop wanted next faults.Read h = tt
+gives_stop wanted next faults.Disk h = tt
+gives_stop wanted next faults.Memory h = tt
+
+disk_again : {A B : Type 0} (e : CommandFault) → IsErrOf (err_at A e) faults.Disk → IsErrOf (err_at B e) faults.Disk
+disk_again e is = let same : e ≡ faults.Disk = cc in ap (λ v. Err v) same
+
+-- a bundle whose annotation was not read
+pub bundle_stops : (told : Option (List Stored)) (path session bundle below file name : List ℕ) (e : CommandFault)
+    → below ≡ bundle_path path bundle → named (refusals.File below file_faults.BadName) bundle ≡ Ok name
+    → file ≡ path_in below bundle (codes "_annot.json") → Reads told (annot_in file) (Err e)
+    → Reads told (λ c. bundle_wanted path session c bundle) (Err e)
+bundle_stops told path session bundle below file name e is_below is_name is_file h = record {
+  given = λ c known. (
+      let named_at : List ℕ → Type 0 = λ p. named (refusals.File p file_faults.BadName) bundle ≡ Ok name in
+      let place : path_in (bundle_path path bundle) bundle (codes "_annot.json") ≡ file =
+      sym (is_file ∙ ap (λ p. path_in p bundle (codes "_annot.json")) is_below) in
+      let wanted : bundle_wanted path session c bundle
+      ≡ (annot_in file c >>= λ a. Ok (edits.AddBundle (key_of session name) a)) =
+      ap (λ r. r >>= λ b. annot_in (path_in (bundle_path path bundle) bundle (codes "_annot.json")) c >>= λ a.
+      Ok (edits.AddBundle (key_of session b) a)) (subst named_at is_below is_name)
+      ∙ ap (λ p. annot_in p c >>= λ a. Ok (edits.AddBundle (key_of session name) a)) place in
+      let P : Result Edit Refused → Type 0 = λ w. Gives w (Err e) in
+      subst P (sym wanted) (gives_stop (annot_in file c) (λ a. Ok (edits.AddBundle (key_of session name) a)) e (h.given c known)));
+  no_disk = λ is. h.no_disk (disk_again e is);
 }
 
 -- a session of which all was read

@@ -50,12 +50,16 @@ fn bundle_edit<F: Folder>(
     let name = name_in(alloc, below.as_str(), bundle)?;
     let file = path_in(alloc, below.as_str(), bundle, "_annot.json")?;
     let session = session.copy(alloc)?;
-    let annot = annot_in(alloc, folder, file.as_str())?;
-    let key = BundleKey {
-        session,
-        bundle: name,
-    };
-    Ok(Edit::AddBundle { key, annot })
+    match annot_in(alloc, folder, file.as_str()) {
+        Ok(annot) => {
+            let key = BundleKey {
+                session,
+                bundle: name,
+            };
+            Ok(Edit::AddBundle { key, annot })
+        }
+        Err(fault) => Err(fault),
+    }
 }
 
 /// Adds the bundle of a name in the folder of a session.
