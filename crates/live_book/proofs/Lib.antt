@@ -2,7 +2,7 @@ mod HeadCodes
 mod States
 mod Codes
 mod Changes
-mod Storing
+pub mod Storing
 mod Showing
 mod Committing
 mod Readings
