@@ -298,7 +298,7 @@ SaysUsage statuses.Write call =
 SaysUsage statuses.Memory call = WritesFront call.written call.written_after usage_text
 SaysUsage status call = ⊥
 
--- memory ran out before the words were known, and nothing was written
+-- memory ran out before the words were known, and nothing was written; no image is new then
 abbrev pub SaysNothing : Status → Call → Type 0
 SaysNothing status call = (status ≡ statuses.Memory) × Appends call.written call.written_after []
 
@@ -331,7 +331,8 @@ abbrev pub CallEnds : List (List ℕ) → (Bool → Call) → (List ℕ → Type
     → Status → Type 0
 CallEnds words call before images Stores status =
     ((store : Bool) × IsRunWords words store × Says status (call store) before images)
-    ⊎ ((IsNoCommand words × SaysUsage status (call false)) ⊎ (SaysNothing status (call false) ⊎ Stores status))
+    ⊎ ((IsNoCommand words × SaysUsage status (call false))
+    ⊎ ((SaysNothing status (call false) × EachOf images before) ⊎ Stores status))
 
 -- what the code that a call answers says of it
 abbrev pub CallSays : List (List ℕ) → (Bool → Call) → (List ℕ → Type 0) → (List ℕ → Type 0) → (Status → Type 0)

@@ -1,5 +1,5 @@
 -- What a crash may leave behind a command.
-use Rattle.std.proofs.Common.{◌≡◌, ◌⊎◌, inl, inr, ℕ, true, List, [], ◌∷◌, ◌++◌, map, Option, Some, None, Result, Ok, Err, IsErrOf, refl, sym, ◌∙◌, ap, subst}
+use Rattle.std.proofs.Common.{◌≡◌, ◌⊎◌, inl, inr, ℕ, true, List, [], ◌∷◌, ◌++◌, map, Option, Some, None, Result, Ok, Err, IsErrOf, refl, sym, ◌≤◌, subst, arith}
 use Rattle.std.specs.Option.{option_map}
 use Rattle.emu_io.specs.declared.tree.Stored.{Stored}
 use Rattle.db_config.specs.declared.parts.ConfigParts.{ConfigParts}
@@ -14,14 +14,14 @@ use Rattle.live_book.specs.declared.fault.EditFault.TheVariants as edit_faults
 use Rattle.live_book.specs.declared.fault.OpenFault.{OpenFault}
 use Rattle.live_book.specs.declared.fault.OpenFault.TheVariants as open_faults
 use Rattle.live_book.specs.Histories.{IsBare}
-use Rattle.live_book.specs.Kept.{BookParts, KeepsIn}
+use Rattle.live_book.specs.Kept.{BookParts, KeepsIn, faults_in}
 use Rattle.live_book.specs.Commits.{Commits}
 use Rattle.live_book.specs.Opens.{IsNoBookFor}
 use Rattle.live_book.proofs.Storing.{images}
 use Rattle.store_commands.specs.declared.faults.Refused.{Refused}
 use Rattle.store_commands.specs.declared.faults.CommandFault.{CommandFault}
 use Rattle.store_commands.specs.declared.faults.CommandFault.TheVariants as faults
-use Rattle.store_loading.specs.Answers.{edit_answer, edit_fault, open_fault}
+use Rattle.store_loading.specs.Answers.{HasDiskCause, edit_answer, edit_fault, open_fault}
 use Rattle.store_loading.specs.Stored.{Imports, IsEnd, IsMade, IsStop, Loads, own_entry}
 use Rattle.store_calls.specs.Ends.{IsDoubtOf, Leaves, LoadLeaves}
 
@@ -36,6 +36,18 @@ some_same e = cc
 pub disk_images : {D : Type 0} (may_leave : D → List ℕ → Type 0) (journal : Option (Journal D)) (disk : D) → Some disk ≡ option_map disk_of journal → (config : ConfigParts) (history : List Entry) (lost : Option Entry) → KeepsIn may_leave config history lost journal → Leaves may_leave disk config history lost
 disk_images may_leave (Some journal) disk e config history lost keeps = λ c image. images may_leave config history lost journal keeps c (subst (λ d. may_leave d c) (some_same e) image)
 disk_images may_leave None disk e config history lost keeps = absurd (cc)
+
+-- The count of a journal's disk.
+
+pub earlier : (start before now : ℕ) (result : Result ℕ CommandFault) → start ≤ before → HasDiskCause before now result → HasDiskCause start now result
+earlier start before now result low cause = record { later = omega (arith, low, cause.later); failed = λ e. let rose = cause.failed e in omega (arith, low, rose) }
+
+pub import_count : {D : Type 0} (faults : D → ℕ) (journal : Option (Journal D)) (disk : D) (start before : ℕ) (result : Result ℕ CommandFault) → start ≤ before → Some disk ≡ option_map disk_of journal → HasDiskCause before (faults_in faults journal) result → HasDiskCause start (faults disk) result
+import_count faults (Some journal) disk start before result low e cause = earlier start before (faults disk) result low (subst (λ d. HasDiskCause before (faults d) result) (sym (some_same e)) cause)
+import_count faults None disk start before result low e cause = absurd (cc)
+
+pub load_count : {D : Type 0} (faults : D → ℕ) (journal : Journal D) (disk : D) (start before : ℕ) (result : Result ℕ CommandFault) → start ≤ before → disk ≡ disk_of journal → HasDiskCause before (faults (disk_of journal)) result → HasDiskCause start (faults disk) result
+load_count faults journal disk start before result low e cause = earlier start before (faults disk) result low (subst (λ d. HasDiskCause before (faults d) result) (sym e) cause)
 
 -- What is in doubt behind an `import`.
 
@@ -60,7 +72,7 @@ module _ {D : Type 0} (may_leave : D → List ℕ → Type 0) (moment : D → �
 
   pub imported : (told : Option (List Stored)) (wanted : List Stored → Result Edit Refused) (old new : BookParts D) (result : Result ℕ CommandFault) → KeepsIn may_leave old.config old.history None old.journal → Imports may_leave moment left_since count told wanted old result new → Doubt may_leave new result
   imported told wanted old new result settled (inl unread) = record { lost = None; keeps = subst (λ b. KeepsIn may_leave b.config b.history None b.journal) (sym unread.same) settled; doubt = inl refl }
-  imported told wanted old new result settled (inr is) = subst (λ r. Doubt may_leave new r) (sym is.answered) (committed old new (own_entry is.edit) is.answer settled is.commits)
+  imported told wanted old new result settled (inr is) = subst (λ r. Doubt may_leave new r) (sym is.added.answered) (committed old new (own_entry is.edit) is.added.answer settled is.added.commits)
 
   -- What is in doubt behind a `load`.
 
@@ -73,7 +85,7 @@ module _ {D : Type 0} (may_leave : D → List ℕ → Type 0) (moment : D → �
   not_stored : (config : ConfigParts) (old new : Journal D) (fault : OpenFault) (result : Result ℕ CommandFault) → Holds may_leave [] None old → result ≡ Err (open_fault fault) → IsNoBookFor may_leave count config (Some old) fault (Some new) → LoadLeaves may_leave (disk_of new) result
   not_stored config old new open_faults.Disk result holds e (stored, fits, rose, inl empty) = inl (λ c image. bare_images new empty c image)
   not_stored config old new open_faults.Disk result holds e (stored, fits, rose, inr lost) = inr (inl (config, e, λ c image. stands_may may_leave [] (Some (head_code config)) new lost c image))
-  not_stored config old new (open_faults.Damaged at) result holds e no = absurd no
+  not_stored config old new (open_faults.Damaged at) result holds e never = absurd never
   not_stored config old new open_faults.StoreFull result holds e (over, same) = as_before old new result holds (some_same same)
   not_stored config old new open_faults.Memory result holds e same = as_before old new result holds (some_same same)
 

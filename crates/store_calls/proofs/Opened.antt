@@ -1,25 +1,31 @@
 -- A command whose store was opened, or not.
-use Rattle.std.proofs.Common.{◌≡◌, ◌⊎◌, inl, inr, ℕ, ◌≤◌, true, List, [], Option, Some, None, refl, sym, ◌∙◌, ap, subst}
+use Rattle.std.proofs.Common.{◌≡◌, ℕ, ◌≤◌, true, List, [], Option, Some, None, refl, sym, subst}
 use Rattle.std.specs.Option.{option_map}
-use Rattle.fault_counts.specs.Count.{Rose}
+use Rattle.cli_words.specs.declared.words.Words.{Words}
+use Rattle.cli_words.specs.declared.words.Words.TheVariants as forms
+use Rattle.emu_disk.specs.Disk.{LeavesOnly}
 use Rattle.edit_journal.specs.declared.journal.Journal.{Journal}
 use Rattle.edit_journal.specs.Held.{disk_of, Holds}
 use Rattle.version_gate.specs.Lists.{Front}
 use Rattle.live_book.specs.declared.published.Published.{Published}
-use Rattle.live_book.specs.declared.fault.OpenFault.{OpenFault}
-use Rattle.live_book.specs.declared.fault.OpenFault.TheVariants as open_faults
 use Rattle.live_book.specs.Histories.{OfRead, IsBare, Stands}
-use Rattle.live_book.specs.Kept.{BookParts, KeepsIn}
+use Rattle.live_book.specs.Kept.{BookParts, KeepsIn, faults_in}
 use Rattle.live_book.specs.Commits.{has_journal}
-use Rattle.live_book.specs.Opens.{IsOpenedAs, IsNoStoreFor}
+use Rattle.live_book.specs.Opens.{IsOpenedAs, LeavesFrom, journal_in}
 use Rattle.store_calls.specs.declared.ending.Ending.{Ending}
-use Rattle.store_calls.specs.Ends.{EndsUnopened, IsOpenEnd}
+use Rattle.store_calls.specs.Ends.{EndsLoad, EndsOnStore, EndsReading, IsMadeText, IsUntouched, Outside}
 
 abbrev some_book : {D : Type 0} → BookParts D → Option (BookParts D)
 some_book b = Some b
 
 some_book_same : {D : Type 0} {x y : BookParts D} → some_book x ≡ some_book y → x ≡ y
 some_book_same e = cc
+
+abbrev some_disk : {D : Type 0} → D → Option D
+some_disk d = Some d
+
+some_disk_same : {D : Type 0} {x y : D} → some_disk x ≡ some_disk y → x ≡ y
+some_disk_same e = cc
 
 abbrev some_journal : {D : Type 0} → Journal D → Option (Journal D)
 some_journal j = Some j
@@ -55,13 +61,49 @@ module _ {D : Type 0} (may_leave : D → List ℕ → Type 0) (reads : Option (L
   no_none None (Some k) e f h = cc
   no_none (Some x) journal e f h = cc
 
--- a store that is not opened
-pub unopened_end : {D : Type 0} (reads : Option (List ℕ)) (faults : D → ℕ) (old new : D) (fault : OpenFault) (ending : Ending) → IsNoStoreFor reads faults old fault new → IsOpenEnd fault ending → EndsUnopened reads (faults old) (faults new) ending
-unopened_end reads faults old new open_faults.Disk ending no e = subst (λ x. EndsUnopened reads (faults old) (faults new) x) (sym e) no
-unopened_end reads faults old new (open_faults.Damaged at) ending no (inl e) = subst (λ x. EndsUnopened reads (faults old) (faults new) x) (sym e) (at, no, refl)
-unopened_end reads faults old new (open_faults.Damaged at) ending no (inr e) = subst (λ x. EndsUnopened reads (faults old) (faults new) x) (sym e) tt
-unopened_end reads faults old new open_faults.StoreFull ending no e = absurd no
-unopened_end reads faults old new open_faults.Memory ending no e = subst (λ x. EndsUnopened reads (faults old) (faults new) x) (sym e) tt
+-- The disk of a store that was opened.
 
-pub not_full : {D : Type 0} (reads : Option (List ℕ)) (faults : D → ℕ) (old new : D) (fault : OpenFault) → IsNoStoreFor reads faults old fault new → fault ≡ open_faults.StoreFull → ⊥
-not_full reads faults old new fault no same = subst (λ f. IsNoStoreFor reads faults old f new) same no
+module _ {D : Type 0} (moment : D → ℕ) (left_since : D → ℕ → List ℕ → Type 0) (P : List ℕ → Type 0) (before after : D) where
+  moved : (j : Journal D) → after ≡ disk_of j → LeavesOnly moment left_since before (disk_of j) P → LeavesOnly moment left_since before after P
+  moved j e h = subst (λ d. LeavesOnly moment left_since before d P) (sym e) h
+
+  own_moved : (journal : Option (Journal D)) → Some after ≡ option_map disk_of journal → LeavesFrom moment left_since before journal P → LeavesOnly moment left_since before after P
+  own_moved (Some j) e h = moved j (some_disk_same e) h
+  own_moved None e h = absurd (cc)
+
+  pub some_untouched : (book : Option (BookParts D)) (journal : Option (Journal D)) (b : BookParts D) → book ≡ Some b → Some after ≡ option_map disk_of b.journal → LeavesFrom moment left_since before (journal_in book journal) P → LeavesOnly moment left_since before after P
+  some_untouched (Some x) journal b e k h = own_moved b.journal k (subst (λ y. LeavesFrom moment left_since before y.journal P) (some_book_same e) h)
+  some_untouched None journal b e k h = absurd (cc)
+
+  pub none_untouched : (book : Option (BookParts D)) (journal : Option (Journal D)) (j : Journal D) → book ≡ None → journal ≡ Some j → after ≡ disk_of j → LeavesFrom moment left_since before (journal_in book journal) P → LeavesOnly moment left_since before after P
+  none_untouched None (Some k) j e f same h = moved j same (subst (λ y. LeavesOnly moment left_since before (disk_of y) P) (some_journal_same f) h)
+  none_untouched None None j e f same h = absurd (cc)
+  none_untouched (Some x) journal j e f same h = absurd (cc)
+
+-- the count of a journal's disk, since the store was opened
+pub none_later : {D : Type 0} (faults : D → ℕ) (book : Option (BookParts D)) (journal : Option (Journal D)) (j : Journal D) (begin : ℕ) → book ≡ None → journal ≡ Some j → begin ≤ faults_in faults (journal_in book journal) → begin ≤ faults (disk_of j)
+none_later faults None (Some k) j begin e f h = subst (λ y. begin ≤ faults (disk_of y)) (some_journal_same f) h
+none_later faults None None j begin e f h = absurd (cc)
+none_later faults (Some x) journal j begin e f h = absurd (cc)
+
+-- Commands by their kind.
+
+module _ {D : Type 0} (may_leave : D → List ℕ → Type 0) (moment : D → ℕ) (left_since : D → ℕ → List ℕ → Type 0) (count : D → ℕ) (o : Outside) (refusals refusals_after : ℕ) (ending : Ending) (before now : D) where
+  abbrev Reads : Words → Type 0
+  Reads command = EndsReading o.reads o.disk o.disk_after (IsMadeText command refusals refusals_after) ending × IsUntouched moment left_since may_leave before now
+
+  abbrev Ends : Words → Type 0
+  Ends command = EndsOnStore may_leave moment left_since count o refusals refusals_after command ending before now
+
+  pub reads_end : (command : Words) → ((name : List ℕ) → command ≡ forms.Load name → ⊥) → ((session bundle : List ℕ) (rate : ℕ) (file : List ℕ) → command ≡ forms.Import session bundle rate file → ⊥) → Reads command → Ends command
+  reads_end (forms.Load name) load imports h = absurd (load name refl)
+  reads_end (forms.Import session bundle rate file) load imports h = absurd (imports session bundle rate file refl)
+  reads_end (forms.Run store) load imports h = h
+  reads_end (forms.Live store workers) load imports h = h
+  reads_end (forms.Ask eql time) load imports h = h
+  reads_end (forms.Export session bundle) load imports h = h
+  reads_end forms.History load imports h = h
+  reads_end (forms.Work number bundles) load imports h = h
+
+  pub load_ends : (command : Words) (name : List ℕ) → command ≡ forms.Load name → EndsLoad may_leave moment left_since count o name ending before now → Ends command
+  load_ends command name is h = subst (λ w. Ends w) (sym is) h

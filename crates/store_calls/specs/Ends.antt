@@ -1,6 +1,7 @@
 -- How a command on the store ends: what its store stood for, what the command made of that, what it wrote, and what a
 -- crash may leave of the store then.
 use Rattle.std.specs.Prelude.{◌≡◌, ◌⊎◌, ℕ, ◌≤◌, Bool, true, false, List, [], ◌∷◌, map, Option, Some, None, Result, Ok, Err, IsErrOf, codes}
+use Rattle.std.specs.Option.{option_map}
 use Rattle.fault_counts.specs.Count.{Rose}
 use Rattle.emu_names.specs.declared.limits.TheConstants.{TOP_RATE}
 use Rattle.cli_words.specs.declared.words.Words.{Words}
@@ -170,6 +171,7 @@ pub record IsImport {D : Type 0} (may_leave : D → List ℕ → Type 0) (moment
   pub result : Result ℕ CommandFault
   pub new : BookParts D
   pub imports : Imports may_leave moment left_since count o.told wanted old result new
+  pub own : Some disk ≡ option_map disk_of new.journal
   pub cause : HasCause o result
   pub end : EndsDone (codes "import") result ending
   pub lost : Option Entry

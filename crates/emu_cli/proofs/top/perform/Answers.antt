@@ -40,4 +40,4 @@ pub returns-in-Ok-clause-untouched : goal.returns-in-Ok-clause-untouched
 returns-in-Ok-clause-untouched g c = λ run stores. c.perform_other.ensures.untouched (other_store (map (λ w. string_bytes w) c.args.words.now) c.in-Ok.asked (is_of_store c.in-Ok.asked) refl c.in-Ok.ensures.read stores)
 
 pub returns-in-Err-Memory-clause-says : goal.returns-in-Err-Memory-clause-says
-returns-in-Err-Memory-clause-says g c = inr (inr (inl (refl, Appends-nil (g.K.Sink.written c.args.out.now))))
+returns-in-Err-Memory-clause-says g c = inr (inr (inl ((refl, Appends-nil (g.K.Sink.written c.args.out.now)), λ c image. image)))
