@@ -1,9 +1,10 @@
 #!/usr/bin/env bash
 # check.sh [BINARY]: runs the program on each script NAME.jsonl beside this file, and compares what it writes with NAME.stdout and
 # its status with that of the last line, or 0 where the last line has none. NAME.args has further words of the command line.
-# Then it asks the queries of make-wide.sh, where 1,000,000 tuples are answered and more are not.
+# Then it asks the queries of make-wide.sh, where 1,000,000 tuples are answered and more are not, and walks over a store (store.sh).
 # BINARY is crates/emu/out/emu where it is not given. The last line says how many agreed; the status is 0 where all did.
-# check.sh --try compares what 'rt try' gives, in a minute or two: nothing is built and nothing is proved, and statuses are not looked at.
+# check.sh --try compares what 'rt try' gives for the scripts, in a minute or two: nothing is built and nothing is proved, and statuses
+# are not looked at.
 begun=$PWD
 cd "$(dirname "$0")" || exit 2
 if [ "$1" = --try ]; then
@@ -60,5 +61,14 @@ for row in "1000:1000 1000 1000" "1001:TooManyTuples 1000 1001"; do
         echo "make-wide.sh ${row%%:*} 1000: $found, wanted ${row#*:}"
     fi
 done
+# The walk over a store.
+bash ./store.sh "$binary" >"$wrote"
+if cmp -s "$wrote" store.stdout; then
+    passed=$((passed + 1))
+else
+    failed=$((failed + 1))
+    echo "store.sh: output, with what was wanted:"
+    diff "$wrote" store.stdout
+fi
 echo "$passed agree, $failed do not"
 [ "$failed" = 0 ] && [ "$passed" != 0 ]
