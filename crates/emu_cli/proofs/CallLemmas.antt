@@ -149,11 +149,11 @@ not_both : (b : Bool) → b ≡ true → b ≡ false → ⊥
 not_both b h k = cc
 
 -- a command that is no run is one on the store, or none that the program does
-pub other_ends : (words : List (List ℕ)) (asked : Words) (call : Bool → Call) (before images : List ℕ → Type 0) (Ends : Words → Ending → Type 0) (Writes : Status → Ending → Type 0) (status : Status) (b : Bool) → is_of_store asked ≡ b → words_of words ≡ Some asked → run_asked asked ≡ None →
-    (is_of_store asked ≡ true → (ending : Ending) × Ends asked ending × Writes status ending) → (is_of_store asked ≡ false → SaysUsage status (call false)) →
-    CallEnds words call before images (λ st. SaysStore words Ends (Writes st)) status
-other_ends words asked call before images Ends Writes status true is h n stored none = inr (inr (inr (asked, h, is, stored is)))
-other_ends words asked call before images Ends Writes status false is h n stored none =
+pub other_ends : (words : List (List ℕ)) (asked : Words) (calls : Bool → Call) (before images : List ℕ → Type 0) (Ends : Words → Ending → Type 0) (Writes : Status → Ending → Type 0) (status : Status) (b : Bool) → is_of_store asked ≡ b → words_of words ≡ Some asked → run_asked asked ≡ None →
+    (is_of_store asked ≡ true → (ending : Ending) × Ends asked ending × Writes status ending) → (is_of_store asked ≡ false → SaysUsage status (calls false)) →
+    CallEnds words calls before images (λ st. SaysStore words Ends (Writes st)) status
+other_ends words asked calls before images Ends Writes status true is h n stored none = inr (inr (inr (asked, h, is, (stored is).0, (stored is).1, (stored is).2)))
+other_ends words asked calls before images Ends Writes status false is h n stored none =
     inr (inl (record { no_run = asked_none words asked h n; no_store = λ asks. not_both (is_of_store asked) (store_words words asked h asks) is }, none is))
 
 pub other_store : (words : List (List ℕ)) (asked : Words) (b : Bool) → is_of_store asked ≡ b → words_of words ≡ Some asked → (AsksForStore words → ⊥) → is_of_store asked ≡ false
@@ -162,6 +162,6 @@ other_store words asked false is h none = is
 
 pub no_command : (words : List (List ℕ)) → words_of words ≡ None → IsNoCommand words
 no_command words h = record { no_run = usage_none words h; no_store = λ asks. no_words asks.0 (sym h ∙ asks.1) }
-    where
-      no_words : (w : Words) → None ≡ some_words w → ⊥
-      no_words w e = cc
+  where
+    no_words : (w : Words) → None ≡ some_words w → ⊥
+    no_words w e = cc

@@ -29,8 +29,8 @@ returns-in-Ok-clause-says g c =
     (λ store. call_of store (g.D.Disk.reads c.args.disk) (g.S.Source.left c.args.script.now) (g.S.Source.left c.args.script.now) (g.K.Sink.written c.args.out.now) (g.K.Sink.written c.perform_other.new.out) (g.S.Source.faults c.args.script.now) (g.S.Source.faults c.args.script.now) (g.K.Sink.faults c.args.out.now) (g.K.Sink.faults c.perform_other.new.out) (g.P.PatternMaker.refusals c.args.patterns.now) (g.P.PatternMaker.refusals c.perform_other.new.patterns) (g.D.Disk.faults c.args.disk) (g.D.Disk.faults c.perform_other.result.disk))
     (g.D.Disk.may_leave c.args.disk) (g.D.Disk.may_leave c.perform_other.result.disk)
     (λ command ending. EndsOnStore g.D.Disk.may_leave g.D.Disk.moment g.D.Disk.left_since g.D.Disk.faults
-        (outside_of (g.F.Folder.content c.args.folder.now) (g.D.Disk.reads c.args.disk) (g.F.Folder.faults c.args.folder.now) (g.F.Folder.faults c.perform_other.new.folder) (g.F.Folder.misses c.args.folder.now) (g.F.Folder.misses c.perform_other.new.folder) (g.D.Disk.faults c.args.disk) (g.D.Disk.faults c.perform_other.result.disk))
-        (g.P.PatternMaker.refusals c.args.patterns.now) (g.P.PatternMaker.refusals c.perform_other.new.patterns) command ending c.args.disk c.perform_other.result.disk)
+    (outside_of (g.F.Folder.content c.args.folder.now) (g.D.Disk.reads c.args.disk) (g.F.Folder.faults c.args.folder.now) (g.F.Folder.faults c.perform_other.new.folder) (g.F.Folder.misses c.args.folder.now) (g.F.Folder.misses c.perform_other.new.folder) (g.D.Disk.faults c.args.disk) (g.D.Disk.faults c.perform_other.result.disk))
+    (g.P.PatternMaker.refusals c.args.patterns.now) (g.P.PatternMaker.refusals c.perform_other.new.patterns) command ending c.args.disk c.perform_other.result.disk)
     (λ status ending. Finishes status (g.K.Sink.written c.args.out.now) (g.K.Sink.written c.perform_other.new.out) (g.K.Sink.faults c.args.out.now) (g.K.Sink.faults c.perform_other.new.out) ending)
     c.perform_other.result.status (is_of_store c.in-Ok.asked) refl c.in-Ok.ensures.read (sym c.in-None.ensures)
     c.perform_other.ensures.store
@@ -39,5 +39,5 @@ returns-in-Ok-clause-says g c =
 pub returns-in-Ok-clause-untouched : goal.returns-in-Ok-clause-untouched
 returns-in-Ok-clause-untouched g c = λ run stores. c.perform_other.ensures.untouched (other_store (map (λ w. string_bytes w) c.args.words.now) c.in-Ok.asked (is_of_store c.in-Ok.asked) refl c.in-Ok.ensures.read stores)
 
-pub returns-in-Err-Memory-clause-says : goal.returns-in-Err-Memory-clause-says
-returns-in-Err-Memory-clause-says g c = inr (inr (inl ((refl, Appends-nil (g.K.Sink.written c.args.out.now)), λ c image. image)))
+pub returns-clause-says : goal.returns-clause-says
+returns-clause-says g c = inr (inr (inl ((refl, Appends-nil (g.K.Sink.written c.args.out.now)), λ c image. image)))
