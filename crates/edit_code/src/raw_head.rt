@@ -80,7 +80,15 @@ impl Model for RawParts {
 
     ghost Value = { ConfigParts };
 
-    ghost view = { λ c. record { name = c.name; uuid = c.uuid; extension = c.extension; tracks = c.tracks; levels = c.levels; groups = c.groups; links = c.links } };
+    ghost view = { λ c. record {
+      name = c.name;
+      uuid = c.uuid;
+      extension = c.extension;
+      tracks = c.tracks;
+      levels = c.levels;
+      groups = c.groups;
+      links = c.links;
+    } };
 }
 
 impl Readable for RawGroup {
