@@ -89,7 +89,8 @@ fn perform_other<
     gate: &G,
 ) -> Ran<D>
     requires rate { HasRate command.now }
-    ensures store { is_of_store command.now ≡ true → (ending : Ends) × EndsOnStore D.may_leave D.moment D.left_since D.faults
+    ensures store { is_of_store command.now ≡ true → (ending : Ends)
+        × EndsOnStore D.may_leave D.moment D.left_since D.faults
         (outside_of (F.content folder.old) (D.reads disk) (F.faults folder.old) (F.faults folder.new)
         (F.misses folder.old) (F.misses folder.new) (D.faults disk) (D.faults result.disk))
         (P.refusals patterns.old) (P.refusals patterns.new) command.now ending disk result.disk
