@@ -2,6 +2,8 @@ pub mod Json
 pub mod Rising
 pub mod Taken
 pub mod Printed
+pub mod Pushed
+pub mod Pieced
 pub mod ValidConfigs
 pub mod KnownLines
 pub mod Making

@@ -1,7 +1,8 @@
 -- The last line of a run that ends before its script does, where no line is named.
 use Rattle.std.specs.Prelude.{ℕ, List, codes}
 use Rattle.serde_json.specs.Data.{Data, string, object, no_members, member}
-use Rattle.script_lines.specs.Texts.{whole, line_text}
+use Rattle.segment_list.specs.Texts.{whole}
+use Rattle.script_lines.specs.Texts.{line_text}
 
 -- the object: the cause and the status
 abbrev pub last_data : List ℕ → ℕ → Data

@@ -8,3 +8,4 @@ pub mod Lines
 pub mod Texts
 pub mod LastLines
 pub mod Known
+pub mod Pieces

@@ -1,7 +1,7 @@
 -- The texts of replies: each is one JSON object (RFC 8259), printed compact with the members in the
 -- order of their names' bytes, and a line feed.
 use Rattle.std.specs.Prelude.{ℕ, List, [], ◌∷◌, ◌++◌, Option, Some, None, codes}
-use Rattle.serde_json.specs.Data.{Data, null, number, string, array, object, unsigned, Items, no_items, item, Members, no_members, member}
+use Rattle.serde_json.specs.Data.{Data, null, string, object, Members, no_members, member}
 use Rattle.serde_json.specs.Written.{compact_text}
 use Rattle.json_view.specs.declared.faults.Shape.{Shape}
 use Rattle.json_view.specs.Words as wanted_words
@@ -10,7 +10,7 @@ use Rattle.emu_names.specs.declared.rules.What.{What}
 use Rattle.emu_names.specs.declared.rules.Broken.{Broken}
 use Rattle.emu_names.specs.declared.rules.Broken.TheVariants as rules
 use Rattle.emu_names.specs.Rule.{word_of, counted_of}
-use Rattle.eql_model.specs.declared.row.Row.{Row}
+use Rattle.segment_list.specs.Texts.{rows_data, whole}
 use Rattle.session_core.specs.declared.line.Command.{Command}
 use Rattle.session_core.specs.declared.line.Command.TheVariants as commands
 use Rattle.eql_syntax.specs.declared.query.QueryFault.{QueryFault}
@@ -34,15 +34,6 @@ use Rattle.textgrid.specs.declared.fault.GridFault.{GridFault}
 use Rattle.textgrid.specs.declared.fault.GridFault.TheVariants as grid_faults
 use Rattle.script_lines.specs.declared.faults.LineFault.{LineFault}
 use Rattle.script_lines.specs.declared.faults.LineFault.TheVariants as faults
-
--- a whole number
-abbrev pub whole : ℕ → Data
-whole n = number (unsigned n)
-
--- a whole number, or null where there is none
-abbrev pub whole_or_null : Option ℕ → Data
-whole_or_null None = null
-whole_or_null (Some n) = whole n
 
 -- one line: the compact text and a line feed
 unfoldable pub line_text : Data → List ℕ
@@ -68,34 +59,6 @@ command_word commands.Query = codes "query"
 command_word commands.Look = codes "look"
 command_word commands.Finish = codes "finish"
 command_word commands.After = codes "after"
-
--- a row of a segment list
-abbrev pub row_data : Row → Data
-row_data r = object
-    (member (codes "attribute") (string r.attribute)
-    (member (codes "bundle") (string r.bundle)
-    (member (codes "end") (whole_or_null r.end)
-    (member (codes "endItem") (whole r.end_item.0)
-    (member (codes "endPos") (whole r.end_pos)
-    (member (codes "labels") (string r.labels)
-    (member (codes "level") (string r.level)
-    (member (codes "sampleEnd") (whole_or_null r.sample_end)
-    (member (codes "sampleRate") (whole r.rate)
-    (member (codes "sampleStart") (whole_or_null r.sample_start)
-    (member (codes "session") (string r.session)
-    (member (codes "start") (whole_or_null r.start)
-    (member (codes "startItem") (whole r.start_item.0)
-    (member (codes "startPos") (whole r.start_pos)
-    no_members))))))))))))))
-
--- the rows as elements of a list
-abbrev pub rows_items : List Row → Items
-rows_items [] = no_items
-rows_items (r ∷ rs) = item (row_data r) (rows_items rs)
-
--- the rows of a segment list, in their order
-abbrev pub rows_data : List Row → Data
-rows_data rows = array (rows_items rows)
 
 -- a refusal: its rule, and the id, the name or the counted thing of the rule
 

@@ -15,9 +15,8 @@ mod print;
 mod questions;
 mod read;
 mod refusals;
+mod replies;
 mod requests;
-mod rows;
-mod values;
 
 pub use faults::{LineFault, ReadLine};
 pub use law::read_lines_are_known;

@@ -7,7 +7,7 @@ ghost use Rattle.script_lines.specs.Texts.{line_text, reply_text, fault_text};
 
 use crate::faults::LineFault;
 use crate::last_lines::{fault_value, last_value};
-use crate::values::reply_value;
+use crate::replies::{push_answer, push_head};
 use emu_names::{Memory, Text};
 use serde_json::Value;
 use session_core::Reply;
@@ -28,8 +28,11 @@ fn line_of(alloc: Global, value: &Value) -> Result<Text, Memory>
 pub fn print_reply(alloc: Global, reply: &Reply) -> Result<Text, Memory>
     ensures { IfOk result (λ text. text ≡ reply_text reply.now) }
 {
-    let value = reply_value(alloc, reply)?;
-    line_of(alloc, &value)
+    let mut out = String::new(alloc);
+    push_head(&mut out, reply.line, reply.n)?;
+    push_answer(&mut out, alloc, &reply.answer)?;
+    out.push_str("}\n")?;
+    Ok(Text::from_string(out))
 }
 
 /// The last line of a run that the fault of this line ends. The only refusal is want of memory.

@@ -1,6 +1,9 @@
-use Rattle.std.proofs.lemmas.Result.{IfOk-weaker}
-use Rattle.script_lines.proofs.Printed.{reply_line}
+use Rattle.std.proofs.Common.{◌∙◌, string_bytes}
+use Rattle.script_lines.proofs.Pieced.{written}
 use Rattle.script_lines.proofs.print.print_reply.Goals as goal
 
 pub returns : goal.returns
-returns c = IfOk-weaker _ _ _ (λ text is. reply_line text _ c.args.reply.now c.in_ok-value.ensures is) c.line_of.ensures
+returns c =
+    c.from_string.ensures
+    ∙ written c.args.reply.now (string_bytes c.new-out.result) c.new-out.ensures.bytes c.in_ok-push_head.ensures
+    c.in_ok-push_answer.ensures c.in_ok-push_str.ensures.bytes
