@@ -9,3 +9,5 @@ mod Readings
 mod FirstBooks
 mod Stores
 mod Answering
+pub mod Lists
+pub mod Living

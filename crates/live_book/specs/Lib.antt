@@ -4,3 +4,5 @@ pub mod Kept
 pub mod Commits
 pub mod Opens
 pub mod Prepared
+pub mod Live
+pub mod Laws

@@ -5,6 +5,8 @@
 mod book;
 mod commit;
 mod fault;
+pub mod law;
+mod live;
 mod making;
 mod next;
 mod opening;
@@ -15,6 +17,7 @@ mod store;
 
 pub use book::Book;
 pub use fault::{EditFault, OpenFault};
+pub use live::{Live, MadeLive, Opening, Share};
 pub use making::{MadeBook, NoBook, new_book};
 pub use opening::{NoStore, Opened, open_store};
 pub use published::Published;

@@ -3,17 +3,20 @@ ghost use Rattle.std.specs.Prelude.{◌≡◌, ◌≢◌, IfOk, IfErr, IfSome, o
 ghost use Rattle.std.specs.Option.{option_map};
 ghost use Rattle.emu_names.specs.Gives.{GivesOrBroken};
 ghost use Rattle.bundle_state.specs.Built.{FitsConfig};
+ghost use Rattle.bundle_index.specs.Columns.{AreOtherwiseSame};
 ghost use Rattle.edit_rules.specs.Database.{bundle_with, KeepsDatabaseRules};
 ghost use Rattle.edit_rules.specs.Changes.{changed};
 ghost use Rattle.edit_rules.specs.Edits.{key_of};
 ghost use Rattle.edit_rules.specs.Effects.{effect, IsFirstFault};
 ghost use Rattle.version_tree.specs.Version.{state_of, state_put, next_number};
-ghost use Rattle.live_book.specs.Prepared.{changed_in};
+ghost use Rattle.live_book.specs.Prepared.{changed_in, level_called, level_with, touched};
 
 use bundle_index::Indexed;
 use bundle_state::Bundle;
+use db_config::Config;
 use edit_rules::{Edit, change};
-use emu_names::{BundleKey, Fault, Memory};
+use emu_names::{BundleKey, Fault, ItemId, Memory, Text};
+use level_items::AnnotLabel;
 use std::alloc::Global;
 use version_tree::Version;
 
@@ -37,8 +40,136 @@ fn change_in(alloc: Global, version: &Version, edit: &Edit) -> Result<Option<Bun
     change(alloc, version.config(), version.counts(), old, edit)
 }
 
-/// The version with the bundle that an edit made.
+/// The number of the level on which an item stands, or the number of levels where it stands on none.
+fn level_with(bundle: &Bundle, id: ItemId) -> usize
+    ensures { result ≡ level_with bundle.now.levels id }
+{
+    match bundle.place(id) {
+        Some((level, _position)) => level,
+        None => bundle.level_count(),
+    }
+}
 
+/// The number of the level of this name, or the number of levels where there is none.
+fn level_called(config: &Config, name: &Text) -> usize
+    ensures { result ≡ level_called config.now.levels name.now }
+{
+    match config.level_named(name.as_str()) {
+        Some(level) => level,
+        None => config.parts().levels.len(),
+    }
+}
+
+/// The number of the one level whose items an edit may change in a bundle, or the number of levels where it
+/// changes none.
+fn touched(config: &Config, bundle: &Bundle, edit: &Edit) -> usize
+    ensures { result ≡ touched config.now bundle.now.levels edit.now }
+{
+    match edit {
+        Edit::AddItem { level, .. } => level_called(config, level),
+        Edit::RemoveItem { id, .. }
+        | Edit::SetLabel { id, .. }
+        | Edit::SetSegment { id, .. }
+        | Edit::MoveBoundary { id, .. }
+        | Edit::SetPoint { id, .. }
+        | Edit::Split { id, .. }
+        | Edit::Merge { id, .. } => level_with(bundle, *id),
+        Edit::AddBundle { .. }
+        | Edit::DropBundle { .. }
+        | Edit::AddLink { .. }
+        | Edit::RemoveLink { .. } => bundle.level_count(),
+    }
+}
+
+/// How many labels the items of a bundle have together.
+fn label_count(bundle: &Bundle) -> usize {
+    let mut count: usize = 0;
+    for level in 0..bundle.level_count() {
+        let items = bundle.level(level).as_slice();
+        if let Some(item) = items.first() {
+            let labels = items.len().saturating_mul(item.labels.as_ref().len());
+            count = count.saturating_add(labels);
+        }
+    }
+    count
+}
+
+/// Whether a label stands behind so many others in the list of a bundle's labels that at least half of these
+/// are labels of no item any longer.
+fn stands_late(indexed: &Indexed, label: &Text) -> bool {
+    match indexed.label_number(label.as_str()) {
+        Some(number) => number as usize / 2 > label_count(indexed.bundle()),
+        None => false,
+    }
+}
+
+/// Whether one of these labels stands late.
+fn stand_late(indexed: &Indexed, labels: &[AnnotLabel]) -> bool {
+    for label in labels {
+        if stands_late(indexed, &label.value) {
+            return true;
+        }
+    }
+    false
+}
+
+/// Whether an edit that was made left at least twice as many labels in the list of a bundle's labels as its
+/// items have. Only a label that is given can make the list longer, and it stands last then.
+fn is_crowded(indexed: &Indexed, edit: &Edit) -> bool {
+    match edit {
+        Edit::SetLabel { label, .. } => stands_late(indexed, label),
+        Edit::AddItem { item, .. } => stand_late(indexed, item.labels.as_slice()),
+        _ => false,
+    }
+}
+
+/// The same bundle with its columns, whose list of labels is made anew where it is crowded by labels that no
+/// item has any longer. The only refusal is want of memory.
+fn thinned(alloc: Global, indexed: Indexed, edit: &Edit) -> Result<Indexed, Memory>
+    ensures { IfOk result (λ made. made.bundle ≡ indexed.bundle) }
+{
+    if is_crowded(&indexed, edit) {
+        let bundle = indexed.bundle().copy(alloc)?;
+        return Indexed::new(alloc, bundle);
+    }
+    Ok(indexed)
+}
+
+/// What an edit made of an indexed bundle, with its columns: those of the level that the edit touched are made
+/// anew, and all others are shared. The only refusal is want of memory.
+fn reindexed(
+    alloc: Global,
+    config: &Config,
+    old: &Indexed,
+    edit: &Edit,
+    bundle: Bundle,
+) -> Result<Indexed, Memory>
+    requires { AreOtherwiseSame old.now.bundle.levels bundle.levels
+        (touched config.now old.now.bundle.levels edit.now) }
+    ensures { IfOk result (λ made. made.bundle ≡ bundle) }
+{
+    let level = touched(config, old.bundle(), edit);
+    let indexed = old.changed(alloc, bundle, level)?;
+    thinned(alloc, indexed, edit)
+}
+
+/// The bundle that an edit made, with its columns. The only refusal is want of memory.
+fn indexed_in(
+    alloc: Global,
+    version: &Version,
+    edit: &Edit,
+    bundle: Bundle,
+) -> Result<Indexed, Memory>
+    requires { changed_in (state_of version.now) edit.now ≡ Ok (Some bundle) }
+    ensures { IfOk result (λ made. made.bundle ≡ bundle) }
+{
+    match version.get(edit.key()) {
+        Some(old) => reindexed(alloc, version.config(), old, edit, bundle),
+        None => Indexed::new(alloc, bundle),
+    }
+}
+
+/// The version with the bundle that an edit made.
 fn with_bundle(
     alloc: Global,
     version: &Version,
@@ -52,7 +183,7 @@ fn with_bundle(
     ensures config { IfOk result (λ next. next.config ≡ version.now.config) }
     ensures number { IfOk result (λ next. next.number ≡ next_number version.now.number) }
 {
-    let indexed = Indexed::new(alloc, bundle)?;
+    let indexed = indexed_in(alloc, version, edit, bundle)?;
     let next = version.with(alloc, indexed)?;
     Ok(next)
 }

@@ -1,0 +1,230 @@
+//! A book that several threads edit, one after another.
+ghost use Rattle.std.specs.Prelude.{◌≡◌, ◌<◌, ◌≤◌, ℕ, None, length};
+ghost use Rattle.live_book.specs.Commits.{entry_of};
+ghost use Rattle.live_book.specs.Kept.{Holding, KeepsIn};
+ghost use Rattle.live_book.specs.Live.{EditsLive, HasGrown, Opened, accepted_behind, all_parts, count_behind, merged, no_opening, one_part, opening_of, refused_behind, whole_share, without_part};
+ghost use Rattle.version_gate.specs.Lists.{Numbered as IsNumbered};
+
+use crate::book::Book;
+use crate::fault::EditFault;
+use crate::published::Published;
+use edit_rules::Edit;
+use emu_disk::Disk;
+use emu_names::SessionNo;
+use std::alloc::Global;
+use std::marker::{Brand, Model};
+use std::sync::ledger::{self, Blank, Ledger};
+use std::sync::{Mutex, MutexGuard, Wait};
+use version_gate::Pass;
+
+/// Which opening it is: the book as it is at the moment at which threads begin to edit it. It is also the ledger of
+/// the edits that are accepted. Its members are plain values, which contracts alone see.
+pub trait Opening: Ledger {
+    /// The opening.
+    ghost opened: { Opened };
+}
+
+impl Opening for Brand {
+    ghost opened = { no_opening };
+}
+
+/// A part of the right to say what became of all edits: the edits that were accepted with it, and the answers that
+/// the disk failed. It takes no bytes.
+#[derive(Drop)]
+pub struct Share<K: Opening, N: Ledger> {
+    accepted: ledger::Share<K>,
+    refused: ledger::Share<N>,
+}
+
+impl<K: Opening, N: Ledger> Model for Share<K, N> {
+    ghost use Rattle.std.specs.Prelude.{◌≡◌};
+    ghost use Rattle.live_book.specs.Live.{Count};
+
+    ghost Value = { Count };
+
+    ghost view = { λ s. record { parts = s.accepted.parts; accepted = s.accepted.amount; refused = s.refused.amount } };
+
+    ghost invariant = { λ s. s.refused.parts ≡ s.accepted.parts };
+}
+
+impl<K: Opening, N: Ledger> Share<K, N> {
+    /// Takes one part off, which counts nothing.
+    pub fn split(&mut self) -> Share<K, N>
+        requires { 1 < self.old.parts }
+        ensures new { result ≡ one_part }
+        ensures left { self.new ≡ without_part self.old }
+    {
+        Share {
+            accepted: self.accepted.split_off(1, 0),
+            refused: self.refused.split_off(1, 0),
+        }
+    }
+
+    /// Takes another share in.
+    pub fn merge(&mut self, other: Share<K, N>)
+        ensures { self.new ≡ merged self.old other }
+    {
+        self.accepted.merge(other.accepted);
+        self.refused.merge(other.refused);
+    }
+}
+
+/// The book behind its lock, with the ledgers of what it answered.
+struct Locked<K: Opening, N: Ledger, D: Disk> {
+    book: Book<D>,
+    accepted: ledger::Book<K>,
+    refused: ledger::Book<N>,
+}
+
+impl<K: Opening, N: Ledger, D: Disk> Model for Locked<K, N, D> {
+    ghost use Rattle.live_book.specs.Live.{HasGrown};
+    ghost use Rattle.live_book.specs.Kept.{BookParts};
+
+    ghost Value = { BookParts D };
+
+    ghost view = { λ l. l.book };
+
+    ghost invariant = { λ l. HasGrown D.may_leave D.faults K.opened l.accepted.total l.refused.total l.book };
+}
+
+/// A book that several threads edit, one after another. It is no `Drop`: end it by [`Live::settle`].
+pub struct Live<K: Opening, N: Ledger, D: Disk> {
+    lock: Mutex<Locked<K, N, D>>,
+}
+
+/// A book that several threads may edit, and the share of all parts.
+pub struct MadeLive<K: Opening, N: Ledger, D: Disk> {
+    /// The book.
+    pub live: Live<K, N, D>,
+    /// The share.
+    pub share: Share<K, N>,
+}
+
+/// Counts an answer in the ledgers, and in the share of who was answered.
+fn count<K: Opening, N: Ledger>(
+    accepted: &mut ledger::Book<K>,
+    refused: &mut ledger::Book<N>,
+    share: &mut Share<K, N>,
+    answer: &Result<u64, EditFault>,
+)
+    requires { 0 < share.old.parts }
+    ensures share { share.new ≡ count_behind share.old answer.now }
+    ensures accepted { accepted.new.total ≡ accepted_behind accepted.old.total answer.now }
+    ensures refused { refused.new.total ≡ refused_behind refused.old.total answer.now }
+{
+    match answer {
+        Ok(_) => accepted.add(&mut share.accepted, 1),
+        Err(EditFault::Disk) => refused.add(&mut share.refused, 1),
+        Err(_) => {}
+    }
+}
+
+impl<K: Opening, N: Ledger, D: Disk> Locked<K, N, D> {
+    /// Commits an edit, and lets the pass learn what is then published.
+    fn edit<R: Wait>(
+        &mut self,
+        rt: &R,
+        alloc: Global,
+        pass: &mut Pass<Published>,
+        share: &mut Share<K, N>,
+        session: SessionNo,
+        line: u32,
+        edit: &Edit,
+    ) -> Result<u64, EditFault>
+        requires gate { pass.old.gate ≡ K.opened.gate }
+        requires part { 0 < share.old.parts }
+        requires seen { (k : ℕ) → IsNumbered k pass.old.list → k ≤ length self.old.history }
+        ensures gate { pass.new.gate ≡ pass.old.gate }
+        ensures edits { EditsLive K.opened (entry_of session line edit.now) pass.old.list pass.new.list result }
+        ensures counted { share.new ≡ count_behind share.old result }
+    {
+        let _seen = pass.seen();
+        let result = self.book.commit(rt, alloc, session, line, edit);
+        count(&mut self.accepted, &mut self.refused, share, &result);
+        pass.learn(self.book.tell());
+        result
+    }
+}
+
+impl<K: Opening, N: Ledger, D: Disk> Live<K, N, D> {
+    /// Lets several threads edit a book. The book is at the opening that `K` names, and nothing in its journal is in
+    /// doubt; `accepted` and `refused` are the new ledgers of `K` and `N`, of 16 parts each.
+    pub fn new(book: Book<D>, accepted: Blank, refused: Blank) -> MadeLive<K, N, D>
+        requires opening { K.opened ≡ opening_of D.faults book }
+        requires sound { KeepsIn D.may_leave book.config book.history None book.journal }
+        requires accepted { (accepted.name ≡ K.name) × (accepted.parts ≡ K.parts) × (K.parts ≡ all_parts) }
+        requires refused { (refused.name ≡ N.name) × (refused.parts ≡ N.parts) × (N.parts ≡ all_parts) }
+        ensures { result.share ≡ whole_share }
+    {
+        let _entries = book.history();
+        let (accepted, accepted_share) = accepted.open();
+        let (refused, refused_share) = refused.open();
+        MadeLive {
+            live: Live {
+                lock: Mutex::new(Locked {
+                    book,
+                    accepted,
+                    refused,
+                }),
+            },
+            share: Share {
+                accepted: accepted_share,
+                refused: refused_share,
+            },
+        }
+    }
+
+    /// Accepts an edit of a line of a session, or says why not, as [`Book::commit`] does, when the lock is free. The
+    /// answer is right for the entries that stood at that moment. The pass is one of the book's gate, and has then seen
+    /// the number in the answer or more. It waits for the lock, and where the pass has seen more than the book has,
+    /// it lets go and tries again: it keeps its promise if it returns.
+    pub fn edit<R: Wait>(
+        &self,
+        rt: &R,
+        alloc: Global,
+        pass: &mut Pass<Published>,
+        share: &mut Share<K, N>,
+        session: SessionNo,
+        line: u32,
+        edit: &Edit,
+    ) -> Result<u64, EditFault>
+        requires gate { pass.old.gate ≡ K.opened.gate }
+        requires part { 0 < share.old.parts }
+        ensures gate { pass.new.gate ≡ pass.old.gate }
+        ensures edits { EditsLive K.opened (entry_of session line edit.now) pass.old.list pass.new.list result }
+        ensures counted { share.new ≡ count_behind share.old result }
+    {
+        for _ in rt.forever() {
+            let mut guard = self.lock.lock(rt);
+            if pass.seen() <= guard.book.number() {
+                let result = guard.edit(rt, alloc, pass, share, session, line, edit);
+                MutexGuard::unlock(guard);
+                return result;
+            }
+            MutexGuard::unlock(guard);
+        }
+        unreachable!()
+    }
+
+    /// Ends the edits of several threads, with the shares of all of them, and hands the book back. As many entries came
+    /// as edits were accepted; the disk's count rose once or more for each answer that it failed; and without such an
+    /// answer nothing in the journal is in doubt.
+    pub fn settle(self, all: Share<K, N>) -> Book<D>
+        requires whole { (all.parts ≡ K.parts) × (N.parts ≡ K.parts) }
+        ensures { HasGrown D.may_leave D.faults K.opened all.accepted all.refused result }
+    {
+        let Live { lock } = self;
+        let Locked {
+            book,
+            mut accepted,
+            mut refused,
+        } = lock.into_inner();
+        let Share {
+            accepted: mut accepted_share,
+            refused: mut refused_share,
+        } = all;
+        accepted.audit(&mut accepted_share);
+        refused.audit(&mut refused_share);
+        book
+    }
+}
