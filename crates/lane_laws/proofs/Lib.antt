@@ -1,0 +1,10 @@
+pub mod Steps
+pub mod Replies
+pub mod Eaches
+pub mod Pigeons
+pub mod Marks
+pub mod Grouping
+pub mod Rising
+pub mod Homes
+pub mod Heard
+pub mod Joined
