@@ -2,4 +2,4 @@ mod Commits
 mod Listing
 mod Others
 mod Showing
-mod Sizes
+pub mod Sizes

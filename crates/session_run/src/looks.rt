@@ -7,6 +7,7 @@ ghost use Rattle.session_core.specs.Queries.{lacks_memory};
 ghost use Rattle.session_core.specs.Steps.{reply_of};
 
 use crate::queries::answer_over;
+use emu_io::OpenGate;
 use emu_names::{Memory, SessionNo};
 use live_book::Published;
 use session_core::{Ask, Head, Reply, lacks_memory, memory_reply};
@@ -75,7 +76,15 @@ impl Look {
         ensures { IfOk result (λ reply. reply ≡
             reply_of line session (Some self.now.n) (held_answer self.now)) }
     {
-        let answer = answer_over(rt, alloc, &self.shown.version, &self.ask, line)?;
+        let answer = answer_over(
+            rt,
+            alloc,
+            &self.shown.version,
+            &self.ask,
+            1,
+            line,
+            &OpenGate,
+        )?;
         Ok(Reply {
             line,
             session,

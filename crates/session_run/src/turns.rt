@@ -23,7 +23,7 @@ use textgrid::GridFault;
 use version_gate::Pass;
 
 /// The reply that was made for a line, or that memory ran out at it.
-fn or_memory(head: Head, made: Result<Reply, Memory>) -> Reply
+pub fn or_memory(head: Head, made: Result<Reply, Memory>) -> Reply
     ensures { result ≡ or_memory head made }
 {
     match made {
@@ -33,7 +33,7 @@ fn or_memory(head: Head, made: Result<Reply, Memory>) -> Reply
 }
 
 /// The reply to a line whose edit was committed with this answer.
-fn commit_reply(head: Head, made: Result<u64, EditFault>) -> Reply
+pub fn commit_reply(head: Head, made: Result<u64, EditFault>) -> Reply
     ensures { (request : Request) → result ≡ commit_reply (line_of head request) made }
 {
     match made {
