@@ -4,7 +4,7 @@ use Rattle.serde_json.specs.Data.{Data, Members}
 use Rattle.serde_json.specs.Written.{has_float, members_have_float}
 use Rattle.edit_rules.specs.declared.edit.Entry.{Entry}
 use Rattle.store_commands.specs.declared.note.Note.{Note}
-use Rattle.store_commands.specs.Texts.{line_text, with_whole, with_text, note_data, damaged_data, damaged_text, done_data, done_text, entry_data}
+use Rattle.store_commands.specs.Texts.{line_text, with_whole, with_text, note_data, damaged_data, damaged_text, done_data, done_text, from_data, from_text, mark_data, mark_text, entry_data}
 
 whole_plain : (name : List ℕ) (o : Option ℕ) (ms : Members)
     → members_have_float (with_whole name o ms) ≡ members_have_float ms
@@ -39,6 +39,16 @@ pub done_line : (text : List ℕ) (d : Data) (n : ℕ) (command : List ℕ) → 
     → (has_float d ≡ false → text ≡ line_text d) → text ≡ done_text n command
 unfolding done_text
 done_line text d n command same is = line_of text d (done_data n command) same refl is
+
+pub from_line : (text : List ℕ) (d : Data) (n : ℕ) → d ≡ from_data n → (has_float d ≡ false → text ≡ line_text d)
+    → text ≡ from_text n
+unfolding from_text
+from_line text d n same is = line_of text d (from_data n) same refl is
+
+pub mark_line : (text : List ℕ) (d : Data) (at line session : ℕ) → d ≡ mark_data at line session
+    → (has_float d ≡ false → text ≡ line_text d) → text ≡ mark_text at line session
+unfolding mark_text
+mark_line text d at line session same is = line_of text d (mark_data at line session) same refl is
 
 pub entry_line : (text : List ℕ) (d : Data) (at : ℕ) (e : Entry) → d ≡ entry_data at e → (has_float d ≡ false
     → text ≡ line_text d) → text ≡ line_text (entry_data at e)

@@ -71,6 +71,27 @@ done_data n command = object
 unfoldable pub done_text : ℕ → List ℕ → List ℕ
 done_text n command = line_text (done_data n command)
 
+-- The lines that a live run ends with: how many entries stood before it, and each new entry with its place in the
+-- history, counted from 1, its line and its session.
+abbrev pub from_data : ℕ → Data
+from_data n = object (member (codes "from") (whole n) no_members)
+
+-- its text
+unfoldable pub from_text : ℕ → List ℕ
+from_text n = line_text (from_data n)
+
+-- an entry's place, line and session
+abbrev pub mark_data : ℕ → ℕ → ℕ → Data
+mark_data at line session = object
+    (member (codes "at") (whole at)
+    (member (codes "line") (whole line)
+    (member (codes "s") (whole session)
+    no_members)))
+
+-- its text
+unfoldable pub mark_text : ℕ → ℕ → ℕ → List ℕ
+mark_text at line session = line_text (mark_data at line session)
+
 -- The history.
 
 -- the name of an edit's command; a TextGrid's bundle is stored as the bundle that it makes

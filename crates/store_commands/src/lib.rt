@@ -15,4 +15,4 @@ pub use ask::ask_text;
 pub use export::export_text;
 pub use faults::{CommandFault, FileFault, Refused};
 pub use history::history_text;
-pub use print::{print_damaged, print_done, print_refused};
+pub use print::{print_damaged, print_done, print_from, print_mark, print_refused};

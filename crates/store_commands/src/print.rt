@@ -3,14 +3,14 @@ ghost use Rattle.std.specs.Prelude.{◌≡◌, IfOk, false};
 ghost use Rattle.serde_json.specs.View.{view};
 ghost use Rattle.serde_json.specs.Written.{has_float};
 ghost use Rattle.store_commands.specs.Causes.{refused_text};
-ghost use Rattle.store_commands.specs.Texts.{line_text, note_data, damaged_text, done_text, entry_data};
+ghost use Rattle.store_commands.specs.Texts.{line_text, note_data, damaged_text, done_text, entry_data, from_text, mark_text};
 
 use crate::causes::refused_note;
 use crate::faults::Refused;
 use crate::note::Note;
-use crate::values::{damaged_value, done_value, entry_value, note_value};
+use crate::values::{damaged_value, done_value, entry_value, from_value, mark_value, note_value};
 use edit_rules::Entry;
-use emu_names::{Memory, Text};
+use emu_names::{Memory, SessionNo, Text};
 use serde_json::Value;
 use std::alloc::Global;
 
@@ -59,6 +59,23 @@ pub fn print_done(alloc: Global, n: u64, command: &str) -> Result<Text, Memory>
     ensures { IfOk result (λ text. text ≡ done_text n command.now) }
 {
     let value = done_value(alloc, n, command)?;
+    line_of(alloc, &value)
+}
+
+/// The line that says how many entries stood before a live run. The only refusal is want of memory.
+pub fn print_from(alloc: Global, n: u64) -> Result<Text, Memory>
+    ensures { IfOk result (λ text. text ≡ from_text n) }
+{
+    let value = from_value(alloc, n)?;
+    line_of(alloc, &value)
+}
+
+/// The line of a new entry of a live run: its place in the history, counted from 1, its line and its session. The only
+/// refusal is want of memory.
+pub fn print_mark(alloc: Global, at: u64, line: u32, session: SessionNo) -> Result<Text, Memory>
+    ensures { IfOk result (λ text. text ≡ mark_text at line session.0) }
+{
+    let value = mark_value(alloc, at, line, session)?;
     line_of(alloc, &value)
 }
 

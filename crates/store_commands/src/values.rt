@@ -2,11 +2,11 @@
 ghost use Rattle.std.specs.Prelude.{◌≡◌, IfOk, OnOk};
 ghost use Rattle.serde_json.specs.View.{view, members_view};
 ghost use Rattle.store_commands.specs.Put.{put_whole, put_text, put_back, put_middle, put_front};
-ghost use Rattle.store_commands.specs.Texts.{note_data, damaged_data, done_data, edit_word, entry_data};
+ghost use Rattle.store_commands.specs.Texts.{note_data, damaged_data, done_data, edit_word, entry_data, from_data, mark_data};
 
 use crate::note::Note;
 use edit_rules::{Edit, Entry};
-use emu_names::{Memory, Text};
+use emu_names::{Memory, SessionNo, Text};
 use serde_json::{Map, Value, json};
 use std::alloc::Global;
 
@@ -107,6 +107,25 @@ pub(crate) fn done_value(alloc: Global, n: u64, command: &str) -> Result<Value, 
     ensures { IfOk result (λ v. view v ≡ done_data n command.now) }
 {
     Ok(json!(in alloc; {"n": n, "ok": command})?)
+}
+
+/// The object of the line that says how many entries stood before a run.
+pub(crate) fn from_value(alloc: Global, n: u64) -> Result<Value, Memory>
+    ensures { IfOk result (λ v. view v ≡ from_data n) }
+{
+    Ok(json!(in alloc; {"from": n})?)
+}
+
+/// The object of a new entry's place, line and session.
+pub(crate) fn mark_value(
+    alloc: Global,
+    at: u64,
+    line: u32,
+    session: SessionNo,
+) -> Result<Value, Memory>
+    ensures { IfOk result (λ v. view v ≡ mark_data at line session.0) }
+{
+    Ok(json!(in alloc; {"at": at, "line": line, "s": session.0})?)
 }
 
 /// The name of an edit's command.
