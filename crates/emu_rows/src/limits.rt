@@ -1,8 +1,6 @@
 //! The limits of a line, of the number of lines and of a script, each at the limit and one past it.
-use crate::scripts::CONFIG;
-use emu_cli::emu;
-use emu_disk::SureDisk;
-use emu_io::{Failed, ListSink, OpenGate, Source, SureFolder};
+use crate::scripts::{CONFIG, call, empty_disk};
+use emu_io::{Failed, ListSink, OpenGate, Source};
 use label_match::RegexMaker;
 use std::io::Read;
 use std::process::Abort;
@@ -64,8 +62,6 @@ fn ends_with(
     len: u64,
     status: u8,
 ) -> Result<(), Fail> {
-    let mut words = Vec::new(rt.alloc());
-    words.push(String::from_str(rt.alloc(), "run")?)?;
     let mut source = Blanks {
         head: CONFIG.as_bytes(),
         left: len.saturating_sub(CONFIG.len() as u64),
@@ -74,17 +70,17 @@ fn ends_with(
     };
     let mut sink = ListSink::new(rt.alloc(), Vec::new(rt.alloc()));
     let mut patterns = RegexMaker::new();
-    let ended = emu(
+    let disk = empty_disk(rt.alloc())?;
+    let ended = call(
         rt,
         rt.alloc(),
-        words.as_slice(),
+        &["run"],
         &mut source,
         &mut sink,
-        &mut SureFolder::new(Vec::new(rt.alloc())),
-        SureDisk::new(rt.alloc(), 0)?,
+        disk,
         &mut patterns,
         &OpenGate,
-    );
+    )?;
     assert_eq!(rt; ended.status, status, "width {width}, {len} bytes");
     let want = if status == 0 { WITHIN } else { OVER };
     assert_eq!(rt; sink.bytes(), want);

@@ -1,7 +1,7 @@
 //! Lines of scripts, and runs of the program over sources and sinks in memory.
-use emu_cli::emu;
-use emu_disk::SureDisk;
-use emu_io::{ListSink, ListSource, OpenGate, SureFolder};
+use emu_cli::{Exit, emu};
+use emu_disk::MemoryDisk;
+use emu_io::{Gate, ListSink, ListSource, OpenGate, Source, SureFolder};
 use label_match::{PatternMaker, RegexMaker};
 use std::alloc::{AllocError, Global};
 use std::process::Abort;
@@ -85,30 +85,59 @@ pub fn run_with<R: Threads + Wait + Sync, P: PatternMaker>(
     bad_writes: &[u64],
     patterns: &mut P,
 ) -> Result<Ran, AllocError> {
+    let mut source = ListSource::new(script, Vec::from_slice(alloc, bad_reads)?);
+    let mut sink = ListSink::new(alloc, Vec::from_slice(alloc, bad_writes)?);
+    let disk = empty_disk(alloc)?;
+    let exit = call(
+        rt,
+        alloc,
+        words,
+        &mut source,
+        &mut sink,
+        disk,
+        patterns,
+        &OpenGate,
+    )?;
+    let status = exit.status;
+    let output = Vec::from_slice(alloc, sink.bytes())?;
+    Ok(Ran { status, output })
+}
+
+/// A disk without a byte.
+pub fn empty_disk(alloc: Global) -> Result<MemoryDisk, AllocError> {
+    match MemoryDisk::new(alloc, &[]) {
+        Ok(disk) => Ok(disk),
+        Err(_) => Err(AllocError),
+    }
+}
+
+/// Calls the program on these words, over an empty folder. All tests of the crate call it here.
+pub fn call<R: Threads + Wait + Sync, S: Source, P: PatternMaker, G: Gate + Sync>(
+    rt: &R,
+    alloc: Global,
+    words: &[&str],
+    source: &mut S,
+    sink: &mut ListSink,
+    disk: MemoryDisk,
+    patterns: &mut P,
+    gate: &G,
+) -> Result<Exit<MemoryDisk>, AllocError> {
     let mut all = Vec::new(alloc);
     for word in words {
         all.push(String::from_str(alloc, word)?)?;
     }
-    let mut source = ListSource::new(script, Vec::from_slice(alloc, bad_reads)?);
-    let mut sink = ListSink::new(alloc, Vec::from_slice(alloc, bad_writes)?);
-    let disk = match SureDisk::new(alloc, 0) {
-        Ok(disk) => disk,
-        Err(_) => return Err(AllocError),
-    };
-    let exit = emu(
+    let mut folder = SureFolder::new(Vec::new(alloc));
+    Ok(emu(
         rt,
         alloc,
         all.as_slice(),
-        &mut source,
-        &mut sink,
-        &mut SureFolder::new(Vec::new(alloc)),
+        source,
+        sink,
+        &mut folder,
         disk,
         patterns,
-        &OpenGate,
-    );
-    let status = exit.status;
-    let output = Vec::from_slice(alloc, sink.bytes())?;
-    Ok(Ran { status, output })
+        gate,
+    ))
 }
 
 /// Runs a script, and compares how the run ends and the lines that it writes.

@@ -1,9 +1,8 @@
 //! Runs over a store on a disk in memory: one after another, with a call of the disk that fails, and over bytes that
 //! are no store.
-use crate::scripts::{BUNDLE, CONFIG, Ran, joined};
-use emu_cli::emu;
+use crate::scripts::{BUNDLE, CONFIG, Ran, call, joined};
 use emu_disk::MemoryDisk;
-use emu_io::{ListSink, ListSource, OpenGate, SureFolder};
+use emu_io::{ListSink, ListSource, OpenGate};
 use label_match::RegexMaker;
 use std::alloc::{AllocError, Global};
 use std::sync::Wait;
@@ -40,23 +39,19 @@ fn run_stored<R: Threads + Wait + Sync>(
     lines: &[&str],
     disk: MemoryDisk,
 ) -> Result<Stored, AllocError> {
-    let mut words = Vec::new(alloc);
-    words.push(String::from_str(alloc, "run")?)?;
-    words.push(String::from_str(alloc, "--store")?)?;
     let mut source = ListSource::new(joined(alloc, lines, "\n")?, Vec::new(alloc));
     let mut sink = ListSink::new(alloc, Vec::new(alloc));
     let mut patterns = RegexMaker::new();
-    let exit = emu(
+    let exit = call(
         rt,
         alloc,
-        words.as_slice(),
+        &["run", "--store"],
         &mut source,
         &mut sink,
-        &mut SureFolder::new(Vec::new(alloc)),
         disk,
         &mut patterns,
         &OpenGate,
-    );
+    )?;
     let ran = Ran {
         status: exit.status,
         output: Vec::from_slice(alloc, sink.bytes())?,
