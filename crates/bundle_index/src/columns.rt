@@ -6,7 +6,7 @@ ghost use Rattle.bundle_index.specs.Numbered.{HasGrown, IsColumnOf};
 ghost use Rattle.bundle_index.specs.Index.{has_time, have_times, if_timed, label_at, label_count};
 ghost use Rattle.bundle_index.specs.Columns.{AreColumnsOf, AreLabelColumns, starts_of, ends_of};
 
-use crate::labels::LabelSet;
+use crate::labels::Labels;
 use emu_lists::Series;
 use emu_names::Memory;
 use level_items::{Item, LevelList, Time};
@@ -29,7 +29,7 @@ fn label_column(
     alloc: Global,
     items: &[Item],
     attribute: usize,
-    labels: &mut LabelSet,
+    labels: &mut Labels,
 ) -> Result<Series<u32>, Memory>
     requires { All (λ i. attribute < length i.labels) items.now }
     ensures column { IfOk result (λ column.
@@ -50,7 +50,7 @@ fn label_columns(
     alloc: Global,
     items: &[Item],
     count: usize,
-    labels: &mut LabelSet,
+    labels: &mut Labels,
 ) -> Result<Series<Series<u32>>, Memory>
     requires { All (λ i. length i.labels ≡ count) items.now }
     ensures columns { IfOk result (λ columns. AreLabelColumns labels.new items.now count columns) }
@@ -162,7 +162,7 @@ fn with_times(
 pub fn columns_of(
     alloc: Global,
     level: &LevelList,
-    labels: &mut LabelSet,
+    labels: &mut Labels,
 ) -> Result<LevelColumns, Memory>
     requires { KeepsLevelRule level.now }
     ensures columns { IfOk result (λ columns. AreColumnsOf labels.new level.now columns) }

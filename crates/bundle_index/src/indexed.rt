@@ -6,7 +6,7 @@ ghost use Rattle.bundle_index.specs.Numbered.{AreNumbered, IsColumnOf};
 ghost use Rattle.bundle_index.specs.Index.{IsTimed, attributes_on, has_label, items_on, label_at, starts_within};
 ghost use Rattle.bundle_index.specs.Columns.{AreColumnsBut, AreColumnsFor, AreOtherwiseSame, ends_of, starts_of};
 
-use crate::labels::LabelSet;
+use crate::labels::Labels;
 use crate::shared::SharedColumns;
 use bundle_state::Bundle;
 use emu_lists::Series;
@@ -27,7 +27,7 @@ const KEPT_LABELS: usize = 4_194_304;
 #[derive(Drop)]
 pub struct Indexed {
     bundle: Bundle,
-    labels: LabelSet,
+    labels: Labels,
     columns: Series<SharedColumns>,
 }
 
@@ -49,7 +49,7 @@ impl Indexed {
     pub fn new(alloc: Global, bundle: Bundle) -> Result<Indexed, Memory>
         ensures { IfOk result (λ made. made.bundle ≡ bundle) }
     {
-        let mut labels = LabelSet::new(alloc);
+        let mut labels = Labels::new(alloc)?;
         let columns = all_columns(alloc, &bundle, &mut labels)?;
         Ok(Indexed {
             bundle,
@@ -166,7 +166,7 @@ impl Indexed {
 fn all_columns(
     alloc: Global,
     bundle: &Bundle,
-    labels: &mut LabelSet,
+    labels: &mut Labels,
 ) -> Result<Series<SharedColumns>, Memory>
     ensures { IfOk result (λ all. AreColumnsFor labels.new bundle.now.levels all) }
 {
@@ -185,7 +185,7 @@ fn changed_columns(
     old: &Series<SharedColumns>,
     bundle: &Bundle,
     changed: usize,
-    labels: &mut LabelSet,
+    labels: &mut Labels,
 ) -> Result<Series<SharedColumns>, Memory>
     requires count { length old.now ≡ length bundle.now.levels }
     requires same { AreColumnsBut labels.old bundle.now.levels changed old.now }

@@ -1,19 +1,20 @@
-//! The distinct labels of a bundle, each with its number.
+//! The distinct labels of a bundle, each with its number, as indexed bundles share them.
 ghost use Rattle.std.specs.Prelude.{◌≡◌, [], IfOk, OnOk, length, position, slice_get, Some};
 ghost use Rattle.std.specs.Str.{bytes_eq};
 ghost use Rattle.bundle_index.specs.Numbered.{AreNumbered, HasGrown};
 
 use emu_names::Memory;
 use indexmap::IndexSet;
-use std::alloc::Global;
+use std::alloc::{AllocError, Global};
 use std::marker::Model;
+use std::sync::Arc;
 
 /// The most labels that can be numbered.
 const MOST_LABELS: usize = 4_294_967_295;
 
 /// Distinct labels, which contracts see as their list. The number of a label is its place in the list.
 #[derive(Drop)]
-pub struct LabelSet {
+struct LabelSet {
     set: IndexSet<String>,
 }
 
@@ -28,9 +29,18 @@ impl Model for LabelSet {
     ghost invariant = { λ s. AreNumbered (map string_bytes s.set.keys) };
 }
 
+impl Clone for LabelSet {
+    ghost is_clone = { λ s t. t ≡ s };
+
+    fn clone(&self) -> Result<LabelSet, AllocError> {
+        let set = self.set.clone()?;
+        Ok(LabelSet { set })
+    }
+}
+
 impl LabelSet {
     /// The list of no label, which grows by `alloc`.
-    pub fn new(alloc: Global) -> LabelSet
+    fn new(alloc: Global) -> LabelSet
         ensures { result ≡ [] }
     {
         LabelSet {
@@ -39,7 +49,7 @@ impl LabelSet {
     }
 
     /// The number of a label, where it is in the list. Whoever asks may rely on the numbers.
-    pub fn find(&self, label: &str) -> Option<u32>
+    fn find(&self, label: &str) -> Option<u32>
         ensures number { result ≡ position (bytes_eq label.now) self.now }
         ensures rule { AreNumbered self.now }
     {
@@ -50,30 +60,10 @@ impl LabelSet {
     }
 
     /// How many labels there are.
-    pub fn len(&self) -> usize
+    fn len(&self) -> usize
         ensures { result ≡ length self.now }
     {
         self.set.len()
-    }
-
-    /// The same labels with the same numbers. The only refusal is want of memory.
-    pub fn copy(&self) -> Result<LabelSet, Memory>
-        ensures { IfOk result (λ made. made ≡ self.now) }
-    {
-        let set = self.set.clone()?;
-        Ok(LabelSet { set })
-    }
-
-    /// The number of a label, which is put last where it is not in the list. The only refusal is want
-    /// of memory, or of a number: there are numbers for 4,294,967,295 labels.
-    pub fn number(&mut self, alloc: Global, label: &str) -> Result<u32, Memory>
-        ensures number { IfOk result (λ n. slice_get self.new n ≡ Some label.now) }
-        ensures grown { OnOk result (HasGrown self.old self.new) }
-    {
-        if let Some(place) = self.set.get_index_of(label) {
-            return Ok(place as u32);
-        }
-        self.put(alloc, label)
     }
 
     /// Puts a label last, and answers its number. The only refusal is want of memory, or of a number.
@@ -87,5 +77,74 @@ impl LabelSet {
         let text = String::from_str(alloc, label)?;
         let (place, _) = self.set.insert_full(text)?;
         Ok(place as u32)
+    }
+}
+
+/// Distinct labels with their numbers, which contracts see as their list. Copies share the list until a
+/// label is put into one of them.
+#[derive(Drop)]
+pub struct Labels {
+    inside: Arc<LabelSet>,
+}
+
+impl Model for Labels {
+    ghost use Rattle.std.specs.Prelude.{List, ℕ};
+
+    ghost Value = { List (List ℕ) };
+
+    ghost view = { λ l. l.inside.value };
+}
+
+impl Labels {
+    /// The list of no label, which grows by `alloc`. The only refusal is want of memory.
+    pub fn new(alloc: Global) -> Result<Labels, Memory>
+        ensures { IfOk result (λ made. made ≡ []) }
+    {
+        let inside = Arc::new(alloc, LabelSet::new(alloc))?;
+        Ok(Labels { inside })
+    }
+
+    /// The same labels with the same numbers. The only refusal is want of memory.
+    pub fn copy(&self) -> Result<Labels, Memory>
+        ensures { IfOk result (λ made. made ≡ self.now) }
+    {
+        let inside = self.inside.clone()?;
+        Ok(Labels { inside })
+    }
+
+    /// How many labels there are.
+    pub fn len(&self) -> usize
+        ensures { result ≡ length self.now }
+    {
+        self.inside.as_ref().len()
+    }
+
+    /// The number of a label, where it is in the list. Whoever asks may rely on the numbers.
+    pub fn find(&self, label: &str) -> Option<u32>
+        ensures number { result ≡ position (bytes_eq label.now) self.now }
+        ensures rule { AreNumbered self.now }
+    {
+        self.inside.as_ref().find(label)
+    }
+
+    /// The number of a label, which is put last where it is not in the list. The only refusal is want
+    /// of memory, or of a number: there are numbers for 4,294,967,295 labels.
+    pub fn number(&mut self, alloc: Global, label: &str) -> Result<u32, Memory>
+        ensures number { IfOk result (λ n. slice_get self.new n ≡ Some label.now) }
+        ensures grown { OnOk result (HasGrown self.old self.new) }
+    {
+        match self.find(label) {
+            Some(number) => Ok(number),
+            None => self.put(alloc, label),
+        }
+    }
+
+    /// Puts a label last, and answers its number. The only refusal is want of memory, or of a number.
+    fn put(&mut self, alloc: Global, label: &str) -> Result<u32, Memory>
+        ensures number { IfOk result (λ n. slice_get self.new n ≡ Some label.now) }
+        ensures grown { OnOk result (HasGrown self.old self.new) }
+    {
+        let own = Arc::make_mut(&mut self.inside)?;
+        own.put(alloc, label)
     }
 }

@@ -5,7 +5,7 @@ ghost use Rattle.bundle_index.specs.Numbered.{HasGrown};
 ghost use Rattle.bundle_index.specs.Columns.{AreColumnsOf};
 
 use crate::columns::{LevelColumns, columns_of};
-use crate::labels::LabelSet;
+use crate::labels::Labels;
 use emu_names::Memory;
 use level_items::LevelList;
 use std::alloc::Global;
@@ -40,7 +40,7 @@ impl SharedColumns {
     pub fn of_level(
         alloc: Global,
         level: &LevelList,
-        labels: &mut LabelSet,
+        labels: &mut Labels,
     ) -> Result<SharedColumns, Memory>
         requires { KeepsLevelRule level.now }
         ensures columns { IfOk result (λ columns. AreColumnsOf labels.new level.now columns) }
@@ -72,7 +72,7 @@ impl SharedColumns {
         alloc: Global,
         level: &LevelList,
         anew: bool,
-        labels: &mut LabelSet,
+        labels: &mut Labels,
     ) -> Result<SharedColumns, Memory>
         requires rule { KeepsLevelRule level.now }
         requires same { anew ≡ false → AreColumnsOf labels.old level.now self.now }
