@@ -94,7 +94,7 @@ fn label_count(bundle: &Bundle) -> usize {
     count
 }
 
-/// Whether a label stands behind so many others in the list of a bundle's labels that at least half of these
+/// Whether a label stands behind so many others in the list of a bundle's labels that more than half of these
 /// are labels of no item any longer.
 fn stands_late(indexed: &Indexed, label: &Text) -> bool {
     match indexed.label_number(label.as_str()) {
@@ -113,7 +113,7 @@ fn stand_late(indexed: &Indexed, labels: &[AnnotLabel]) -> bool {
     false
 }
 
-/// Whether an edit that was made left at least twice as many labels in the list of a bundle's labels as its
+/// Whether an edit that was made left more than twice as many labels in the list of a bundle's labels as its
 /// items have. Only a label that is given can make the list longer, and it stands last then.
 fn is_crowded(indexed: &Indexed, edit: &Edit) -> bool {
     match edit {

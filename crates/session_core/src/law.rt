@@ -6,8 +6,9 @@ ghost use Rattle.session_core.specs.OrderLaws.{InOrderIsLegal};
 ghost use Rattle.session_core.specs.Readings.{InTurnIsInOrder, OneReading, RepliesFollow};
 
 /// Every run is legal: from a legal history of at most 100,000 entries, whatever events fit one
-/// another in whatever order, and whether or not memory runs out at any of them, the replies are
-/// legal replies to the answered lines beside the history that the run leaves.
+/// another in whatever order, whether or not memory runs out at any of them, and whatever a store and
+/// its disk refuse where there is one, the replies are legal replies to the answered lines beside the
+/// history that the run leaves.
 pub fn every_run_is_legal()
     ensures legal { EveryRunIsLegal }
 {}
@@ -41,8 +42,8 @@ pub fn wrong_replies_are_not_legal()
 {}
 
 /// A run in order is legal: where each line is answered before the next one is read, the replies are
-/// legal replies to the lines beside the history that they leave, whatever the lines, and wherever
-/// memory runs out.
+/// legal replies to the lines beside the history that they leave, whatever the lines, with a store and
+/// without, and wherever memory runs out or the disk fails.
 pub fn in_order_is_legal()
     ensures legal { InOrderIsLegal }
 {}
