@@ -1,0 +1,146 @@
+-- What a share counts of an answer.
+use Rattle.std.proofs.Common.{◌≡◌, ℕ, suc, ◌+◌, Bool, true, false, List, [], ◌++◌, length, Option, Some, None, Result, Ok, Err, cond, refl, ap, ◌∙◌, arith}
+use Rattle.textgrid.specs.declared.fault.GridFault.{GridFault}
+use Rattle.edit_rules.specs.Database.{DatabaseParts}
+use Rattle.edit_rules.specs.declared.edit.Edit.{Edit}
+use Rattle.eql_resolve.specs.declared.faults.AskFault.{AskFault}
+use Rattle.eql_resolve.specs.declared.faults.PrepareFault.{PrepareFault}
+use Rattle.eql_resolve.specs.Asked.{AskedParts}
+use Rattle.eql_resolve.specs.Prepared.{PreparedParts}
+use Rattle.eql_resolve.specs.Resolve.{asked}
+use Rattle.session_core.specs.declared.line.Answer.{Answer}
+use Rattle.session_core.specs.declared.line.Answer.TheVariants.{Done, Refused}
+use Rattle.session_core.specs.declared.line.Ask.{Ask}
+use Rattle.session_core.specs.declared.line.Line.{Line}
+use Rattle.session_core.specs.declared.line.Refusal.TheVariants as refusals
+use Rattle.session_core.specs.declared.line.Reply.{Reply}
+use Rattle.session_core.specs.declared.line.Request.{Request}
+use Rattle.session_core.specs.declared.line.Request.TheVariants as requests
+use Rattle.session_core.specs.declared.slots.Held.{Held}
+use Rattle.session_core.specs.Answers.{answer_over, grid_answer, grid_number, matched_answer, memory, prepare_answer, prepared_answer, reply_to, resolved_answer}
+use Rattle.session_core.specs.Kept.{held_answer, look_answer, look_closed}
+use Rattle.session_core.specs.Legal.{accepting, is_disk}
+use Rattle.session_core.specs.Queries.{any_has_too_many, is_memory_of, lacks_memory}
+use Rattle.session_core.proofs.Turns.{disk_of, disks_push}
+use Rattle.session_core.specs.Worlds.{Turn}
+use Rattle.live_book.specs.declared.fault.EditFault.{EditFault}
+use Rattle.live_book.specs.declared.fault.EditFault.TheVariants as faults
+use Rattle.live_book.specs.Live.{Count, count_behind}
+use Rattle.session_run.specs.Orders.{commit_reply}
+use Rattle.live_seats.specs.Seats.{accepts_at, counted_by, disk_at}
+
+-- a turn of a line
+abbrev pub turn_of : Line → Reply → Turn
+turn_of l reply = record { line = l; reply = reply }
+
+abbrev count_of : ℕ → ℕ → ℕ → Count
+count_of parts accepted refused = record { parts = parts; accepted = accepted; refused = refused }
+
+same_count : (parts a b r s : ℕ) → a ≡ b → r ≡ s → count_of parts a r ≡ count_of parts b s
+same_count parts a b r s accepts refuses = ap (λ n. count_of parts n r) accepts ∙ ap (λ n. count_of parts b n) refuses
+
+-- nothing is counted
+counts_none : (count : Count) (t : Turn) → accepts_at t ≡ 0 → disk_at t ≡ 0 → count ≡ counted_by count t
+counts_none count t accepts disk =
+    same_count count.parts count.accepted (count.accepted + accepts_at t) count.refused (count.refused + disk_at t) (omega (arith, accepts)) (omega (arith, disk))
+
+-- No edit was accepted.
+
+no_edit : (l : Line) (n : Option ℕ) (answer : Answer) (r : Request) → l.request ≡ r → accepting l r n answer ≡ [] → accepts_at (turn_of l (reply_to l n answer)) ≡ 0
+no_edit l n answer r is none =
+    ap (λ (q : Request). length (accepting l q n answer ++ [])) is ∙ ap (λ xs. length (xs ++ [])) none
+
+accepting_none : (l : Line) (r : Request) (answer : Answer) → accepting l r None answer ≡ []
+accepting_none l (requests.Edit (Ok edit)) answer = refl
+accepting_none l (requests.Edit (Err fault)) answer = refl
+accepting_none l (requests.Query ask) answer = refl
+accepting_none l (requests.Look ask) answer = refl
+accepting_none l requests.Finish answer = refl
+accepting_none l (requests.After earlier) answer = refl
+
+-- The disk did not fail.
+
+pub disk_at_is : (t : Turn) → disk_at t ≡ disk_of t.reply.answer
+disk_at_is t = let push : disk_at t ≡ 0 + disk_of t.reply.answer = disks_push [] t in omega arith
+
+no_disk : (l : Line) (n : Option ℕ) (answer : Answer) → is_disk answer ≡ false → disk_at (turn_of l (reply_to l n answer)) ≡ 0
+no_disk l n answer calm = disk_at_is (turn_of l (reply_to l n answer)) ∙ ap (λ b. cond b 1 0) calm
+
+matched_calm : (database : DatabaseParts) (a : AskedParts) (b : Bool) → is_disk (matched_answer database a b) ≡ false
+matched_calm database a true = refl
+matched_calm database a false = refl
+
+resolved_calm : (database : DatabaseParts) (r : Result AskedParts AskFault) → is_disk (resolved_answer database r) ≡ false
+resolved_calm database (Err fault) = refl
+resolved_calm database (Ok a) = matched_calm database a (any_has_too_many database.config database.bundles a)
+
+prepare_calm : (fault : PrepareFault) (b : Bool) → is_disk (prepare_answer fault b) ≡ false
+prepare_calm fault true = refl
+prepare_calm fault false = refl
+
+prepared_calm : (database : DatabaseParts) (r : Result PreparedParts PrepareFault) (time : Option (List ℕ)) → is_disk (prepared_answer database r time) ≡ false
+prepared_calm database (Err fault) time = prepare_calm fault (is_memory_of fault)
+prepared_calm database (Ok prepared) time = resolved_calm database (asked database.config prepared.query time)
+
+answer_calm : (database : DatabaseParts) (ask : Ask) → is_disk (answer_over database ask) ≡ false
+answer_calm database ask = prepared_calm database ask.prepared ask.time
+
+-- Each kind of reply.
+
+module _ (count : Count) (l : Line) where
+  abbrev pub Same : Reply → Type 0
+  Same reply = count ≡ counted_by count (turn_of l reply)
+
+  quiet : (n : Option ℕ) (answer : Answer) (r : Request) → l.request ≡ r → accepting l r n answer ≡ [] → is_disk answer ≡ false → Same (reply_to l n answer)
+  quiet n answer r is none calm = counts_none count (turn_of l (reply_to l n answer)) (no_edit l n answer r is none) (no_disk l n answer calm)
+
+  -- a refusal without a number
+  quiet_none : (answer : Answer) → is_disk answer ≡ false → Same (reply_to l None answer)
+  quiet_none answer calm = quiet None answer l.request refl (accepting_none l l.request answer) calm
+
+  pub memory_count : Same (reply_to l None memory)
+  memory_count = quiet_none memory refl
+
+  pub query_count : (ask : Ask) (n : ℕ) (database : DatabaseParts) → l.request ≡ requests.Query ask → Same (reply_to l (Some n) (answer_over database ask))
+  query_count ask n database is = quiet (Some n) (answer_over database ask) (requests.Query ask) is refl (answer_calm database ask)
+
+  pub look_count : (ask : Ask) (n : ℕ) → l.request ≡ requests.Look ask → Same (reply_to l (Some n) (Done l.command))
+  look_count ask n is = quiet (Some n) (Done l.command) (requests.Look ask) is refl refl
+
+  pub open_count : Same (reply_to l None (Refused refusals.LookOpen))
+  open_count = quiet_none (Refused refusals.LookOpen) refl
+
+  pub after_count : (earlier n : ℕ) → l.request ≡ requests.After earlier → Same (reply_to l (Some n) (Done l.command))
+  after_count earlier n is = quiet (Some n) (Done l.command) (requests.After earlier) is refl refl
+
+  pub grid_count : (fault : GridFault) (n : ℕ) (b : Bool) → l.request ≡ requests.Edit (Err fault) → Same (reply_to l (grid_number n b) (grid_answer fault b))
+  grid_count fault n true is = memory_count
+  grid_count fault n false is = quiet (Some n) (Refused (refusals.Grid fault)) (requests.Edit (Err fault)) is refl refl
+
+  answered_count : (looks : List (Option Held)) (held : Held) (b : Bool) → l.request ≡ requests.Finish → Same (look_answer l.line l.session looks held b).0
+  answered_count looks held true is = memory_count
+  answered_count looks held false is = quiet (Some held.n) (held_answer held) requests.Finish is refl (answer_calm held.database held.ask)
+
+  pub closed_count : (looks : List (Option Held)) (v : Option Held) → l.request ≡ requests.Finish → Same (look_closed l.line l.session looks v).0
+  closed_count looks None is = quiet_none (Refused refusals.NoLook) refl
+  closed_count looks (Some held) is = answered_count looks held (lacks_memory held.ask) is
+
+  -- an edit
+  accepts_one : (edit : Edit) (n : ℕ) → l.request ≡ requests.Edit (Ok edit) → accepts_at (turn_of l (reply_to l (Some n) (Done l.command))) ≡ 1
+  accepts_one edit n is = ap (λ (q : Request). length (accepting l q (Some n) (Done l.command) ++ [])) is
+
+  pub edit_count : (edit : Edit) (made : Result ℕ EditFault) → l.request ≡ requests.Edit (Ok edit) → count_behind count made ≡ counted_by count (turn_of l (commit_reply l made))
+  edit_count edit (Ok n) is =
+      let t : Turn = turn_of l (commit_reply l (Ok n)) in
+      let one : accepts_at t ≡ 1 = accepts_one edit n is in
+      let none : disk_at t ≡ 0 = no_disk l (Some n) (Done l.command) refl in
+      same_count count.parts (suc count.accepted) (count.accepted + accepts_at t) count.refused (count.refused + disk_at t) (omega (arith, one)) (omega (arith, none))
+  edit_count edit (Err (faults.HistoryFull n)) is = quiet (Some n) (Refused refusals.HistoryFull) (requests.Edit (Ok edit)) is refl refl
+  edit_count edit (Err (faults.Broken rule n)) is = quiet (Some n) (Refused (refusals.Rule rule)) (requests.Edit (Ok edit)) is refl refl
+  edit_count edit (Err (faults.StoreFull n)) is = quiet (Some n) (Refused refusals.StoreFull) (requests.Edit (Ok edit)) is refl refl
+  edit_count edit (Err faults.Disk) is =
+      let t : Turn = turn_of l (commit_reply l (Err faults.Disk)) in
+      let none : accepts_at t ≡ 0 = no_edit l None (Refused refusals.Disk) l.request refl (accepting_none l l.request (Refused refusals.Disk)) in
+      let one : disk_at t ≡ 1 = disk_at_is t in
+      same_count count.parts count.accepted (count.accepted + accepts_at t) (suc count.refused) (count.refused + disk_at t) (omega (arith, none)) (omega (arith, one))
+  edit_count edit (Err faults.Memory) is = memory_count

@@ -1,0 +1,117 @@
+-- One line of a lane: from what the code answers to what a line does to the parts of a seat.
+use Rattle.std.proofs.Common.{◌≡◌, ℕ, ◌<◌, Bool, true, false, List, length, Option, Some, None, Result, Ok, Err, IfOk, OnErr, refl, sym, ap, ◌∙◌, subst}
+use mathlib.Core.List.{IsPrefix}
+use Rattle.emu_names.specs.declared.shortage.Memory.{Memory}
+use Rattle.textgrid.specs.declared.fault.GridFault.{GridFault}
+use Rattle.version_gate.specs.declared.entry.Entry.{Entry as Numbered}
+use Rattle.version_gate.specs.Lists.{Numbered as IsNumbered}
+use Rattle.version_tree.specs.Version.{state_of}
+use Rattle.session_core.specs.declared.line.Ask.{Ask}
+use Rattle.session_core.specs.declared.line.Line.{Line}
+use Rattle.session_core.specs.declared.line.Reply.{Reply}
+use Rattle.session_core.specs.declared.line.Request.TheVariants as requests
+use Rattle.session_core.specs.declared.slots.Held.{Held}
+use Rattle.session_core.specs.Answers.{is_want_of_memory, memory, reply_to}
+use Rattle.session_core.specs.Kept.{look_answer, look_closed, opened_in}
+use Rattle.session_core.specs.Queries.{lacks_memory}
+use Rattle.session_core.specs.Steps.{session_places, slot}
+use Rattle.session_core.proofs.SlotPlaces.{length_put_slot}
+use Rattle.live_book.specs.declared.published.Published.{Published}
+use Rattle.live_book.specs.Live.{Count, Opened}
+use Rattle.session_run.specs.Taken.{head_of, or_memory}
+use Rattle.lane_laws.specs.Lanes.{IsStep}
+use Rattle.live_seats.specs.Replies.{Finishes, GoesOn, IsGridRefused, IsQueried, LooksAt, RepliesTo, look_held}
+use Rattle.live_seats.specs.Seats.{TakesLine, answered_step, counted_by}
+use Rattle.live_seats.proofs.Counts.{after_count, closed_count, grid_count, look_count, memory_count, open_count, query_count, turn_of}
+use Rattle.live_seats.proofs.Replying.{Steps, after_steps, finish_steps, grid_steps, look_steps, memory_steps, query_steps}
+use Rattle.live_seats.proofs.Shown.{number_is}
+
+-- Looks stand at places, of which there are as many as before.
+
+looked_places : (list : List (Numbered Published)) (l : Line) (ask : Ask) (looks looks_now : List (Option Held)) (v : Option Held) (reply : Reply) → LooksAt list l ask looks v looks_now reply → length looks_now ≡ length looks
+looked_places list l ask looks looks_now None reply a = ap length a.looks ∙ length_put_slot looks l.session.0 (Some (look_held l ask a.n a.shown))
+looked_places list l ask looks looks_now (Some held) reply a = ap length a.looks
+
+answered_places : (l : Line) (looks : List (Option Held)) (held : Held) (b : Bool) → length (look_answer l.line l.session looks held b).1 ≡ length looks
+answered_places l looks held true = refl
+answered_places l looks held false = length_put_slot looks l.session.0 None
+
+closed_places : (l : Line) (looks : List (Option Held)) (v : Option Held) → length (look_closed l.line l.session looks v).1 ≡ length looks
+closed_places l looks None = refl
+closed_places l looks (Some held) = answered_places l looks held (lacks_memory held.ask)
+
+looked_count : (count : Count) (list : List (Numbered Published)) (l : Line) (ask : Ask) (looks looks_now : List (Option Held)) (v : Option Held) (reply : Reply) → l.request ≡ requests.Look ask → LooksAt list l ask looks v looks_now reply
+    → count ≡ counted_by count (turn_of l reply)
+looked_count count list l ask looks looks_now None reply is a =
+    subst (λ (r : Reply). count ≡ counted_by count (turn_of l r)) (sym a.made) (look_count count l ask a.n is)
+looked_count count list l ask looks looks_now (Some held) reply is a =
+    subst (λ (r : Reply). count ≡ counted_by count (turn_of l r)) (sym a.made) (open_count count l)
+
+module _ (o : Opened) (old new : List (Numbered Published)) (count : Count) (looks : List (Option Held)) (l : Line) (learnt : IsPrefix old new)
+    (place : l.session.0 < session_places) where
+  abbrev Replies : List (Option Held) → Reply → Option ℕ → Type 0
+  Replies looks_now reply heard = RepliesTo o old new count count looks looks_now l reply heard
+
+  replies : (looks_now : List (Option Held)) (reply : Reply) (heard : Option ℕ) → count ≡ counted_by count (turn_of l reply) → length looks_now ≡ length looks
+      → Steps o old new looks l learnt place looks_now reply heard → Replies looks_now reply heard
+  replies looks_now reply heard counted places step = record { learnt = learnt; counted = counted; places = places; step = step }
+
+  -- want of memory
+  wants : (looks_now : List (Option Held)) (heard : Option ℕ) → looks_now ≡ looks → Replies looks_now (reply_to l None memory) heard
+  wants looks_now heard same =
+      subst (λ (xs : List (Option Held)). Replies xs (reply_to l None memory) heard) (sym same)
+      (replies looks (reply_to l None memory) heard (memory_count count l) refl (memory_steps o old new looks l learnt place heard))
+
+  pub query_replies : (ask : Ask) (made : Result Reply Memory) → l.request ≡ requests.Query ask → IfOk made (IsQueried new l ask) → Replies looks (or_memory (head_of l) made) None
+  query_replies ask (Ok reply) is q =
+      replies looks reply None
+      (subst (λ (r : Reply). count ≡ counted_by count (turn_of l r)) (sym q.made) (query_count count l ask q.n (state_of q.shown.version) is))
+      refl (query_steps o old new looks l learnt place ask reply is q)
+  query_replies ask (Err want) is q = wants looks None refl
+
+  pub grid_replies : (fault : GridFault) (made : Result Reply Memory) → l.request ≡ requests.Edit (Err fault) → IfOk made (IsGridRefused new l fault) → Replies looks (or_memory (head_of l) made) None
+  grid_replies fault (Ok reply) is g =
+      replies looks reply None
+      (subst (λ (r : Reply). count ≡ counted_by count (turn_of l r)) (sym g.made) (grid_count count l fault g.n (is_want_of_memory fault) is))
+      refl (grid_steps o old new looks l learnt place fault reply is g)
+  grid_replies fault (Err want) is g = wants looks None refl
+
+  pub after_replies : (earlier heard : ℕ) (made : Result Reply Memory) → l.request ≡ requests.After earlier → IfOk made (GoesOn new l heard) → Replies looks (or_memory (head_of l) made) (Some heard)
+  after_replies earlier heard (Ok reply) is g =
+      replies looks reply (Some heard)
+      (subst (λ (r : Reply). count ≡ counted_by count (turn_of l r)) (sym g.made) (after_count count l earlier g.n is))
+      refl (after_steps o old new looks l learnt place earlier heard reply is g)
+  after_replies earlier heard (Err want) is g = wants looks (Some heard) refl
+
+  pub look_replies : (ask : Ask) (looks_now : List (Option Held)) (made : Result Reply Memory) → l.request ≡ requests.Look ask → IfOk made (LooksAt new l ask looks (slot looks l.session.0) looks_now) → OnErr made (looks_now ≡ looks)
+      → Replies looks_now (or_memory (head_of l) made) None
+  look_replies ask looks_now (Ok reply) is ok err =
+      replies looks_now reply None (looked_count count new l ask looks looks_now (slot looks l.session.0) reply is ok)
+      (looked_places new l ask looks looks_now (slot looks l.session.0) reply ok)
+      (look_steps o old new looks l learnt place ask looks_now reply is ok)
+  look_replies ask looks_now (Err want) is ok err = wants looks_now None err
+
+  pub finish_replies : (looks_now : List (Option Held)) (made : Result Reply Memory) → l.request ≡ requests.Finish → IfOk made (Finishes l looks looks_now) → OnErr made (looks_now ≡ looks)
+      → Replies looks_now (or_memory (head_of l) made) None
+  finish_replies looks_now (Ok reply) is ok err =
+      replies looks_now reply None
+      (subst (λ (t : Reply × List (Option Held)). count ≡ counted_by count (turn_of l t.0)) (sym ok) (closed_count count l looks (slot looks l.session.0) is))
+      (ap (λ (t : Reply × List (Option Held)). length t.1) ok ∙ closed_places l looks (slot looks l.session.0))
+      (finish_steps o old new looks l learnt place looks_now reply is ok)
+  finish_replies looks_now (Err want) is ok err = wants looks_now None err
+
+-- the number is noted
+pub takes_line : (o : Opened) (old new : List (Numbered Published)) (count count_now : Count) (looks looks_now : List (Option Held)) (l : Line) (reply : Reply) (heard : Option ℕ) (noted : ℕ)
+    → IsNumbered noted new → RepliesTo o old new count count_now looks looks_now l reply heard
+    → TakesLine o old new count count_now looks looks_now l (answered_step l reply noted heard)
+takes_line o old new count count_now looks looks_now l reply heard noted here r = record {
+  line = refl;
+  learnt = r.learnt;
+  counted = r.counted;
+  places = r.places;
+  step = λ before history sees. (
+    subst (λ (n : ℕ). IsStep o.config (length o.entries) o.stored before history (opened_in looks) (opened_in looks_now) l (answered_step l reply n heard))
+        (sym (number_is o history new noted sees.shown_now here)) (r.step before history sees).0,
+    (r.step before history sees).1,
+  );
+}

@@ -1,0 +1,4 @@
+pub mod Notes
+pub mod Seats
+pub mod Replies
+pub mod Tables

@@ -1,0 +1,56 @@
+//! Which lines a lane answers.
+ghost use Rattle.std.specs.Prelude.{◌≡◌, ◌%◌, length};
+ghost use Rattle.live_seats.specs.Seats.{lines_of, takes};
+
+use session_core::{Line, Lines};
+
+/// Which lines a lane answers.
+#[derive(Clone, Copy)]
+pub enum Lane {
+    /// Those of the sessions of a seat: a session's number leaves the seat's when it is divided by the number of seats.
+    Seat {
+        /// How many seats there are.
+        seats: u32,
+        /// The seat, counted from 0.
+        seat: u32,
+    },
+    /// Those of all sessions whose seat has no thread.
+    Rest {
+        /// How many seats there are.
+        seats: u32,
+        /// How many of the first seats have a thread.
+        made: u32,
+    },
+}
+
+/// What is left of a number when it is divided by this one, or the number itself where this one is 0.
+fn left(number: u32, by: u32) -> u32
+    ensures { result ≡ number % by }
+{
+    if by == 0 { number } else { number % by }
+}
+
+impl Lane {
+    /// Whether a line is one of the lane.
+    pub fn takes(&self, line: &Line) -> bool
+        ensures { result ≡ takes self.now line.now }
+    {
+        match self {
+            Lane::Seat { seats, seat } => left(line.session.0, *seats) == *seat,
+            Lane::Rest { seats, made } => *made <= left(line.session.0, *seats),
+        }
+    }
+
+    /// How many of these lines are of the lane.
+    pub fn count(&self, lines: &Lines) -> usize
+        ensures { result ≡ length (lines_of self.now lines.now) }
+    {
+        let mut count = 0;
+        for line in lines.as_slice() {
+            if self.takes(line) {
+                count += 1;
+            }
+        }
+        count
+    }
+}

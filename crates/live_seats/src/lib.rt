@@ -1,0 +1,19 @@
+//! The seats of a live run: what one of its threads has, and how it answers the lines of its lane.
+#![tactic(auto)]
+
+mod answered;
+mod around;
+mod lane;
+mod line;
+mod looks;
+mod notes;
+mod seat;
+mod table;
+
+pub use answered::Answered;
+pub use around::Around;
+pub use lane::Lane;
+pub use looks::Look;
+pub use notes::Row;
+pub use seat::{Seat, SeatEnd};
+pub use table::Table;

@@ -1,0 +1,148 @@
+//! A seat: a pass, a share, the looks that are open in its sessions, and the lines that it answered.
+ghost use Rattle.std.specs.Prelude.{◌≡◌, ℕ, ◌<◌, ◌≤◌, [], length, replicate, vec_capacity, None};
+ghost use Rattle.version_gate.specs.Lists.{Numbered};
+ghost use Rattle.lane_laws.specs.Lanes.{turns_of};
+ghost use Rattle.session_core.specs.Legal.{lines_in};
+ghost use Rattle.session_core.specs.Steps.{session_places};
+ghost use Rattle.session_core.specs.Worlds.{Each};
+ghost use Rattle.live_seats.specs.Seats.{IsAsked, IsBehindLine, IsSeat, lines_of};
+
+use crate::answered::Answered;
+use crate::around::Around;
+use crate::lane::Lane;
+use crate::line::take_line;
+use crate::looks::Look;
+use crate::notes::Row;
+use emu_disk::Disk;
+use emu_io::Gate;
+use live_book::{Opening, Published, Share};
+use session_core::{Line, Lines, Slots};
+use std::marker::Model;
+use std::sync::Wait;
+use std::sync::ledger::Ledger;
+use std::thread::Threads;
+use version_gate::Pass;
+
+/// A pass, a share, the looks that are open in some sessions, and the lines of these that were answered.
+#[derive(Drop)]
+pub struct Seat<'a, K: Opening + Row, N: Ledger> {
+    pass: Pass<Published>,
+    share: Share<K, N>,
+    looks: Slots<Look<'a>>,
+    steps: Vec<Answered<'a, K>>,
+}
+
+impl<'a, K: Opening + Row, N: Ledger> Model for Seat<'a, K, N> {
+    ghost use Rattle.std.specs.Prelude.{◌≡◌, ◌-◌, vec_capacity, vec_len};
+    ghost use Rattle.std.specs.Coded.{codes};
+    ghost use Rattle.eql_resolve.specs.Codes.{tree_code};
+    ghost use Rattle.live_seats.specs.Seats.{IsSeat, SeatParts, seat_of};
+
+    ghost Value = { SeatParts };
+
+    ghost coded = { Prim.hlevel (codes, tree_code) };
+
+    ghost view = { λ s. seat_of s.pass.list s.share s.looks s.steps.items (vec_capacity s.steps - vec_len s.steps) };
+
+    ghost invariant = { λ s. (s.pass.gate ≡ K.opened.gate) × IsSeat K.opened
+        (seat_of s.pass.list s.share s.looks s.steps.items (vec_capacity s.steps - vec_len s.steps)) };
+}
+
+/// The parts of a seat whose lines are answered.
+#[derive(Drop)]
+pub struct SeatEnd<'a, K: Opening + Row, N: Ledger> {
+    /// The pass.
+    pub pass: Pass<Published>,
+    /// What its lines were answered, counted.
+    pub share: Share<K, N>,
+    /// Its lines with their replies.
+    pub steps: Vec<Answered<'a, K>>,
+}
+
+impl<'a, K: Opening + Row, N: Ledger> Seat<'a, K, N> {
+    /// A seat that has answered no line.
+    pub fn new(
+        pass: Pass<Published>,
+        share: Share<K, N>,
+        looks: Slots<Look<'a>>,
+        steps: Vec<Answered<'a, K>>,
+    ) -> Seat<'a, K, N>
+        requires gate { pass.gate ≡ K.opened.gate }
+        requires seen { (k : ℕ) × Numbered k pass.list × (length K.opened.entries ≤ k) }
+        requires share { (0 < share.parts) × (share.accepted ≡ 0) × (share.refused ≡ 0) }
+        requires looks { looks ≡ replicate session_places None }
+        requires steps { steps.items ≡ [] }
+        ensures steps { result.steps ≡ [] }
+        ensures room { result.room ≡ vec_capacity steps.entry }
+        ensures count { result.count ≡ share }
+        ensures list { result.list ≡ pass.list }
+    {
+        Seat {
+            pass,
+            share,
+            looks,
+            steps,
+        }
+    }
+
+    /// Answers one line, for which there is room.
+    fn take<R: Threads + Wait + Sync, D: Disk, G: Gate + Sync>(
+        &mut self,
+        rt: &R,
+        around: &Around<'a, '_, K, N, D, G>,
+        line: &'a Line,
+    )
+        requires room { 0 < self.old.room }
+        requires asked { IsAsked (length K.cells) line.now }
+        ensures { IsBehindLine self.old line.entry.now self.new }
+    {
+        let answered = take_line(
+            rt,
+            around,
+            &mut self.pass,
+            &mut self.share,
+            &mut self.looks,
+            line,
+        );
+        let _seen = self.pass.seen();
+        self.steps.push_reserved(answered);
+    }
+
+    /// Answers the lines of a lane, in their order.
+    pub fn take_lines<R: Threads + Wait + Sync, D: Disk, G: Gate + Sync>(
+        &mut self,
+        rt: &R,
+        around: &Around<'a, '_, K, N, D, G>,
+        lines: &'a Lines,
+        lane: Lane,
+    )
+        requires begun { self.old.steps ≡ [] }
+        requires room { length (lines_of lane lines.now) ≤ self.old.room }
+        requires asked { Each (IsAsked (length K.cells)) lines.now }
+        ensures lines { lines_in (turns_of self.new.steps) ≡ lines_of lane lines.entry.now }
+        ensures parts { self.new.count.parts ≡ self.old.count.parts }
+    {
+        for line in lines.as_slice() {
+            if lane.takes(line) {
+                self.take(rt, around, line);
+            }
+        }
+    }
+
+    /// The parts of a seat.
+    pub fn into_parts(self) -> SeatEnd<'a, K, N>
+        ensures list { result.pass.list ≡ self.entry.list }
+        ensures gate { result.pass.gate ≡ K.opened.gate }
+        ensures share { result.share ≡ self.entry.count }
+        ensures steps { result.steps.items ≡ self.entry.steps }
+        ensures kept { IsSeat K.opened self.entry }
+    {
+        let Seat {
+            pass,
+            share,
+            looks: _,
+            steps,
+        } = self;
+        SeatEnd { pass, share, steps }
+    }
+}
