@@ -1,0 +1,13 @@
+mod Joins
+mod Marking
+mod Queues
+mod Sessions
+mod Laid
+mod Gathered
+mod Regrouped
+mod Wholes
+mod Joining
+mod Rooming
+mod Crossings
+mod Gathers
+mod Settled

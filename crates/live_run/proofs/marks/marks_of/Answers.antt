@@ -1,0 +1,32 @@
+use Rattle.std.proofs.Common.{arith, refl, sym, ◌∙◌, ◌+◌, drop, subst, ◌≡◌, ◌++◌}
+use Rattle.live_run.specs.Runs.{marks_from}
+use Rattle.live_run.proofs.Marking.{mark_first, mark_more, marked}
+use Rattle.live_run.proofs.marks.marks_of.Goals as goal
+
+-- src/marks.rt:39:5
+pub loop-place-init : goal.loop-place-init
+loop-place-init c = record {
+  made = mark_first c.args.room.items (marks_from (c.args.from + 1) (drop c.args.from c.args.history.now)) (omega (arith, c.args.room.ok.0, c.requires.empty));
+  long = omega (arith, c.requires.empty);
+  room = refl;
+}
+
+-- src/marks.rt:41:9
+pub push_reserved-requires : goal.push_reserved-requires
+push_reserved-requires c = omega (arith, c.loop-place.invariant.long, c.loop-place.invariant.room, c.requires.room, c.loop-place-test.true, c.len-place-end.ensures)
+
+-- src/marks.rt:39:5
+pub loop-place-preserved : goal.loop-place-preserved
+loop-place-preserved c =
+    let all = marks_from (c.args.from + 1) (drop c.args.from c.args.history.now) in
+    record {
+      made = subst (λ l. l ++ marks_from (c.loop-place.place + 1 + 1) (drop (c.loop-place.place + 1) c.args.history.now) ≡ all) (sym c.push_reserved.ensures.items)
+          (mark_more c.loop-place.marks.items all c.args.history.now c.loop-place.place c.get-entry.result.now c.get-entry.ensures c.loop-place.invariant.made);
+      long = omega (arith, c.push_reserved.ensures.len, c.loop-place.invariant.long);
+      room = c.push_reserved.ensures.capacity ∙ c.loop-place.invariant.room;
+    }
+
+-- src/marks.rt:33:1
+pub returns : goal.returns
+returns c = c.from_vec.ensures ∙ marked c.loop-place.marks.items (marks_from (c.args.from + 1) (drop c.args.from c.args.history.now)) c.args.history.now c.loop-place.place
+    (omega (arith, c.loop-place-test.false, c.len-place-end.ensures)) c.loop-place.invariant.made

@@ -1,0 +1,14 @@
+//! Sessions of a script that run at once over one book, in lanes of threads of their own.
+#![tactic(auto)]
+
+mod ending;
+mod gathering;
+mod grouping;
+mod lanes;
+mod marks;
+mod places;
+mod room;
+mod run;
+
+pub use marks::{Mark, Marks};
+pub use run::{Ended, LiveEnd, run_live};
