@@ -1,6 +1,6 @@
 -- A run over a book: how it begins, and how it ends where there is why book.
-use Rattle.std.proofs.Common.{◌≡◌, ℕ, ◌+◌, ◌≤◌, Bool, true, false, List, [], ◌∷◌, Option, Some, None, Result, Ok, Err, refl, sym, ◌∙◌, ap, subst, arith}
-use Rattle.fault_counts.specs.Count.{Rose, RoseBy}
+use Rattle.std.proofs.Common.{◌≡◌, ℕ, ◌≤◌, Bool, true, false, List, [], ◌∷◌, Option, Some, None, Result, Ok, refl, sym, ◌∙◌, ap, subst, arith}
+use Rattle.fault_counts.specs.Count.{Rose}
 use Rattle.db_config.specs.declared.parts.ConfigParts.{ConfigParts}
 use Rattle.edit_rules.specs.declared.edit.Entry.{Entry}
 use Rattle.emu_disk.specs.Disk.{LeavesOnly}
@@ -15,11 +15,10 @@ use Rattle.script_lines.specs.Made.{times_too_large}
 use Rattle.script_lines.specs.declared.faults.ReadLine.TheVariants as reads
 use Rattle.emu_cli.specs.declared.ended.Ended.{Ended}
 use Rattle.emu_cli.specs.declared.ended.Ended.TheVariants as ends
-use Rattle.emu_cli.specs.declared.running.Running.{Running}
 use Rattle.emu_cli.specs.Scripts.{read_from}
-use Rattle.emu_cli.specs.Bases.{Base, no_store, bare_store, store_of, wants_by, is_stored, counted, fresh_base, EachOf}
+use Rattle.emu_cli.specs.Bases.{Base, bare_store, store_of, counted, fresh_base, EachOf}
 use Rattle.emu_cli.specs.Turns.{IsLineRead}
-use Rattle.emu_cli.specs.Reached.{IsKept, IsFailed, IsBeginOf, IsBegun, IsEndFor, RunsScript, EndsScript, IsTooLong, IsUnwritten}
+use Rattle.emu_cli.specs.Reached.{IsKept, IsFailed, IsBeginOf, IsEndFor, RunsScript, EndsScript}
 use Rattle.std.proofs.KnownBytes.{Appends-nil}
 use Rattle.emu_cli.proofs.ReadLemmas.{read_none}
 use Rattle.emu_cli.proofs.KeptLemmas.{kept_none, kept_store}
@@ -31,7 +30,7 @@ module _ {D : Type 0} (may_leave : D → List ℕ → Type 0) (moment : D → �
   pub now_leaves : (old new : D) (P : List ℕ → Type 0) → LeavesOnly moment left_since old new P → EachOf (may_leave new) P
   now_leaves old new P leaves = λ c image. leaves.each c (counts_now new (moment old) c leaves.later image)
 
-  crash_leaves : (old new : Option (Journal D)) (own : Journal D) (P : List ℕ → Type 0) → new ≡ Some own → has_journal old ≡ true → CrashLeaves moment left_since old new P → EachOf (may_leave (disk_of own)) P
+  pub crash_leaves : (old new : Option (Journal D)) (own : Journal D) (P : List ℕ → Type 0) → new ≡ Some own → has_journal old ≡ true → CrashLeaves moment left_since old new P → EachOf (may_leave (disk_of own)) P
   crash_leaves (Some old) (Some new) own P same stored leaves = subst (λ j. EachOf (may_leave (disk_of j)) P) (some_same same) (now_leaves (disk_of old) (disk_of new) P leaves)
     where
       some_same : {A : Type 0} {x y : A} → Some x ≡ Some y → x ≡ y

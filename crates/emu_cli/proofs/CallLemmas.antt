@@ -1,13 +1,11 @@
 -- What a status says, of a whole call.
-use Rattle.std.proofs.Common.{◌≡◌, ◌≢◌, ◌⊎◌, inl, inr, ℕ, ◌+◌, ◌<◌, ◌≤◌, ◌-◌, ◌^◌, Bool, true, false, List, [], ◌∷◌, take, Option, Some, None, Result, Ok, Err, IfErr, refl, sym, ◌∙◌, ap, subst, arith}
+use Rattle.std.proofs.Common.{◌≡◌, ◌≢◌, ◌⊎◌, inl, inr, ℕ, ◌≤◌, Bool, true, false, List, [], Option, Some, None, Result, Ok, Err, IfErr, refl, sym, ◌∙◌, ap, subst, arith}
 use Rattle.std.specs.Io.KnownBytes.{Appends}
 use Rattle.std.proofs.KnownBytes.{Appends-nil}
 use Rattle.fault_counts.specs.Count.{Rose}
-use Rattle.emu_names.specs.declared.limits.TheConstants.{SCRIPT_BYTES}
 use Rattle.emu_io.specs.declared.whole.Front.{Front}
 use Rattle.emu_io.specs.declared.faults.ReadFault.{ReadFault}
 use Rattle.emu_io.specs.declared.faults.ReadFault.TheVariants as read_faults
-use Rattle.emu_io.specs.Fronts.{TakesFront, IsFrontOf, WritesFront}
 use Rattle.edit_journal.specs.declared.journal.Journal.{Journal}
 use Rattle.live_book.specs.declared.fault.OpenFault.{OpenFault}
 use Rattle.live_book.specs.declared.fault.OpenFault.TheVariants as opens
@@ -26,9 +24,10 @@ use Rattle.cli_words.specs.declared.words.Words.TheVariants as forms
 use Rattle.cli_words.specs.Forms.{words_of}
 use Rattle.store_calls.specs.declared.ending.Ending.{Ending}
 use Rattle.store_calls.specs.Ends.{is_of_store}
-use Rattle.emu_cli.specs.Says.{Call, call_of, CallEnds, Says, SaysStore, BrokeOff, Unopened, WritesLast, Completes, IsFaultless, code_of, SaysUsage, IsRunWords, IsNoRun, AsksForStore, IsNoCommand, run_asked}
+use Rattle.emu_cli.specs.Says.{Call, call_of, Says, WritesLast, code_of}
+use Rattle.emu_cli.specs.Calls.{AskForRun, AsksForStore, CallEnds, IsLiveWords, IsNoCommand, IsNoLive, IsNoRun, IsRunWords, RunCompletes, SaysStore, SaysUsage, live_asked, run_asked}
 use Rattle.emu_cli.specs.Reached.{IsDone, EndHasCause, IsTold}
-use Rattle.emu_cli.specs.Ran.{IsUnread, BeginsBefore, SaysUnopened, WritesNone}
+use Rattle.emu_cli.specs.Ran.{IsUnread, BeginsBefore, SaysUnopened}
 use Rattle.emu_cli.proofs.SaysLemmas.{says_unread, says_unopened}
 
 -- an end that has its cause has a fault that is told
@@ -127,16 +126,51 @@ asked_run words (forms.Work number bundles) store h e = absurd (no_flag store e)
 pub asked_none : (words : List (List ℕ)) (asked : Words) → words_of words ≡ Some asked → run_asked asked ≡ None → IsNoRun words
 asked_none words asked h e = λ store r. no_flag store (sym e ∙ ap run_asked (words_same (sym h ∙ r)))
 
-pub usage_none : (words : List (List ℕ)) → words_of words ≡ None → IsNoRun words
-usage_none words h = λ store r. no_words (forms.Run store) (sym h ∙ r)
-  where
-    no_words : (w : Words) → None ≡ some_words w → ⊥
-    no_words w e = cc
+no_words : (w : Words) → None ≡ some_words w → ⊥
+no_words w e = cc
 
-pub run_same : (words : List (List ℕ)) (a b : Bool) → IsRunWords words a → IsRunWords words b → a ≡ b
+usage_none : (words : List (List ℕ)) → words_of words ≡ None → IsNoRun words
+usage_none words h = λ store r. no_words (forms.Run store) (sym h ∙ r)
+
+run_same : (words : List (List ℕ)) (a b : Bool) → IsRunWords words a → IsRunWords words b → a ≡ b
 run_same words a b h k = flag_same (ap run_asked (words_same (sym h ∙ k)))
 
-pub store_false : (words : List (List ℕ)) (store : Bool) → IsRunWords words store → (IsRunWords words true → ⊥) → store ≡ false
+pub asked_live : (words : List (List ℕ)) (asked : Words) (store : Bool) → words_of words ≡ Some asked → live_asked asked ≡ Some store → IsLiveWords words store
+asked_live words (forms.Live s n) store h e = (n, h ∙ ap (λ b. some_words (forms.Live b n)) (flag_same e))
+asked_live words (forms.Run s) store h e = absurd (no_flag store e)
+asked_live words (forms.Ask eql time) store h e = absurd (no_flag store e)
+asked_live words (forms.Load name) store h e = absurd (no_flag store e)
+asked_live words (forms.Import session bundle rate file) store h e = absurd (no_flag store e)
+asked_live words (forms.Export session bundle) store h e = absurd (no_flag store e)
+asked_live words forms.History store h e = absurd (no_flag store e)
+asked_live words (forms.Work number bundles) store h e = absurd (no_flag store e)
+
+pub asked_no_live : (words : List (List ℕ)) (asked : Words) → words_of words ≡ Some asked → live_asked asked ≡ None → IsNoLive words
+asked_no_live words asked h e = λ store r. no_flag store (sym e ∙ ap live_asked (words_same (sym h ∙ r.1)))
+
+usage_no_live : (words : List (List ℕ)) → words_of words ≡ None → IsNoLive words
+usage_no_live words h = λ store r. no_words (forms.Live store r.0) (sym h ∙ r.1)
+
+run_is_not_live : (words : List (List ℕ)) (a b : Bool) → IsRunWords words a → IsLiveWords words b → ⊥
+run_is_not_live words a b h r = no_flag a (sym (ap run_asked (words_same (sym h ∙ r.1))))
+
+-- words ask for one run alone
+pub only_run : (words : List (List ℕ)) (a b : Bool) → IsRunWords words a → AskForRun words b → a ≡ b
+only_run words a b h (inl r) = run_same words a b h r
+only_run words a b h (inr r) = absurd (run_is_not_live words a b h r)
+
+pub only_live : (words : List (List ℕ)) (a b : Bool) → IsLiveWords words a → AskForRun words b → a ≡ b
+only_live words a b h (inl r) = absurd (run_is_not_live words b a r h)
+only_live words a b h (inr r) = flag_same (ap live_asked (words_same (sym h.1 ∙ r.1)))
+
+asks_no_run : (words : List (List ℕ)) (store : Bool) → IsNoRun words → IsNoLive words → AskForRun words store → ⊥
+asks_no_run words store none none_live (inl r) = none store r
+asks_no_run words store none none_live (inr r) = none_live store r
+
+pub none_completes : (words : List (List ℕ)) (calls : Bool → Call) (status : Status) → words_of words ≡ None → RunCompletes words calls status
+none_completes words calls status h = λ store r. absurd (asks_no_run words store (usage_none words h) (usage_no_live words h) r)
+
+pub store_false : (words : List (List ℕ)) (store : Bool) → AskForRun words store → (AskForRun words true → ⊥) → store ≡ false
 store_false words true h other = absurd (other h)
 store_false words false h other = refl
 
@@ -149,19 +183,16 @@ not_both : (b : Bool) → b ≡ true → b ≡ false → ⊥
 not_both b h k = cc
 
 -- a command that is no run is one on the store, or none that the program does
-pub other_ends : (words : List (List ℕ)) (asked : Words) (calls : Bool → Call) (before images : List ℕ → Type 0) (Ends : Words → Ending → Type 0) (Writes : Status → Ending → Type 0) (status : Status) (b : Bool) → is_of_store asked ≡ b → words_of words ≡ Some asked → run_asked asked ≡ None →
+pub other_ends : (words : List (List ℕ)) (asked : Words) (calls : Bool → Call) (before images : List ℕ → Type 0) (Ends : Words → Ending → Type 0) (Writes : Status → Ending → Type 0) (status : Status) (b : Bool) → is_of_store asked ≡ b → words_of words ≡ Some asked → run_asked asked ≡ None → live_asked asked ≡ None →
     (is_of_store asked ≡ true → (ending : Ending) × Ends asked ending × Writes status ending) → (is_of_store asked ≡ false → SaysUsage status (calls false)) →
     CallEnds words calls before images (λ st. SaysStore words Ends (Writes st)) status
-other_ends words asked calls before images Ends Writes status true is h n stored none = inr (inr (inr (asked, h, is, (stored is).0, (stored is).1, (stored is).2)))
-other_ends words asked calls before images Ends Writes status false is h n stored none =
-    inr (inl (record { no_run = asked_none words asked h n; no_store = λ asks. not_both (is_of_store asked) (store_words words asked h asks) is }, none is))
+other_ends words asked calls before images Ends Writes status true is h n l stored none = inr (inr (inr (inr (asked, h, is, (stored is).0, (stored is).1, (stored is).2))))
+other_ends words asked calls before images Ends Writes status false is h n l stored none =
+    inr (inr (inl (record { no_run = asked_none words asked h n; no_live = asked_no_live words asked h l; no_store = λ asks. not_both (is_of_store asked) (store_words words asked h asks) is }, none is)))
 
 pub other_store : (words : List (List ℕ)) (asked : Words) (b : Bool) → is_of_store asked ≡ b → words_of words ≡ Some asked → (AsksForStore words → ⊥) → is_of_store asked ≡ false
 other_store words asked true is h none = absurd (none (asked, h, is))
 other_store words asked false is h none = is
 
 pub no_command : (words : List (List ℕ)) → words_of words ≡ None → IsNoCommand words
-no_command words h = record { no_run = usage_none words h; no_store = λ asks. no_words asks.0 (sym h ∙ asks.1) }
-  where
-    no_words : (w : Words) → None ≡ some_words w → ⊥
-    no_words w e = cc
+no_command words h = record { no_run = usage_none words h; no_live = usage_no_live words h; no_store = λ asks. no_words asks.0 (sym h ∙ asks.1) }

@@ -1,17 +1,17 @@
 -- Where nothing is wrong outside or in the script, a run ends well or for want of memory.
-use Rattle.std.proofs.Common.{◌≡◌, ◌⊎◌, inl, inr, ℕ, ◌+◌, ◌<◌, ◌≤◌, ◌-◌, ◌^◌, Bool, true, false, List, [], ◌∷◌, take, Option, Some, None, Result, Ok, Err, refl, sym, ◌∙◌, ap, subst, arith}
+use Rattle.std.proofs.Common.{◌≡◌, ◌⊎◌, inl, inr, ℕ, ◌<◌, ◌-◌, ◌^◌, Bool, true, false, List, [], ◌∷◌, Option, Some, None, Result, Ok, refl, sym, ◌∙◌, subst, arith}
 use Rattle.fault_counts.specs.Count.{Rose}
 use Rattle.emu_io.specs.Fronts.{Tells}
 use Rattle.db_config.specs.declared.parts.ConfigParts.{ConfigParts}
 use Rattle.edit_rules.specs.declared.edit.Entry.{Entry}
 use Rattle.edit_journal.specs.declared.body.Body.{Body}
-use Rattle.edit_journal.specs.Store.{bodies, placed, body_at}
-use Rattle.live_book.specs.Histories.{OfRead, IsBare, Stands, IsDamagedAt, codes_of}
+use Rattle.live_book.specs.Histories.{OfRead, IsBare, Stands, IsDamagedAt}
 use Rattle.emu_cli.specs.declared.status.Status.{Status}
 use Rattle.emu_cli.specs.declared.status.Status.TheVariants as statuses
 use Rattle.emu_cli.specs.Scripts.{IsSound, Stop, limit, at_fault}
 use Rattle.emu_cli.specs.Bases.{Base, no_store, bare_store, store_of, wants_by, is_stored, IsBaseOf}
-use Rattle.emu_cli.specs.Says.{Call, Says, EndedEarly, TooLong, IsDamage, IsFaultless, IsSoundFor, IsStoreTold, code_of}
+use Rattle.emu_cli.specs.Says.{Call, Says, EndedEarly, TooLong, IsDamage, IsFaultless, IsSoundFor, IsStoreTold}
+use Rattle.emu_cli.specs.Lives.{SaysLive, StoppedFirst}
 use Rattle.emu_cli.proofs.DamageLemmas.{not_damaged_bare, not_damaged_store}
 
 abbrev some_bytes : List ℕ → Option (List ℕ)
@@ -108,3 +108,24 @@ module _ (call : Call) (f : IsFaultless call) where
   complete statuses.Limit before images (inl e) = absurd (not_early images limit e)
   complete statuses.Limit before images (inr t) = absurd (not_long images _ t)
   complete statuses.Refused before images says = absurd says
+
+  not_stopped : (images Writes : List ℕ → Type 0) (stop : Stop) → StoppedFirst call images stop Writes → ⊥
+  not_stopped images Writes stop e =
+      let text : f.text ≡ e.text = told_is call.left f.text e.text f.known e.told in
+      let wants : wants_by f.base ≡ wants_by e.base = wants_same call.store call.stored f.base e.base f.store_known f.begins e.begins in
+      let sound : IsSound (wants_by e.base) e.text = subst (λ w. IsSound w e.text) wants (subst (λ t. IsSound (wants_by f.base) t) text f.sound.sound) in
+      sound e.lines stop e.read.bytes e.read.made e.script
+
+  -- the same of a live run
+  pub complete_live : (status : Status) (before images : List ℕ → Type 0) → SaysLive status call before images → (status ≡ statuses.Fine) ⊎ (status ≡ statuses.Memory)
+  complete_live statuses.Fine before images says = inl refl
+  complete_live statuses.Usage before images says = absurd says
+  complete_live statuses.Script before images says = absurd (not_stopped images _ (at_fault says.0 says.1) says.2)
+  complete_live statuses.Read before images says = absurd (not_risen call.reads call.reads_after f.reads f.reads_room says.cause)
+  complete_live statuses.Write before images says = absurd (not_risen call.writes call.writes_after f.writes f.writes_room says.0)
+  complete_live statuses.Disk before images says = absurd (not_risen call.faults call.faults_after f.faults f.faults_room says.cause)
+  complete_live statuses.Damaged before images says = absurd (not_damaged says.at says.damage)
+  complete_live statuses.Memory before images says = inr refl
+  complete_live statuses.Limit before images (inl e) = absurd (not_stopped images _ limit e)
+  complete_live statuses.Limit before images (inr t) = absurd (not_long images _ t)
+  complete_live statuses.Refused before images says = absurd says

@@ -1,22 +1,21 @@
 -- A store that is bare or stands for a history is not damaged.
-use Rattle.std.proofs.Common.{◌≡◌, ◌⊎◌, inl, inr, ⊎_elim, ℕ, suc, ◌+◌, ◌<◌, ◌≤◌, Bool, List, [], ◌∷◌, ◌++◌, length, map, take, Option, Some, None, Result, Ok, Err, refl, sym, ◌∙◌, ap, subst, arith, length-append, append_assoc, append-nil}
-use Rattle.std.proofs.lemmas.List.{length-map}
+use Rattle.std.proofs.Common.{◌≡◌, inl, inr, ℕ, ◌+◌, ◌≤◌, List, [], ◌∷◌, ◌++◌, length, map, Result, Ok, Err, refl, sym, ◌∙◌, ap, subst, arith, length-append, append_assoc}
 use Rattle.std.proofs.Math.Seq.{take-append_seam}
 use Rattle.emu_names.specs.declared.limits.TheConstants.{HISTORY_EDITS}
 use Rattle.emu_names.specs.declared.rules.Broken.{Broken}
 use Rattle.db_config.specs.declared.parts.ConfigParts.{ConfigParts}
 use Rattle.edit_rules.specs.declared.edit.Entry.{Entry}
 use Rattle.edit_rules.specs.Database.{DatabaseParts}
-use Rattle.edit_rules.specs.Effects.{IsLegal, after, edited}
+use Rattle.edit_rules.specs.Effects.{IsLegal, edited}
 use Rattle.edit_rules.proofs.Replay.{prefixes_are_legal, replay_goes_on}
 use Rattle.code_forms.specs.Forms.{Form, IsCode, IsForm}
-use Rattle.edit_code.specs.Codes.{entry_code, head_code, IsEntryCode, IsHeadCode}
+use Rattle.edit_code.specs.Codes.{entry_code, IsEntryCode, IsHeadCode}
 use Rattle.edit_code.proofs.EditLaws.{entry_law}
 use Rattle.edit_code.proofs.HeadLaws.{head_law}
 use Rattle.edit_journal.specs.declared.body.Body.{Body}
 use Rattle.edit_journal.specs.Store.{bodies, placed, body_at}
 use Rattle.edit_journal.specs.Held.{texts_of}
-use Rattle.live_book.specs.Histories.{IsBare, Stands, IsStorable, IsCoded, AreCoded, IsDamagedAt, IsWrongAt, IsWrongBehind, AreCodes, AreEntryCodes, IsNoNext, codes_of}
+use Rattle.live_book.specs.Histories.{IsBare, Stands, IsStorable, AreCoded, IsDamagedAt, IsWrongAt, IsWrongBehind, AreEntryCodes, IsNoNext, codes_of}
 
 abbrev ok_read : {A : Type 0} → A × List ℕ → Result (A × List ℕ) ℕ
 ok_read x = Ok x

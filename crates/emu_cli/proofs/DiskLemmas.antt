@@ -1,5 +1,5 @@
 -- The disk behind a run: its count, and its images.
-use Rattle.std.proofs.Common.{◌≡◌, ℕ, ◌≤◌, Bool, true, false, List, [], Option, Some, None, refl, sym, ◌∙◌, ap, subst, arith}
+use Rattle.std.proofs.Common.{◌≡◌, ℕ, Bool, true, false, List, [], Option, Some, None, refl, sym, ap, subst, arith}
 use Rattle.fault_counts.specs.Count.{Rose, RoseBy}
 use Rattle.db_config.specs.declared.parts.ConfigParts.{ConfigParts}
 use Rattle.edit_rules.specs.declared.edit.Entry.{Entry}
@@ -9,10 +9,9 @@ use Rattle.session_core.specs.InOrder.{Outage, disk_outages}
 use Rattle.edit_journal.specs.declared.journal.Journal.{Journal}
 use Rattle.edit_journal.specs.Held.{disk_of}
 use Rattle.edit_journal.proofs.Kept.{stands_may}
-use Rattle.live_book.specs.Histories.{IsBare}
 use Rattle.live_book.specs.Kept.{faults_in}
 use Rattle.live_book.specs.Commits.{has_journal}
-use Rattle.live_book.specs.Opens.{IsEmpty, DuringNew}
+use Rattle.live_book.specs.Opens.{DuringNew}
 use Rattle.live_book.proofs.Storing.{images}
 use Rattle.emu_cli.specs.Scripts.{Parsed}
 use Rattle.emu_cli.specs.Bases.{Base, no_store, bare_store, store_of, is_stored, config_by, counted, EachOf, LeavesStore}
@@ -26,7 +25,7 @@ pub record FailedBy (begin now : ℕ) (images : List ℕ → Type 0) (config : C
   pub each : EachOf images (DuringNew config)
 
 module _ {D : Type 0} (may_leave : D → List ℕ → Type 0) (faults : D → ℕ) where
-  counted_is : (base : Base) (journal : Option (Journal D)) (disk : D) → has_journal journal ≡ is_stored base → HasDisk journal disk → counted base (faults disk) ≡ faults_in faults journal
+  pub counted_is : (base : Base) (journal : Option (Journal D)) (disk : D) → has_journal journal ≡ is_stored base → HasDisk journal disk → counted base (faults disk) ≡ faults_in faults journal
   counted_is no_store None disk s h = refl
   counted_is bare_store (Some journal) disk s h = ap faults h
   counted_is (store_of config history) (Some journal) disk s h = ap faults h

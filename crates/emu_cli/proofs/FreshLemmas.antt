@@ -1,11 +1,10 @@
 -- The same over the base of a script that has to give its configuration.
-use Rattle.std.proofs.Common.{◌≡◌, ℕ, ◌+◌, ◌≤◌, Bool, true, false, cond, List, [], ◌∷◌, Option, Some, None, Result, Ok, Err, refl, sym, subst}
-use Rattle.fault_counts.specs.Count.{RoseBy}
+use Rattle.std.proofs.Common.{◌≡◌, ℕ, Bool, true, cond, List, [], ◌∷◌, Option, None, Ok, Err, refl, sym, subst}
 use Rattle.std.specs.Io.KnownBytes.{Appends}
 use Rattle.std.proofs.KnownBytes.{Appends-nil}
 use Rattle.db_config.specs.declared.parts.ConfigParts.{ConfigParts}
 use Rattle.edit_journal.specs.declared.journal.Journal.{Journal}
-use Rattle.live_book.specs.Kept.{KeepsIn, faults_in}
+use Rattle.live_book.specs.Kept.{KeepsIn}
 use Rattle.live_book.specs.Commits.{has_journal}
 use Rattle.live_book.specs.Opens.{IsEmpty}
 use Rattle.script_lines.specs.declared.faults.LineFault.TheVariants as faults_of
@@ -17,7 +16,7 @@ use Rattle.emu_cli.specs.declared.running.Running.{Running}
 use Rattle.emu_cli.specs.Bases.{Base, fresh_base}
 use Rattle.emu_cli.specs.Runs.{config_reply}
 use Rattle.emu_cli.specs.Turns.{IsLineRead, ReadsNext}
-use Rattle.emu_cli.specs.Reached.{IsBegun, IsKept, IsFailed, IsBeginOf, Reached, BrokeIn, EndsScript, WritesText}
+use Rattle.emu_cli.specs.Reached.{IsBegun, IsKept, IsFailed, IsBeginOf, Reached, EndsScript, WritesText}
 use Rattle.emu_cli.proofs.RunLemmas.{begun, ends_unbegun, broke_config, ends_first, no_lines}
 
 module _ {D : Type 0} (may_leave : D → List ℕ → Type 0) (faults : D → ℕ) (begin : ℕ) (base : Base) (journal : Option (Journal D))

@@ -1,5 +1,5 @@
 -- What the status of a run says that has the disk of its journal.
-use Rattle.std.proofs.Common.{◌≡◌, ℕ, ◌≤◌, Bool, true, false, List, [], Option, Some, None, Result, Ok, Err, IfErr, refl, sym, ◌∙◌, ap, subst}
+use Rattle.std.proofs.Common.{◌≡◌, ℕ, ◌≤◌, Bool, true, false, List, [], Option, None, Result, Ok, Err, IfErr, refl, sym, ◌∙◌, ap, subst}
 use Rattle.fault_counts.specs.Count.{Rose}
 use Rattle.emu_names.specs.declared.limits.TheConstants.{SCRIPT_BYTES}
 use Rattle.emu_io.specs.declared.faults.ReadFault.{ReadFault}
@@ -9,7 +9,7 @@ use Rattle.db_config.specs.declared.parts.ConfigParts.{ConfigParts}
 use Rattle.edit_rules.specs.declared.edit.Entry.{Entry}
 use Rattle.session_core.specs.InOrder.{Outage}
 use Rattle.edit_journal.specs.declared.journal.Journal.{Journal}
-use Rattle.live_book.specs.Kept.{KeepsIn, faults_in}
+use Rattle.live_book.specs.Kept.{KeepsIn}
 use Rattle.live_book.specs.Commits.{has_journal}
 use Rattle.live_book.specs.Opens.{IsEmpty}
 use Rattle.emu_cli.specs.declared.ended.Ended.{Ended}
@@ -17,7 +17,7 @@ use Rattle.emu_cli.specs.declared.ended.Ended.TheVariants as ends
 use Rattle.emu_cli.specs.declared.status.Status.{Status}
 use Rattle.emu_cli.specs.Cuts.{cut}
 use Rattle.emu_cli.specs.Scripts.{Parsed, read_from}
-use Rattle.emu_cli.specs.Bases.{Base, no_store, bare_store, store_of, wants_by, is_stored, fresh_base, IsBaseOf}
+use Rattle.emu_cli.specs.Bases.{Base, store_of, wants_by, is_stored, fresh_base, IsBaseOf}
 use Rattle.emu_cli.specs.Says.{call_of, Says}
 use Rattle.emu_cli.specs.Reached.{IsKept, IsDone, IsFailed, IsBeginOf, RunsScript, EndsScript, EndHasCause}
 use Rattle.emu_cli.specs.Ran.{HasDisk, BeginsBefore, IsUnread, Closes}

@@ -7,12 +7,12 @@ use Rattle.edit_rules.specs.declared.edit.Entry.{Entry}
 use Rattle.session_core.specs.declared.line.Line.{Line}
 use Rattle.session_core.specs.declared.line.Reply.{Reply}
 use Rattle.session_core.specs.Steps.{State, start}
-use Rattle.session_core.specs.InOrder.{Outage, is_disk_outage, disk_outages, in_turn, one_turn}
+use Rattle.session_core.specs.InOrder.{Outage, is_disk_outage, disk_outages, one_turn}
 use Rattle.edit_journal.specs.declared.journal.Journal.{Journal}
 use Rattle.live_book.specs.Kept.{KeepsIn, faults_in}
 use Rattle.live_book.specs.Commits.{has_journal}
 use Rattle.live_book.specs.Opens.{IsEmpty}
-use Rattle.session_run.specs.Orders.{Answers, IsDiskRefused, LeftBehind, state_of}
+use Rattle.session_run.specs.Orders.{IsDiskRefused, LeftBehind, state_of}
 use Rattle.script_lines.specs.declared.faults.ReadLine.TheVariants as reads
 use Rattle.emu_cli.specs.declared.running.Running.{Running}
 use Rattle.emu_cli.specs.Scripts.{Parsed, read_from, with_read}

@@ -2,6 +2,8 @@ pub mod CutLemmas
 pub mod ParseLemmas
 pub mod ReadLemmas
 pub mod NextLemmas
+pub mod ComeLemmas
+pub mod ReadingLemmas
 pub mod TextLemmas
 pub mod KeptLemmas
 pub mod DiskLemmas
@@ -16,3 +18,7 @@ pub mod FreshSays
 pub mod OpenLemmas
 pub mod DamageLemmas
 pub mod CompleteLemmas
+pub mod AnswerLemmas
+pub mod LiveLemmas
+pub mod LiveSays
+pub mod LiveCalls

@@ -1,13 +1,13 @@
 -- The next line of a script, as it is read.
-use Rattle.std.proofs.Common.{◌≡◌, ◌≢◌, ℕ, ◌+◌, ◌≤◌, Bool, true, false, List, length, Result, Ok, Err, refl, ◌∙◌, ap}
+use Rattle.std.proofs.Common.{◌≡◌, ◌≢◌, ℕ, ◌≤◌, Bool, false, List, length, Result, Ok, Err, refl, ◌∙◌, ap}
 use Rattle.std.proofs.lemmas.Bool.{le-ltb}
 use Rattle.emu_names.specs.declared.limits.TheConstants.{LINE_BYTES, SCRIPT_LINES}
 use Rattle.script_lines.specs.declared.faults.LineFault.{LineFault}
 use Rattle.script_lines.specs.declared.faults.LineFault.TheVariants as faults
 use Rattle.script_lines.specs.declared.faults.ReadLine.{ReadLine}
-use Rattle.script_lines.specs.Made.{Made, eql_of}
+use Rattle.script_lines.specs.Made.{eql_of}
 use Rattle.script_lines.specs.Lines.{request_of, ReadsBy, IsReadAs}
-use Rattle.emu_cli.specs.Scripts.{Stop, at_fault, passes_limit, as_stop, unless_over}
+use Rattle.emu_cli.specs.Scripts.{at_fault, passes_limit, as_stop, unless_over}
 use Rattle.emu_cli.specs.Turns.{IsLineRead}
 
 -- a line within its limits

@@ -1,5 +1,5 @@
 -- What an opened store has.
-use Rattle.std.proofs.Common.{◌≡◌, ℕ, ◌≤◌, Bool, true, List, Option, Some, None, refl, sym, ap, subst}
+use Rattle.std.proofs.Common.{◌≡◌, ℕ, ◌≤◌, true, List, Option, Some, None, refl, subst}
 use Rattle.edit_journal.specs.declared.journal.Journal.{Journal}
 use Rattle.version_gate.specs.Lists.{Front}
 use Rattle.live_book.specs.declared.published.Published.{Published}
@@ -16,20 +16,20 @@ some_book b = Some b
 some_same : {D : Type 0} {x y : BookParts D} → some_book x ≡ some_book y → x ≡ y
 some_same e = cc
 
-module _ {D : Type 0} (may_leave : D → List ℕ → Type 0) (reads : Option (List ℕ)) (passes : List (Front Published)) where
+module _ {D : Type 0} (may_leave : D → List ℕ → Type 0) (reads : Option (List ℕ)) (readers : ℕ) (passes : List (Front Published)) where
   -- the book of a store with a configuration
   pub record HasBook (b : BookParts D) : Type 0 where
     pub begins : OfRead reads (Stands b.config b.history)
     pub keeps : KeepsIn may_leave b.config b.history None b.journal
     pub stored : has_journal b.journal ≡ true
-    pub front : AreAtFront 1 b passes
+    pub front : AreAtFront readers b passes
 
-  pub some_opened : (book : Option (BookParts D)) (journal : Option (Journal D)) (b : BookParts D) → book ≡ Some b → IsOpenedAs may_leave reads 1 book journal passes → HasBook b
+  pub some_opened : (book : Option (BookParts D)) (journal : Option (Journal D)) (b : BookParts D) → book ≡ Some b → IsOpenedAs may_leave reads readers book journal passes → HasBook b
   some_opened (Some x) None b e h = subst (λ y. HasBook y) (some_same e) (record { begins = h.0; keeps = h.2; stored = h.3; front = h.4 })
   some_opened (Some x) (Some j) b e h = absurd h
   some_opened None journal b e h = absurd (cc)
 
-  pub no_journal : (book : Option (BookParts D)) (journal : Option (Journal D)) (b : BookParts D) (j : Journal D) → book ≡ Some b → journal ≡ Some j → IsOpenedAs may_leave reads 1 book journal passes → ⊥
+  pub no_journal : (book : Option (BookParts D)) (journal : Option (Journal D)) (b : BookParts D) (j : Journal D) → book ≡ Some b → journal ≡ Some j → IsOpenedAs may_leave reads readers book journal passes → ⊥
   no_journal (Some x) None b j e k h = cc
   no_journal (Some x) (Some y) b j e k h = h
   no_journal None journal b j e k h = cc
@@ -40,7 +40,7 @@ module _ {D : Type 0} (may_leave : D → List ℕ → Type 0) (reads : Option (L
     pub empty : IsEmpty may_leave journal
     pub stored : has_journal journal ≡ true
 
-  pub none_opened : (book : Option (BookParts D)) (journal : Option (Journal D)) → book ≡ None → IsOpenedAs may_leave reads 1 book journal passes → HasNone journal
+  pub none_opened : (book : Option (BookParts D)) (journal : Option (Journal D)) → book ≡ None → IsOpenedAs may_leave reads readers book journal passes → HasNone journal
   none_opened None (Some j) e h = record { begins = h.0; empty = h.1; stored = refl }
   none_opened None None e h = absurd h
   none_opened (Some x) journal e h = absurd (cc)

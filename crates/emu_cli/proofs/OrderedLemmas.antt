@@ -1,12 +1,9 @@
 -- The requests of a script come in order, so that their run is legal.
-use Rattle.std.proofs.Common.{IsTrue, ◌≡◌, ℕ, ◌+◌, ◌≤◌, ◌&&◌, Bool, true, false, List, [], ◌∷◌, ◌++◌, length, Option, Some, None, Result, Ok, Err, refl, sym, ◌∙◌, ap, subst, arith, nat_eq, is_none, append-nil, append_assoc}
-use Rattle.std.specs.List.{list_any}
+use Rattle.std.proofs.Common.{IsTrue, ◌≡◌, ℕ, ◌+◌, ◌≤◌, ◌&&◌, Bool, true, false, List, [], length, Option, Some, None, Ok, refl, sym, ◌∙◌, ap, subst, arith, is_none}
 use Rattle.db_config.specs.declared.parts.ConfigParts.{ConfigParts}
 use Rattle.session_core.specs.declared.line.Line.{Line}
-use Rattle.session_core.specs.declared.line.Request.{Request}
-use Rattle.session_core.specs.declared.line.Request.TheVariants as requests
 use Rattle.session_core.specs.Worlds.{Each}
-use Rattle.session_core.specs.InOrder.{Outage, disk_outages, in_turn, ComeInOrder, ComesNext, NamesEarlier, IsBelow}
+use Rattle.session_core.specs.InOrder.{Outage, disk_outages, in_turn, ComeInOrder, IsBelow}
 use Rattle.session_core.proofs.Turns.{each_push, each_map}
 use Rattle.db_config.specs.Valid.{is_valid}
 use Rattle.session_core.specs.Steps.{start}
@@ -18,36 +15,15 @@ use Rattle.fault_counts.specs.Count.{RoseBy}
 use Rattle.edit_code.specs.Names.{is_made}
 use Rattle.edit_rules.proofs.Replay.{states_keep_rules}
 use Rattle.session_core.proofs.Ordered.{in_turn_is_in_order}
-use Rattle.live_book.specs.Histories.{Stands, OfRead}
-use Rattle.script_lines.specs.declared.faults.LineFault.{LineFault}
+use Rattle.live_book.specs.Histories.{Stands}
 use Rattle.script_lines.specs.declared.faults.ReadLine.{ReadLine}
 use Rattle.script_lines.specs.declared.faults.ReadLine.TheVariants as reads
-use Rattle.script_lines.specs.Lines.{request_of}
-use Rattle.script_lines.specs.Known.{Known, NamesOneOf}
-use Rattle.script_lines.proofs.KnownLines.{known}
-use Rattle.emu_cli.specs.Scripts.{AskedLine, Parsed, read_from, with_read, parse, parse_line, line_at, unless_over, as_stop, passes_limit, numbers_of, Stop, ◌>>=◌}
-use Rattle.emu_cli.specs.Bases.{Base, no_store, bare_store, store_of, wants_by, is_stored, opening_by, config_by, IsBaseOf}
+use Rattle.script_lines.specs.Known.{Known}
+use Rattle.emu_cli.specs.Scripts.{AskedLine, Parsed, read_from, with_read, parse, numbers_of}
+use Rattle.emu_cli.specs.Bases.{Base, no_store, bare_store, store_of, wants_by, opening_by, config_by, IsBaseOf}
 use Rattle.emu_cli.specs.Runs.{Setting, setting_by, IsRunFrom, Runs, run_from, history_in, history_by}
 use Rattle.emu_cli.specs.Reached.{IsDone}
-
--- an `after` among the numbers is one among the lines
-same_number : (a b : ℕ) → nat_eq a b ≡ nat_eq b a
-same_number a b = grind arith
-
-any_number : (line : ℕ) (ls : List Line) → list_any (nat_eq line) (numbers_of ls) ≡ list_any (λ (l : Line). nat_eq l.line line) ls
-any_number line [] = refl
-any_number line (l ∷ ls) = rw (same_number line l.line, any_number line ls) refl
-
-names_earlier : (ls : List Line) (r : Request) → NamesOneOf (numbers_of ls) r → NamesEarlier ls r
-names_earlier ls (requests.After line) h = sym (any_number line ls) ∙ h
-names_earlier ls (requests.Edit edit) h = tt
-names_earlier ls (requests.Query ask) h = tt
-names_earlier ls (requests.Look ask) h = tt
-names_earlier ls requests.Finish h = tt
-
-come_push : (before ls : List Line) (l : Line) → ComeInOrder before ls → ComesNext (before ++ ls) l → ComeInOrder before (ls ++ l ∷ [])
-come_push before [] l h next = (subst (λ ks. ComesNext ks l) (append-nil before) next, tt)
-come_push before (k ∷ ks) l h next = (h.0, come_push (before ++ k ∷ []) ks l h.1 (subst (λ x. ComesNext x l) (sym (append_assoc before (k ∷ []) ks)) next))
+use Rattle.emu_cli.proofs.ComeLemmas.{come_push, names_earlier, parse_keeps}
 
 -- a configuration that was given keeps its rules
 abbrev IsValidGiven : Option ConfigParts → Type 0
@@ -61,21 +37,6 @@ record Ordered (base : Base) (p : Parsed) : Type 0 where
   wanted : p.wants ≡ is_none (config_by base p.config)
   begun : config_by base p.config ≡ None → p.requests ≡ []
   valid : IsValidGiven (config_by base p.config)
-
-abbrev stop_ok : ReadLine → Result ReadLine Stop
-stop_ok x = Ok x
-
-abbrev fault_ok : ReadLine → Result ReadLine LineFault
-fault_ok x = Ok x
-
-stop_same : {x y : ReadLine} → stop_ok x ≡ stop_ok y → fault_ok x ≡ fault_ok y
-stop_same e = cc
-
-abbrev parsed_ok : Parsed → Result Parsed Stop
-parsed_ok x = Ok x
-
-parsed_same : {x y : Parsed} → parsed_ok x ≡ parsed_ok y → x ≡ y
-parsed_same e = cc
 
 abbrev some_config : ConfigParts → Option ConfigParts
 some_config c = Some c
@@ -91,12 +52,6 @@ gives_own : (base : Base) (given : Option ConfigParts) (c : ConfigParts) → con
 gives_own no_store given c h = refl
 gives_own bare_store given c h = refl
 gives_own (store_of own history) given c h = absurd (none_some own (sym h))
-
--- what line_at read is what request_of gave
-over_ok : (over : Bool) (number : ℕ) (r : Result ReadLine LineFault) (read : ReadLine) → unless_over over (as_stop number r) ≡ Ok read → r ≡ Ok read
-over_ok true number r read h = absurd (cc)
-over_ok false number (Ok x) read h = stop_same h
-over_ok false number (Err f) read h = absurd (cc)
 
 -- one more line
 read_more : (base : Base) (p : Parsed) (config : Option ConfigParts) (read : ReadLine) → config_by base p.config ≡ config → Ordered base p → Known (p.number + 1) (is_none config) (numbers_of p.requests) read → Ordered base (with_read p read)
@@ -130,22 +85,9 @@ read_more base p (Some c) (reads.Request l) e o k = record {
   valid = o.valid;
 }
 
-ordered_step : (base : Base) (p q : Parsed) (r : Result ReadLine Stop) → Ordered base p → ((read : ReadLine) → r ≡ Ok read → Known (p.number + 1) p.wants (numbers_of p.requests) read) → (r >>= λ x. Ok (with_read p x)) ≡ Ok q → Ordered base q
-ordered_step base p q (Ok read) o k h = let same : with_read p read ≡ q = parsed_same h in subst (λ x. Ordered base x) same (read_more base p (config_by base p.config) read refl o (subst (λ (b : Bool). Known (p.number + 1) b (numbers_of p.requests) read) o.wanted (k read refl)))
-ordered_step base p q (Err stop) o k h = absurd (cc)
-
-ordered_line : (base : Base) (p q : Parsed) (line : AskedLine) → Ordered base p → parse_line p line ≡ Ok q → Ordered base q
-ordered_line base p q line o h =
-    ordered_step base p q (line_at (p.number + 1) p.wants (numbers_of p.requests) line) o
-    (λ read e. known line.line (p.number + 1) p.wants (numbers_of p.requests) line.made read (over_ok (passes_limit (p.number + 1) line.line) (p.number + 1) (request_of line.line (p.number + 1) p.wants (numbers_of p.requests) line.made) read e)) h
-
-ordered_first : (base : Base) (first : Result Parsed Stop) (lines : List AskedLine) (q : Parsed) → ((n : Parsed) → first ≡ Ok n → Ordered base n) → ((n : Parsed) → Ordered base n → parse n lines ≡ Ok q → Ordered base q) → (first >>= λ n. parse n lines) ≡ Ok q → Ordered base q
-ordered_first base (Ok n) lines q this later h = later n (this n refl) h
-ordered_first base (Err stop) lines q this later h = absurd (cc)
-
 ordered : (base : Base) (lines : List AskedLine) (p q : Parsed) → Ordered base p → parse p lines ≡ Ok q → Ordered base q
-ordered base [] p q o h = let same : p ≡ q = parsed_same h in subst (λ x. Ordered base x) same o
-ordered base (line ∷ lines) p q o h = ordered_first base (parse_line p line) lines q (λ n e. ordered_line base p n line o e) (λ n k e. ordered base lines n q k e) h
+ordered base lines p q o h =
+    parse_keeps (λ p. Ordered base p) (λ p read o k. read_more base p (config_by base p.config) read refl o (subst (λ (b : Bool). Known (p.number + 1) b (numbers_of p.requests) read) o.wanted k)) lines p q o h
 
 -- What a run begins with is legal.
 

@@ -1,5 +1,5 @@
 -- One line more of a run: what was read, the book behind it, and what was written.
-use Rattle.std.proofs.Common.{◌≡◌, ◌≢◌, ◌⊎◌, inl, inr, ℕ, ◌+◌, ◌≤◌, Bool, true, false, cond, List, [], ◌∷◌, ◌++◌, length, take, Option, Some, None, Result, Ok, Err, refl, sym, ◌∙◌, ap, subst, arith, append_assoc, append-nil}
+use Rattle.std.proofs.Common.{◌≡◌, ◌⊎◌, inl, inr, ℕ, ◌+◌, ◌≤◌, Bool, true, false, cond, List, [], ◌∷◌, ◌++◌, length, Option, Some, None, Result, Ok, Err, refl, sym, ◌∙◌, ap, subst, arith, append_assoc, append-nil}
 use Rattle.std.proofs.lemmas.List.{map-append}
 use Rattle.std.proofs.Math.Seq.{take-length, take-append_seam}
 use Rattle.fault_counts.specs.Count.{RoseBy}
@@ -13,7 +13,6 @@ use Rattle.session_core.specs.declared.line.Reply.{Reply}
 use Rattle.session_core.specs.Steps.{start}
 use Rattle.session_core.specs.InOrder.{Outage}
 use Rattle.edit_journal.specs.declared.journal.Journal.{Journal}
-use Rattle.live_book.specs.Histories.{HeadPassesLimit}
 use Rattle.live_book.specs.Kept.{KeepsIn, faults_in}
 use Rattle.live_book.specs.Commits.{has_journal}
 use Rattle.live_book.specs.Opens.{IsEmpty}
@@ -25,13 +24,13 @@ use Rattle.script_lines.specs.Texts.{reply_text}
 use Rattle.emu_cli.specs.declared.ended.Ended.{Ended}
 use Rattle.emu_cli.specs.declared.ended.Ended.TheVariants as ends
 use Rattle.emu_cli.specs.declared.running.Running.{Running}
-use Rattle.script_lines.specs.Made.{Made, times_too_large}
-use Rattle.emu_cli.specs.Scripts.{AskedLine, asked_line, lines_in, AreRead, Parsed, read_from, with_read, parse, parse_line, parsed_front, line_at, numbers_of, passes_limit, ended, end_behind, end_from, if_over, if_configured, script_from, Stop, limit, at_fault, ◌>>=◌}
+use Rattle.script_lines.specs.Made.{Made}
+use Rattle.emu_cli.specs.Scripts.{AskedLine, asked_line, AreRead, Parsed, read_from, with_read, parse, parse_line, parsed_front, line_at, numbers_of, passes_limit, end_behind, if_over, if_configured, Stop, limit, at_fault, ◌>>=◌}
 use Rattle.emu_cli.specs.Bases.{Base, wants_by, is_stored, opening_by, config_by, counted, fresh_base, store_of}
 use Rattle.emu_cli.specs.Runs.{run_text, config_reply}
 use Rattle.emu_cli.specs.Turns.{IsLineRead, ReadsNext}
 use Rattle.emu_cli.specs.Taken.{TakesLine}
-use Rattle.emu_cli.specs.Reached.{IsAt, IsBegun, IsKept, IsBeginOf, Reached, Broke, IsOver, Stopped, EndsOnLine, RanAll, BrokeIn, EndsScript, WritesText, InLines, RunsLine, RunsLines, RunsScript, RanScript, StoppedScript, EndHasCause, GaveConfig}
+use Rattle.emu_cli.specs.Reached.{IsAt, IsBegun, IsKept, Reached, Broke, IsOver, Stopped, EndsOnLine, RanAll, BrokeIn, EndsScript, WritesText, InLines, RunsLine, RanScript, StoppedScript, GaveConfig}
 use Rattle.emu_cli.proofs.ParseLemmas.{parse_push, parse_stop, front_stop, front_whole}
 use Rattle.emu_cli.proofs.ReadLemmas.{read_none, read_push, read_later, read_more, read_same, read_front, script_behind}
 use Rattle.emu_cli.proofs.TextLemmas.{text_begun, begun_push, front_all, front_more, whole_more}

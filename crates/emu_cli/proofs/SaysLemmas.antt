@@ -1,5 +1,5 @@
 -- What a status says, from what was read, run and written.
-use Rattle.std.proofs.Common.{◌≡◌, ◌⊎◌, inl, inr, ◌↔◌, ℕ, ◌+◌, ◌<◌, ◌≤◌, ◌-◌, ◌^◌, Bool, true, false, IsTrue, IfErr, List, [], ◌∷◌, ◌++◌, length, take, drop, Option, Some, None, Result, Ok, Err, refl, sym, ◌∙◌, ap, subst, arith, nat_lt, append-nil}
+use Rattle.std.proofs.Common.{◌≡◌, inl, inr, ◌↔◌, ℕ, ◌+◌, ◌<◌, ◌≤◌, Bool, true, false, IsTrue, IfErr, List, [], ◌∷◌, length, take, drop, Option, Some, None, Result, Ok, Err, refl, sym, ◌∙◌, ap, subst, arith, nat_lt, append-nil}
 use Rattle.std.proofs.lemmas.Bool.{ltb-true, ltb-false}
 use Rattle.std.specs.Io.KnownBytes.{Appends, IsAtEnd}
 use Rattle.std.proofs.KnownBytes.{Appends-nil}
@@ -9,7 +9,6 @@ use Rattle.emu_names.specs.declared.limits.TheConstants.{SCRIPT_BYTES}
 use Rattle.emu_io.specs.Fronts.{Tells, TakesFront, IsFrontOf, WritesFront}
 use Rattle.db_config.specs.declared.parts.ConfigParts.{ConfigParts}
 use Rattle.session_core.specs.InOrder.{Outage}
-use Rattle.script_lines.specs.declared.faults.LineFault.{LineFault}
 use Rattle.live_book.specs.Histories.{OfRead, IsBare}
 use Rattle.emu_cli.specs.declared.ended.Ended.{Ended}
 use Rattle.emu_cli.specs.declared.ended.Ended.TheVariants as ends
@@ -18,12 +17,12 @@ use Rattle.emu_cli.specs.declared.status.Status.TheVariants as statuses
 use Rattle.emu_cli.specs.Cuts.{cut}
 use Rattle.emu_cli.specs.Scripts.{AskedLine, AreRead, Parsed, read_from, parse, end_behind, end_from, if_over, passes_limit, is_past, lines_of, script_from, script_of, front_of, Stop, limit, at_fault}
 use Rattle.emu_cli.specs.Bases.{Base, no_store, bare_store, store_of, wants_by, is_stored, opening_by, config_by, IsBaseOf, EachOf, LeavesStore}
-use Rattle.emu_cli.specs.Runs.{run_text, replies_by, history_by, setting_by, IsRunFrom, usage_text, limit_text, stop_text}
+use Rattle.emu_cli.specs.Runs.{run_text, replies_by, history_by, setting_by, IsRunFrom, limit_text, stop_text}
 use Rattle.emu_cli.specs.Says.{Call, call_of, Leaves, Gives, TooLong, Says, EndedEarly, BrokeOff, WritesLast}
 use Rattle.emu_cli.specs.Reached.{IsDone, BrokeIn, RanScript, StoppedScript, IsTooLong, IsUnwritten, GaveConfig, RunsScript, EndHasCause}
-use Rattle.emu_cli.specs.Ran.{Closes, IsUnread}
+use Rattle.emu_cli.specs.Ran.{Closes}
 use Rattle.emu_cli.proofs.ReadLemmas.{read_none, read_same}
-use Rattle.emu_cli.proofs.TextLemmas.{front_more, front_all, whole_more}
+use Rattle.emu_cli.proofs.TextLemmas.{front_more, whole_more}
 use Rattle.emu_cli.proofs.DiskLemmas.{FailedBy}
 use Rattle.emu_cli.proofs.OrderedLemmas.{IsLegalBase, legal_base, legal_run}
 
@@ -36,13 +35,13 @@ past_cases text false true e h = let bad : false ≡ true = h.1 (ltb-true SCRIPT
 past_cases text false false e h = refl
 
 -- what was read of a source: some text, which is the source's own where it tells it
-record Script (left : Option (List ℕ)) (past : Bool) (bytes : List ℕ) : Type 0 where
-  text : List ℕ
-  told : Tells left text
-  lines : lines_of text ≡ cut past bytes
-  past_is : is_past text ≡ past
+pub record Script (left : Option (List ℕ)) (past : Bool) (bytes : List ℕ) : Type 0 where
+  pub text : List ℕ
+  pub told : Tells left text
+  pub lines : lines_of text ≡ cut past bytes
+  pub past_is : is_past text ≡ past
 
-script_read : (left : Option (List ℕ)) (past : Bool) (bytes : List ℕ) → IsFrontOf left SCRIPT_BYTES bytes past → Script left past bytes
+pub script_read : (left : Option (List ℕ)) (past : Bool) (bytes : List ℕ) → IsFrontOf left SCRIPT_BYTES bytes past → Script left past bytes
 script_read left past bytes f =
     let same : is_past f.text ≡ past = past_cases f.text past (is_past f.text) refl f.longer in record {
       text = f.text;
@@ -51,22 +50,22 @@ script_read left past bytes f =
       past_is = same;
     }
 
-script_is : (wants : Bool) (left : Option (List ℕ)) (past : Bool) (bytes : List ℕ) (s : Script left past bytes) (lines : List AskedLine) → script_of wants s.text lines ≡ script_from wants past (cut past bytes) lines
+pub script_is : (wants : Bool) (left : Option (List ℕ)) (past : Bool) (bytes : List ℕ) (s : Script left past bytes) (lines : List AskedLine) → script_of wants s.text lines ≡ script_from wants past (cut past bytes) lines
 script_is wants left past bytes s lines =
     ap (λ all. script_from wants (is_past s.text) all lines) s.lines ∙ ap (λ over. script_from wants over (cut past bytes) lines) s.past_is
 
 -- the lines that were read are the text's
-read_whole : (left : Option (List ℕ)) (past : Bool) (bytes : List ℕ) (s : Script left past bytes) (lines : List AskedLine) (m n : ℕ) → AreRead lines (cut past bytes) m n → AreRead lines (lines_of s.text) m n
+pub read_whole : (left : Option (List ℕ)) (past : Bool) (bytes : List ℕ) (s : Script left past bytes) (lines : List AskedLine) (m n : ℕ) → AreRead lines (cut past bytes) m n → AreRead lines (lines_of s.text) m n
 read_whole left past bytes s lines m n r = read_same lines (cut past bytes) (lines_of s.text) m n (sym s.lines) r
 
-read_first : (left : Option (List ℕ)) (past : Bool) (bytes : List ℕ) (s : Script left past bytes) (lines : List AskedLine) (m n : ℕ) → AreRead lines (take (length lines) (cut past bytes)) m n → AreRead lines (take (length lines) (lines_of s.text)) m n
+pub read_first : (left : Option (List ℕ)) (past : Bool) (bytes : List ℕ) (s : Script left past bytes) (lines : List AskedLine) (m n : ℕ) → AreRead lines (take (length lines) (cut past bytes)) m n → AreRead lines (take (length lines) (lines_of s.text)) m n
 read_first left past bytes s lines m n r = read_same lines (take (length lines) (cut past bytes)) (take (length lines) (lines_of s.text)) m n (sym (ap (take (length lines)) s.lines)) r
 
 -- a script that is run to its end does not pass its limit
 abbrev some_ok : Parsed → Option (Result Parsed Stop)
 some_ok p = Some (Ok p)
 
-not_over : (over : Bool) (q : Parsed) → if_over over ≡ some_ok q → ⊥
+pub not_over : (over : Bool) (q : Parsed) → if_over over ≡ some_ok q → ⊥
 not_over true q h = cc
 not_over false q h = cc
 
@@ -78,7 +77,7 @@ not_past : (rest : List (List ℕ)) (first : Result Parsed Stop) (q : Parsed) �
 not_past rest (Ok p) q h = not_behind rest p q h
 not_past rest (Err stop) q h = cc
 
-end_of : (left after : Option (List ℕ)) (bytes : List ℕ) (past : Bool) (rest : List (List ℕ)) (first : Result Parsed Stop) (q : Parsed) → TakesFront left after bytes past → end_from past rest first ≡ some_ok q → IsAtEnd after
+pub end_of : (left after : Option (List ℕ)) (bytes : List ℕ) (past : Bool) (rest : List (List ℕ)) (first : Result Parsed Stop) (q : Parsed) → TakesFront left after bytes past → end_from past rest first ≡ some_ok q → IsAtEnd after
 end_of left after bytes true rest first q t h = absurd (not_past rest first q h)
 end_of left after bytes false rest first q t h = t.1
 

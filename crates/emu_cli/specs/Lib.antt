@@ -7,3 +7,7 @@ pub mod Turns
 pub mod Taken
 pub mod Reached
 pub mod Ran
+pub mod Reads
+pub mod Lives
+pub mod Answered
+pub mod Calls

@@ -10,7 +10,7 @@ use Rattle.session_core.specs.declared.line.Reply.{Reply}
 use Rattle.session_core.specs.Steps.{start}
 use Rattle.session_core.specs.InOrder.{Outage, disk_outages, in_turn}
 use Rattle.edit_journal.specs.declared.journal.Journal.{Journal}
-use Rattle.edit_journal.specs.Held.{disk_of, count_in}
+use Rattle.edit_journal.specs.Held.{disk_of}
 use Rattle.live_book.specs.declared.fault.OpenFault.{OpenFault}
 use Rattle.live_book.specs.declared.fault.OpenFault.TheVariants as opens
 use Rattle.live_book.specs.Histories.{HeadPassesLimit}

@@ -1,5 +1,5 @@
 -- The run of a script in order, and the text that it writes.
-use Rattle.std.specs.Prelude.{IsTrue, ◌≡◌, ℕ, Bool, true, false, List, [], ◌++◌, length, take, flat_map, Option, Some, None, codes}
+use Rattle.std.specs.Prelude.{IsTrue, ◌≡◌, ℕ, Bool, List, [], ◌++◌, length, take, flat_map, Option, Some, None, codes}
 use Rattle.db_config.specs.declared.parts.ConfigParts.{ConfigParts}
 use Rattle.edit_rules.specs.declared.edit.Entry.{Entry}
 use Rattle.session_core.specs.declared.line.Command.TheVariants as commands

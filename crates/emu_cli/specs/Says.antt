@@ -1,5 +1,5 @@
 -- What the status of a run says.
-use Rattle.std.specs.Prelude.{◌≡◌, ◌⊎◌, ◌<◌, ◌-◌, ◌^◌, ℕ, Bool, true, false, List, [], ◌∷◌, ◌++◌, length, take, Option, Some, None, Ok, Err}
+use Rattle.std.specs.Prelude.{◌≡◌, ◌⊎◌, ◌<◌, ◌-◌, ◌^◌, ℕ, Bool, true, false, List, [], ◌∷◌, ◌++◌, length, take, Option, Some, Ok, Err}
 use Rattle.std.specs.Io.KnownBytes.{Appends, IsAtEnd}
 use Rattle.fault_counts.specs.Count.{Rose}
 use Rattle.emu_io.specs.Fronts.{Tells, WritesFront}
@@ -8,21 +8,16 @@ use Rattle.edit_rules.specs.declared.edit.Entry.{Entry}
 use Rattle.session_core.specs.InOrder.{Outage}
 use Rattle.script_lines.specs.declared.faults.LineFault.{LineFault}
 use Rattle.script_lines.specs.declared.faults.ReadLine.TheVariants as reads
-use Rattle.live_book.specs.Histories.{OfRead, IsBare, Stands, IsDamagedAt, HeadPassesLimit}
+use Rattle.live_book.specs.Histories.{OfRead, IsBare, IsDamagedAt, HeadPassesLimit}
 use Rattle.live_book.specs.Opens.{DuringNew}
 use Rattle.store_commands.specs.Texts.{damaged_text}
-use Rattle.cli_words.specs.declared.words.Words.{Words}
-use Rattle.cli_words.specs.declared.words.Words.{Words}
-use Rattle.cli_words.specs.declared.words.Words.TheVariants as forms
 use Rattle.store_calls.specs.declared.ending.Ending.{Ending}
 use Rattle.store_calls.specs.declared.ending.Ending.TheVariants as endings
-use Rattle.store_calls.specs.Ends.{is_of_store}
-use Rattle.cli_words.specs.Forms.{words_of}
 use Rattle.emu_cli.specs.declared.status.Status.{Status}
 use Rattle.emu_cli.specs.declared.status.Status.TheVariants as statuses
 use Rattle.emu_cli.specs.Scripts.{AskedLine, AreRead, Parsed, read_from, with_read, parse, parse_line, lines_of, script_of, front_of, IsSound, Stop, limit, at_fault}
 use Rattle.emu_cli.specs.Bases.{Base, wants_by, is_stored, opening_by, config_by, IsBaseOf, EachOf, LeavesStore}
-use Rattle.emu_cli.specs.Runs.{run_text, replies_by, setting_by, IsRunFrom, usage_text, limit_text, stop_text}
+use Rattle.emu_cli.specs.Runs.{run_text, replies_by, setting_by, IsRunFrom, limit_text, stop_text}
 
 -- the program's numbers of the statuses
 abbrev pub code_of : Status → ℕ
@@ -274,33 +269,7 @@ pub record IsFaultless (call : Call) : Type 0 where
 abbrev pub Completes : Call → Status → Type 0
 Completes call status = IsFaultless call → (status ≡ statuses.Fine) ⊎ (status ≡ statuses.Memory)
 
--- The top call.
-
--- the words ask for a run, without a store or with one
-abbrev pub IsRunWords : List (List ℕ) → Bool → Type 0
-IsRunWords words store = words_of words ≡ Some (forms.Run store)
-
--- whether a run that is asked for is one with a store; nothing where no run is asked for
-abbrev pub run_asked : Words → Option Bool
-run_asked (forms.Run store) = Some store
-run_asked words = None
-
--- the words ask for no run
-abbrev pub IsNoRun : List (List ℕ) → Type 0
-IsNoRun words = (store : Bool) → IsRunWords words store → ⊥
-
--- what is said where the words are no command: the last line was written, or a front of it, and a write failed or
--- memory ran out
-abbrev pub SaysUsage : Status → Call → Type 0
-SaysUsage statuses.Usage call = Appends call.written call.written_after usage_text
-SaysUsage statuses.Write call =
-    Rose call.writes call.writes_after × WritesFront call.written call.written_after usage_text
-SaysUsage statuses.Memory call = WritesFront call.written call.written_after usage_text
-SaysUsage status call = ⊥
-
--- memory ran out before the words were known, and nothing was written; no image is new then
-abbrev pub SaysNothing : Status → Call → Type 0
-SaysNothing status call = (status ≡ statuses.Memory) × Appends call.written call.written_after []
+-- Last lines and endings.
 
 -- a last line was written, and the run ends as it says; or a front of it, and a write failed or
 -- memory ran out
@@ -309,36 +278,6 @@ WritesLast result status before now faults faults_now text =
     ((result ≡ status) × Appends before now text)
     ⊎ (((result ≡ statuses.Write) × Rose faults faults_now × WritesFront before now text)
     ⊎ ((result ≡ statuses.Memory) × WritesFront before now text))
-
--- the words ask for a command on the store
-abbrev pub AsksForStore : List (List ℕ) → Type 0
-AsksForStore words = (command : Words) × (words_of words ≡ Some command) × (is_of_store command ≡ true)
-
--- the words ask for nothing that the program does
-pub record IsNoCommand (words : List (List ℕ)) : Type 0 where
-  pub no_run : IsNoRun words
-  pub no_store : AsksForStore words → ⊥
-
--- a command on the store that the words ask for ended so, and the status goes with the ending
-abbrev pub SaysStore : List (List ℕ) → (Words → Ending → Type 0) → (Ending → Type 0) → Type 0
-SaysStore words Ends Writes =
-    (command : Words) × (words_of words ≡ Some command) × (is_of_store command ≡ true)
-    × (ending : Ending) × Ends command ending × Writes ending
-
--- What a status says of a call by its words. The call is given with a store and without; `Stores` is what it says of a
--- command on the store.
-abbrev pub CallEnds : List (List ℕ) → (Bool → Call) → (List ℕ → Type 0) → (List ℕ → Type 0) → (Status → Type 0)
-    → Status → Type 0
-CallEnds words call before images Stores status =
-    ((store : Bool) × IsRunWords words store × Says status (call store) before images)
-    ⊎ ((IsNoCommand words × SaysUsage status (call false))
-    ⊎ ((SaysNothing status (call false) × EachOf images before) ⊎ Stores status))
-
--- what the code that a call answers says of it
-abbrev pub CallSays : List (List ℕ) → (Bool → Call) → (List ℕ → Type 0) → (List ℕ → Type 0) → (Status → Type 0)
-    → ℕ → Type 0
-CallSays words call before images Stores code =
-    (status : Status) × (code ≡ code_of status) × CallEnds words call before images Stores status
 
 -- the text of an ending was written, and the status is its own; or a front of the text, and a write failed or memory ran
 -- out; or there is no text
@@ -352,12 +291,3 @@ Finishes status before now writes writes_now (endings.Damaged text) =
 Finishes status before now writes writes_now endings.Read = (status ≡ statuses.Read) × Appends before now []
 Finishes status before now writes writes_now endings.Disk = (status ≡ statuses.Disk) × Appends before now []
 Finishes status before now writes writes_now endings.Memory = (status ≡ statuses.Memory) × Appends before now []
-
--- where nothing is wrong outside or in the script, only want of memory keeps a run from its end
-abbrev pub RunCompletes : List (List ℕ) → (Bool → Call) → Status → Type 0
-RunCompletes words call status = (store : Bool) → IsRunWords words store → Completes (call store) status
-
--- the same of the code
-abbrev pub CallCompletes : List (List ℕ) → (Bool → Call) → ℕ → Type 0
-CallCompletes words call code =
-    (store : Bool) → IsRunWords words store → IsFaultless (call store) → (code ≡ 0) ⊎ (code ≡ 8)

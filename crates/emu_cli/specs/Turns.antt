@@ -8,7 +8,7 @@ use Rattle.script_lines.specs.declared.faults.ReadLine.{ReadLine}
 use Rattle.script_lines.specs.declared.faults.ReadLine.TheVariants as reads
 use Rattle.emu_cli.specs.declared.ended.Ended.{Ended}
 use Rattle.emu_cli.specs.declared.ended.Ended.TheVariants as ends
-use Rattle.emu_cli.specs.Scripts.{asked_line, IsAnswered, line_at, passes_limit, Stop, limit, at_fault}
+use Rattle.emu_cli.specs.Scripts.{asked_line, IsAnswered, line_at, passes_limit, Stop, at_fault}
 
 -- a line was read, by a maker whose refusals were and are so many, and this is what it is
 pub record IsLineRead (line : List ℕ) (number : ℕ) (wants : Bool) (earlier : List ℕ)

@@ -32,13 +32,15 @@ pub struct Ran<D: Disk> {
 }
 
 /// How a run ended, and the journal of its store.
-struct Left<D: Disk> {
-    status: Status,
-    journal: Option<Journal<D>>,
+pub(crate) struct Left<D: Disk> {
+    /// How it ended.
+    pub(crate) status: Status,
+    /// The journal, where there is a store.
+    pub(crate) journal: Option<Journal<D>>,
 }
 
 /// How a run ends whose script could not be read.
-fn unread(fault: ReadFault) -> Status
+pub(crate) fn unread(fault: ReadFault) -> Status
     ensures { IsUnread fault result }
 {
     match fault {
@@ -126,7 +128,7 @@ fn run_opened<R: Threads + Wait + Sync, S: Source, K: Sink, D: Disk, P: PatternM
 }
 
 /// Writes why the store was not opened, where that has a last line, and answers how the run ends.
-fn unopened<K: Sink>(alloc: Global, fault: OpenFault, out: &mut K) -> Status
+pub(crate) fn unopened<K: Sink>(alloc: Global, fault: OpenFault, out: &mut K) -> Status
     requires { fault ≢ OpenFault.StoreFull }
     ensures { SaysUnopened fault result (K.written out.old) (K.written out.new) (K.faults out.old)
         (K.faults out.new) }
@@ -140,7 +142,7 @@ fn unopened<K: Sink>(alloc: Global, fault: OpenFault, out: &mut K) -> Status
 }
 
 /// The disk of a run's store.
-fn give_back<D: Disk>(left: Left<D>) -> Ran<D>
+pub(crate) fn give_back<D: Disk>(left: Left<D>) -> Ran<D>
     requires { has_journal left.journal ≡ true }
     ensures disk { HasDisk left.journal result.disk }
     ensures status { result.status ≡ left.status }

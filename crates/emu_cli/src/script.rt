@@ -153,7 +153,7 @@ fn run_lines<R: Threads + Wait + Sync, K: Sink, D: Disk, P: PatternMaker>(
 }
 
 /// Writes the reply to the line of the configuration.
-fn write_config<K: Sink>(alloc: Global, out: &mut K) -> Result<(), Ended>
+pub(crate) fn write_config<K: Sink>(alloc: Global, out: &mut K) -> Result<(), Ended>
     ensures output { WritesText result (K.written out.old) (K.written out.new)
         (reply_text config_reply) }
     ensures cause { IfErr result (λ end. EndHasCause end (K.faults out.old) (K.faults out.new)) }
@@ -243,7 +243,7 @@ fn run_made<R: Threads + Wait + Sync, K: Sink, D: Disk, P: PatternMaker>(
 }
 
 /// Why a run ends that has no book of its script's configuration.
-fn no_book(fault: OpenFault) -> Ended
+pub(crate) fn no_book(fault: OpenFault) -> Ended
     ensures { IsEndFor fault result }
 {
     match fault {

@@ -1,21 +1,23 @@
-//! How a run ends.
+//! How a command ends.
 ghost use Rattle.std.specs.Prelude.{◌≡◌};
 ghost use Rattle.emu_cli.specs.Says.{code_of};
 
-/// How a run ends.
+/// How a command ends.
 #[derive(Clone, Copy, Debug, PartialEq, Eq)]
 pub enum Status {
-    /// 0: the input was read to its end, and every request has its reply.
+    /// 0: the input was read to its end, and every request has its reply; or the text of a command on the store was
+    /// written.
     Fine,
     /// 2: the words are no command.
     Usage,
     /// 3: a line of the script is no request.
     Script,
-    /// 4: the script could not be read.
+    /// 4: the script, or the folder of `import` or `load`, could not be read.
     Read,
     /// 5: the output could not be written.
     Write,
-    /// 6: the disk failed while the store was opened or its configuration written.
+    /// 6: the disk failed while the store was opened, its configuration written, or a bundle stored by `import` or
+    /// `load`.
     Disk,
     /// 7: the store stands for no configuration and history.
     Damaged,
@@ -24,7 +26,7 @@ pub enum Status {
     /// 9: a line, the number of lines or the script passes its limit, or the store has no room for the script's
     /// configuration.
     Limit,
-    /// 10: the command refuses.
+    /// 10: the command is refused, and the last line says why.
     Refused,
 }
 

@@ -1,12 +1,14 @@
 //! The top call.
-ghost use Rattle.std.specs.Prelude.{◌≡◌, true, false, map, string_bytes};
+ghost use Rattle.std.specs.Prelude.{◌≡◌, ◌≤◌, true, false, map, string_bytes};
 ghost use Rattle.store_calls.specs.declared.ending.Ending.{Ending as Ends};
 ghost use Rattle.store_calls.specs.Ends.{EndsOnStore, HasRate, is_of_store, outside_of};
 ghost use Rattle.emu_cli.specs.Runs.{usage_text};
-ghost use Rattle.emu_cli.specs.Says.{AsksForStore, call_of, CallCompletes, CallEnds, CallSays, Finishes, IsRunWords, RunCompletes, SaysStore, WritesLast, run_asked};
+ghost use Rattle.emu_cli.specs.Calls.{AskForRun, AsksForStore, CallCompletes, CallEnds, CallSays, RunCompletes, SaysStore, live_asked, run_asked};
+ghost use Rattle.emu_cli.specs.Says.{call_of, Finishes, WritesLast};
 
 use crate::in_order::{Ran, run};
 use crate::last::{finish, usage};
+use crate::live::live;
 use crate::status::{Status, code};
 use cli_words::{Words, WordsFault};
 use emu_disk::Disk;
@@ -34,6 +36,32 @@ fn run_asked(asked: &Words) -> Option<bool>
         Words::Run { store } => Some(*store),
         Words::Live { .. } | Words::Ask { .. } | Words::Load { .. } | Words::Import { .. } => None,
         Words::Export { .. } | Words::History | Words::Work { .. } => None,
+    }
+}
+
+/// Whether a live run that is asked for is one with a store; nothing where no live run is asked for.
+fn live_asked(asked: &Words) -> Option<bool>
+    ensures { result ≡ live_asked asked.now }
+{
+    match asked {
+        Words::Live { store, .. } => Some(*store),
+        Words::Run { .. } | Words::Ask { .. } | Words::Load { .. } | Words::Import { .. } => None,
+        Words::Export { .. } | Words::History | Words::Work { .. } => None,
+    }
+}
+
+/// How many workers a live run has that is asked for: the words ask for 1 to 8, and other numbers come to the nearest.
+fn workers_asked(asked: &Words) -> u32
+    ensures few { (1 ≤ result) × (result ≤ 8) }
+{
+    match asked {
+        Words::Live { workers, .. } => match *workers {
+            0 => 1,
+            1..=8 => *workers,
+            _ => 8,
+        },
+        Words::Run { .. } | Words::Ask { .. } | Words::Load { .. } | Words::Import { .. } => 1,
+        Words::Export { .. } | Words::History | Words::Work { .. } => 1,
     }
 }
 
@@ -115,7 +143,7 @@ fn perform<
     S: Source,
     K: Sink,
     F: Folder,
-    D: Disk,
+    D: Disk + Send,
     P: PatternMaker,
     G: Gate + Sync,
 >(
@@ -146,13 +174,21 @@ fn perform<
         (K.written out.new) (S.faults script.old) (S.faults script.new) (K.faults out.old)
         (K.faults out.new) (P.refusals patterns.old) (P.refusals patterns.new) (D.faults disk)
         (D.faults result.disk)) result.status }
-    ensures untouched { (IsRunWords (map (λ w. string_bytes w) words.now) true → ⊥)
+    ensures untouched { (AskForRun (map (λ w. string_bytes w) words.now) true → ⊥)
         → (AsksForStore (map (λ w. string_bytes w) words.now) → ⊥) → result.disk ≡ disk }
 {
     match read_command(alloc, words) {
         Ok(asked) => match run_asked(&asked) {
             Some(store) => run(rt, alloc, store, script, out, disk, patterns),
-            None => perform_other(rt, alloc, &asked, out, folder, disk, patterns, gate),
+            None => match live_asked(&asked) {
+                Some(stored) => {
+                    let workers = workers_asked(&asked);
+                    live(
+                        rt, alloc, stored, workers, script, out, disk, patterns, gate,
+                    )
+                }
+                None => perform_other(rt, alloc, &asked, out, folder, disk, patterns, gate),
+            },
         },
         Err(WordsFault::Usage) => Ran {
             status: usage(alloc, out),
@@ -167,13 +203,14 @@ fn perform<
 
 /// Runs the program on its words, and hands the disk back.
 ///
-/// `run` runs the script of the source, in its order, with `--store` over the store on the disk. `history`, `export` and
-/// `ask` read the store; `import` and `load` add bundles to it from files of the folder. The gate is told of the pieces
-/// of the query of `ask`. The status is
+/// `run` runs the script of the source, in its order, and `live` its sessions at once, with `--store` over the store on
+/// the disk. `history`, `export` and `ask` read the store; `import` and `load` add bundles to it from files of the folder.
+/// The gate is told of the pieces of the query of `ask`, and in a live run of those of each query and of each line
+/// that is answered. The status is
 ///
 /// - 0: the input was read to its end, and every request has its reply; or the command's text was written.
 /// - 2: the words are no command.
-/// - 3: a line of the script is no request; the lines before it were run, and the last line names it.
+/// - 3: a line of the script is no request; the lines before it were run, of a live run none, and the last line names it.
 /// - 4: the script or the folder could not be read.
 /// - 5: the output could not be written.
 /// - 6: the disk failed, while the store was opened, its configuration written, or a bundle stored by `load` or `import`.
@@ -187,7 +224,7 @@ pub fn emu<
     S: Source,
     K: Sink,
     F: Folder,
-    D: Disk,
+    D: Disk + Send,
     P: PatternMaker,
     G: Gate + Sync,
 >(
@@ -218,7 +255,7 @@ pub fn emu<
         (K.written out.new) (S.faults script.old) (S.faults script.new) (K.faults out.old)
         (K.faults out.new) (P.refusals patterns.old) (P.refusals patterns.new) (D.faults disk)
         (D.faults result.disk)) result.status }
-    ensures untouched { (IsRunWords (map (λ w. string_bytes w) words.now) true → ⊥)
+    ensures untouched { (AskForRun (map (λ w. string_bytes w) words.now) true → ⊥)
         → (AsksForStore (map (λ w. string_bytes w) words.now) → ⊥) → result.disk ≡ disk }
 {
     let Ran { status, disk } = perform(rt, alloc, words, script, out, folder, disk, patterns, gate);

@@ -1,0 +1,100 @@
+-- The top call: what its words ask for, and what its status says by them.
+use Rattle.std.specs.Prelude.{◌≡◌, ◌⊎◌, ℕ, Bool, true, false, List, [], Option, Some, None}
+use Rattle.std.specs.Io.KnownBytes.{Appends}
+use Rattle.fault_counts.specs.Count.{Rose}
+use Rattle.emu_io.specs.Fronts.{WritesFront}
+use Rattle.cli_words.specs.declared.words.Words.{Words}
+use Rattle.cli_words.specs.declared.words.Words.TheVariants as forms
+use Rattle.cli_words.specs.Forms.{words_of}
+use Rattle.store_calls.specs.declared.ending.Ending.{Ending}
+use Rattle.store_calls.specs.Ends.{is_of_store}
+use Rattle.emu_cli.specs.declared.status.Status.{Status}
+use Rattle.emu_cli.specs.declared.status.Status.TheVariants as statuses
+use Rattle.emu_cli.specs.Bases.{EachOf}
+use Rattle.emu_cli.specs.Runs.{usage_text}
+use Rattle.emu_cli.specs.Says.{Call, Completes, IsFaultless, Says, code_of}
+use Rattle.emu_cli.specs.Lives.{SaysLive}
+
+-- the words ask for a run, without a store or with one
+abbrev pub IsRunWords : List (List ℕ) → Bool → Type 0
+IsRunWords words store = words_of words ≡ Some (forms.Run store)
+
+-- whether a run that is asked for is one with a store; nothing where no run is asked for
+abbrev pub run_asked : Words → Option Bool
+run_asked (forms.Run store) = Some store
+run_asked words = None
+
+-- the words ask for no run
+abbrev pub IsNoRun : List (List ℕ) → Type 0
+IsNoRun words = (store : Bool) → IsRunWords words store → ⊥
+
+-- the words ask for a live run, without a store or with one, by some number of workers
+abbrev pub IsLiveWords : List (List ℕ) → Bool → Type 0
+IsLiveWords words store = (workers : ℕ) × (words_of words ≡ Some (forms.Live store workers))
+
+-- whether a live run that is asked for is one with a store; nothing where no live run is asked for
+abbrev pub live_asked : Words → Option Bool
+live_asked (forms.Live store workers) = Some store
+live_asked words = None
+
+-- the words ask for no live run
+abbrev pub IsNoLive : List (List ℕ) → Type 0
+IsNoLive words = (store : Bool) → IsLiveWords words store → ⊥
+
+-- the words ask for a run in order or for a live one, without a store or with one
+abbrev pub AskForRun : List (List ℕ) → Bool → Type 0
+AskForRun words store = IsRunWords words store ⊎ IsLiveWords words store
+
+-- what is said where the words are no command: the last line was written, or a front of it, and a write failed or
+-- memory ran out
+abbrev pub SaysUsage : Status → Call → Type 0
+SaysUsage statuses.Usage call = Appends call.written call.written_after usage_text
+SaysUsage statuses.Write call =
+    Rose call.writes call.writes_after × WritesFront call.written call.written_after usage_text
+SaysUsage statuses.Memory call = WritesFront call.written call.written_after usage_text
+SaysUsage status call = ⊥
+
+-- memory ran out before the words were known, and nothing was written; no image is new then
+abbrev pub SaysNothing : Status → Call → Type 0
+SaysNothing status call = (status ≡ statuses.Memory) × Appends call.written call.written_after []
+
+-- the words ask for a command on the store
+abbrev pub AsksForStore : List (List ℕ) → Type 0
+AsksForStore words = (command : Words) × (words_of words ≡ Some command) × (is_of_store command ≡ true)
+
+-- the words ask for nothing that the program does
+pub record IsNoCommand (words : List (List ℕ)) : Type 0 where
+  pub no_run : IsNoRun words
+  pub no_live : IsNoLive words
+  pub no_store : AsksForStore words → ⊥
+
+-- a command on the store that the words ask for ended so, and the status goes with the ending
+abbrev pub SaysStore : List (List ℕ) → (Words → Ending → Type 0) → (Ending → Type 0) → Type 0
+SaysStore words Ends Writes =
+    (command : Words) × (words_of words ≡ Some command) × (is_of_store command ≡ true)
+    × (ending : Ending) × Ends command ending × Writes ending
+
+-- What a status says of a call by its words. The call is given with a store and without; `Stores` is what it says of a
+-- command on the store.
+abbrev pub CallEnds : List (List ℕ) → (Bool → Call) → (List ℕ → Type 0) → (List ℕ → Type 0) → (Status → Type 0)
+    → Status → Type 0
+CallEnds words call before images Stores status =
+    ((store : Bool) × IsRunWords words store × Says status (call store) before images)
+    ⊎ (((store : Bool) × IsLiveWords words store × SaysLive status (call store) before images)
+    ⊎ ((IsNoCommand words × SaysUsage status (call false))
+    ⊎ ((SaysNothing status (call false) × EachOf images before) ⊎ Stores status)))
+
+-- what the code that a call answers says of it
+abbrev pub CallSays : List (List ℕ) → (Bool → Call) → (List ℕ → Type 0) → (List ℕ → Type 0) → (Status → Type 0)
+    → ℕ → Type 0
+CallSays words call before images Stores code =
+    (status : Status) × (code ≡ code_of status) × CallEnds words call before images Stores status
+
+-- where nothing is wrong outside or in the script, only want of memory keeps a run from its end
+abbrev pub RunCompletes : List (List ℕ) → (Bool → Call) → Status → Type 0
+RunCompletes words call status = (store : Bool) → AskForRun words store → Completes (call store) status
+
+-- the same of the code
+abbrev pub CallCompletes : List (List ℕ) → (Bool → Call) → ℕ → Type 0
+CallCompletes words call code =
+    (store : Bool) → AskForRun words store → IsFaultless (call store) → (code ≡ 0) ⊎ (code ≡ 8)
