@@ -16,11 +16,17 @@ mod grids;
 #[cfg(test)]
 mod history;
 #[cfg(test)]
+mod lanes;
+#[cfg(test)]
 mod levels;
 #[cfg(test)]
 mod limits;
 #[cfg(test)]
 mod lines;
+#[cfg(test)]
+mod live;
+#[cfg(test)]
+mod live_stores;
 #[cfg(test)]
 mod made;
 #[cfg(test)]

@@ -1,0 +1,263 @@
+//! Live runs: their replies session by session, and gates that hold a line until another came.
+use crate::scripts::{BUNDLE, CONFIG, call, empty_disk, joined};
+use emu_disk::MemoryDisk;
+use emu_io::{Gate, Hold, HoldGate, LineMoment, ListSink, ListSource, Moment, OpenGate};
+use label_match::RegexMaker;
+use std::alloc::{AllocError, Global};
+use std::process::Abort;
+use std::sync::Wait;
+use std::test::Fail;
+use std::thread::Threads;
+
+/// The label of item 2 becomes n, by session 2.
+const RELABEL: &str =
+    "{\"s\":2,\"do\":\"set_label\",\"session\":\"s1\",\"bundle\":\"b1\",\"id\":2,\"attribute\":\"Phonetic\",\"value\":\"n\"}";
+
+/// A look of session 1 at m, which another session waits for; it is finished after that session's edit.
+pub const HELD: [&str; 8] = [
+    CONFIG,
+    BUNDLE,
+    "{\"s\":1,\"do\":\"look\",\"eql\":\"[Phonetic == m]\"}",
+    "{\"s\":2,\"do\":\"after\",\"line\":3}",
+    RELABEL,
+    "{\"s\":1,\"do\":\"finish\"}",
+    "{\"s\":1,\"do\":\"after\",\"line\":5}",
+    "{\"s\":1,\"do\":\"query\",\"eql\":\"[Phonetic == m]\"}",
+];
+
+/// What that script is answered, whichever of the two gates holds it.
+pub const HELD_OUTPUT: [&str; 11] = [
+    "{\"line\":1,\"n\":0,\"ok\":\"config\"}",
+    "{\"line\":2,\"n\":1,\"ok\":\"add_bundle\"}",
+    "{\"line\":3,\"n\":1,\"ok\":\"look\"}",
+    "{\"line\":6,\"n\":1,\"segments\":[{\"attribute\":\"Phonetic\",\"bundle\":\"b1\",\"end\":340175,\"endItem\":2,\"endPos\":1,\"labels\":\"m\",\"level\":\"Phonetic\",\"sampleEnd\":6803,\"sampleRate\":20000,\"sampleStart\":5139,\"session\":\"s1\",\"start\":256925,\"startItem\":2,\"startPos\":1}]}",
+    "{\"line\":7,\"n\":2,\"ok\":\"after\"}",
+    "{\"line\":8,\"n\":2,\"segments\":[]}",
+    "{\"line\":4,\"n\":1,\"ok\":\"after\"}",
+    "{\"line\":5,\"n\":2,\"ok\":\"set_label\"}",
+    "{\"from\":0}",
+    "{\"at\":1,\"line\":2,\"s\":1}",
+    "{\"at\":2,\"line\":5,\"s\":2}",
+];
+
+/// What it is answered, without the reply of the configuration and the lines behind the replies.
+pub fn answers(alloc: Global) -> Result<Vec<u8>, AllocError> {
+    joined(alloc, &HELD_OUTPUT[1..8], "\n")
+}
+
+/// How often a script is run.
+const TIMES: u32 = 200;
+
+/// A moment at which a line has its reply.
+const fn answered(line: u32) -> LineMoment {
+    LineMoment {
+        line,
+        moment: Moment::Answered,
+    }
+}
+
+/// A moment at which a line's query is about to look at the first bundle.
+const fn piece(line: u32) -> LineMoment {
+    LineMoment {
+        line,
+        moment: Moment::Piece(0),
+    }
+}
+
+/// What a run answered and wrote, and its disk.
+#[derive(Drop)]
+pub struct Live {
+    pub status: u8,
+    pub output: Vec<u8>,
+    pub disk: MemoryDisk,
+}
+
+/// Runs the words over a script, with a sink that fails on these calls, counted from 1, and behind a gate.
+pub fn run_on<R: Threads + Wait + Sync, G: Gate + Sync>(
+    rt: &R,
+    alloc: Global,
+    words: &[&str],
+    lines: &[&str],
+    bad_writes: &[u64],
+    disk: MemoryDisk,
+    gate: &G,
+) -> Result<Live, AllocError> {
+    let mut source = ListSource::new(joined(alloc, lines, "\n")?, Vec::new(alloc));
+    let mut sink = ListSink::new(alloc, Vec::from_slice(alloc, bad_writes)?);
+    let mut patterns = RegexMaker::new();
+    let exit = call(
+        rt,
+        alloc,
+        words,
+        &mut source,
+        &mut sink,
+        disk,
+        &mut patterns,
+        gate,
+    )?;
+    Ok(Live {
+        status: exit.status,
+        output: Vec::from_slice(alloc, sink.bytes())?,
+        disk: exit.disk,
+    })
+}
+
+/// Runs the sessions of a script at once, behind a gate.
+fn run<R: Threads + Wait + Sync, G: Gate + Sync>(
+    rt: &R,
+    alloc: Global,
+    lines: &[&str],
+    gate: &G,
+) -> Result<Live, AllocError> {
+    let disk = empty_disk(alloc)?;
+    run_on(rt, alloc, &["live"], lines, &[], disk, gate)
+}
+
+/// Runs the held script behind a gate of these holds: the gate sees all its moments and does not give up, and the
+/// output is the one wanted.
+fn expect_held<R: Abort + Threads + Wait + Sync>(
+    rt: &R,
+    alloc: Global,
+    holds: &[Hold],
+) -> Result<(), Fail> {
+    let gate = HoldGate::new(alloc, holds)?;
+    let ran = run(rt, alloc, &HELD, &gate)?;
+    let wanted = joined(alloc, &HELD_OUTPUT, "\n")?;
+    assert!(rt; ran.output == wanted && ran.status == 0 && gate.saw_all() && !gate.gave_up());
+    Ok(())
+}
+
+#[test]
+fn a_look_is_finished_behind_anothers_edit(rt: HostRuntime) -> Result<(), Fail> {
+    let holds = [Hold {
+        first: answered(3),
+        second: answered(5),
+    }];
+    for _ in 0..TIMES {
+        expect_held(&rt, rt.alloc(), &holds)?;
+    }
+    Ok(())
+}
+
+#[test]
+fn an_edit_comes_while_a_look_is_answered(rt: HostRuntime) -> Result<(), Fail> {
+    let holds = [
+        Hold {
+            first: answered(4),
+            second: piece(6),
+        },
+        Hold {
+            first: piece(6),
+            second: answered(5),
+        },
+    ];
+    for _ in 0..TIMES {
+        expect_held(&rt, rt.alloc(), &holds)?;
+    }
+    Ok(())
+}
+
+/// A script that ends early, how it ends, and its last line, which alone is written.
+struct Early {
+    lines: &'static [&'static str],
+    status: u8,
+    last: &'static str,
+}
+
+static EARLY: [Early; 4] = [
+    Early {
+        lines: &[],
+        status: 3,
+        last: "{\"cause\":\"ConfigPlace\",\"line\":1,\"status\":3}\n",
+    },
+    Early {
+        lines: &[CONFIG, CONFIG],
+        status: 3,
+        last: "{\"cause\":\"ConfigPlace\",\"line\":2,\"status\":3}\n",
+    },
+    Early {
+        lines: &[CONFIG, BUNDLE, "{"],
+        status: 3,
+        last: "{\"cause\":\"NotJson\",\"line\":3,\"status\":3}\n",
+    },
+    Early {
+        lines: &[CONFIG, "{\"s\":1,\"do\":\"after\",\"line\":2}"],
+        status: 3,
+        last: "{\"cause\":\"BadAfter\",\"line\":2,\"status\":3}\n",
+    },
+];
+
+#[test]
+fn a_line_at_fault_ends_a_script_before_its_first_line(rt: HostRuntime) -> Result<(), Fail> {
+    for row in &EARLY {
+        let ran = run(&rt, rt.alloc(), row.lines, &OpenGate)?;
+        assert!(rt;
+            ran.status == row.status && ran.output.as_slice() == row.last.as_bytes(),
+            "{}",
+            row.last
+        );
+    }
+    Ok(())
+}
+
+/// A look of session 1, beside an edit of session 2 that names no line.
+const FREE: [&str; 7] = [
+    CONFIG,
+    BUNDLE,
+    "{\"s\":1,\"do\":\"look\",\"eql\":\"[Phonetic == m]\"}",
+    RELABEL,
+    "{\"s\":1,\"do\":\"finish\"}",
+    "{\"s\":1,\"do\":\"query\",\"eql\":\"[Phonetic == m]\"}",
+    "{\"s\":1,\"do\":\"finish\"}",
+];
+
+const M: &str =
+    "\"segments\":[{\"attribute\":\"Phonetic\",\"bundle\":\"b1\",\"end\":340175,\"endItem\":2,\"endPos\":1,\"labels\":\"m\",\"level\":\"Phonetic\",\"sampleEnd\":6803,\"sampleRate\":20000,\"sampleStart\":5139,\"session\":\"s1\",\"start\":256925,\"startItem\":2,\"startPos\":1}]}";
+
+const NONE: &str = "\"segments\":[]}";
+
+/// The output of the free script: what the look and the query see, and whether the edit came behind the bundle.
+fn free_output(
+    alloc: Global,
+    looked: u32,
+    asked: u32,
+    edited: bool,
+) -> Result<Vec<u8>, AllocError> {
+    let mut out = Vec::new(alloc);
+    let rows = |n: u32| if n == 1 { M } else { NONE };
+    let edit = if edited {
+        "{\"line\":4,\"n\":2,\"ok\":\"set_label\"}\n{\"from\":0}\n{\"at\":1,\"line\":2,\"s\":1}\n{\"at\":2,\"line\":4,\"s\":2}\n"
+    } else {
+        "{\"line\":4,\"n\":0,\"refused\":{\"rule\":\"NoBundle\"}}\n{\"from\":0}\n{\"at\":1,\"line\":2,\"s\":1}\n"
+    };
+    let text = format!(in alloc;
+        "{{\"line\":1,\"n\":0,\"ok\":\"config\"}}\n{{\"line\":2,\"n\":1,\"ok\":\"add_bundle\"}}\n{{\"line\":3,\"n\":{},\"ok\":\"look\"}}\n{{\"line\":5,\"n\":{},{}\n{{\"line\":6,\"n\":{},{}\n{{\"line\":7,\"refused\":{{\"rule\":\"NoLook\"}}}}\n{}",
+        looked,
+        looked,
+        rows(looked),
+        asked,
+        rows(asked),
+        edit
+    )?;
+    out.extend_from_slice(text.as_bytes())?;
+    Ok(out)
+}
+
+/// The outputs that the free script may have: the look and the query see one entry or two, the query no fewer than the
+/// look, and two only where the edit was accepted.
+const FREE_WAYS: [(u32, u32, bool); 4] = [(1, 1, false), (1, 1, true), (1, 2, true), (2, 2, true)];
+
+#[test]
+fn an_edit_that_names_no_line_comes_when_it_likes(rt: HostRuntime) -> Result<(), Fail> {
+    let alloc = rt.alloc();
+    for _ in 0..TIMES {
+        let ran = run(&rt, alloc, &FREE, &OpenGate)?;
+        let mut found = false;
+        for &(looked, asked, edited) in &FREE_WAYS {
+            let wanted = free_output(alloc, looked, asked, edited)?;
+            found = found || ran.output == wanted;
+        }
+        assert!(rt; found && ran.status == 0);
+    }
+    Ok(())
+}
