@@ -16,8 +16,6 @@ mod grids;
 #[cfg(test)]
 mod history;
 #[cfg(test)]
-mod lanes;
-#[cfg(test)]
 mod levels;
 #[cfg(test)]
 mod limits;
