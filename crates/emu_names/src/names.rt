@@ -16,6 +16,7 @@ use std::alloc::{AllocError, AllocFailed, Global};
 use std::cmp::Ordering;
 use std::fmt;
 use std::marker::Model;
+use std::sync::ArcStr;
 use thiserror::Error;
 
 /// Why a text is no name.
@@ -88,21 +89,22 @@ pub fn is_name(text: &str) -> bool
 }
 
 /// A name of a database, session, bundle, level or attribute, which contracts see as the list of
-/// its bytes. Names are ordered by their bytes.
+/// its bytes. Names are ordered by their bytes. A name's copies share its bytes.
 #[derive(Debug, Drop)]
 pub struct Name {
-    text: String,
+    text: ArcStr,
 }
 
 impl Model for Name {
-    ghost use Rattle.std.specs.Prelude.{List, ℕ, IsTrue, string_bytes};
+    ghost use Rattle.std.specs.Prelude.{List, ℕ, IsTrue};
+    ghost use Rattle.std.specs.Arc.{arc_str_bytes};
     ghost use Rattle.emu_names.specs.Name.{is_name};
 
     ghost Value = { List ℕ };
 
-    ghost view = { λ n. string_bytes n.text };
+    ghost view = { λ n. arc_str_bytes n.text };
 
-    ghost invariant = { λ n. IsTrue (is_name (string_bytes n.text)) };
+    ghost invariant = { λ n. IsTrue (is_name (arc_str_bytes n.text)) };
 }
 
 impl Name {
@@ -115,7 +117,7 @@ impl Name {
         if !is_name(text) {
             return Err(NameFault::BadName);
         }
-        let text = String::from_str(alloc, text)?;
+        let text = ArcStr::from_str(alloc, text)?;
         Ok(Name { text })
     }
 
@@ -128,11 +130,11 @@ impl Name {
         self.text.as_str()
     }
 
-    /// The same name again. The only refusal is want of memory.
-    pub fn copy(&self, alloc: Global) -> Result<Name, Memory>
+    /// The same name again, which shares the bytes. The only refusal is want of memory.
+    pub fn copy(&self, _alloc: Global) -> Result<Name, Memory>
         ensures { IfOk result (λ made. made ≡ self.now) }
     {
-        let text = String::from_str(alloc, self.text.as_str())?;
+        let text = self.text.clone()?;
         Ok(Name { text })
     }
 }

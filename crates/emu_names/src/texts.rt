@@ -9,19 +9,21 @@ use crate::shortage::Memory;
 use std::alloc::Global;
 use std::fmt;
 use std::marker::Model;
+use std::sync::ArcStr;
 
-/// A text that owns its bytes.
+/// A text, whose copies share its bytes.
 #[derive(Debug, Drop)]
 pub struct Text {
-    text: String,
+    text: ArcStr,
 }
 
 impl Model for Text {
-    ghost use Rattle.std.specs.Prelude.{List, ℕ, string_bytes};
+    ghost use Rattle.std.specs.Prelude.{List, ℕ};
+    ghost use Rattle.std.specs.Arc.{arc_str_bytes};
 
     ghost Value = { List ℕ };
 
-    ghost view = { λ t. string_bytes t.text };
+    ghost view = { λ t. arc_str_bytes t.text };
 }
 
 impl Text {
@@ -29,15 +31,16 @@ impl Text {
     pub fn new(alloc: Global, text: &str) -> Result<Text, Memory>
         ensures { IfOk result (λ made. made ≡ text.now) }
     {
-        let text = String::from_str(alloc, text)?;
+        let text = ArcStr::from_str(alloc, text)?;
         Ok(Text { text })
     }
 
-    /// The text that `text` holds, without a copy.
-    pub fn from_string(text: String) -> Text
-        ensures { result ≡ string_bytes text }
+    /// The text that `text` holds, without a copy of its bytes. The only refusal is want of memory.
+    pub fn from_string(text: String) -> Result<Text, Memory>
+        ensures { IfOk result (λ made. made ≡ string_bytes text) }
     {
-        Text { text }
+        let text = ArcStr::from_string(text)?;
+        Ok(Text { text })
     }
 
     /// The text.
@@ -47,11 +50,12 @@ impl Text {
         self.text.as_str()
     }
 
-    /// The same text again. The only refusal is want of memory.
-    pub fn copy(&self, alloc: Global) -> Result<Text, Memory>
+    /// The same text again, which shares the bytes. The only refusal is want of memory.
+    pub fn copy(&self, _alloc: Global) -> Result<Text, Memory>
         ensures { IfOk result (λ made. made ≡ self.now) }
     {
-        Text::new(alloc, self.as_str())
+        let text = self.text.clone()?;
+        Ok(Text { text })
     }
 }
 
