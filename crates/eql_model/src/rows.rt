@@ -95,7 +95,7 @@ fn joined_labels(alloc: Global, attribute: usize, items: &[Item]) -> Result<Text
 {
     let mut text = String::new(alloc);
     push_labels(&mut text, attribute, items)?;
-    Ok(Text::from_string(text))
+    Text::from_string(text)
 }
 
 /// The row of a result. The only refusal is want of memory.

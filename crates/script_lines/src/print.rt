@@ -32,7 +32,7 @@ pub fn print_reply(alloc: Global, reply: &Reply) -> Result<Text, Memory>
     push_head(&mut out, reply.line, reply.n)?;
     push_answer(&mut out, alloc, &reply.answer)?;
     out.push_str("}\n")?;
-    Ok(Text::from_string(out))
+    Text::from_string(out)
 }
 
 /// The last line of a run that the fault of this line ends. The only refusal is want of memory.

@@ -106,7 +106,7 @@ fn piece(alloc: Global, before: &str, text: &str, behind: &str) -> Result<Text, 
     let mut out = String::from_str(alloc, before)?;
     push_quoted(&mut out, alloc, text)?;
     out.push_str(behind)?;
-    Ok(Text::from_string(out))
+    Text::from_string(out)
 }
 
 /// The beginning of a row's text, up to the time of the end. The only refusal is want of memory.
@@ -119,5 +119,5 @@ fn head_piece(alloc: Global, attribute: &str, bundle: &str) -> Result<Text, Memo
     out.push_str(",\"bundle\":")?;
     push_quoted(&mut out, alloc, bundle)?;
     out.push_str(",\"end\":")?;
-    Ok(Text::from_string(out))
+    Text::from_string(out)
 }

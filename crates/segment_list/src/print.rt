@@ -103,5 +103,5 @@ pub fn print_rows(alloc: Global, list: &SegmentList) -> Result<Text, Memory>
     out.push_str("[")?;
     push_rows(&mut out, alloc, list.as_slice())?;
     out.push_str("]")?;
-    Ok(Text::from_string(out))
+    Text::from_string(out)
 }

@@ -16,11 +16,11 @@ in_pieces n rows = flat (codes "{\"n\":") (decimal n) (codes ",\"segments\":") (
 seam : (a b c d : List ℕ) → ((a ++ b) ++ c) ++ d ≡ a ++ (b ++ (c ++ d))
 seam a b c d = simp append_assoc
 
-pub written : (n : ℕ) (rows : List Row) (text o p q u r : List ℕ) → text ≡ u → o ≡ [] → p ≡ o ++ head_text n
+pub written : (n : ℕ) (rows : List Row) (o p q u r : List ℕ) → o ≡ [] → p ≡ o ++ head_text n
     → q ≡ p ++ r → u ≡ q ++ codes "}\n"
-    → r ≡ rows_text rows → text ≡ segments_text n rows
-written n rows text o p q u r is empty head rows_behind end printed =
-    is ∙ end
+    → r ≡ rows_text rows → u ≡ segments_text n rows
+written n rows o p q u r empty head rows_behind end printed =
+    end
     ∙ ap (λ (x : List ℕ). x ++ codes "}\n") (rows_behind ∙ ap (λ (x : List ℕ). x ++ r) head)
     ∙ seam o (head_text n) r (codes "}\n")
     ∙ ap (λ (x : List ℕ). x ++ (head_text n ++ (r ++ codes "}\n"))) empty

@@ -45,7 +45,7 @@ fn annot_line(alloc: Global, config: &Config, bundle: &Bundle) -> Result<Text, M
     let text = print_annot(alloc, config, bundle)?;
     let mut line = String::from_str(alloc, text.as_str())?;
     line.push_str("\n")?;
-    Ok(Text::from_string(line))
+    Text::from_string(line)
 }
 
 /// The annotation of the bundle of a key on a line of its own.

@@ -35,5 +35,5 @@ pub fn history_text(alloc: Global, entries: &Entries) -> Result<Text, Memory>
 {
     let mut out = String::new(alloc);
     push_entries(&mut out, alloc, entries.as_slice())?;
-    Ok(Text::from_string(out))
+    Text::from_string(out)
 }

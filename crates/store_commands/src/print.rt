@@ -22,7 +22,7 @@ fn line_of(alloc: Global, value: &Value) -> Result<Text, Memory>
 {
     let mut line = value.to_string(alloc)?;
     line.push_str("\n")?;
-    Ok(Text::from_string(line))
+    Text::from_string(line)
 }
 
 /// The line of a note.

@@ -29,5 +29,5 @@ pub(crate) fn segments_line(alloc: Global, n: u64, rows: &SegmentList) -> Result
     push_head(&mut out, n)?;
     out.push_str(rows.as_str())?;
     out.push_str("}\n")?;
-    Ok(Text::from_string(out))
+    Text::from_string(out)
 }

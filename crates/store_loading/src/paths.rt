@@ -16,7 +16,7 @@ pub(crate) fn path_in(alloc: Global, folder: &str, name: &str, ending: &str) -> 
     ensures { IfOk result (λ path. path ≡ path_in folder.now name.now ending.now) }
 {
     let path = format!(in alloc; "{folder}/{name}{ending}")?;
-    Ok(Text::from_string(path))
+    Text::from_string(path)
 }
 
 /// The path of a database's folder.
@@ -24,7 +24,7 @@ pub(crate) fn database_path(alloc: Global, name: &str) -> Result<Text, Memory>
     ensures { IfOk result (λ path. path ≡ database_path name.now) }
 {
     let path = format!(in alloc; "{name}_emuDB")?;
-    Ok(Text::from_string(path))
+    Text::from_string(path)
 }
 
 /// What stands before an ending, where a name has it.
