@@ -1,3 +1,4 @@
 pub mod Elements
 pub mod Each
 pub mod TextLists
+pub mod Members

@@ -3,7 +3,7 @@ ghost use Rattle.std.specs.Prelude.{◌≡◌, ◌≤◌, ◌<◌, ℕ, [], ◌�
 ghost use Rattle.serde_json.specs.View.{view};
 ghost use Rattle.json_view.specs.Gives.{Gives, Tells};
 ghost use Rattle.json_view.specs.Lists.{each_of, element_of, texts_at};
-ghost use Rattle.json_view.specs.Parts.{elements_at, list_in, member_of, object_of, optional_of, present, shape, text_at, whole_at};
+ghost use Rattle.json_view.specs.Parts.{elements_at, list_in, member_of, object_of, optional_of, optional_text, present, shape, text_at, text_member, text_member_as, whole_at, whole_member, whole_member_as};
 ghost use Rattle.json_view.specs.Paths.{root_path, member_path, element_path};
 ghost use Rattle.json_view.specs.Seen.{seen, seen_at};
 
@@ -152,6 +152,94 @@ impl<'a> View<'a> {
         match String::from_str(self.alloc, self.path.as_str()) {
             Ok(text) => ViewFault::Shape(Shape {
                 path: PathText::of(text),
+                wanted,
+            }),
+            Err(_) => ViewFault::Memory,
+        }
+    }
+}
+
+// The parts of members, each read without a view of the member: only a fault has a path made for it.
+impl<'a> View<'a> {
+    /// The text of the member of this name: what `member` and then `text` give.
+    #[tactic(auto, unfolding(crate::specs::Parts::text_at, crate::specs::Parts::text_as))]
+    pub fn text_member(&self, name: &str) -> Result<&'a str, ViewFault>
+        ensures { Gives (λ t. t.now) result (text_member name.now (seen_at self.now)) }
+    {
+        self.text_member_as(name, Wanted::Text)
+    }
+
+    /// The text of the member of this name, for a reader that wants this form of it: each fault is a
+    /// `Shape` with the member's path and that form.
+    #[tactic(auto, unfolding(crate::specs::Parts::member_of, crate::specs::Parts::text_as))]
+    pub fn text_member_as(&self, name: &str, wanted: Wanted) -> Result<&'a str, ViewFault>
+        ensures { Gives (λ t. t.now) result
+            (text_member_as wanted name.now (seen_at self.now)) }
+    {
+        match self.present(name) {
+            Some(value) => match value.as_str() {
+                Some(text) => Ok(text),
+                None => Err(self.refuse_member(name, wanted)),
+            },
+            None => Err(self.refuse_member(name, wanted)),
+        }
+    }
+
+    /// The text of the member of this name, or `None` where it is missing: what `optional` and then
+    /// `text` give.
+    #[tactic(auto, unfolding(crate::specs::Parts::optional_of, crate::specs::Parts::text_at))]
+    pub fn optional_text(&self, name: &str) -> Result<Option<&'a str>, ViewFault>
+        ensures { Gives (option_map (λ t. t.now)) result
+            (optional_text name.now (seen_at self.now)) }
+    {
+        if !self.value.is_object() {
+            return Err(self.refuse(Wanted::Object));
+        }
+        match self.present(name) {
+            Some(value) => match value.as_str() {
+                Some(text) => Ok(Some(text)),
+                None => Err(self.refuse_member(name, Wanted::Text)),
+            },
+            None => Ok(None),
+        }
+    }
+
+    /// The whole number of the member of this name, from 0 to `most`: what `member` and then `whole`
+    /// give.
+    #[tactic(auto, unfolding(crate::specs::Parts::whole_at, crate::specs::Parts::whole_as))]
+    pub fn whole_member(&self, name: &str, most: u64) -> Result<u64, ViewFault>
+        ensures number { Gives (λ n. n) result
+            (whole_member name.now most (seen_at self.now)) }
+        ensures bound { IfOk result (λ n. n ≤ most) }
+    {
+        self.whole_member_as(name, most, Wanted::Whole)
+    }
+
+    /// The whole number of the member of this name, from 0 to `most`, for a reader that wants this
+    /// form of it: each fault is a `Shape` with the member's path and that form.
+    #[tactic(auto, unfolding(crate::specs::Parts::member_of, crate::specs::Parts::whole_as))]
+    pub fn whole_member_as(&self, name: &str, most: u64, wanted: Wanted) -> Result<u64, ViewFault>
+        ensures number { Gives (λ n. n) result
+            (whole_member_as wanted name.now most (seen_at self.now)) }
+        ensures bound { IfOk result (λ n. n ≤ most) }
+    {
+        match self.present(name) {
+            Some(value) => match value.as_u64() {
+                Some(whole) if whole <= most => Ok(whole),
+                _ => Err(self.refuse_member(name, wanted)),
+            },
+            None => Err(self.refuse_member(name, wanted)),
+        }
+    }
+
+    /// The fault that another form was wanted of the member of this name: a `Shape` with the
+    /// member's path.
+    pub fn refuse_member(&self, name: &str, wanted: Wanted) -> ViewFault
+        ensures { Tells result (shape (member_path (seen_at self.now).path name.now) wanted) }
+    {
+        match self.path_of_member(name) {
+            Ok(path) => ViewFault::Shape(Shape {
+                path: PathText::of(path),
                 wanted,
             }),
             Err(_) => ViewFault::Memory,
