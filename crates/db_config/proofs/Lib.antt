@@ -1,3 +1,4 @@
+pub mod Members
 pub mod Filled
 pub mod Doubles
 pub mod Lists

@@ -3,18 +3,18 @@ ghost use Rattle.std.specs.Prelude.{◌≡◌, true, IfOk, IfErr, length, ◌≤
 ghost use Rattle.json_view.specs.Gives.{Gives};
 ghost use Rattle.json_view.specs.Parts.{list_in};
 ghost use Rattle.json_view.specs.Seen.{seen_at};
-ghost use Rattle.db_config.specs.Forms.{object_of, if_name, name_in, name_at, text_member, optional_text, filled_at, level_kind_in, level_kind_at, link_kind_in, link_kind_at, string_in, string_type};
+ghost use Rattle.db_config.specs.Forms.{object_of, name_at, text_member, optional_text, filled_at, level_kind_in, level_kind_at, link_kind_in, link_kind_at, string_in, string_type};
 
 use emu_names::{LevelKind, LinkKind, Name, NameFault, Text};
 use json_view::{View, ViewFault, Wanted};
 use std::alloc::Global;
 
 /// Refuses a value that is no object.
-#[tactic(auto, unfolding(crate::specs::Forms::object_of, json_view::specs::Parts::optional_of))]
+#[tactic(auto, unfolding(crate::specs::Forms::object_of, json_view::specs::Parts::object_of))]
 pub(crate) fn object_in(view: &View) -> Result<(), ViewFault>
     ensures { Gives (λ _. true) result (object_of (seen_at view.now)) }
 {
-    let _name = view.optional("name")?;
+    view.object()?;
     Ok(())
 }
 
@@ -29,36 +29,17 @@ pub(crate) fn owned(alloc: Global, text: &str) -> Result<Text, ViewFault>
     }
 }
 
-// A text as a name.
-fn name_of(alloc: Global, text: &str, view: &View) -> Result<Name, ViewFault>
-    ensures { Gives (λ n. n) result (if_name text.now (seen_at view.now)) }
-{
-    match Name::new(alloc, text) {
-        Ok(name) => Ok(name),
-        Err(NameFault::BadName) => Err(view.refuse(Wanted::Name)),
-        Err(NameFault::Memory) => Err(ViewFault::Memory),
-    }
-}
-
-// A name; a value that is no text is no name either.
-#[tactic(auto, unfolding(crate::specs::Forms::name_in))]
-fn name_in(alloc: Global, view: &View) -> Result<Name, ViewFault>
-    ensures { Gives (λ n. n) result (name_in (seen_at view.now)) }
-{
-    match view.text() {
-        Ok(text) => name_of(alloc, text, view),
-        Err(ViewFault::Shape(_)) => Err(view.refuse(Wanted::Name)),
-        Err(ViewFault::Memory) => Err(ViewFault::Memory),
-    }
-}
-
-/// The member of this name, which has to be a name.
-#[tactic(auto, unfolding(crate::specs::Forms::name_at))]
+/// The member of this name, which has to be a name; a value that is no text is no name either.
+#[tactic(auto, using(crate::proofs::Members::names_read))]
 pub(crate) fn name_at(alloc: Global, view: &View, name: &str) -> Result<Name, ViewFault>
     ensures { Gives (λ n. n) result (name_at name.now (seen_at view.now)) }
 {
-    let part = view.member(name, Wanted::Name)?;
-    name_in(alloc, &part)
+    let text = view.text_member_as(name, Wanted::Name)?;
+    match Name::new(alloc, text) {
+        Ok(made) => Ok(made),
+        Err(NameFault::BadName) => Err(view.refuse_member(name, Wanted::Name)),
+        Err(NameFault::Memory) => Err(ViewFault::Memory),
+    }
 }
 
 /// The member of this name, which has to be a text.
@@ -66,18 +47,16 @@ pub(crate) fn name_at(alloc: Global, view: &View, name: &str) -> Result<Name, Vi
 pub(crate) fn text_member(alloc: Global, view: &View, name: &str) -> Result<Text, ViewFault>
     ensures { Gives (λ t. t) result (text_member name.now (seen_at view.now)) }
 {
-    let part = view.member(name, Wanted::Text)?;
-    let text = part.text()?;
-    owned(alloc, text)
+    owned(alloc, view.text_member(name)?)
 }
 
 /// The member of this name, which has to be a text where it is there, else the empty text.
-#[tactic(auto, unfolding(crate::specs::Forms::optional_text))]
+#[tactic(auto, using(crate::proofs::Members::texts_read))]
 pub(crate) fn optional_text(alloc: Global, view: &View, name: &str) -> Result<Text, ViewFault>
     ensures { Gives (λ t. t) result (optional_text name.now (seen_at view.now)) }
 {
-    match view.optional(name)? {
-        Some(part) => owned(alloc, part.text()?),
+    match view.optional_text(name)? {
+        Some(text) => owned(alloc, text),
         None => owned(alloc, ""),
     }
 }
