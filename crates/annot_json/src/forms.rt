@@ -37,18 +37,16 @@ pub(crate) fn put_last<T: Drop>(list: &mut Series<T>, item: T) -> Result<(), Vie
 pub(crate) fn text_member(alloc: Global, view: &View, name: &str) -> Result<Text, ViewFault>
     ensures { Gives (λ t. t) result (text_member name.now (seen_at view.now)) }
 {
-    let part = view.member(name, Wanted::Text)?;
-    let text = part.text()?;
-    owned(alloc, text)
+    owned(alloc, view.text_member(name)?)
 }
 
 /// The member of this name, which has to be a text where it is there, else the empty text.
-#[tactic(auto, unfolding(db_config::specs::Forms::optional_text))]
+#[tactic(auto, using(db_config::proofs::Members::texts_read))]
 pub(crate) fn optional_text(alloc: Global, view: &View, name: &str) -> Result<Text, ViewFault>
     ensures { Gives (λ t. t) result (optional_text name.now (seen_at view.now)) }
 {
-    match view.optional(name)? {
-        Some(part) => owned(alloc, part.text()?),
+    match view.optional_text(name)? {
+        Some(text) => owned(alloc, text),
         None => owned(alloc, ""),
     }
 }
@@ -59,8 +57,7 @@ pub(crate) fn whole_member(view: &View, name: &str, most: u64) -> Result<u64, Vi
     ensures number { Gives (λ n. n) result (whole_member name.now most (seen_at view.now)) }
     ensures bound { IfOk result (λ n. n ≤ most) }
 {
-    let part = view.member(name, Wanted::Whole)?;
-    part.whole(most)
+    view.whole_member(name, most)
 }
 
 // The type of a level by its word.

@@ -2,7 +2,7 @@
 use Rattle.std.specs.Prelude.{ℕ, List, Option, Some, None, Result, Ok, if◌then◌else◌, codes}
 use Rattle.json_view.specs.declared.faults.Shape.{Shape}
 use Rattle.json_view.specs.Seen.{Seen}
-use Rattle.json_view.specs.Parts.{optional_of, text_at}
+use Rattle.json_view.specs.Parts.{optional_of, text_there}
 use Rattle.json_view.specs.Steps.{◌>>=◌}
 use Rattle.emu_names.specs.declared.kinds.SessionNo.{SessionNo}
 use Rattle.db_config.specs.Forms.{text_member}
@@ -23,11 +23,6 @@ pub record Question : Type 0 where
   pub session : SessionNo
   pub eql : List ℕ
   pub time : Option (List ℕ)
-
--- a text, or none
-abbrev pub text_there : Option Seen → Result (Option (List ℕ)) Shape
-text_there None = Ok None
-text_there (Some m) = text_at m >>= λ text. Ok (Some text)
 
 -- the name of the level of the times, which may be missing
 unfoldable pub time_name_at : Seen → Result (Option (List ℕ)) Shape

@@ -3,9 +3,9 @@ ghost use Rattle.std.specs.Prelude.{◌≡◌, ◌≤◌, ◌++◌, ◌∷◌, [
 ghost use Rattle.json_view.specs.Gives.{Gives};
 ghost use Rattle.json_view.specs.Seen.{seen_at};
 ghost use Rattle.emu_names.specs.declared.limits.TheConstants.{TOP_RATE as MOST};
-ghost use Rattle.db_config.specs.Forms.{name_in, name_at, if_name, text_member};
+ghost use Rattle.db_config.specs.Forms.{name_at, text_member};
 ghost use Rattle.annot_json.specs.Forms.{whole_member};
-ghost use Rattle.script_lines.specs.Forms.{session_in, session_at, key_at, id_at, position_at, rate_in, rate_at};
+ghost use Rattle.script_lines.specs.Forms.{session_at, key_at, id_at, position_at, rate_in, rate_at};
 
 use emu_lists::Series;
 use emu_names::limits::{SESSIONS, TOP_RATE};
@@ -44,36 +44,17 @@ pub(crate) fn put_last<T: Drop>(list: &mut Series<T>, item: T) -> Result<(), Vie
     }
 }
 
-// A text as a name.
-fn name_of(alloc: Global, text: &str, view: &View) -> Result<Name, ViewFault>
-    ensures { Gives (λ n. n) result (if_name text.now (seen_at view.now)) }
-{
-    match Name::new(alloc, text) {
-        Ok(name) => Ok(name),
-        Err(NameFault::BadName) => Err(view.refuse(Wanted::Name)),
-        Err(NameFault::Memory) => Err(ViewFault::Memory),
-    }
-}
-
-// A name; a value that is no text is no name either.
-#[tactic(auto, unfolding(db_config::specs::Forms::name_in))]
-fn name_in(alloc: Global, view: &View) -> Result<Name, ViewFault>
-    ensures { Gives (λ n. n) result (name_in (seen_at view.now)) }
-{
-    match view.text() {
-        Ok(text) => name_of(alloc, text, view),
-        Err(ViewFault::Shape(_)) => Err(view.refuse(Wanted::Name)),
-        Err(ViewFault::Memory) => Err(ViewFault::Memory),
-    }
-}
-
-// The member of this name, which has to be a name.
-#[tactic(auto, unfolding(db_config::specs::Forms::name_at))]
+// The member of this name, which has to be a name; a value that is no text is no name either.
+#[tactic(auto, using(db_config::proofs::Members::names_read))]
 fn name_at(alloc: Global, view: &View, name: &str) -> Result<Name, ViewFault>
     ensures { Gives (λ n. n) result (name_at name.now (seen_at view.now)) }
 {
-    let part = view.member(name, Wanted::Name)?;
-    name_in(alloc, &part)
+    let text = view.text_member_as(name, Wanted::Name)?;
+    match Name::new(alloc, text) {
+        Ok(made) => Ok(made),
+        Err(NameFault::BadName) => Err(view.refuse_member(name, Wanted::Name)),
+        Err(NameFault::Memory) => Err(ViewFault::Memory),
+    }
 }
 
 /// The members `session` and `bundle`, which have to be names.
@@ -91,9 +72,7 @@ pub(crate) fn key_at(alloc: Global, view: &View) -> Result<BundleKey, ViewFault>
 pub(crate) fn text_member(alloc: Global, view: &View, name: &str) -> Result<Text, ViewFault>
     ensures { Gives (λ t. t) result (text_member name.now (seen_at view.now)) }
 {
-    let part = view.member(name, Wanted::Text)?;
-    let text = part.text()?;
-    owned(alloc, text)
+    owned(alloc, view.text_member(name)?)
 }
 
 /// The member of this name, which has to be a whole number from 0 to `most`.
@@ -102,7 +81,7 @@ pub(crate) fn whole_member(view: &View, name: &str, most: u64) -> Result<u64, Vi
     ensures number { Gives (λ n. n) result (whole_member name.now most (seen_at view.now)) }
     ensures bound { IfOk result (λ n. n ≤ most) }
 {
-    view.member(name, Wanted::Whole)?.whole(most)
+    view.whole_member(name, most)
 }
 
 /// The member of this name, which has to be the id of an item.
@@ -149,24 +128,14 @@ pub(crate) fn rate_at(view: &View) -> Result<u32, ViewFault>
     rate_in(&part)
 }
 
-// The number of a session.
-#[tactic(auto, unfolding(crate::specs::Forms::session_in))]
-fn session_in(view: &View) -> Result<SessionNo, ViewFault>
-    ensures { Gives (λ n. n) result (session_in (seen_at view.now)) }
-{
-    match view.whole(LAST_SESSION) {
-        Ok(number) if number >= 1 => Ok(SessionNo(number as u32)),
-        Ok(_) => Err(view.refuse(Wanted::Session)),
-        Err(ViewFault::Shape(_)) => Err(view.refuse(Wanted::Session)),
-        Err(ViewFault::Memory) => Err(ViewFault::Memory),
-    }
-}
-
 /// The session of a request: the member `s`, a whole number from 1 to 16.
-#[tactic(auto, unfolding(crate::specs::Forms::session_at))]
+#[tactic(auto, using(crate::proofs::Members::sessions_read))]
 pub(crate) fn session_at(view: &View) -> Result<SessionNo, ViewFault>
     ensures { Gives (λ n. n) result (session_at (seen_at view.now)) }
 {
-    let part = view.member("s", Wanted::Session)?;
-    session_in(&part)
+    let number = view.whole_member_as("s", LAST_SESSION, Wanted::Session)?;
+    if number < 1 {
+        return Err(view.refuse_member("s", Wanted::Session));
+    }
+    Ok(SessionNo(number as u32))
 }

@@ -45,11 +45,8 @@ pub(crate) fn question_command(word: &str) -> Option<Command>
 fn time_name_at(alloc: Global, view: &View) -> Result<Option<Text>, ViewFault>
     ensures { Gives (λ t. t) result (time_name_at (seen_at view.now)) }
 {
-    match view.optional("time")? {
-        Some(part) => {
-            let text = part.text()?;
-            Ok(Some(owned(alloc, text)?))
-        }
+    match view.optional_text("time")? {
+        Some(text) => Ok(Some(owned(alloc, text)?)),
         None => Ok(None),
     }
 }

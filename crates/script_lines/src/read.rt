@@ -104,13 +104,12 @@ fn placed_line(
 }
 
 // What a line does: an object whose `do` is a text.
-#[tactic(auto, unfolding(crate::specs::Values::word_of_line, db_config::specs::Forms::text_member))]
+#[tactic(auto, unfolding(crate::specs::Values::word_of_line, db_config::specs::Forms::text_member, json_view::specs::Parts::object_of, json_view::specs::Parts::optional_of))]
 fn word_of_line<'a>(view: &View<'a>) -> Result<&'a str, ViewFault>
     ensures { Gives (λ t. t.now) result (word_of_line (seen_at view.now)) }
 {
-    let _ = view.optional("do")?;
-    let part = view.member("do", Wanted::Text)?;
-    part.text()
+    view.object()?;
+    view.text_member("do")
 }
 
 // The request of a JSON value; the query of a question is prepared.
