@@ -2,6 +2,9 @@ mod HeadCodes
 mod States
 mod Codes
 mod Changes
+mod Drafting
+mod Configs
+mod Ahead
 pub mod Storing
 mod Showing
 mod Committing

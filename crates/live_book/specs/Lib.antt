@@ -6,3 +6,4 @@ pub mod Opens
 pub mod Prepared
 pub mod Live
 pub mod Laws
+pub mod Drafts

@@ -7,13 +7,15 @@ ghost use Rattle.live_book.specs.Histories.{IsHistory};
 ghost use Rattle.live_book.specs.Published.{IsStateAfter, AreShown};
 ghost use Rattle.live_book.specs.Kept.{IsBook, book_of, Holding};
 ghost use Rattle.live_book.specs.Commits.{entry_of, Commits};
+ghost use Rattle.live_book.specs.Drafts.{IsAddedBy};
 
 use crate::commit::commit_in;
+use crate::draft::Draft;
 use crate::fault::EditFault;
 use crate::parts::Parts;
 use crate::published::Published;
 use edit_journal::Journal;
-use edit_rules::{Edit, Entries, Entry};
+use edit_rules::{Edit, Entries};
 use emu_disk::Disk;
 use emu_names::{Memory, SessionNo};
 use std::alloc::Global;
@@ -55,6 +57,7 @@ impl<D: Disk> Book<D> {
     /// journal and the store would pass 268,435,456 bytes; `Disk` where the disk failed in this call. Want of
     /// memory may come in place of each, and before the disk is called. After a refusal the history, the
     /// journal's bodies and what is published are as before. It may wait for passes that read.
+    #[tactic(auto, using(crate::proofs::Configs::commits_as))]
     pub fn commit<R: Wait>(
         &mut self,
         rt: &R,
@@ -66,17 +69,24 @@ impl<D: Disk> Book<D> {
         ensures { Commits D.may_leave D.moment D.left_since D.faults self.old
             (entry_of session line edit.now) result self.new }
     {
-        match edit.copy(alloc) {
+        let config = self.parts.current.version.config();
+        match Draft::new(alloc, config, session, line, edit) {
             Err(Memory) => Err(EditFault::Memory),
-            Ok(edit) => {
-                let entry = Entry {
-                    session,
-                    line,
-                    edit,
-                };
-                commit_in(rt, alloc, &mut self.parts, entry)
-            }
+            Ok(draft) => commit_in(rt, alloc, &mut self.parts, draft),
         }
+    }
+
+    /// Accepts the edit of a draft, or says why not, as [`Book::commit`] does.
+    pub(crate) fn commit_draft<R: Wait>(
+        &mut self,
+        rt: &R,
+        alloc: Global,
+        draft: Draft,
+    ) -> Result<u64, EditFault>
+        requires { IsAddedBy self.old.config draft.entry.edit draft.added }
+        ensures { Commits D.may_leave D.moment D.left_since D.faults self.old draft.entry result self.new }
+    {
+        commit_in(rt, alloc, &mut self.parts, draft)
     }
 
     /// All entries, in order.

@@ -12,13 +12,16 @@ ghost use Rattle.version_gate.specs.Lists.{entry};
 ghost use Rattle.live_book.specs.Published.{IsStateAfter};
 ghost use Rattle.live_book.specs.Kept.{IsBook, KeepsIn, IsAsBefore, CrashLeaves, book_of, config_in, faults_in};
 ghost use Rattle.live_book.specs.Commits.{has_journal, IsAnswer, IsWelcome, DuringCommit, Commits};
+ghost use Rattle.live_book.specs.Drafts.{IsAddedBy};
 ghost use Rattle.live_book.specs.Prepared.{IsFrameOf, IsReady, IsTest, HasRoomFor, HoldsSome, ForStoreIn, refusal_of, entries_behind};
 
+use crate::draft::Draft;
 use crate::fault::EditFault;
-use crate::next::next_version;
+use crate::next::next_drafted;
 use crate::parts::Parts;
 use crate::published::Published;
 use crate::store::{append_in, is_too_much};
+use bundle_index::Indexed;
 use edit_code::{entry_len, write_entry};
 use edit_journal::{Frame, Journal};
 use edit_rules::{Entries, Entry};
@@ -103,8 +106,14 @@ fn published_twice(
 
 /// The next version, where nothing but want of memory or a fault of the disk refuses an entry.
 #[tactic(auto, using(crate::proofs::Committing::some_history, crate::proofs::Committing::no_disk))]
-fn tested<D: Disk>(alloc: Global, parts: &Parts<D>, entry: &Entry) -> Result<Version, EditFault>
-    requires { IsBook D.may_leave parts.now }
+fn tested<D: Disk>(
+    alloc: Global,
+    parts: &Parts<D>,
+    entry: &Entry,
+    added: Option<Result<Indexed, Fault>>,
+) -> Result<Version, EditFault>
+    requires book { IsBook D.may_leave parts.now }
+    requires added { IsAddedBy (config_in parts.now) entry.now.edit added }
     ensures welcome { OnOk result (
         IsWelcome (has_journal parts.now.journal) (config_in parts.now) parts.now.entries entry.now) }
     ensures config { IfOk result (λ version. version.config ≡ config_in parts.now) }
@@ -118,7 +127,7 @@ fn tested<D: Disk>(alloc: Global, parts: &Parts<D>, entry: &Entry) -> Result<Ver
     if count >= HISTORY_EDITS {
         return Err(EditFault::HistoryFull(count as u64));
     }
-    match next_version(alloc, &parts.current.version, &entry.edit) {
+    match next_drafted(alloc, &parts.current.version, &entry.edit, added) {
         Err(fault) => Err(refusal(fault, count as u64)),
         Ok(version) => {
             if is_too_much(&parts.journal, entry) {
@@ -234,19 +243,21 @@ fn put<D: Disk, R: Wait>(rt: &R, parts: &mut Parts<D>, ready: Ready) -> Result<u
     }
 }
 
-/// Accepts an entry, or says why not.
+/// Accepts the entry of a draft, or says why not.
 pub(crate) fn commit_in<D: Disk, R: Wait>(
     rt: &R,
     alloc: Global,
     parts: &mut Parts<D>,
-    entry: Entry,
+    draft: Draft,
 ) -> Result<u64, EditFault>
     requires book { IsBook D.may_leave parts.old }
+    requires draft { IsAddedBy (config_in parts.old) draft.entry.edit draft.added }
     ensures book { IsBook D.may_leave parts.new }
-    ensures commits { Commits D.may_leave D.moment D.left_since D.faults (book_of parts.old) entry result
-        (book_of parts.new) }
+    ensures commits { Commits D.may_leave D.moment D.left_since D.faults (book_of parts.old) draft.entry
+        result (book_of parts.new) }
 {
-    match tested(alloc, parts, &entry) {
+    let Draft { entry, added } = draft;
+    match tested(alloc, parts, &entry, added) {
         Err(fault) => Err(fault),
         Ok(version) => match make_ready(alloc, &parts.journal, version, entry) {
             Err(Memory) => Err(EditFault::Memory),

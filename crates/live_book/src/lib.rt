@@ -4,6 +4,7 @@
 
 mod book;
 mod commit;
+mod draft;
 mod fault;
 pub mod law;
 mod live;

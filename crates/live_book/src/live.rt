@@ -1,16 +1,20 @@
 //! A book that several threads edit, one after another.
-ghost use Rattle.std.specs.Prelude.{◌≡◌, ◌<◌, ◌≤◌, ℕ, None, length};
-ghost use Rattle.live_book.specs.Commits.{entry_of};
+ghost use Rattle.std.specs.Prelude.{◌≡◌, ◌<◌, ◌≤◌, ℕ, IfSome, None, drop, length, take};
+ghost use mathlib.Core.List.{IsPrefix};
+ghost use Rattle.live_book.specs.Commits.{Commits, entry_of};
+ghost use Rattle.live_book.specs.Drafts.{IsDraftAt, IsDraftOf};
 ghost use Rattle.live_book.specs.Kept.{Holding, KeepsIn};
 ghost use Rattle.live_book.specs.Live.{EditsLive, HasGrown, Opened, accepted_behind, all_parts, count_behind, merged, no_opening, one_part, opening_of, refused_behind, whole_share, without_part};
+ghost use Rattle.live_book.specs.Published.{AreShown};
 ghost use Rattle.version_gate.specs.Lists.{Numbered as IsNumbered};
 
 use crate::book::Book;
+use crate::draft::Draft;
 use crate::fault::EditFault;
 use crate::published::Published;
 use edit_rules::Edit;
 use emu_disk::Disk;
-use emu_names::SessionNo;
+use emu_names::{Memory, SessionNo};
 use std::alloc::Global;
 use std::marker::{Brand, Model};
 use std::sync::ledger::{self, Blank, Ledger};
@@ -119,27 +123,110 @@ fn count<K: Opening, N: Ledger>(
     }
 }
 
+/// The draft of an edit under the configuration of a version, unless memory is wanting.
+fn draft_over(
+    alloc: Global,
+    shown: &Published,
+    session: SessionNo,
+    line: u32,
+    edit: &Edit,
+) -> Option<Draft>
+    ensures { IfSome result (IsDraftOf shown.now.version.config (entry_of session line edit.now)) }
+{
+    match Draft::new(alloc, shown.version.config(), session, line, edit) {
+        Ok(draft) => Some(draft),
+        Err(Memory) => None,
+    }
+}
+
+/// The draft of an edit under the configuration of a version that the pass looks at. There is none where the pass
+/// sees no version at this moment, or memory is wanting.
+fn draft_ahead(
+    alloc: Global,
+    pass: &mut Pass<Published>,
+    session: SessionNo,
+    line: u32,
+    edit: &Edit,
+) -> Option<Draft>
+    ensures gate { pass.new.gate ≡ pass.old.gate }
+    ensures own { IsPrefix pass.old.list pass.new.list }
+    ensures draft { IfSome result (IsDraftAt pass.new.list (entry_of session line edit.now)) }
+{
+    match pass.look() {
+        Ok(seen) => draft_over(alloc, &seen.version, session, line, edit),
+        Err(_fault) => None,
+    }
+}
+
+/// Lets a pass that knows no more than the book learn what is published.
+fn learn_all<D: Disk>(book: &mut Book<D>, pass: &mut Pass<Published>)
+    requires gate { pass.old.gate ≡ book.old.gate }
+    requires seen { (k : ℕ) → IsNumbered k pass.old.list → k ≤ length book.old.history }
+    ensures same { book.new ≡ book.old }
+    ensures gate { pass.new.gate ≡ pass.old.gate }
+    ensures own { IsPrefix pass.old.list pass.new.list }
+    ensures whole { pass.new.list ≡ book.old.list }
+    ensures number { IsNumbered (length book.old.history) book.old.list }
+    ensures shown { AreShown book.old.config (take book.old.opened book.old.history)
+        (drop book.old.opened book.old.history) book.old.list }
+{
+    let _seen = pass.seen();
+    pass.learn(book.tell());
+}
+
+/// Commits an edit, of its draft where there is one, and first lets a pass that knows no more than the book learn what
+/// is published.
+fn commit_drafted<D: Disk, R: Wait>(
+    rt: &R,
+    alloc: Global,
+    book: &mut Book<D>,
+    pass: &mut Pass<Published>,
+    draft: Option<Draft>,
+    session: SessionNo,
+    line: u32,
+    edit: &Edit,
+) -> Result<u64, EditFault>
+    requires gate { pass.old.gate ≡ book.old.gate }
+    requires seen { (k : ℕ) → IsNumbered k pass.old.list → k ≤ length book.old.history }
+    requires draft { IfSome draft (IsDraftAt pass.old.list (entry_of session line edit.now)) }
+    ensures commits { Commits D.may_leave D.moment D.left_since D.faults book.old
+        (entry_of session line edit.now) result book.new }
+    ensures gate { pass.new.gate ≡ pass.old.gate }
+    ensures own { IsPrefix pass.old.list pass.new.list }
+    ensures whole { pass.new.list ≡ book.old.list }
+    ensures number { IsNumbered (length book.old.history) book.old.list }
+{
+    learn_all(book, pass);
+    match draft {
+        Some(draft) => book.commit_draft(rt, alloc, draft),
+        None => book.commit(rt, alloc, session, line, edit),
+    }
+}
+
 impl<K: Opening, N: Ledger, D: Disk> Locked<K, N, D> {
-    /// Commits an edit, and lets the pass learn what is then published.
+    /// Commits an edit, of its draft where there is one, and lets the pass learn what is then published.
     fn edit<R: Wait>(
         &mut self,
         rt: &R,
         alloc: Global,
         pass: &mut Pass<Published>,
         share: &mut Share<K, N>,
+        draft: Option<Draft>,
         session: SessionNo,
         line: u32,
         edit: &Edit,
     ) -> Result<u64, EditFault>
         requires gate { pass.old.gate ≡ K.opened.gate }
         requires part { 0 < share.old.parts }
+        requires draft { IfSome draft (IsDraftAt pass.old.list (entry_of session line edit.now)) }
         requires seen { (k : ℕ) → IsNumbered k pass.old.list → k ≤ length self.old.history }
         ensures gate { pass.new.gate ≡ pass.old.gate }
         ensures edits { EditsLive K.opened (entry_of session line edit.now) pass.old.list pass.new.list result }
         ensures counted { share.new ≡ count_behind share.old result }
     {
+        let result =
+            commit_drafted(rt, alloc, &mut self.book, pass, draft, session, line, edit);
         let _seen = pass.seen();
-        let result = self.book.commit(rt, alloc, session, line, edit);
         count(&mut self.accepted, &mut self.refused, share, &result);
         pass.learn(self.book.tell());
         result
@@ -176,8 +263,8 @@ impl<K: Opening, N: Ledger, D: Disk> Live<K, N, D> {
 
     /// Accepts an edit of a line of a session, or says why not, as [`Book::commit`] does, when the lock is free. The
     /// answer is right for the entries that stood at that moment. The pass is one of the book's gate, and has then seen
-    /// the number in the answer or more. It waits for the lock, and where the pass has seen more than the book has,
-    /// it lets go and tries again: it keeps its promise if it returns.
+    /// the number in the answer or more. What depends on the configuration alone is made before it waits for the lock.
+    /// Where the pass has seen more than the book has, it lets go and tries again: it keeps its promise if it returns.
     pub fn edit<R: Wait>(
         &self,
         rt: &R,
@@ -194,10 +281,34 @@ impl<K: Opening, N: Ledger, D: Disk> Live<K, N, D> {
         ensures edits { EditsLive K.opened (entry_of session line edit.now) pass.old.list pass.new.list result }
         ensures counted { share.new ≡ count_behind share.old result }
     {
+        let draft = draft_ahead(alloc, pass, session, line, edit);
+        let _seen = pass.seen();
+        self.edit_drafted(rt, alloc, pass, share, draft, session, line, edit)
+    }
+
+    /// The same, of the edit's draft where there is one, which is kept for the next try.
+    fn edit_drafted<R: Wait>(
+        &self,
+        rt: &R,
+        alloc: Global,
+        pass: &mut Pass<Published>,
+        share: &mut Share<K, N>,
+        draft: Option<Draft>,
+        session: SessionNo,
+        line: u32,
+        edit: &Edit,
+    ) -> Result<u64, EditFault>
+        requires gate { pass.old.gate ≡ K.opened.gate }
+        requires part { 0 < share.old.parts }
+        requires draft { IfSome draft (IsDraftAt pass.old.list (entry_of session line edit.now)) }
+        ensures gate { pass.new.gate ≡ pass.old.gate }
+        ensures edits { EditsLive K.opened (entry_of session line edit.now) pass.old.list pass.new.list result }
+        ensures counted { share.new ≡ count_behind share.old result }
+    {
         for _ in rt.forever() {
             let mut guard = self.lock.lock(rt);
             if pass.seen() <= guard.book.number() {
-                let result = guard.edit(rt, alloc, pass, share, session, line, edit);
+                let result = guard.edit(rt, alloc, pass, share, draft, session, line, edit);
                 MutexGuard::unlock(guard);
                 return result;
             }

@@ -9,13 +9,15 @@ ghost use Rattle.edit_rules.specs.Changes.{changed};
 ghost use Rattle.edit_rules.specs.Edits.{key_of};
 ghost use Rattle.edit_rules.specs.Effects.{effect, IsFirstFault};
 ghost use Rattle.version_tree.specs.Version.{state_of, state_put, next_number};
+ghost use Rattle.live_book.specs.Drafts.{GivesAdded, IsAddedBy, fitting, room_for};
 ghost use Rattle.live_book.specs.Prepared.{changed_in, level_called, level_with, touched};
 
 use bundle_index::Indexed;
 use bundle_state::Bundle;
 use db_config::Config;
-use edit_rules::{Edit, change};
-use emu_names::{BundleKey, Fault, ItemId, Memory, Text};
+use edit_rules::{Counts, Edit, change};
+use emu_names::limits::{ALL_ITEMS, BUNDLES};
+use emu_names::{Broken, BundleKey, Fault, ItemId, Memory, Text, What};
 use level_items::AnnotLabel;
 use std::alloc::Global;
 use version_tree::Version;
@@ -169,6 +171,24 @@ fn indexed_in(
     }
 }
 
+/// The version with the bundle that an edit made, which has its columns.
+fn with_indexed(
+    alloc: Global,
+    version: &Version,
+    edit: &Edit,
+    indexed: Indexed,
+) -> Result<Version, Memory>
+    requires keeps { KeepsDatabaseRules (state_of version.now) }
+    requires made { changed_in (state_of version.now) edit.now ≡ Ok (Some indexed.bundle) }
+    ensures state { IfOk result (λ next.
+        effect (state_of version.now) edit.now ≡ Ok (state_of next)) }
+    ensures config { IfOk result (λ next. next.config ≡ version.now.config) }
+    ensures number { IfOk result (λ next. next.number ≡ next_number version.now.number) }
+{
+    let next = version.with(alloc, indexed)?;
+    Ok(next)
+}
+
 /// The version with the bundle that an edit made.
 fn with_bundle(
     alloc: Global,
@@ -184,8 +204,7 @@ fn with_bundle(
     ensures number { IfOk result (λ next. next.number ≡ next_number version.now.number) }
 {
     let indexed = indexed_in(alloc, version, edit, bundle)?;
-    let next = version.with(alloc, indexed)?;
-    Ok(next)
+    with_indexed(alloc, version, edit, indexed)
 }
 
 /// The version without the bundle that an edit takes out.
@@ -199,6 +218,91 @@ fn without_bundle(alloc: Global, version: &Version, edit: &Edit) -> Result<Versi
 {
     let next = version.without(alloc, edit.key())?;
     Ok(next)
+}
+
+/// A new bundle with its columns, unless all bundles would have too many items with it.
+fn if_fitting(counts: Counts, new: Indexed) -> Result<Indexed, Fault>
+    ensures { result ≡ fitting counts (Ok new) }
+{
+    if counts.items as usize + new.bundle().item_count() > ALL_ITEMS {
+        return Err(Fault::Broken(Broken::TooMany(What::AllItems)));
+    }
+    Ok(new)
+}
+
+/// What was made of an annotation, unless there are too many bundles or items with it.
+fn if_room(counts: Counts, made: Result<Indexed, Fault>) -> Result<Indexed, Fault>
+    ensures { result ≡ room_for counts made }
+{
+    if counts.bundles as usize >= BUNDLES {
+        return Err(Fault::Broken(Broken::TooMany(What::Bundles)));
+    }
+    match made {
+        Ok(new) => if_fitting(counts, new),
+        Err(fault) => Err(fault),
+    }
+}
+
+/// The bundle that an edit adds to a version, of what was made of its annotation.
+#[tactic(auto, using(crate::proofs::Drafting::taken, crate::proofs::Drafting::added))]
+fn added_in(
+    version: &Version,
+    edit: &Edit,
+    made: Result<Indexed, Fault>,
+) -> Result<Indexed, Fault>
+    requires { IsAddedBy version.now.config edit.now (Some made) }
+    ensures { GivesAdded result (changed_in (state_of version.now) edit.now) }
+{
+    match version.get(edit.key()) {
+        Some(_old) => Err(Fault::Broken(Broken::BundleTaken)),
+        None => if_room(version.counts(), made),
+    }
+}
+
+/// The version behind one more edit that adds a bundle, of what was made of its annotation.
+#[tactic(auto, using(crate::proofs::Drafting::first_added))]
+fn next_added(
+    alloc: Global,
+    version: &Version,
+    edit: &Edit,
+    made: Result<Indexed, Fault>,
+) -> Result<Version, Fault>
+    requires keeps { KeepsDatabaseRules (state_of version.now) }
+    requires made { IsAddedBy version.now.config edit.now (Some made) }
+    ensures state { IfOk result (λ next.
+        effect (state_of version.now) edit.now ≡ Ok (state_of next)) }
+    ensures config { IfOk result (λ next. next.config ≡ version.now.config) }
+    ensures number { IfOk result (λ next. next.number ≡ next_number version.now.number) }
+    ensures broken { IfErr result (λ fault.
+        IsFirstFault fault (effect (state_of version.now) edit.now)) }
+{
+    match added_in(version, edit, made) {
+        Ok(indexed) => Ok(with_indexed(alloc, version, edit, indexed)?),
+        Err(fault) => Err(fault),
+    }
+}
+
+/// The version behind one more edit, for which all is made that does not depend on the version, or the rule
+/// that it breaks first, or want of memory.
+pub(crate) fn next_drafted(
+    alloc: Global,
+    version: &Version,
+    edit: &Edit,
+    added: Option<Result<Indexed, Fault>>,
+) -> Result<Version, Fault>
+    requires keeps { KeepsDatabaseRules (state_of version.now) }
+    requires added { IsAddedBy version.now.config edit.now added }
+    ensures state { IfOk result (λ next.
+        effect (state_of version.now) edit.now ≡ Ok (state_of next)) }
+    ensures config { IfOk result (λ next. next.config ≡ version.now.config) }
+    ensures number { IfOk result (λ next. next.number ≡ next_number version.now.number) }
+    ensures broken { IfErr result (λ fault.
+        IsFirstFault fault (effect (state_of version.now) edit.now)) }
+{
+    match added {
+        Some(made) => next_added(alloc, version, edit, made),
+        None => next_version(alloc, version, edit),
+    }
 }
 
 /// The version behind one more edit, or the rule that it breaks first, or want of memory.

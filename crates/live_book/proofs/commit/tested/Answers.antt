@@ -7,22 +7,29 @@ use Rattle.live_book.specs.declared.published.Published.{Published}
 use Rattle.live_book.specs.Published.{IsStateAfter}
 use Rattle.live_book.specs.Kept.{config_in}
 use Rattle.live_book.specs.Commits.{has_journal, HasRoom, IsTooMuch, IsAnswer}
+use Rattle.live_book.specs.Drafts.{IsAddedBy}
 use Rattle.live_book.specs.Prepared.{IsTest}
 use Rattle.live_book.proofs.Committing.{refused, store_full, breaks_none}
 use Rattle.live_book.proofs.States.{state_keeps, next_state}
 use Rattle.live_book.proofs.commit.tested.Goals as goal
 
-pub next_version-requires : goal.next_version-requires
-next_version-requires g c =
+pub next_drafted-requires-clause-keeps : goal.next_drafted-requires-clause-keeps
+next_drafted-requires-clause-keeps g c =
     let p = c.args.parts.now in
     let same : c.deref.result.now ≡ arc_value p.current = search rules in
-    subst (λ (x : Published). KeepsDatabaseRules (state_of x.version)) (sym same) (state_keeps (config_in p) p.entries (arc_value p.current).version c.requires.valid c.requires.state)
+    subst (λ (x : Published). KeepsDatabaseRules (state_of x.version)) (sym same) (state_keeps (config_in p) p.entries (arc_value p.current).version c.requires.book.valid c.requires.book.state)
+
+pub next_drafted-requires-clause-added : goal.next_drafted-requires-clause-added
+next_drafted-requires-clause-added g c =
+    let p = c.args.parts.now in
+    let same : c.deref.result.now ≡ arc_value p.current = search rules in
+    subst (λ (x : Published). IsAddedBy x.version.config c.args.entry.now.edit c.args.added) (sym same) c.requires.added
 
 pub returns-in-Err-clause-refused : goal.returns-in-Err-clause-refused
 returns-in-Err-clause-refused g c =
     let p = c.args.parts.now in
     let same : c.deref.result.now ≡ arc_value p.current = search rules in
-    let state : IsStateAfter (config_in p) p.entries c.deref.result.now.version = subst (λ (x : Published). IsStateAfter (config_in p) p.entries x.version) (sym same) c.requires.state in
+    let state : IsStateAfter (config_in p) p.entries c.deref.result.now.version = subst (λ (x : Published). IsStateAfter (config_in p) p.entries x.version) (sym same) c.requires.book.state in
     let room : HasRoom p.entries = omega (arith, c.len-count.ensures, c.if-count-ge-HISTORY_EDITS.false) in
     subst (λ (f : EditFault). IsAnswer (has_journal p.journal) (config_in p) p.entries c.args.entry.now (Err f)) (sym c.refusal.ensures)
     (refused (config_in p) p.entries c.args.entry.now c.deref.result.now.version state (has_journal p.journal) c.in-Err.fault c.len-count.result c.len-count.ensures room c.in-Err.ensures.broken)
@@ -31,10 +38,10 @@ pub returns-then-is_too_much-clause-refused : goal.returns-then-is_too_much-clau
 returns-then-is_too_much-clause-refused g c =
     let p = c.args.parts.now in
     let same : c.deref.result.now ≡ arc_value p.current = search rules in
-    let state : IsStateAfter (config_in p) p.entries c.deref.result.now.version = subst (λ (x : Published). IsStateAfter (config_in p) p.entries x.version) (sym same) c.requires.state in
+    let state : IsStateAfter (config_in p) p.entries c.deref.result.now.version = subst (λ (x : Published). IsStateAfter (config_in p) p.entries x.version) (sym same) c.requires.book.state in
     let room : HasRoom p.entries = omega (arith, c.len-count.ensures, c.if-count-ge-HISTORY_EDITS.false) in
     let much : IsTooMuch (has_journal p.journal) (config_in p) p.entries c.args.entry.now =
-    subst (λ (t : Bool). IsTest t (IsTooMuch (has_journal p.journal) (config_in p) p.entries c.args.entry.now)) c.if-is_too_much.true (c.is_too_much.ensures (config_in p) p.entries c.requires.held.0 c.requires.held.1) in
+    subst (λ (t : Bool). IsTest t (IsTooMuch (has_journal p.journal) (config_in p) p.entries c.args.entry.now)) c.if-is_too_much.true (c.is_too_much.ensures (config_in p) p.entries c.requires.book.held.0 c.requires.book.held.1) in
     store_full (has_journal p.journal) (config_in p) p.entries c.args.entry.now c.len-count.result c.len-count.ensures room
     (breaks_none (config_in p) p.entries c.args.entry.now c.deref.result.now.version state c.in-Ok.version c.in-Ok.ensures.state) much
 
@@ -42,10 +49,10 @@ pub returns-else-is_too_much-clause-welcome : goal.returns-else-is_too_much-clau
 returns-else-is_too_much-clause-welcome g c =
     let p = c.args.parts.now in
     let same : c.deref.result.now ≡ arc_value p.current = search rules in
-    let state : IsStateAfter (config_in p) p.entries c.deref.result.now.version = subst (λ (x : Published). IsStateAfter (config_in p) p.entries x.version) (sym same) c.requires.state in
+    let state : IsStateAfter (config_in p) p.entries c.deref.result.now.version = subst (λ (x : Published). IsStateAfter (config_in p) p.entries x.version) (sym same) c.requires.book.state in
     let room : HasRoom p.entries = omega (arith, c.len-count.ensures, c.if-count-ge-HISTORY_EDITS.false) in
     let fits : IsTest false (IsTooMuch (has_journal p.journal) (config_in p) p.entries c.args.entry.now) =
-    subst (λ (t : Bool). IsTest t (IsTooMuch (has_journal p.journal) (config_in p) p.entries c.args.entry.now)) c.if-is_too_much.false (c.is_too_much.ensures (config_in p) p.entries c.requires.held.0 c.requires.held.1) in
+    subst (λ (t : Bool). IsTest t (IsTooMuch (has_journal p.journal) (config_in p) p.entries c.args.entry.now)) c.if-is_too_much.false (c.is_too_much.ensures (config_in p) p.entries c.requires.book.held.0 c.requires.book.held.1) in
     record {
       room = room;
       breaks_none = breaks_none (config_in p) p.entries c.args.entry.now c.deref.result.now.version state c.in-Ok.version c.in-Ok.ensures.state;
@@ -56,6 +63,6 @@ pub returns-else-is_too_much-clause-state : goal.returns-else-is_too_much-clause
 returns-else-is_too_much-clause-state g c =
     let p = c.args.parts.now in
     let same : c.deref.result.now ≡ arc_value p.current = search rules in
-    let state : IsStateAfter (config_in p) p.entries c.deref.result.now.version = subst (λ (x : Published). IsStateAfter (config_in p) p.entries x.version) (sym same) c.requires.state in
+    let state : IsStateAfter (config_in p) p.entries c.deref.result.now.version = subst (λ (x : Published). IsStateAfter (config_in p) p.entries x.version) (sym same) c.requires.book.state in
     let room : HasRoom p.entries = omega (arith, c.len-count.ensures, c.if-count-ge-HISTORY_EDITS.false) in
     next_state (config_in p) p.entries c.args.entry.now c.deref.result.now.version state c.in-Ok.version room c.in-Ok.ensures.state c.in-Ok.ensures.number

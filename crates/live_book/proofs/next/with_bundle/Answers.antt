@@ -1,11 +1,9 @@
-use Rattle.live_book.proofs.Changes.{made_fits, made_room, put_effect}
+use Rattle.std.proofs.Common.{◌≡◌, Some, Ok, sym, subst}
+use Rattle.bundle_state.specs.Bundle.{BundleParts}
+use Rattle.version_tree.specs.Version.{state_of}
+use Rattle.live_book.specs.Prepared.{changed_in}
 use Rattle.live_book.proofs.next.with_bundle.Goals as goal
 
-pub with-requires-clause-fits : goal.with-requires-clause-fits
-with-requires-clause-fits c = made_fits c.args.version.now c.args.edit.now c.args.bundle c.in_ok-indexed.indexed c.requires.keeps c.requires.made c.in_ok-indexed.ensures
-
-pub with-requires-clause-room : goal.with-requires-clause-room
-with-requires-clause-room c = made_room c.args.version.now c.args.edit.now c.args.bundle c.in_ok-indexed.indexed c.requires.keeps c.requires.made c.in_ok-indexed.ensures
-
-pub returns-clause-state : goal.returns-clause-state
-returns-clause-state c = put_effect c.args.version.now c.args.edit.now c.args.bundle c.in_ok-indexed.indexed c.in_ok-next.next c.requires.keeps c.requires.made c.in_ok-indexed.ensures c.in_ok-next.ensures.state
+pub with_indexed-requires-clause-made : goal.with_indexed-requires-clause-made
+with_indexed-requires-clause-made c =
+    subst (λ (p : BundleParts). changed_in (state_of c.args.version.now) c.args.edit.now ≡ Ok (Some p)) (sym c.in_ok-indexed.ensures) c.requires.made

@@ -1,5 +1,5 @@
 use Rattle.std.proofs.Common.{◌≡◌}
-use Rattle.live_book.proofs.live.Live.edit.Given as goal
+use Rattle.live_book.proofs.live.Live.edit_drafted.Given as goal
 
 abbrev pub invariant-loop : goal.invariant-loop
 invariant-loop g l =
