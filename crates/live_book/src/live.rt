@@ -224,8 +224,7 @@ impl<K: Opening, N: Ledger, D: Disk> Locked<K, N, D> {
         ensures edits { EditsLive K.opened (entry_of session line edit.now) pass.old.list pass.new.list result }
         ensures counted { share.new ≡ count_behind share.old result }
     {
-        let result =
-            commit_drafted(rt, alloc, &mut self.book, pass, draft, session, line, edit);
+        let result = commit_drafted(rt, alloc, &mut self.book, pass, draft, session, line, edit);
         let _seen = pass.seen();
         count(&mut self.accepted, &mut self.refused, share, &result);
         pass.learn(self.book.tell());

@@ -245,11 +245,7 @@ fn if_room(counts: Counts, made: Result<Indexed, Fault>) -> Result<Indexed, Faul
 
 /// The bundle that an edit adds to a version, of what was made of its annotation.
 #[tactic(auto, using(crate::proofs::Drafting::taken, crate::proofs::Drafting::added))]
-fn added_in(
-    version: &Version,
-    edit: &Edit,
-    made: Result<Indexed, Fault>,
-) -> Result<Indexed, Fault>
+fn added_in(version: &Version, edit: &Edit, made: Result<Indexed, Fault>) -> Result<Indexed, Fault>
     requires { IsAddedBy version.now.config edit.now (Some made) }
     ensures { GivesAdded result (changed_in (state_of version.now) edit.now) }
 {
