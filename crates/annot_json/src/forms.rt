@@ -21,6 +21,17 @@ fn owned(alloc: Global, text: &str) -> Result<Text, ViewFault>
     }
 }
 
+/// The list of no element, with room for so many. It fails only for want of memory.
+pub(crate) fn with_capacity<T>(alloc: Global, count: usize) -> Result<Series<T>, ViewFault>
+    ensures none { IfOk result (λ made. made ≡ []) }
+    ensures memory { IfErr result (λ e. e ≡ ViewFault.Memory) }
+{
+    match Vec::with_capacity(alloc, count) {
+        Ok(items) => Ok(Series::from_vec(items)),
+        Err(_) => Err(ViewFault::Memory),
+    }
+}
+
 /// Puts an element last. It fails only for want of memory.
 pub(crate) fn put_last<T: Drop>(list: &mut Series<T>, item: T) -> Result<(), ViewFault>
     ensures last { OnOk result (list.new ≡ list.old ++ item ∷ []) }
@@ -30,6 +41,41 @@ pub(crate) fn put_last<T: Drop>(list: &mut Series<T>, item: T) -> Result<(), Vie
         Ok(()) => Ok(()),
         Err(_) => Err(ViewFault::Memory),
     }
+}
+
+/// A text that is shared with `like` where they are the same. It fails only for want of memory.
+fn shared_with(alloc: Global, text: &str, like: Option<&Text>) -> Result<Text, ViewFault>
+    ensures text { IfOk result (λ made. made ≡ text.now) }
+    ensures memory { IfErr result (λ e. e ≡ ViewFault.Memory) }
+{
+    match like {
+        Some(known) if known.as_str() == text => copied(alloc, known),
+        _ => owned(alloc, text),
+    }
+}
+
+// The same text again. It fails only for want of memory.
+fn copied(alloc: Global, text: &Text) -> Result<Text, ViewFault>
+    ensures text { IfOk result (λ made. made ≡ text.now) }
+    ensures memory { IfErr result (λ e. e ≡ ViewFault.Memory) }
+{
+    match text.copy(alloc) {
+        Ok(made) => Ok(made),
+        Err(_) => Err(ViewFault::Memory),
+    }
+}
+
+/// The member of this name, which has to be a text; it is shared with `like` where they are the same.
+#[tactic(auto, unfolding(db_config::specs::Forms::text_member))]
+pub(crate) fn text_member_like(
+    alloc: Global,
+    view: &View,
+    name: &str,
+    like: Option<&Text>,
+) -> Result<Text, ViewFault>
+    ensures { Gives (λ t. t) result (text_member name.now (seen_at view.now)) }
+{
+    shared_with(alloc, view.text_member(name)?, like)
 }
 
 /// The member of this name, which has to be a text.

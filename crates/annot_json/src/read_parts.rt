@@ -5,9 +5,11 @@ ghost use Rattle.json_view.specs.Lists.{each_of};
 ghost use Rattle.json_view.specs.Seen.{seen_at};
 ghost use Rattle.annot_json.specs.Read.{label_in, labels_in, span_in, point_in, time_in, item_in, items_in, level_in, levels_in, link_in, links_in};
 
-use crate::forms::{level_kind_at, put_last, text_member, whole_member};
+use crate::forms::{
+    level_kind_at, put_last, text_member, text_member_like, whole_member, with_capacity,
+};
 use crate::limits::{TOP_ID, TOP_WHOLE};
-use emu_names::{ItemId, LevelKind};
+use emu_names::{ItemId, LevelKind, Text};
 use json_view::{View, ViewFault};
 use level_items::{
     AnnotItem, AnnotItems, AnnotLabel, AnnotLabels, AnnotLevel, AnnotLevels, AnnotLink, AnnotLinks,
@@ -15,27 +17,35 @@ use level_items::{
 };
 use std::alloc::Global;
 
-// A label.
+// A label, which shares the name of the label `like` where it has the same.
 #[tactic(auto, unfolding(crate::specs::Read::label_in))]
-fn label_in(alloc: Global, view: &View) -> Result<AnnotLabel, ViewFault>
+fn label_in(alloc: Global, view: &View, like: Option<&AnnotLabel>) -> Result<AnnotLabel, ViewFault>
     ensures { Gives (λ l. l) result (label_in (seen_at view.now)) }
 {
     view.object()?;
-    let name = text_member(alloc, view, "name")?;
+    let name = text_member_like(alloc, view, "name", name_of(like))?;
     let value = text_member(alloc, view, "value")?;
     Ok(AnnotLabel { name, value })
 }
 
-// The labels of a list.
+// The name of a label.
+fn name_of(label: Option<&AnnotLabel>) -> Option<&Text> {
+    match label {
+        Some(label) => Some(&label.name),
+        None => None,
+    }
+}
+
+// The labels of a list, which share the names of the labels `like` where they have the same.
 #[tactic(auto, using(json_view::proofs::Each::each_steps), unfolding(json_view::specs::Lists::each_of))]
-fn each_label(alloc: Global, view: &View) -> Result<AnnotLabels, ViewFault>
+fn each_label(alloc: Global, view: &View, like: &[AnnotLabel]) -> Result<AnnotLabels, ViewFault>
     ensures { Gives (λ l. l) result (each_of label_in (seen_at view.now)) }
 {
     let count = view.list_len()?;
-    let mut labels = AnnotLabels::new(alloc);
+    let mut labels = with_capacity(alloc, count)?;
     for place in 0..count {
         let part = view.at(place)?;
-        match label_in(alloc, &part) {
+        match label_in(alloc, &part, like.get(place)) {
             Ok(label) => put_last(&mut labels, label)?,
             Err(fault) => return Err(fault),
         }
@@ -45,11 +55,11 @@ fn each_label(alloc: Global, view: &View) -> Result<AnnotLabels, ViewFault>
 
 // The member `labels`, which may be missing.
 #[tactic(auto, unfolding(crate::specs::Read::labels_in))]
-fn labels_in(alloc: Global, view: &View) -> Result<AnnotLabels, ViewFault>
+fn labels_in(alloc: Global, view: &View, like: &[AnnotLabel]) -> Result<AnnotLabels, ViewFault>
     ensures { Gives (λ l. l) result (labels_in (seen_at view.now)) }
 {
     match view.optional("labels")? {
-        Some(part) => each_label(alloc, &part),
+        Some(part) => each_label(alloc, &part, like),
         None => Ok(AnnotLabels::new(alloc)),
     }
 }
@@ -84,14 +94,27 @@ fn time_in(view: &View, kind: LevelKind) -> Result<Time, ViewFault>
     }
 }
 
-// An item of a level of this kind.
+// The labels of the last of these items.
+fn last_labels(items: &[AnnotItem]) -> &[AnnotLabel] {
+    match items.last() {
+        Some(item) => item.labels.as_slice(),
+        None => &[],
+    }
+}
+
+// An item of a level of this kind, behind these items of the level.
 #[tactic(auto, unfolding(crate::specs::Read::item_in))]
-fn item_in(alloc: Global, view: &View, kind: LevelKind) -> Result<AnnotItem, ViewFault>
+fn item_in(
+    alloc: Global,
+    view: &View,
+    kind: LevelKind,
+    before: &[AnnotItem],
+) -> Result<AnnotItem, ViewFault>
     ensures { Gives (λ i. i) result (item_in kind (seen_at view.now)) }
 {
     view.object()?;
     let id = ItemId(whole_member(view, "id", TOP_ID)? as u32);
-    let labels = labels_in(alloc, view)?;
+    let labels = labels_in(alloc, view, last_labels(before))?;
     let time = time_in(view, kind)?;
     Ok(AnnotItem { id, time, labels })
 }
@@ -102,10 +125,10 @@ fn each_item(alloc: Global, view: &View, kind: LevelKind) -> Result<AnnotItems, 
     ensures { Gives (λ i. i) result (each_of (item_in kind) (seen_at view.now)) }
 {
     let count = view.list_len()?;
-    let mut items = AnnotItems::new(alloc);
+    let mut items = with_capacity(alloc, count)?;
     for place in 0..count {
         let part = view.at(place)?;
-        match item_in(alloc, &part, kind) {
+        match item_in(alloc, &part, kind, items.as_slice()) {
             Ok(item) => put_last(&mut items, item)?,
             Err(fault) => return Err(fault),
         }
@@ -142,7 +165,7 @@ fn each_level(alloc: Global, view: &View) -> Result<AnnotLevels, ViewFault>
     ensures { Gives (λ l. l) result (each_of level_in (seen_at view.now)) }
 {
     let count = view.list_len()?;
-    let mut levels = AnnotLevels::new(alloc);
+    let mut levels = with_capacity(alloc, count)?;
     for place in 0..count {
         let part = view.at(place)?;
         match level_in(alloc, &part) {
@@ -181,7 +204,7 @@ fn each_link(alloc: Global, view: &View) -> Result<AnnotLinks, ViewFault>
     ensures { Gives (λ l. l) result (each_of link_in (seen_at view.now)) }
 {
     let count = view.list_len()?;
-    let mut links = AnnotLinks::new(alloc);
+    let mut links = with_capacity(alloc, count)?;
     for place in 0..count {
         let part = view.at(place)?;
         match link_in(&part) {

@@ -15,16 +15,17 @@ use emu_names::{Fault, Memory, Text};
 use level_items::{Annot, AnnotItem, AnnotLabel, AnnotLevel, Item, Labels, LevelList};
 use std::alloc::Global;
 
-/// The label of an attribute, which is empty where it is not given.
-fn label_named<'a>(def: &AttributeDef, labels: &'a [AnnotLabel]) -> &'a str
-    ensures { result.now ≡ label_named def.now.name labels.now }
+/// The label of an attribute, which is empty where it is not given, and else shared with the label that
+/// is given. The only refusal is want of memory.
+fn label_named(alloc: Global, def: &AttributeDef, labels: &[AnnotLabel]) -> Result<Text, Memory>
+    ensures { IfOk result (λ label. label ≡ label_named def.now.name labels.now) }
 {
     for label in labels {
         if label.name.as_str() == def.name.as_str() {
-            return label.value.as_str();
+            return label.value.copy(alloc);
         }
     }
-    ""
+    Text::new(alloc, "")
 }
 
 /// The labels of an item, one for each attribute. The only refusal is want of memory.
@@ -35,10 +36,9 @@ fn made_labels(
 ) -> Result<Shared<Labels>, Memory>
     ensures { IfOk result (λ made. made ≡ made_labels defs.now labels.now) }
 {
-    let mut made = Labels::new(alloc);
+    let mut made = Labels::with_capacity(alloc, defs.len())?;
     for def in defs {
-        let label = Text::new(alloc, label_named(def, labels))?;
-        made.push(label)?;
+        made.push(label_named(alloc, def, labels)?)?;
     }
     Shared::new(alloc, made)
 }

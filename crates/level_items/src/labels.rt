@@ -30,6 +30,14 @@ impl Labels {
         }
     }
 
+    /// The list of no label, with room for so many. The only refusal is want of memory.
+    pub fn with_capacity(alloc: Global, count: usize) -> Result<Labels, Memory>
+        ensures { IfOk result (λ made. made ≡ []) }
+    {
+        let labels = Vec::with_capacity(alloc, count)?;
+        Ok(Labels { labels })
+    }
+
     /// Puts a label last. The only refusal is want of memory, which changes nothing.
     pub fn push(&mut self, label: Text) -> Result<(), Memory>
         ensures ok { OnOk result (self.new ≡ self.old ++ label ∷ []) }

@@ -56,8 +56,7 @@ impl ByItem {
         ensures err { OnErr result ((id : ℕ) → links_at self.new id ≡ links_at self.old id) }
     {
         let links = self.lists.entry(at.0)?.or_insert(Vec::new(self.alloc));
-        links.push(link)?;
-        Ok(())
+        push_link(links, link)
     }
 
     /// Takes the links at an item out that lead from `from` to `to`.
@@ -93,4 +92,17 @@ impl ByItem {
             take_item(links, id);
         }
     }
+}
+
+/// Puts a link last. A list of one link, as nearly all are that lead up, takes the room of one. The only
+/// refusal is want of memory, which changes nothing.
+fn push_link(links: &mut Vec<Link>, link: Link) -> Result<(), Memory>
+    ensures ok { OnOk result (links.new.items ≡ links.old.items ++ link ∷ []) }
+    ensures err { OnErr result (links.new.items ≡ links.old.items) }
+{
+    if links.is_empty() {
+        links.reserve_exact(1)?;
+    }
+    links.push(link)?;
+    Ok(())
 }
