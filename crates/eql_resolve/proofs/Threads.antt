@@ -4,6 +4,7 @@ use denote.Enum.Declared.{shape}
 use denote.Param.Send.{IsSend, IsSync, sendable, view_send, view_sync, enum_send, enum_sync, recorded_send, recorded_sync}
 use denote.Param.SendFields.{declared_send, declared_sync}
 use Rattle.std.proofs.Crossing.{crosses}
+use Rattle.emu_names.proofs.texts.Text.TheSendSync as text
 use Rattle.eql_syntax.proofs.Threads.{query_send, query_sync}
 use Rattle.label_match.proofs.Threads.{pattern_send, pattern_sync}
 use denote.Ref.{NamedLft}
@@ -21,10 +22,10 @@ pub prepared_sync : IsSync prepared.the_row
 prepared_sync = view_sync prepared.TheInside.the_row _ _ _ _ (declared_sync prepared.TheInside.the_type (query_sync, (search (pattern_sync, crosses) depth 20, tt)))
 
 wanted_choice_send : (a : NamedLft) → IsSend (Enum (shape (wanted.the_type a)))
-wanted_choice_send a = search (pattern_sync, crosses, sendable) depth 30
+wanted_choice_send a = search (pattern_sync, text.the_sync, crosses, sendable) depth 30
 
 wanted_choice_sync : (a : NamedLft) → IsSync (Enum (shape (wanted.the_type a)))
-wanted_choice_sync a = search (pattern_sync, crosses, sendable) depth 30
+wanted_choice_sync a = search (pattern_sync, text.the_sync, crosses, sendable) depth 30
 
 term_choice_send : (a : NamedLft) → IsSend (Enum (shape (term.the_type a)))
 term_choice_send a =
