@@ -34,7 +34,7 @@ either row other = zip2 (λ a b. a || b) row other
 nat_same : (x : ℕ) → nat_eq x x ≡ true
 nat_same x = grind (arith, nat_tests)
 
-pub same_row : (f g : ℕ → Bool) (xs : List ℕ) → ((x : ℕ) → is_in x xs ≡ true → f x ≡ g x) → map f xs ≡ map g xs
+pub same_row : {Y : Type 0} (f g : ℕ → Y) (xs : List ℕ) → ((x : ℕ) → is_in x xs ≡ true → f x ≡ g x) → map f xs ≡ map g xs
 same_row f g [] each = refl
 same_row f g (x ∷ xs) each =
     let first : f x ≡ g x = each x (or_left (nat_eq x x) (is_in x xs) (nat_same x)) in

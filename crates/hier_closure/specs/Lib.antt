@@ -1,3 +1,4 @@
 pub mod Dominance
+pub mod Held
 pub mod Laws
 pub mod Ranks

@@ -3,7 +3,8 @@ ghost use Rattle.std.specs.Prelude.{◌≡◌, ◌<◌, length, slice_get, IfOk,
 ghost use Rattle.bundle_state.specs.Built.{FitsConfig};
 ghost use Rattle.hier_closure.specs.Dominance.{closure_of};
 
-use crate::levels::{Rows, level_rows, rows_between};
+use crate::held::Held;
+use crate::levels::{level_rows, rows_between};
 use bundle_state::Bundle;
 use db_config::Config;
 use emu_names::Memory;
@@ -15,15 +16,16 @@ use std::marker::Model;
 /// EMU Query Language (EQL)"), which contracts see as one row of bits for each upper item.
 #[derive(Drop)]
 pub struct Closure {
-    rows: Rows,
+    held: Held,
 }
 
 impl Model for Closure {
     ghost use Rattle.std.specs.Prelude.{List, Bool};
+    ghost use Rattle.hier_closure.specs.Held.{rows_in};
 
     ghost Value = { List (List Bool) };
 
-    ghost view = { λ c. c.rows };
+    ghost view = { λ c. rows_in c.held };
 }
 
 impl Closure {
@@ -44,9 +46,15 @@ impl Closure {
     {
         let _parts = config.parts();
         let _items = bundle.item_count();
+        if !config.is_above(upper, lower) {
+            let held = Held::unset(alloc, bundle, upper, lower)?;
+            return Ok(Closure { held });
+        }
         let table = rows_between(alloc, config, bundle, upper, lower)?;
         let rows = level_rows(alloc, config, bundle, lower, table.as_slice(), upper)?;
-        Ok(Closure { rows })
+        Ok(Closure {
+            held: Held::Each(rows),
+        })
     }
 
     /// The row of an item of the upper level, by its position.
@@ -54,6 +62,6 @@ impl Closure {
         requires { position < length self.now }
         ensures { slice_get self.now position ≡ Some result.now }
     {
-        self.rows.get(position)
+        self.held.row(position)
     }
 }

@@ -4,6 +4,7 @@
 
 mod children;
 mod closure;
+mod held;
 mod laws;
 mod levels;
 mod ranks;
