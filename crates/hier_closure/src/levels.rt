@@ -31,8 +31,9 @@ pub(crate) fn level_rows(
     requires made { AreMadeBelow bundle.now lower table.now level }
     ensures { IfOk result (λ rows. rows ≡ closure_of bundle.now lower level) }
 {
-    let mut rows = Series::new(alloc);
-    for item in bundle.level(level).as_slice() {
+    let items = bundle.level(level).as_slice();
+    let mut rows = Series::from_vec(Vec::with_capacity(alloc, items.len())?);
+    for item in items {
         rows.push(item_row(alloc, config, bundle, lower, table, item.id)?)?;
     }
     Ok(rows)
@@ -98,7 +99,7 @@ fn add_rank(
 fn empty_table(alloc: Global, count: usize) -> Result<Vec<Rows>, Memory>
     ensures { IfOk result (λ table. length table.items ≡ count) }
 {
-    let mut table = Vec::new(alloc);
+    let mut table = Vec::with_capacity(alloc, count)?;
     for _ in 0..count {
         table.push(Series::new(alloc))?;
     }
