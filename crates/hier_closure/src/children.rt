@@ -1,7 +1,8 @@
 //! The row of one item, which joins those of the items that it links to.
 ghost use Rattle.std.specs.Prelude.{◌≡◌, ◌<◌, ◌||◌, [], get_or, length, map, slice_get, IfOk, IsSome, Some};
 ghost use Rattle.std.specs.Simd.Lanes.{zip2};
-ghost use Rattle.bundle_state.specs.Bundle.{level_of_id};
+ghost use Rattle.bundle_state.specs.Bundle.{level_of_id, place_of};
+ghost use Rattle.bundle_state.specs.Valid.{KeepsBundleRules};
 ghost use Rattle.hier_closure.specs.Dominance.{is_or_dominates, ids_at, closure_row};
 ghost use Rattle.hier_closure.specs.Ranks.{IsUnder, AreMadeAtItem, AreMadeBelowItem};
 
@@ -21,13 +22,27 @@ fn kept_row(table: &[Rows], level: usize, position: usize) -> &BitRow
     table[level].get(position)
 }
 
-/// Sets the bits of a row that stand for an item and for those that it dominates.
+/// The level and the position of an item, which is looked for at a position of a level first.
+fn place_near(bundle: &Bundle, near: (usize, usize), id: ItemId) -> Option<(usize, usize)>
+    requires rules { KeepsBundleRules bundle.now }
+    requires level { near.0 < length bundle.now.levels }
+    ensures { result ≡ place_of bundle.now.levels id.0 }
+{
+    match bundle.level(near.0).as_slice().get(near.1) {
+        Some(item) if item.id == id => Some(near),
+        _ => bundle.place(id),
+    }
+}
+
+/// Sets the bits of a row that stand for an item and for those that it dominates. The item is looked for
+/// at a position of the lower level first, which then is the one behind it, where it stands there.
 fn add_child(
     row: &mut BitRow,
     config: &Config,
     bundle: &Bundle,
     lower: usize,
     table: &[Rows],
+    near: &mut usize,
     child: ItemId,
 )
     requires under { IsUnder config.now bundle.now }
@@ -39,10 +54,11 @@ fn add_child(
     ensures { row.new ≡ zip2 (λ a b. a || b) row.old
         (map (λ b. is_or_dominates bundle.now.links b child) (ids_at bundle.now.levels lower)) }
 {
-    let Some((level, position)) = bundle.place(child) else {
+    let Some((level, position)) = place_near(bundle, (lower, *near), child) else {
         return;
     };
     if level == lower {
+        *near = position.saturating_add(1);
         row.set(position, true);
         return;
     }
@@ -51,13 +67,15 @@ fn add_child(
     }
 }
 
-/// The row of an item of a level. The only refusal is want of memory.
+/// The row of an item of a level. Its first child is looked for at a position of the lower level first,
+/// which then is the one behind its last child that stands there. The only refusal is want of memory.
 pub(crate) fn item_row(
     alloc: Global,
     config: &Config,
     bundle: &Bundle,
     lower: usize,
     table: &[Rows],
+    near: &mut usize,
     item: ItemId,
 ) -> Result<BitRow, Memory>
     requires under { IsUnder config.now bundle.now }
@@ -72,7 +90,7 @@ pub(crate) fn item_row(
         Err(_) => return Err(Memory),
     };
     for child in bundle.links().children(item) {
-        add_child(&mut row, config, bundle, lower, table, child);
+        add_child(&mut row, config, bundle, lower, table, near, child);
     }
     Ok(row)
 }

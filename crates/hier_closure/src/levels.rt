@@ -33,8 +33,9 @@ pub(crate) fn level_rows(
 {
     let items = bundle.level(level).as_slice();
     let mut rows = Series::from_vec(Vec::with_capacity(alloc, items.len())?);
+    let mut near = 0;
     for item in items {
-        rows.push(item_row(alloc, config, bundle, lower, table, item.id)?)?;
+        rows.push(item_row(alloc, config, bundle, lower, table, &mut near, item.id)?)?;
     }
     Ok(rows)
 }

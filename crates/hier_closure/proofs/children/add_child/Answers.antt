@@ -11,12 +11,12 @@ use Rattle.hier_closure.proofs.children.add_child.Goals as goal
 
 pub returns-in_default : goal.returns-in_default
 returns-in_default c =
-    absurd (missing c.args.bundle.now.levels c.args.child.0 c.requires.there (sym c.place.ensures ∙ c.in_default.is))
+    absurd (missing c.args.bundle.now.levels c.args.child.0 c.requires.there (sym c.place_near.ensures ∙ c.in_default.is))
 
 pub set-requires : goal.set-requires
 set-requires c =
     let at : Stands c.args.bundle.now.levels c.args.child.0 c.in-Some.level c.in-Some.position =
-    stands c.args.bundle.now.levels c.args.child.0 c.in-Some.level c.in-Some.position c.requires.there (sym c.in-Some.is ∙ c.place.ensures) in
+    stands c.args.bundle.now.levels c.args.child.0 c.in-Some.level c.in-Some.position c.requires.there (sym c.in-Some.is ∙ c.place_near.ensures) in
     let low : c.in-Some.position < length (ids_at c.args.bundle.now.levels c.in-Some.level) = slice_get_within _ c.in-Some.position _ at.at in
     let same : length (ids_at c.args.bundle.now.levels c.in-Some.level) ≡ length (ids_at c.args.bundle.now.levels c.args.lower) =
     ap (λ n. length (ids_at c.args.bundle.now.levels n)) c.if-level-lower.true in
@@ -27,7 +27,7 @@ pub returns-then-level-lower : goal.returns-then-level-lower
 returns-then-level-lower c =
     let bundle = c.args.bundle.now in
     let at : Stands bundle.levels c.args.child.0 c.in-Some.level c.in-Some.position =
-    stands bundle.levels c.args.child.0 c.in-Some.level c.in-Some.position c.requires.there (sym c.in-Some.is ∙ c.place.ensures) in
+    stands bundle.levels c.args.child.0 c.in-Some.level c.in-Some.position c.requires.there (sym c.in-Some.is ∙ c.place_near.ensures) in
     let self : is_above bundle.definitions c.args.lower c.args.lower ≡ false =
     ap (λ defs. is_above defs c.args.lower c.args.lower) c.requires.under.fits.definitions ∙ not_above_self c.args.config.now c.args.lower c.requires.under.valid in
     c.set.ensures ∙ child_here bundle c.args.lower c.in-Some.position c.args.child c.args.row.now c.requires.under.rules self
@@ -38,7 +38,7 @@ returns-then-level-lower c =
 pub is_above-requires-clause-upper : goal.is_above-requires-clause-upper
 is_above-requires-clause-upper c =
     let at : Stands c.args.bundle.now.levels c.args.child.0 c.in-Some.level c.in-Some.position =
-    stands c.args.bundle.now.levels c.args.child.0 c.in-Some.level c.in-Some.position c.requires.there (sym c.in-Some.is ∙ c.place.ensures) in
+    stands c.args.bundle.now.levels c.args.child.0 c.in-Some.level c.in-Some.position c.requires.there (sym c.in-Some.is ∙ c.place_near.ensures) in
     let count = same_count c.args.config.now c.args.bundle.now c.requires.under.fits in
     omega (arith, at.within, count)
 
@@ -50,7 +50,7 @@ is_above-requires-clause-lower c =
 pub kept_row-requires-clause-level : goal.kept_row-requires-clause-level
 kept_row-requires-clause-level c =
     let at : Stands c.args.bundle.now.levels c.args.child.0 c.in-Some.level c.in-Some.position =
-    stands c.args.bundle.now.levels c.args.child.0 c.in-Some.level c.in-Some.position c.requires.there (sym c.in-Some.is ∙ c.place.ensures) in
+    stands c.args.bundle.now.levels c.args.child.0 c.in-Some.level c.in-Some.position c.requires.there (sym c.in-Some.is ∙ c.place_near.ensures) in
     let count : length c.args.table.now ≡ length c.args.bundle.now.levels = c.requires.count in
     omega (arith, at.within)
 
@@ -58,7 +58,7 @@ pub kept_row-requires-clause-position : goal.kept_row-requires-clause-position
 kept_row-requires-clause-position c =
     let bundle = c.args.bundle.now in
     let at : Stands bundle.levels c.args.child.0 c.in-Some.level c.in-Some.position =
-    stands bundle.levels c.args.child.0 c.in-Some.level c.in-Some.position c.requires.there (sym c.in-Some.is ∙ c.place.ensures) in
+    stands bundle.levels c.args.child.0 c.in-Some.level c.in-Some.position c.requires.there (sym c.in-Some.is ∙ c.place_near.ensures) in
     let above : is_above bundle.definitions c.in-Some.level c.args.lower ≡ true =
     ap (λ defs. is_above defs c.in-Some.level c.args.lower) c.requires.under.fits.definitions ∙ (sym c.is_above.ensures ∙ c.if-is_above.true) in
     let made : get_or c.args.table.now c.in-Some.level [] ≡ closure_of bundle c.args.lower c.in-Some.level = c.requires.made c.in-Some.level at.level above in
@@ -72,7 +72,7 @@ pub or_into-requires : goal.or_into-requires
 or_into-requires c =
     let bundle = c.args.bundle.now in
     let at : Stands bundle.levels c.args.child.0 c.in-Some.level c.in-Some.position =
-    stands bundle.levels c.args.child.0 c.in-Some.level c.in-Some.position c.requires.there (sym c.in-Some.is ∙ c.place.ensures) in
+    stands bundle.levels c.args.child.0 c.in-Some.level c.in-Some.position c.requires.there (sym c.in-Some.is ∙ c.place_near.ensures) in
     let above : is_above bundle.definitions c.in-Some.level c.args.lower ≡ true =
     ap (λ defs. is_above defs c.in-Some.level c.args.lower) c.requires.under.fits.definitions ∙ (sym c.is_above.ensures ∙ c.if-is_above.true) in
     let made : get_or c.args.table.now c.in-Some.level [] ≡ closure_of bundle c.args.lower c.in-Some.level = c.requires.made c.in-Some.level at.level above in
@@ -84,7 +84,7 @@ pub returns-then-is_above : goal.returns-then-is_above
 returns-then-is_above c =
     let bundle = c.args.bundle.now in
     let at : Stands bundle.levels c.args.child.0 c.in-Some.level c.in-Some.position =
-    stands bundle.levels c.args.child.0 c.in-Some.level c.in-Some.position c.requires.there (sym c.in-Some.is ∙ c.place.ensures) in
+    stands bundle.levels c.args.child.0 c.in-Some.level c.in-Some.position c.requires.there (sym c.in-Some.is ∙ c.place_near.ensures) in
     let above : is_above bundle.definitions c.in-Some.level c.args.lower ≡ true =
     ap (λ defs. is_above defs c.in-Some.level c.args.lower) c.requires.under.fits.definitions ∙ (sym c.is_above.ensures ∙ c.if-is_above.true) in
     let made : get_or c.args.table.now c.in-Some.level [] ≡ closure_of bundle c.args.lower c.in-Some.level = c.requires.made c.in-Some.level at.level above in
@@ -96,7 +96,7 @@ pub returns-else-is_above : goal.returns-else-is_above
 returns-else-is_above c =
     let bundle = c.args.bundle.now in
     let at : Stands bundle.levels c.args.child.0 c.in-Some.level c.in-Some.position =
-    stands bundle.levels c.args.child.0 c.in-Some.level c.in-Some.position c.requires.there (sym c.in-Some.is ∙ c.place.ensures) in
+    stands bundle.levels c.args.child.0 c.in-Some.level c.in-Some.position c.requires.there (sym c.in-Some.is ∙ c.place_near.ensures) in
     let aside : is_above bundle.definitions c.in-Some.level c.args.lower ≡ false =
     ap (λ defs. is_above defs c.in-Some.level c.args.lower) c.requires.under.fits.definitions ∙ (sym c.is_above.ensures ∙ c.if-is_above.false) in
     child_aside bundle c.in-Some.level c.args.lower c.args.child c.args.row.now c.requires.under.rules at.level c.if-level-lower.false aside c.requires.wide
