@@ -1,19 +1,30 @@
 -- The top call: what its words ask for, and what its status says by them.
-use Rattle.std.specs.Prelude.{◌≡◌, ◌⊎◌, ℕ, Bool, true, false, List, [], Option, Some, None}
+use Rattle.std.specs.Prelude.{◌≡◌, ◌⊎◌, ℕ, Bool, true, false, List, [], map, Option, Some, None, string_bytes}
+use Rattle.std.specs.declared.string.String.{String}
 use Rattle.std.specs.Io.KnownBytes.{Appends}
 use Rattle.fault_counts.specs.Count.{Rose}
 use Rattle.emu_io.specs.Fronts.{WritesFront}
+use Rattle.emu_io.specs.declared.traits.Source as sources
+use Rattle.emu_io.specs.declared.traits.Sink as sinks
+use Rattle.emu_io.specs.declared.folder.Folder as folders
+use Rattle.emu_disk.specs.declared.disk.Disk as disks
+use Rattle.label_match.specs.declared.maker.PatternMaker as makers
 use Rattle.cli_words.specs.declared.words.Words.{Words}
 use Rattle.cli_words.specs.declared.words.Words.TheVariants as forms
 use Rattle.cli_words.specs.Forms.{words_of}
 use Rattle.store_calls.specs.declared.ending.Ending.{Ending}
-use Rattle.store_calls.specs.Ends.{is_of_store}
+use Rattle.store_calls.specs.Ends.{EndsOnStore, is_of_store, outside_of}
 use Rattle.emu_cli.specs.declared.status.Status.{Status}
 use Rattle.emu_cli.specs.declared.status.Status.TheVariants as statuses
 use Rattle.emu_cli.specs.Bases.{EachOf}
 use Rattle.emu_cli.specs.Runs.{usage_text}
 use Rattle.emu_cli.specs.Says.{Call, Completes, IsFaultless, Says, code_of}
 use Rattle.emu_cli.specs.Lives.{SaysLive}
+use Rattle.emu_cli.specs.Told.{FinishesBy, call_by}
+
+-- the bytes of each word of a command line
+abbrev pub texts_of : {A : Type 0} → List (String A) → List (List ℕ)
+texts_of words = map (λ w. string_bytes w) words
 
 -- the words ask for a run, without a store or with one
 abbrev pub IsRunWords : List (List ℕ) → Bool → Type 0
@@ -98,3 +109,45 @@ RunCompletes words call status = (store : Bool) → AskForRun words store → Co
 abbrev pub CallCompletes : List (List ℕ) → (Bool → Call) → ℕ → Type 0
 CallCompletes words call code =
     (store : Bool) → AskForRun words store → IsFaultless (call store) → (code ≡ 0) ⊎ (code ≡ 8)
+
+-- By what source, sink, folder, disk and maker of patterns tell before the call and after it.
+
+module _ {F D P : Type 0} (folder : folders.Ghosts F) (disk : disks.Ghosts D) (maker : makers.Ghosts P)
+    (files files_after : F) (before after : D) (patterns patterns_after : P) where
+  -- a command on the store ended so
+  abbrev pub EndsOnStoreBy : Words → Ending → Type 0
+  EndsOnStoreBy command ending =
+      EndsOnStore disk.may_leave disk.moment disk.left_since disk.faults
+      (outside_of (folder.content files) (disk.reads before) (folder.faults files) (folder.faults files_after)
+      (folder.misses files) (folder.misses files_after) (disk.faults before) (disk.faults after))
+      (maker.refusals patterns) (maker.refusals patterns_after) command ending before after
+
+module _ {S K F D P : Type 0} (source : sources.Ghosts S) (sink : sinks.Ghosts K) (folder : folders.Ghosts F)
+    (disk : disks.Ghosts D) (maker : makers.Ghosts P) (words : List (List ℕ)) (script script_after : S)
+    (out out_after : K) (files files_after : F) (before after : D) (patterns patterns_after : P) where
+  -- the call, with a store or without
+  abbrev calls : Bool → Call
+  calls store =
+      call_by source sink disk maker store script script_after out out_after before after patterns patterns_after
+
+  -- what a status says of it where the words ask for a command on the store
+  abbrev stores : Status → Type 0
+  stores status =
+      SaysStore words (EndsOnStoreBy folder disk maker files files_after before after patterns patterns_after)
+      (FinishesBy sink out out_after status)
+
+  -- what a status says of it
+  abbrev pub CallEndsBy : Status → Type 0
+  CallEndsBy status = CallEnds words calls (disk.may_leave before) (disk.may_leave after) stores status
+
+  -- what the code that it answers says of it
+  abbrev pub CallSaysBy : ℕ → Type 0
+  CallSaysBy code = CallSays words calls (disk.may_leave before) (disk.may_leave after) stores code
+
+  -- where nothing is wrong outside or in the script, only want of memory keeps a run from its end
+  abbrev pub RunCompletesBy : Status → Type 0
+  RunCompletesBy status = RunCompletes words calls status
+
+  -- the same of the code
+  abbrev pub CallCompletesBy : ℕ → Type 0
+  CallCompletesBy code = CallCompletes words calls code

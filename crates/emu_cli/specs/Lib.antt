@@ -9,5 +9,6 @@ pub mod Reached
 pub mod Ran
 pub mod Reads
 pub mod Lives
+pub mod Told
 pub mod Answered
 pub mod Calls

@@ -1,5 +1,5 @@
 -- The live run of a script: its sessions at once, and what each status says of it.
-use Rattle.std.specs.Prelude.{IsTrue, ◌≡◌, ◌⊎◌, ◌<◌, ◌+◌, ℕ, Bool, true, false, List, [], ◌++◌, length, take, flat_map, Option, Some, None, Ok, Err}
+use Rattle.std.specs.Prelude.{IsTrue, ◌≡◌, ◌⊎◌, ◌<◌, ◌≤◌, ◌+◌, ℕ, Bool, true, false, List, [], ◌++◌, length, take, flat_map, Option, Some, None, Ok, Err}
 use Rattle.std.specs.Io.KnownBytes.{Appends, IsAtEnd}
 use Rattle.fault_counts.specs.Count.{Rose}
 use Rattle.emu_io.specs.Fronts.{Tells, WritesFront}
@@ -18,6 +18,7 @@ use Rattle.live_run.specs.declared.marks.Mark.{Mark}
 use Rattle.live_run.specs.declared.run.Ended.{Ended as LiveEnded}
 use Rattle.live_run.specs.Runs.{AreGrouped, marks_from}
 use Rattle.store_commands.specs.Texts.{from_text, mark_text}
+use Rattle.emu_cli.specs.declared.spread.Spread.{Spread}
 use Rattle.emu_cli.specs.declared.status.Status.{Status}
 use Rattle.emu_cli.specs.declared.status.Status.TheVariants as statuses
 use Rattle.emu_cli.specs.Scripts.{AskedLine, AreRead, Parsed, lines_of, script_of, Stop, limit, at_fault}
@@ -25,6 +26,11 @@ use Rattle.emu_cli.specs.Bases.{Base, wants_by, is_stored, opening_by, config_by
 use Rattle.emu_cli.specs.Runs.{Setting, config_reply, setting_by, stop_text}
 use Rattle.emu_cli.specs.Says.{Call, DiskFailed, FoundDamage, Gives, ReadFailed, TooLong, Unopened}
 use Rattle.script_lines.specs.declared.faults.LineFault.{LineFault}
+
+-- a live run can be spread so: over 1 to 16 passes, with 1 to 8 workers for a query
+pub record IsSpread (spread : Spread) : Type 0 where
+  pub readers : (1 ≤ spread.readers) × (spread.readers ≤ 16)
+  pub workers : (1 ≤ spread.workers) × (spread.workers ≤ 8)
 
 -- the reply of the configuration, where the script gives one
 abbrev pub given_text : Bool → List ℕ
@@ -56,7 +62,8 @@ pub record LivesUnder (setting : Setting) (config : ConfigParts) (requests : Lis
   -- the numbers of the requests rise, and what they name stands before them
   pub come : ComeInOrder [] requests
   -- the replies are legal beside the history, which goes on from the one before
-  pub legal : Legal config setting.opening requests ended.replies history setting.store setting.faults setting.faults_after
+  pub legal : Legal config setting.opening requests ended.replies history setting.store setting.faults
+      setting.faults_after
   -- they are grouped by session in rising order
   pub order : AreGrouped ended.replies
   -- so many entries stood before the run, and there is a mark of each new one, in order

@@ -1,9 +1,11 @@
 -- What is between a run and what its status says.
-use Rattle.std.specs.Prelude.{◌≡◌, ℕ, ◌≤◌, List, Option, Some, None, Result, Ok, Err}
+use Rattle.std.specs.Prelude.{◌≡◌, ℕ, ◌≤◌, Bool, List, Option, Some, None, Result, Ok, Err}
 use Rattle.emu_io.specs.declared.faults.ReadFault.{ReadFault}
 use Rattle.emu_io.specs.declared.faults.ReadFault.TheVariants as read_faults
+use Rattle.emu_disk.specs.declared.disk.Disk as disks
 use Rattle.edit_journal.specs.declared.journal.Journal.{Journal}
 use Rattle.edit_journal.specs.Held.{disk_of, count_in}
+use Rattle.live_book.specs.Commits.{has_journal}
 use Rattle.live_book.specs.declared.fault.OpenFault.{OpenFault}
 use Rattle.live_book.specs.declared.fault.OpenFault.TheVariants as opens
 use Rattle.script_lines.specs.Texts.{fault_text}
@@ -12,6 +14,7 @@ use Rattle.emu_cli.specs.declared.ended.Ended.{Ended}
 use Rattle.emu_cli.specs.declared.ended.Ended.TheVariants as ends
 use Rattle.emu_cli.specs.declared.status.Status.{Status}
 use Rattle.emu_cli.specs.declared.status.Status.TheVariants as statuses
+use Rattle.emu_cli.specs.Bases.{Base, IsBaseOf}
 use Rattle.emu_cli.specs.Runs.{limit_text}
 use Rattle.emu_cli.specs.Says.{WritesLast}
 
@@ -24,6 +27,15 @@ HasDisk (Some journal) disk = disk ≡ disk_of journal
 abbrev pub BeginsBefore : {D : Type 0} → (D → ℕ) → Option (Journal D) → D → Type 0
 BeginsBefore faults None disk = Unit {0}
 BeginsBefore faults (Some journal) disk = faults disk ≤ count_in faults journal
+
+-- A run over a disk, from what that was before its store was opened to what it is after the run: it begins with this
+-- base and this journal, and leaves another
+pub record RunsOver {D : Type 0} (disk : disks.Ghosts D) (store : Bool) (base : Base)
+    (journal left : Option (Journal D)) (before after : D) : Type 0 where
+  pub stored : has_journal journal ≡ store
+  pub begins : IsBaseOf store (disk.reads before) base
+  pub low : BeginsBefore disk.faults journal before
+  pub has : HasDisk left after
 
 -- how a run ends whose script could not be read
 abbrev pub IsUnread : ReadFault → Status → Type 0

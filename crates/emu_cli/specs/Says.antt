@@ -279,8 +279,8 @@ WritesLast result status before now faults faults_now text =
     ⊎ (((result ≡ statuses.Write) × Rose faults faults_now × WritesFront before now text)
     ⊎ ((result ≡ statuses.Memory) × WritesFront before now text))
 
--- the text of an ending was written, and the status is its own; or a front of the text, and a write failed or memory ran
--- out; or there is no text
+-- the text of an ending was written, and the status is its own; or a front of the text, and a write failed or memory
+-- ran out; or there is no text
 abbrev pub Finishes : Status → Option (List ℕ) → Option (List ℕ) → ℕ → ℕ → Ending → Type 0
 Finishes status before now writes writes_now (endings.Fine text) =
     WritesLast status statuses.Fine before now writes writes_now text

@@ -4,9 +4,9 @@ ghost use Rattle.std.specs.Prelude.{◌≡◌, ◌≢◌, ◌≤◌, ℕ, List, 
 ghost use Rattle.live_book.specs.Kept.{KeepsIn, faults_in};
 ghost use Rattle.live_book.specs.Commits.{has_journal};
 ghost use Rattle.live_book.specs.Opens.{AreAtFront, IsEmpty, IsOpenedAs, journal_in};
-ghost use Rattle.emu_cli.specs.Bases.{IsBaseOf, fresh_base, store_of};
-ghost use Rattle.emu_cli.specs.Ran.{BeginsBefore, HasDisk, IsUnread, SaysUnopened};
-ghost use Rattle.emu_cli.specs.Says.{call_of, Completes, Says};
+ghost use Rattle.emu_cli.specs.Bases.{fresh_base, store_of};
+ghost use Rattle.emu_cli.specs.Ran.{HasDisk, IsUnread, RunsOver, SaysUnopened};
+ghost use Rattle.emu_cli.specs.Told.{CompletesBy, SaysBy};
 
 use crate::last::{close_run, damaged};
 use crate::script::{READERS, RunEnd, run_over, run_script};
@@ -60,13 +60,10 @@ fn run_fresh<R: Threads + Wait + Sync, S: Source, K: Sink, D: Disk, P: PatternMa
     patterns: &mut P,
 ) -> Left<D>
     requires { IsEmpty D.may_leave journal }
-    ensures says { (store : Bool) (begin disk : D) → has_journal journal ≡ store →
-        IsBaseOf store (D.reads begin) (fresh_base store) → BeginsBefore D.faults journal begin →
-        HasDisk result.journal disk → Says result.status (call_of store (D.reads begin)
-        (S.left script.old) (S.left script.new) (K.written out.old) (K.written out.new)
-        (S.faults script.old) (S.faults script.new) (K.faults out.old) (K.faults out.new)
-        (P.refusals patterns.old) (P.refusals patterns.new) (D.faults begin) (D.faults disk))
-        (D.may_leave begin) (D.may_leave disk) }
+    ensures says { (store : Bool) (begin disk : D) →
+        RunsOver D.Disk store (fresh_base store) journal result.journal begin disk →
+        SaysBy S.Source K.Sink D.Disk P.PatternMaker store script.old script.new
+        out.old out.new begin disk patterns.old patterns.new result.status }
     ensures stored { has_journal result.journal ≡ has_journal journal }
 {
     match read_front(alloc, script, SCRIPT_BYTES) {
@@ -100,13 +97,9 @@ fn run_opened<R: Threads + Wait + Sync, S: Source, K: Sink, D: Disk, P: PatternM
     requires passes { AreAtFront 1 book passes }
     requires stored { has_journal book.journal ≡ true }
     ensures says { (begin disk : D) → KeepsIn D.may_leave book.config book.history None book.journal →
-        IsBaseOf true (D.reads begin) (store_of book.config book.history) →
-        BeginsBefore D.faults book.journal begin → HasDisk result.journal disk →
-        Says result.status (call_of true (D.reads begin)
-        (S.left script.old) (S.left script.new) (K.written out.old) (K.written out.new)
-        (S.faults script.old) (S.faults script.new) (K.faults out.old) (K.faults out.new)
-        (P.refusals patterns.old) (P.refusals patterns.new) (D.faults begin) (D.faults disk))
-        (D.may_leave begin) (D.may_leave disk) }
+        RunsOver D.Disk true (store_of book.config book.history) book.journal result.journal begin disk →
+        SaysBy S.Source K.Sink D.Disk P.PatternMaker true script.old script.new
+        out.old out.new begin disk patterns.old patterns.new result.status }
     ensures stored { has_journal result.journal ≡ true }
 {
     match read_front(alloc, script, SCRIPT_BYTES) {
@@ -171,11 +164,8 @@ fn run_over_store<R: Threads + Wait + Sync, S: Source, K: Sink, D: Disk, P: Patt
     ensures says { (begin : D) →
         IsOpenedAs D.may_leave (D.reads begin) 1 opened.book opened.journal opened.passes →
         D.faults begin ≤ faults_in D.faults (journal_in opened.book opened.journal) →
-        Says result.status (call_of true (D.reads begin)
-        (S.left script.old) (S.left script.new) (K.written out.old) (K.written out.new)
-        (S.faults script.old) (S.faults script.new) (K.faults out.old) (K.faults out.new)
-        (P.refusals patterns.old) (P.refusals patterns.new) (D.faults begin) (D.faults result.disk))
-        (D.may_leave begin) (D.may_leave result.disk) }
+        SaysBy S.Source K.Sink D.Disk P.PatternMaker true script.old script.new
+        out.old out.new begin result.disk patterns.old patterns.new result.status }
 {
     let Opened {
         book,
@@ -200,11 +190,8 @@ fn run_stored<R: Threads + Wait + Sync, S: Source, K: Sink, D: Disk, P: PatternM
     disk: D,
     patterns: &mut P,
 ) -> Ran<D>
-    ensures says { Says result.status (call_of true (D.reads disk)
-        (S.left script.old) (S.left script.new) (K.written out.old) (K.written out.new)
-        (S.faults script.old) (S.faults script.new) (K.faults out.old) (K.faults out.new)
-        (P.refusals patterns.old) (P.refusals patterns.new) (D.faults disk) (D.faults result.disk))
-        (D.may_leave disk) (D.may_leave result.disk) }
+    ensures says { SaysBy S.Source K.Sink D.Disk P.PatternMaker true script.old script.new
+        out.old out.new disk result.disk patterns.old patterns.new result.status }
 {
     match open_store(rt, alloc, disk, READERS) {
         Ok(opened) => run_over_store(rt, alloc, opened, script, out, patterns),
@@ -227,11 +214,8 @@ fn run_alone<R: Threads + Wait + Sync, S: Source, K: Sink, D: Disk, P: PatternMa
     disk: D,
     patterns: &mut P,
 ) -> Ran<D>
-    ensures says { Says result.status (call_of false (D.reads disk)
-        (S.left script.old) (S.left script.new) (K.written out.old) (K.written out.new)
-        (S.faults script.old) (S.faults script.new) (K.faults out.old) (K.faults out.new)
-        (P.refusals patterns.old) (P.refusals patterns.new) (D.faults disk) (D.faults result.disk))
-        (D.may_leave disk) (D.may_leave result.disk) }
+    ensures says { SaysBy S.Source K.Sink D.Disk P.PatternMaker false script.old script.new
+        out.old out.new disk result.disk patterns.old patterns.new result.status }
     ensures untouched { result.disk ≡ disk }
 {
     let journal: Option<Journal<D>> = None;
@@ -265,16 +249,10 @@ pub fn run<R: Threads + Wait + Sync, S: Source, K: Sink, D: Disk, P: PatternMake
     disk: D,
     patterns: &mut P,
 ) -> Ran<D>
-    ensures says { Says result.status (call_of store (D.reads disk)
-        (S.left script.old) (S.left script.new) (K.written out.old) (K.written out.new)
-        (S.faults script.old) (S.faults script.new) (K.faults out.old) (K.faults out.new)
-        (P.refusals patterns.old) (P.refusals patterns.new) (D.faults disk) (D.faults result.disk))
-        (D.may_leave disk) (D.may_leave result.disk) }
-    ensures complete { Completes (call_of store (D.reads disk)
-        (S.left script.old) (S.left script.new) (K.written out.old) (K.written out.new)
-        (S.faults script.old) (S.faults script.new) (K.faults out.old) (K.faults out.new)
-        (P.refusals patterns.old) (P.refusals patterns.new) (D.faults disk) (D.faults result.disk))
-        result.status }
+    ensures says { SaysBy S.Source K.Sink D.Disk P.PatternMaker store script.old script.new
+        out.old out.new disk result.disk patterns.old patterns.new result.status }
+    ensures complete { CompletesBy S.Source K.Sink D.Disk P.PatternMaker store script.old script.new
+        out.old out.new disk result.disk patterns.old patterns.new result.status }
     ensures untouched { store ≡ false → result.disk ≡ disk }
 {
     if store {

@@ -1,14 +1,17 @@
 //! The top call.
-ghost use Rattle.std.specs.Prelude.{◌≡◌, ◌≤◌, true, false, map, string_bytes};
+ghost use Rattle.std.specs.Prelude.{◌≡◌, ◌≤◌, true, false};
 ghost use Rattle.store_calls.specs.declared.ending.Ending.{Ending as Ends};
-ghost use Rattle.store_calls.specs.Ends.{EndsOnStore, HasRate, is_of_store, outside_of};
+ghost use Rattle.store_calls.specs.Ends.{HasRate, is_of_store};
 ghost use Rattle.emu_cli.specs.Runs.{usage_text};
-ghost use Rattle.emu_cli.specs.Calls.{AskForRun, AsksForStore, CallCompletes, CallEnds, CallSays, RunCompletes, SaysStore, live_asked, run_asked};
-ghost use Rattle.emu_cli.specs.Says.{call_of, Finishes, WritesLast};
+ghost use Rattle.emu_cli.specs.Calls.{AskForRun, AsksForStore, CallCompletesBy, CallEndsBy, CallSaysBy};
+ghost use Rattle.emu_cli.specs.Calls.{EndsOnStoreBy, RunCompletesBy, live_asked, run_asked, texts_of};
+ghost use Rattle.emu_cli.specs.Says.{WritesLast};
+ghost use Rattle.emu_cli.specs.Told.{FinishesBy};
 
+use crate::at_once::live;
 use crate::in_order::{Ran, run};
 use crate::last::{finish, usage};
-use crate::live::live;
+use crate::spread::Spread;
 use crate::status::{Status, code};
 use cli_words::{Words, WordsFault};
 use emu_disk::Disk;
@@ -18,6 +21,9 @@ use std::alloc::Global;
 use std::sync::Wait;
 use std::thread::Threads;
 use store_calls::{StoreEnd, is_of_store, on_store, read_command};
+
+/// Over how many passes the sessions of a live run look at the state: one for each session.
+const LIVE_READERS: u32 = 16;
 
 /// How a call ended, and its disk.
 #[derive(Drop)]
@@ -85,11 +91,9 @@ fn perform_on_store<
 ) -> Ran<D>
     requires kind { is_of_store command.now ≡ true }
     requires rate { HasRate command.now }
-    ensures { (ending : Ends) × EndsOnStore D.may_leave D.moment D.left_since D.faults
-        (outside_of (F.content folder.old) (D.reads disk) (F.faults folder.old) (F.faults folder.new)
-        (F.misses folder.old) (F.misses folder.new) (D.faults disk) (D.faults result.disk))
-        (P.refusals patterns.old) (P.refusals patterns.new) command.now ending disk result.disk
-        × Finishes result.status (K.written out.old) (K.written out.new) (K.faults out.old) (K.faults out.new) ending }
+    ensures { (ending : Ends) × EndsOnStoreBy F.Folder D.Disk P.PatternMaker folder.old folder.new
+        disk result.disk patterns.old patterns.new command.now ending
+        × FinishesBy K.Sink out.old out.new result.status ending }
 {
     let StoreEnd { ending, disk } = on_store(rt, alloc, command, folder, disk, patterns, gate);
     Ran {
@@ -118,11 +122,9 @@ fn perform_other<
 ) -> Ran<D>
     requires rate { HasRate command.now }
     ensures store { is_of_store command.now ≡ true → (ending : Ends)
-        × EndsOnStore D.may_leave D.moment D.left_since D.faults
-        (outside_of (F.content folder.old) (D.reads disk) (F.faults folder.old) (F.faults folder.new)
-        (F.misses folder.old) (F.misses folder.new) (D.faults disk) (D.faults result.disk))
-        (P.refusals patterns.old) (P.refusals patterns.new) command.now ending disk result.disk
-        × Finishes result.status (K.written out.old) (K.written out.new) (K.faults out.old) (K.faults out.new) ending }
+        × EndsOnStoreBy F.Folder D.Disk P.PatternMaker folder.old folder.new
+        disk result.disk patterns.old patterns.new command.now ending
+        × FinishesBy K.Sink out.old out.new result.status ending }
     ensures usage { is_of_store command.now ≡ false → WritesLast result.status Status.Usage
         (K.written out.old) (K.written out.new) (K.faults out.old) (K.faults out.new) usage_text }
     ensures untouched { is_of_store command.now ≡ false → result.disk ≡ disk }
@@ -157,35 +159,25 @@ fn perform<
     patterns: &mut P,
     gate: &G,
 ) -> Ran<D>
-    ensures says { CallEnds (map (λ w. string_bytes w) words.now) (λ store. call_of store
-        (D.reads disk) (S.left script.old) (S.left script.new) (K.written out.old)
-        (K.written out.new) (S.faults script.old) (S.faults script.new) (K.faults out.old)
-        (K.faults out.new) (P.refusals patterns.old) (P.refusals patterns.new) (D.faults disk)
-        (D.faults result.disk)) (D.may_leave disk) (D.may_leave result.disk)
-        (λ status. SaysStore (map (λ w. string_bytes w) words.now)
-        (λ command ending. EndsOnStore D.may_leave D.moment D.left_since D.faults
-        (outside_of (F.content folder.old) (D.reads disk) (F.faults folder.old) (F.faults folder.new)
-        (F.misses folder.old) (F.misses folder.new) (D.faults disk) (D.faults result.disk))
-        (P.refusals patterns.old) (P.refusals patterns.new) command ending disk result.disk)
-        (Finishes status (K.written out.old) (K.written out.new) (K.faults out.old) (K.faults out.new)))
-        result.status }
-    ensures complete { RunCompletes (map (λ w. string_bytes w) words.now) (λ store. call_of store
-        (D.reads disk) (S.left script.old) (S.left script.new) (K.written out.old)
-        (K.written out.new) (S.faults script.old) (S.faults script.new) (K.faults out.old)
-        (K.faults out.new) (P.refusals patterns.old) (P.refusals patterns.new) (D.faults disk)
-        (D.faults result.disk)) result.status }
-    ensures untouched { (AskForRun (map (λ w. string_bytes w) words.now) true → ⊥)
-        → (AsksForStore (map (λ w. string_bytes w) words.now) → ⊥) → result.disk ≡ disk }
+    ensures says { CallEndsBy S.Source K.Sink F.Folder D.Disk P.PatternMaker (texts_of words.now)
+        script.old script.new out.old out.new folder.old folder.new disk result.disk
+        patterns.old patterns.new result.status }
+    ensures complete { RunCompletesBy S.Source K.Sink F.Folder D.Disk P.PatternMaker (texts_of words.now)
+        script.old script.new out.old out.new folder.old folder.new disk result.disk
+        patterns.old patterns.new result.status }
+    ensures untouched { (AskForRun (texts_of words.now) true → ⊥) →
+        (AsksForStore (texts_of words.now) → ⊥) → result.disk ≡ disk }
 {
     match read_command(alloc, words) {
         Ok(asked) => match run_asked(&asked) {
             Some(store) => run(rt, alloc, store, script, out, disk, patterns),
             None => match live_asked(&asked) {
                 Some(stored) => {
-                    let workers = workers_asked(&asked);
-                    live(
-                        rt, alloc, stored, workers, script, out, disk, patterns, gate,
-                    )
+                    let spread = Spread {
+                        readers: LIVE_READERS,
+                        workers: workers_asked(&asked),
+                    };
+                    live(rt, alloc, stored, spread, script, out, disk, patterns, gate)
                 }
                 None => perform_other(rt, alloc, &asked, out, folder, disk, patterns, gate),
             },
@@ -204,20 +196,22 @@ fn perform<
 /// Runs the program on its words, and hands the disk back.
 ///
 /// `run` runs the script of the source, in its order, and `live` its sessions at once, with `--store` over the store on
-/// the disk. `history`, `export` and `ask` read the store; `import` and `load` add bundles to it from files of the folder.
-/// The gate is told of the pieces of the query of `ask`, and in a live run of those of each query and of each line
-/// that is answered. The status is
+/// the disk. `history`, `export` and `ask` read the store; `import` and `load` add bundles to it from files of the
+/// folder. The gate is told of the pieces of the query of `ask`, and in a live run of those of each query and of each
+/// line that is answered. The status is
 ///
 /// - 0: the input was read to its end, and every request has its reply; or the command's text was written.
 /// - 2: the words are no command.
-/// - 3: a line of the script is no request; the lines before it were run, of a live run none, and the last line names it.
+/// - 3: a line of the script is no request; the lines before it were run, of a live run none, and the last line names
+///   it.
 /// - 4: the script or the folder could not be read.
 /// - 5: the output could not be written.
-/// - 6: the disk failed, while the store was opened, its configuration written, or a bundle stored by `load` or `import`.
+/// - 6: the disk failed, while the store was opened, its configuration written, or a bundle stored by `load` or
+///   `import`.
 /// - 7: the store stands for no configuration and history; the last line names the place.
 /// - 8: memory ran out.
-/// - 9: a line has over 16,777,216 bytes, there are over 200,000 lines, or the script has over 268,435,456 bytes; or the
-///   store has no room for the script's configuration.
+/// - 9: a line has over 16,777,216 bytes, there are over 200,000 lines, or the script has over 268,435,456 bytes; or
+///   the store has no room for the script's configuration.
 /// - 10: the command is refused, and the last line says why.
 pub fn emu<
     R: Threads + Wait + Sync,
@@ -238,25 +232,14 @@ pub fn emu<
     patterns: &mut P,
     gate: &G,
 ) -> Exit<D>
-    ensures says { CallSays (map (λ w. string_bytes w) words.now) (λ store. call_of store
-        (D.reads disk) (S.left script.old) (S.left script.new) (K.written out.old)
-        (K.written out.new) (S.faults script.old) (S.faults script.new) (K.faults out.old)
-        (K.faults out.new) (P.refusals patterns.old) (P.refusals patterns.new) (D.faults disk)
-        (D.faults result.disk)) (D.may_leave disk) (D.may_leave result.disk)
-        (λ status. SaysStore (map (λ w. string_bytes w) words.now)
-        (λ command ending. EndsOnStore D.may_leave D.moment D.left_since D.faults
-        (outside_of (F.content folder.old) (D.reads disk) (F.faults folder.old) (F.faults folder.new)
-        (F.misses folder.old) (F.misses folder.new) (D.faults disk) (D.faults result.disk))
-        (P.refusals patterns.old) (P.refusals patterns.new) command ending disk result.disk)
-        (Finishes status (K.written out.old) (K.written out.new) (K.faults out.old) (K.faults out.new)))
-        result.status }
-    ensures complete { CallCompletes (map (λ w. string_bytes w) words.now) (λ store. call_of store
-        (D.reads disk) (S.left script.old) (S.left script.new) (K.written out.old)
-        (K.written out.new) (S.faults script.old) (S.faults script.new) (K.faults out.old)
-        (K.faults out.new) (P.refusals patterns.old) (P.refusals patterns.new) (D.faults disk)
-        (D.faults result.disk)) result.status }
-    ensures untouched { (AskForRun (map (λ w. string_bytes w) words.now) true → ⊥)
-        → (AsksForStore (map (λ w. string_bytes w) words.now) → ⊥) → result.disk ≡ disk }
+    ensures says { CallSaysBy S.Source K.Sink F.Folder D.Disk P.PatternMaker (texts_of words.now)
+        script.old script.new out.old out.new folder.old folder.new disk result.disk
+        patterns.old patterns.new result.status }
+    ensures complete { CallCompletesBy S.Source K.Sink F.Folder D.Disk P.PatternMaker (texts_of words.now)
+        script.old script.new out.old out.new folder.old folder.new disk result.disk
+        patterns.old patterns.new result.status }
+    ensures untouched { (AskForRun (texts_of words.now) true → ⊥) →
+        (AsksForStore (texts_of words.now) → ⊥) → result.disk ≡ disk }
 {
     let Ran { status, disk } = perform(rt, alloc, words, script, out, folder, disk, patterns, gate);
     Exit {

@@ -1,5 +1,5 @@
 use Rattle.std.proofs.Common.{true, sym, subst}
-use Rattle.emu_cli.specs.Says.{call_of, Says}
+use Rattle.emu_cli.specs.Told.{SaysBy}
 use Rattle.emu_cli.proofs.OpenLemmas.{some_opened, some_begins, none_opened, none_begins}
 use Rattle.emu_cli.proofs.in_order.run_over_store.Goals as goal
 
@@ -7,14 +7,24 @@ pub returns-in-None : goal.returns-in-None
 returns-in-None g c = record {
   says = λ begin opened low.
       let o = none_opened g.D.Disk.may_leave (g.D.Disk.reads begin) 1 c.args.opened.passes c.args.opened.book c.args.opened.journal c.in-None.is opened in
-      subst (λ st. Says st (call_of true (g.D.Disk.reads begin) (g.S.Source.left c.args.script.now) (g.S.Source.left c.run_fresh.new.script) (g.K.Sink.written c.args.out.now) (g.K.Sink.written c.run_fresh.new.out) (g.S.Source.faults c.args.script.now) (g.S.Source.faults c.run_fresh.new.script) (g.K.Sink.faults c.args.out.now) (g.K.Sink.faults c.run_fresh.new.out) (g.P.PatternMaker.refusals c.args.patterns.now) (g.P.PatternMaker.refusals c.run_fresh.new.patterns) (g.D.Disk.faults begin) (g.D.Disk.faults c.give_back-in-None.result.disk)) (g.D.Disk.may_leave begin) (g.D.Disk.may_leave c.give_back-in-None.result.disk)) (sym c.give_back-in-None.ensures.status)
-      (c.run_fresh.ensures.says true begin c.give_back-in-None.result.disk o.stored o.begins (none_begins g.D.Disk.faults c.args.opened.book c.args.opened.journal begin c.in-None.is low) c.give_back-in-None.ensures.disk);
+      subst (λ st. SaysBy g.S.Source g.K.Sink g.D.Disk g.P.PatternMaker true c.args.script.now c.run_fresh.new.script c.args.out.now c.run_fresh.new.out begin c.give_back-in-None.result.disk c.args.patterns.now c.run_fresh.new.patterns st) (sym c.give_back-in-None.ensures.status)
+      (c.run_fresh.ensures.says true begin c.give_back-in-None.result.disk (record {
+        stored = o.stored;
+        begins = o.begins;
+        low = none_begins g.D.Disk.faults c.args.opened.book c.args.opened.journal begin c.in-None.is low;
+        has = c.give_back-in-None.ensures.disk;
+      }));
 }
 
 pub returns-in-None-journal : goal.returns-in-None-journal
 returns-in-None-journal g c = record {
   says = λ begin opened low.
       let o = some_opened g.D.Disk.may_leave (g.D.Disk.reads begin) 1 c.args.opened.passes c.args.opened.book c.args.opened.journal c.in-Some.book c.in-Some.is opened in
-      subst (λ st. Says st (call_of true (g.D.Disk.reads begin) (g.S.Source.left c.args.script.now) (g.S.Source.left c.run_opened.new.script) (g.K.Sink.written c.args.out.now) (g.K.Sink.written c.run_opened.new.out) (g.S.Source.faults c.args.script.now) (g.S.Source.faults c.run_opened.new.script) (g.K.Sink.faults c.args.out.now) (g.K.Sink.faults c.run_opened.new.out) (g.P.PatternMaker.refusals c.args.patterns.now) (g.P.PatternMaker.refusals c.run_opened.new.patterns) (g.D.Disk.faults begin) (g.D.Disk.faults c.give_back.result.disk)) (g.D.Disk.may_leave begin) (g.D.Disk.may_leave c.give_back.result.disk)) (sym c.give_back.ensures.status)
-      (c.run_opened.ensures.says begin c.give_back.result.disk o.keeps o.begins (some_begins g.D.Disk.faults c.args.opened.book c.args.opened.journal c.in-Some.book begin c.in-Some.is low) c.give_back.ensures.disk);
+      subst (λ st. SaysBy g.S.Source g.K.Sink g.D.Disk g.P.PatternMaker true c.args.script.now c.run_opened.new.script c.args.out.now c.run_opened.new.out begin c.give_back.result.disk c.args.patterns.now c.run_opened.new.patterns st) (sym c.give_back.ensures.status)
+      (c.run_opened.ensures.says begin c.give_back.result.disk o.keeps (record {
+        stored = o.stored;
+        begins = o.begins;
+        low = some_begins g.D.Disk.faults c.args.opened.book c.args.opened.journal c.in-Some.book begin c.in-Some.is low;
+        has = c.give_back.ensures.disk;
+      }));
 }

@@ -1,54 +1,52 @@
-use Rattle.std.proofs.Common.{inl, inr, refl, sym, subst, map}
-use Rattle.std.specs.Prelude.{string_bytes}
+use Rattle.std.proofs.Common.{inl, inr, refl, sym, subst}
 use Rattle.std.proofs.KnownBytes.{Appends-nil}
-use Rattle.emu_cli.specs.Says.{call_of, Completes, Finishes}
-use Rattle.store_calls.specs.Ends.{EndsOnStore, is_of_store, outside_of}
+use Rattle.store_calls.specs.Ends.{is_of_store}
+use Rattle.emu_cli.specs.Calls.{EndsOnStoreBy, texts_of}
+use Rattle.emu_cli.specs.Told.{CompletesBy, FinishesBy, call_by}
 use Rattle.emu_cli.proofs.CallLemmas.{asked_run, asked_live, none_completes, usage_says, only_run, only_live, store_false, other_ends, other_store, no_command}
 use Rattle.emu_cli.proofs.top.perform.Goals as goal
 
 pub returns-in-Some-clause-says : goal.returns-in-Some-clause-says
-returns-in-Some-clause-says g c = inl (c.in-Some.store, asked_run (map (λ w. string_bytes w) c.args.words.now) c.in-Ok.asked c.in-Some.store c.in-Ok.ensures.read (sym c.in-Some.ensures), c.run.ensures.says)
+returns-in-Some-clause-says g c = inl (c.in-Some.store, asked_run (texts_of c.args.words.now) c.in-Ok.asked c.in-Some.store c.in-Ok.ensures.read (sym c.in-Some.ensures), c.run.ensures.says)
 
 pub returns-in-Some-clause-complete : goal.returns-in-Some-clause-complete
 returns-in-Some-clause-complete g c = λ store r.
-    subst (λ s. Completes (call_of s (g.D.Disk.reads c.args.disk) (g.S.Source.left c.args.script.now) (g.S.Source.left c.run.new.script) (g.K.Sink.written c.args.out.now) (g.K.Sink.written c.run.new.out) (g.S.Source.faults c.args.script.now) (g.S.Source.faults c.run.new.script) (g.K.Sink.faults c.args.out.now) (g.K.Sink.faults c.run.new.out) (g.P.PatternMaker.refusals c.args.patterns.now) (g.P.PatternMaker.refusals c.run.new.patterns) (g.D.Disk.faults c.args.disk) (g.D.Disk.faults c.run.result.disk)) c.run.result.status)
-    (only_run (map (λ w. string_bytes w) c.args.words.now) c.in-Some.store store (asked_run (map (λ w. string_bytes w) c.args.words.now) c.in-Ok.asked c.in-Some.store c.in-Ok.ensures.read (sym c.in-Some.ensures)) r) c.run.ensures.complete
+    subst (λ store. CompletesBy g.S.Source g.K.Sink g.D.Disk g.P.PatternMaker store c.args.script.now c.run.new.script c.args.out.now c.run.new.out c.args.disk c.run.result.disk c.args.patterns.now c.run.new.patterns c.run.result.status)
+    (only_run (texts_of c.args.words.now) c.in-Some.store store (asked_run (texts_of c.args.words.now) c.in-Ok.asked c.in-Some.store c.in-Ok.ensures.read (sym c.in-Some.ensures)) r) c.run.ensures.complete
 
 pub returns-in-Some-live_asked-clause-says : goal.returns-in-Some-live_asked-clause-says
-returns-in-Some-live_asked-clause-says g c = inr (inl (c.in-Some-live_asked.stored, asked_live (map (λ w. string_bytes w) c.args.words.now) c.in-Ok.asked c.in-Some-live_asked.stored c.in-Ok.ensures.read (sym c.in-Some-live_asked.ensures), c.live.ensures.says))
+returns-in-Some-live_asked-clause-says g c = inr (inl (c.in-Some-live_asked.stored, asked_live (texts_of c.args.words.now) c.in-Ok.asked c.in-Some-live_asked.stored c.in-Ok.ensures.read (sym c.in-Some-live_asked.ensures), c.live.ensures.says))
 
 pub returns-in-Some-live_asked-clause-complete : goal.returns-in-Some-live_asked-clause-complete
 returns-in-Some-live_asked-clause-complete g c = λ store r.
-    subst (λ s. Completes (call_of s (g.D.Disk.reads c.args.disk) (g.S.Source.left c.args.script.now) (g.S.Source.left c.live.new.script) (g.K.Sink.written c.args.out.now) (g.K.Sink.written c.live.new.out) (g.S.Source.faults c.args.script.now) (g.S.Source.faults c.live.new.script) (g.K.Sink.faults c.args.out.now) (g.K.Sink.faults c.live.new.out) (g.P.PatternMaker.refusals c.args.patterns.now) (g.P.PatternMaker.refusals c.live.new.patterns) (g.D.Disk.faults c.args.disk) (g.D.Disk.faults c.live.result.disk)) c.live.result.status)
-    (only_live (map (λ w. string_bytes w) c.args.words.now) c.in-Some-live_asked.stored store (asked_live (map (λ w. string_bytes w) c.args.words.now) c.in-Ok.asked c.in-Some-live_asked.stored c.in-Ok.ensures.read (sym c.in-Some-live_asked.ensures)) r) c.live.ensures.complete
+    subst (λ store. CompletesBy g.S.Source g.K.Sink g.D.Disk g.P.PatternMaker store c.args.script.now c.live.new.script c.args.out.now c.live.new.out c.args.disk c.live.result.disk c.args.patterns.now c.live.new.patterns c.live.result.status)
+    (only_live (texts_of c.args.words.now) c.in-Some-live_asked.stored store (asked_live (texts_of c.args.words.now) c.in-Ok.asked c.in-Some-live_asked.stored c.in-Ok.ensures.read (sym c.in-Some-live_asked.ensures)) r) c.live.ensures.complete
 
 pub returns-in-Some-live_asked-clause-untouched : goal.returns-in-Some-live_asked-clause-untouched
-returns-in-Some-live_asked-clause-untouched g c = λ other stores. c.live.ensures.untouched (store_false (map (λ w. string_bytes w) c.args.words.now) c.in-Some-live_asked.stored (inr (asked_live (map (λ w. string_bytes w) c.args.words.now) c.in-Ok.asked c.in-Some-live_asked.stored c.in-Ok.ensures.read (sym c.in-Some-live_asked.ensures))) other)
+returns-in-Some-live_asked-clause-untouched g c = λ other stores. c.live.ensures.untouched (store_false (texts_of c.args.words.now) c.in-Some-live_asked.stored (inr (asked_live (texts_of c.args.words.now) c.in-Ok.asked c.in-Some-live_asked.stored c.in-Ok.ensures.read (sym c.in-Some-live_asked.ensures))) other)
 
 pub returns-in-Err-Usage-clause-says : goal.returns-in-Err-Usage-clause-says
-returns-in-Err-Usage-clause-says g c = inr (inr (inl (no_command (map (λ w. string_bytes w) c.args.words.now) (rw c.in-Err-Usage.field-0-is at c.in-Err-Usage.ensures.read), usage_says c.usage.result (g.K.Sink.written c.args.out.now) (g.K.Sink.written c.usage.new.out) (g.K.Sink.faults c.args.out.now) (g.K.Sink.faults c.usage.new.out) _ refl refl refl refl c.usage.ensures.last)))
+returns-in-Err-Usage-clause-says g c = inr (inr (inl (no_command (texts_of c.args.words.now) (rw c.in-Err-Usage.field-0-is at c.in-Err-Usage.ensures.read), usage_says c.usage.result (g.K.Sink.written c.args.out.now) (g.K.Sink.written c.usage.new.out) (g.K.Sink.faults c.args.out.now) (g.K.Sink.faults c.usage.new.out) _ refl refl refl refl c.usage.ensures.last)))
 
 pub returns-in-Err-Usage-clause-complete : goal.returns-in-Err-Usage-clause-complete
-returns-in-Err-Usage-clause-complete g c = none_completes (map (λ w. string_bytes w) c.args.words.now) _ _ (rw c.in-Err-Usage.field-0-is at c.in-Err-Usage.ensures.read)
+returns-in-Err-Usage-clause-complete g c = none_completes (texts_of c.args.words.now) (λ store. call_by g.S.Source g.K.Sink g.D.Disk g.P.PatternMaker store c.args.script.now c.args.script.now c.args.out.now c.usage.new.out c.args.disk c.args.disk c.args.patterns.now c.args.patterns.now) c.usage.result (rw c.in-Err-Usage.field-0-is at c.in-Err-Usage.ensures.read)
 
 pub returns-in-Some-clause-untouched : goal.returns-in-Some-clause-untouched
-returns-in-Some-clause-untouched g c = λ other stores. c.run.ensures.untouched (store_false (map (λ w. string_bytes w) c.args.words.now) c.in-Some.store (inl (asked_run (map (λ w. string_bytes w) c.args.words.now) c.in-Ok.asked c.in-Some.store c.in-Ok.ensures.read (sym c.in-Some.ensures))) other)
+returns-in-Some-clause-untouched g c = λ other stores. c.run.ensures.untouched (store_false (texts_of c.args.words.now) c.in-Some.store (inl (asked_run (texts_of c.args.words.now) c.in-Ok.asked c.in-Some.store c.in-Ok.ensures.read (sym c.in-Some.ensures))) other)
 
 pub returns-in-Ok-clause-says : goal.returns-in-Ok-clause-says
 returns-in-Ok-clause-says g c =
-    other_ends (map (λ w. string_bytes w) c.args.words.now) c.in-Ok.asked
-    (λ store. call_of store (g.D.Disk.reads c.args.disk) (g.S.Source.left c.args.script.now) (g.S.Source.left c.args.script.now) (g.K.Sink.written c.args.out.now) (g.K.Sink.written c.perform_other.new.out) (g.S.Source.faults c.args.script.now) (g.S.Source.faults c.args.script.now) (g.K.Sink.faults c.args.out.now) (g.K.Sink.faults c.perform_other.new.out) (g.P.PatternMaker.refusals c.args.patterns.now) (g.P.PatternMaker.refusals c.perform_other.new.patterns) (g.D.Disk.faults c.args.disk) (g.D.Disk.faults c.perform_other.result.disk))
+    other_ends (texts_of c.args.words.now) c.in-Ok.asked
+    (λ store. call_by g.S.Source g.K.Sink g.D.Disk g.P.PatternMaker store c.args.script.now c.args.script.now c.args.out.now c.perform_other.new.out c.args.disk c.perform_other.result.disk c.args.patterns.now c.perform_other.new.patterns)
     (g.D.Disk.may_leave c.args.disk) (g.D.Disk.may_leave c.perform_other.result.disk)
-    (λ command ending. EndsOnStore g.D.Disk.may_leave g.D.Disk.moment g.D.Disk.left_since g.D.Disk.faults
-    (outside_of (g.F.Folder.content c.args.folder.now) (g.D.Disk.reads c.args.disk) (g.F.Folder.faults c.args.folder.now) (g.F.Folder.faults c.perform_other.new.folder) (g.F.Folder.misses c.args.folder.now) (g.F.Folder.misses c.perform_other.new.folder) (g.D.Disk.faults c.args.disk) (g.D.Disk.faults c.perform_other.result.disk))
-    (g.P.PatternMaker.refusals c.args.patterns.now) (g.P.PatternMaker.refusals c.perform_other.new.patterns) command ending c.args.disk c.perform_other.result.disk)
-    (λ status ending. Finishes status (g.K.Sink.written c.args.out.now) (g.K.Sink.written c.perform_other.new.out) (g.K.Sink.faults c.args.out.now) (g.K.Sink.faults c.perform_other.new.out) ending)
+    (EndsOnStoreBy g.F.Folder g.D.Disk g.P.PatternMaker c.args.folder.now c.perform_other.new.folder c.args.disk c.perform_other.result.disk c.args.patterns.now c.perform_other.new.patterns)
+    (FinishesBy g.K.Sink c.args.out.now c.perform_other.new.out)
     c.perform_other.result.status (is_of_store c.in-Ok.asked) refl c.in-Ok.ensures.read (sym c.in-None.ensures) (sym c.in-None-live_asked.ensures)
     c.perform_other.ensures.store
     (λ none. usage_says c.perform_other.result.status (g.K.Sink.written c.args.out.now) (g.K.Sink.written c.perform_other.new.out) (g.K.Sink.faults c.args.out.now) (g.K.Sink.faults c.perform_other.new.out) _ refl refl refl refl (c.perform_other.ensures.usage none))
 
 pub returns-in-Ok-clause-untouched : goal.returns-in-Ok-clause-untouched
-returns-in-Ok-clause-untouched g c = λ run stores. c.perform_other.ensures.untouched (other_store (map (λ w. string_bytes w) c.args.words.now) c.in-Ok.asked (is_of_store c.in-Ok.asked) refl c.in-Ok.ensures.read stores)
+returns-in-Ok-clause-untouched g c = λ run stores. c.perform_other.ensures.untouched (other_store (texts_of c.args.words.now) c.in-Ok.asked (is_of_store c.in-Ok.asked) refl c.in-Ok.ensures.read stores)
 
 pub returns-clause-says : goal.returns-clause-says
 returns-clause-says g c = inr (inr (inr (inl ((refl, Appends-nil (g.K.Sink.written c.args.out.now)), λ c image. image))))
