@@ -22,10 +22,6 @@ mod limits;
 #[cfg(test)]
 mod lines;
 #[cfg(test)]
-mod live;
-#[cfg(test)]
-mod live_stores;
-#[cfg(test)]
 mod made;
 #[cfg(test)]
 mod outside;

@@ -1,9 +1,8 @@
 //! Live runs: their replies session by session, and gates that hold a line until another came.
-use crate::scripts::{BUNDLE, CONFIG, call, empty_disk, joined};
+use crate::scripts::{BUNDLE, CONFIG, Ran, run_on};
 use emu_disk::MemoryDisk;
-use emu_io::{Gate, Hold, HoldGate, LineMoment, ListSink, ListSource, Moment, OpenGate};
-use label_match::RegexMaker;
-use std::alloc::{AllocError, Global};
+use emu_io::{Gate, Hold, HoldGate, LineMoment, Moment, OpenGate};
+use std::alloc::Global;
 use std::process::Abort;
 use std::sync::Wait;
 use std::test::Fail;
@@ -59,52 +58,14 @@ const fn piece(line: u32) -> LineMoment {
     }
 }
 
-/// What a run answered and wrote, and its disk.
-#[derive(Drop)]
-pub struct Live {
-    pub status: u8,
-    pub output: Vec<u8>,
-    pub disk: MemoryDisk,
-}
-
-/// Runs the words over a script, with a sink that fails on these calls, counted from 1, and behind a gate.
-pub fn run_on<R: Threads + Wait + Sync, G: Gate + Sync>(
-    rt: &R,
-    alloc: Global,
-    words: &[&str],
-    lines: &[&str],
-    bad_writes: &[u64],
-    disk: MemoryDisk,
-    gate: &G,
-) -> Result<Live, AllocError> {
-    let mut source = ListSource::new(joined(alloc, lines, "\n")?, Vec::new(alloc));
-    let mut sink = ListSink::new(alloc, Vec::from_slice(alloc, bad_writes)?);
-    let mut patterns = RegexMaker::new();
-    let exit = call(
-        rt,
-        alloc,
-        words,
-        &mut source,
-        &mut sink,
-        disk,
-        &mut patterns,
-        gate,
-    )?;
-    Ok(Live {
-        status: exit.status,
-        output: Vec::from_slice(alloc, sink.bytes())?,
-        disk: exit.disk,
-    })
-}
-
 /// Runs the sessions of a script at once, behind a gate.
 fn run<R: Threads + Wait + Sync, G: Gate + Sync>(
     rt: &R,
     alloc: Global,
     lines: &[&str],
     gate: &G,
-) -> Result<Live, AllocError> {
-    let disk = empty_disk(alloc)?;
+) -> Result<Ran, Fail> {
+    let disk = MemoryDisk::new(alloc, &[])?;
     run_on(rt, alloc, &["live"], lines, &[], disk, gate)
 }
 
@@ -117,8 +78,7 @@ fn expect_held<R: Abort + Threads + Wait + Sync>(
 ) -> Result<(), Fail> {
     let gate = HoldGate::new(alloc, holds)?;
     let ran = run(rt, alloc, &HELD, &gate)?;
-    let wanted = joined(alloc, &HELD_OUTPUT, "\n")?;
-    assert!(rt; ran.output == wanted && ran.status == 0 && gate.saw_all() && !gate.gave_up());
+    assert!(rt; ran.gave(0, &HELD_OUTPUT) && gate.saw_all() && !gate.gave_up());
     Ok(())
 }
 
@@ -152,33 +112,28 @@ fn an_edit_comes_while_a_look_is_answered(rt: HostRuntime) -> Result<(), Fail> {
     Ok(())
 }
 
-/// A script that ends early, how it ends, and its last line, which alone is written.
+/// A script that ends early, with status 3, and its last line, which alone is written.
 struct Early {
     lines: &'static [&'static str],
-    status: u8,
     last: &'static str,
 }
 
 static EARLY: [Early; 4] = [
     Early {
         lines: &[],
-        status: 3,
-        last: "{\"cause\":\"ConfigPlace\",\"line\":1,\"status\":3}\n",
+        last: "{\"cause\":\"ConfigPlace\",\"line\":1,\"status\":3}",
     },
     Early {
         lines: &[CONFIG, CONFIG],
-        status: 3,
-        last: "{\"cause\":\"ConfigPlace\",\"line\":2,\"status\":3}\n",
+        last: "{\"cause\":\"ConfigPlace\",\"line\":2,\"status\":3}",
     },
     Early {
         lines: &[CONFIG, BUNDLE, "{"],
-        status: 3,
-        last: "{\"cause\":\"NotJson\",\"line\":3,\"status\":3}\n",
+        last: "{\"cause\":\"NotJson\",\"line\":3,\"status\":3}",
     },
     Early {
         lines: &[CONFIG, "{\"s\":1,\"do\":\"after\",\"line\":2}"],
-        status: 3,
-        last: "{\"cause\":\"BadAfter\",\"line\":2,\"status\":3}\n",
+        last: "{\"cause\":\"BadAfter\",\"line\":2,\"status\":3}",
     },
 ];
 
@@ -186,11 +141,7 @@ static EARLY: [Early; 4] = [
 fn a_line_at_fault_ends_a_script_before_its_first_line(rt: HostRuntime) -> Result<(), Fail> {
     for row in &EARLY {
         let ran = run(&rt, rt.alloc(), row.lines, &OpenGate)?;
-        assert!(rt;
-            ran.status == row.status && ran.output.as_slice() == row.last.as_bytes(),
-            "{}",
-            row.last
-        );
+        assert!(rt; ran.gave(3, &[row.last]), "{}", row.last);
     }
     Ok(())
 }
@@ -258,24 +209,16 @@ static FREE_OUTPUTS: [&[&str]; 4] = [
     ],
 ];
 
-/// Whether an output is one of those that the free script may have.
-fn is_free_output(alloc: Global, output: &[u8]) -> Result<bool, AllocError> {
-    for &lines in &FREE_OUTPUTS {
-        let wanted = joined(alloc, lines, "\n")?;
-        if output == wanted.as_slice() {
-            return Ok(true);
-        }
-    }
-    Ok(false)
+/// Whether a run gave one of the outputs that the free script may have.
+fn is_free(ran: &Ran) -> bool {
+    FREE_OUTPUTS.iter().any(|lines| ran.gave(0, lines))
 }
 
 #[test]
 fn an_edit_that_names_no_line_comes_when_it_likes(rt: HostRuntime) -> Result<(), Fail> {
-    let alloc = rt.alloc();
     for _ in 0..TIMES {
-        let ran = run(&rt, alloc, &FREE, &OpenGate)?;
-        let found = is_free_output(alloc, ran.output.as_slice())?;
-        assert!(rt; found && ran.status == 0);
+        let ran = run(&rt, rt.alloc(), &FREE, &OpenGate)?;
+        assert!(rt; is_free(&ran));
     }
     Ok(())
 }

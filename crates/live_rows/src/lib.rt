@@ -1,0 +1,9 @@
+//! Live runs of the whole program, with the output that is known from outside.
+#![tactic(auto)]
+
+#[cfg(test)]
+mod live;
+#[cfg(test)]
+mod scripts;
+#[cfg(test)]
+mod stores;
