@@ -1,40 +1,40 @@
 //! A history that is full.
-use crate::scripts::{BUNDLE, CONFIG, run};
+use crate::scripts::{BUNDLE, CONFIG, joined, run};
 use std::alloc::{AllocError, Global};
 use std::test::Fail;
 
-/// The line that sets the label of an item.
-fn set_label(alloc: Global, id: u32, label: &str) -> Result<String, AllocError> {
-    format!(in alloc;
-        "{{\"s\":1,\"do\":\"set_label\",\"session\":\"s1\",\"bundle\":\"b1\",\"id\":{id},\"attribute\":\"Phonetic\",\"value\":\"{label}\"}}\n"
-    )
-}
+/// The line that sets the label of an item to n.
+const TO_N: &str =
+    "{\"s\":1,\"do\":\"set_label\",\"session\":\"s1\",\"bundle\":\"b1\",\"id\":2,\"attribute\":\"Phonetic\",\"value\":\"n\"}\n";
+
+/// The line that sets it to m.
+const TO_M: &str =
+    "{\"s\":1,\"do\":\"set_label\",\"session\":\"s1\",\"bundle\":\"b1\",\"id\":2,\"attribute\":\"Phonetic\",\"value\":\"m\"}\n";
+
+/// The line that sets the label of an item that is not there.
+const OF_NONE: &str =
+    "{\"s\":1,\"do\":\"set_label\",\"session\":\"s1\",\"bundle\":\"b1\",\"id\":9,\"attribute\":\"Phonetic\",\"value\":\"m\"}\n";
 
 /// A bundle, so many pairs of edits of one label, one such edit more, and then one too many of an item that
 /// is there and of one that is not.
-fn script(alloc: Global, pairs: u32) -> Result<String, AllocError> {
-    let to_n = set_label(alloc, 2, "n")?;
-    let to_m = set_label(alloc, 2, "m")?;
-    let of_none = set_label(alloc, 9, "m")?;
-    let mut text = format!(in alloc; "{CONFIG}\n{BUNDLE}\n")?;
+fn script(alloc: Global, pairs: u32) -> Result<Vec<u8>, AllocError> {
+    let mut text = joined(alloc, &[CONFIG, BUNDLE], "\n")?;
     for _pair in 0..pairs {
-        text.push_str(to_n.as_str())?;
-        text.push_str(to_m.as_str())?;
+        text.extend_from_slice(TO_N.as_bytes())?;
+        text.extend_from_slice(TO_M.as_bytes())?;
     }
-    text.push_str(to_n.as_str())?;
-    text.push_str(to_m.as_str())?;
-    text.push_str(of_none.as_str())?;
+    text.extend_from_slice(TO_N.as_bytes())?;
+    text.extend_from_slice(TO_M.as_bytes())?;
+    text.extend_from_slice(OF_NONE.as_bytes())?;
     Ok(text)
 }
 
 #[test]
 fn a_full_history_takes_no_edit(rt: HostRuntime) -> Result<(), Fail> {
     let text = script(rt.alloc(), 49_999)?;
-    let bytes = Vec::from_slice(rt.alloc(), text.as_bytes())?;
-    let ran = run(&rt, rt.alloc(), &["run"], bytes, &[], &[])?;
-    assert_eq!(rt; ran.status, 0);
+    let ran = run(&rt, rt.alloc(), &["run"], text, &[], &[])?;
     let last =
         b"{\"line\":100001,\"n\":100000,\"ok\":\"set_label\"}\n{\"line\":100002,\"n\":100000,\"refused\":{\"rule\":\"HistoryFull\"}}\n{\"line\":100003,\"n\":100000,\"refused\":{\"rule\":\"HistoryFull\"}}\n";
-    assert!(rt; ran.output.as_slice().ends_with(last));
+    assert!(rt; ran.status == 0 && ran.sink.bytes().ends_with(last));
     Ok(())
 }

@@ -1,6 +1,6 @@
 //! The limits of a line, of the number of lines and of a script, each at the limit and one past it.
-use crate::scripts::{CONFIG, call, empty_disk};
-use emu_io::{Failed, ListSink, OpenGate, Source};
+use crate::scripts::{CONFIG, call, empty_disk, words_of};
+use emu_io::{Failed, Source};
 use label_match::RegexMaker;
 use std::io::Read;
 use std::process::Abort;
@@ -11,6 +11,9 @@ use std::thread::Threads;
 const WITHIN: &[u8] = b"{\"line\":1,\"n\":0,\"ok\":\"config\"}\n";
 
 const OVER: &[u8] = b"{\"line\":1,\"n\":0,\"ok\":\"config\"}\n{\"cause\":\"Limit\",\"status\":9}\n";
+
+/// How many bytes the line of the configuration has.
+const HEAD: u64 = CONFIG.len() as u64;
 
 /// A source that makes its bytes as it is read: the line of the configuration, and then lines of
 /// spaces.
@@ -64,38 +67,43 @@ fn ends_with(
 ) -> Result<(), Fail> {
     let mut source = Blanks {
         head: CONFIG.as_bytes(),
-        left: len.saturating_sub(CONFIG.len() as u64),
+        left: len.saturating_sub(HEAD),
         width,
         column: width,
     };
-    let mut sink = ListSink::new(rt.alloc(), Vec::new(rt.alloc()));
-    let mut patterns = RegexMaker::new();
+    let words = words_of(rt.alloc(), &["run"])?;
     let disk = empty_disk(rt.alloc())?;
-    let ended = call(
+    let mut patterns = RegexMaker::new();
+    let none = Vec::new(rt.alloc());
+    let ran = call(
         rt,
         rt.alloc(),
-        &["run"],
+        words,
         &mut source,
-        &mut sink,
+        none,
         disk,
         &mut patterns,
-        &OpenGate,
-    )?;
-    assert_eq!(rt; ended.status, status, "width {width}, {len} bytes");
+    );
     let want = if status == 0 { WITHIN } else { OVER };
-    assert_eq!(rt; sink.bytes(), want);
+    assert_eq!(rt;
+        (ran.status, ran.sink.bytes()),
+        (status, want),
+        "width {width}, {len} bytes"
+    );
     Ok(())
 }
 
+/// How many spaces each line has, how many bytes the script, and how its run ends.
+static LINES: [(u64, u64, u8); 4] = [
+    (0, HEAD + 200_000, 0),
+    (0, HEAD + 200_001, 9),
+    (16_777_216, HEAD + 1 + 16_777_216, 0),
+    (16_777_217, HEAD + 1 + 16_777_217, 9),
+];
+
 #[test]
 fn limits_of_lines(rt: HostRuntime) -> Result<(), Fail> {
-    let head = CONFIG.len() as u64;
-    for (width, len, status) in [
-        (0, head + 200_000, 0),
-        (0, head + 200_001, 9),
-        (16_777_216, head + 1 + 16_777_216, 0),
-        (16_777_217, head + 1 + 16_777_217, 9),
-    ] {
+    for &(width, len, status) in &LINES {
         ends_with(&rt, width, len, status)?;
     }
     Ok(())
@@ -103,8 +111,6 @@ fn limits_of_lines(rt: HostRuntime) -> Result<(), Fail> {
 
 #[test]
 fn limit_of_a_script(rt: HostRuntime) -> Result<(), Fail> {
-    for (len, status) in [(268_435_456, 0), (268_435_457, 9)] {
-        ends_with(&rt, 9_999, len, status)?;
-    }
-    Ok(())
+    ends_with(&rt, 9_999, 268_435_456, 0)?;
+    ends_with(&rt, 9_999, 268_435_457, 9)
 }

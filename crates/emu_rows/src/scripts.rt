@@ -1,7 +1,7 @@
 //! Lines of scripts, and runs of the program over sources and sinks in memory.
 use emu_cli::{Exit, emu};
 use emu_disk::MemoryDisk;
-use emu_io::{Gate, ListSink, ListSource, OpenGate, Source, SureFolder};
+use emu_io::{ListSink, ListSource, OpenGate, Source, SureFolder};
 use label_match::{PatternMaker, RegexMaker};
 use std::alloc::{AllocError, Global};
 use std::process::Abort;
@@ -28,11 +28,12 @@ pub struct Row {
     pub output: &'static [&'static str],
 }
 
-/// What a run answered and wrote.
+/// How a run ended, what it wrote, and its disk.
 #[derive(Drop)]
 pub struct Ran {
     pub status: u8,
-    pub output: Vec<u8>,
+    pub sink: ListSink,
+    pub disk: MemoryDisk,
 }
 
 /// The lines of a script, each with its end.
@@ -52,6 +53,50 @@ pub fn repeated(alloc: Global, text: &str, count: usize) -> Result<String, Alloc
         all.push_str(text)?;
     }
     Ok(all)
+}
+
+/// Words as the program takes them.
+pub fn words_of(alloc: Global, words: &[&str]) -> Result<Vec<String>, AllocError> {
+    let mut all = Vec::new(alloc);
+    for word in words {
+        all.push(String::from_str(alloc, word)?)?;
+    }
+    Ok(all)
+}
+
+/// A disk without a byte.
+pub fn empty_disk(alloc: Global) -> Result<MemoryDisk, AllocError> {
+    match MemoryDisk::new(alloc, &[]) {
+        Ok(disk) => Ok(disk),
+        Err(_) => Err(AllocError),
+    }
+}
+
+/// Calls the program on these words, over an empty folder and with a sink that fails on these calls, counted from 1.
+/// All tests of the crate call it here. Everything that it takes is dropped at its one exit.
+pub fn call<R: Threads + Wait + Sync, S: Source, P: PatternMaker>(
+    rt: &R,
+    alloc: Global,
+    words: Vec<String>,
+    source: &mut S,
+    bad_writes: Vec<u64>,
+    disk: MemoryDisk,
+    patterns: &mut P,
+) -> Ran {
+    let mut sink = ListSink::new(alloc, bad_writes);
+    let mut folder = SureFolder::new(Vec::new(alloc));
+    let Exit { status, disk } = emu(
+        rt,
+        alloc,
+        words.as_slice(),
+        source,
+        &mut sink,
+        &mut folder,
+        disk,
+        patterns,
+        &OpenGate,
+    );
+    Ran { status, sink, disk }
 }
 
 /// Runs the words over a script, with a source and a sink that fail on these calls, counted from 1.
@@ -86,58 +131,10 @@ pub fn run_with<R: Threads + Wait + Sync, P: PatternMaker>(
     patterns: &mut P,
 ) -> Result<Ran, AllocError> {
     let mut source = ListSource::new(script, Vec::from_slice(alloc, bad_reads)?);
-    let mut sink = ListSink::new(alloc, Vec::from_slice(alloc, bad_writes)?);
+    let bad_writes = Vec::from_slice(alloc, bad_writes)?;
+    let words = words_of(alloc, words)?;
     let disk = empty_disk(alloc)?;
-    let exit = call(
-        rt,
-        alloc,
-        words,
-        &mut source,
-        &mut sink,
-        disk,
-        patterns,
-        &OpenGate,
-    )?;
-    let status = exit.status;
-    let output = Vec::from_slice(alloc, sink.bytes())?;
-    Ok(Ran { status, output })
-}
-
-/// A disk without a byte.
-pub fn empty_disk(alloc: Global) -> Result<MemoryDisk, AllocError> {
-    match MemoryDisk::new(alloc, &[]) {
-        Ok(disk) => Ok(disk),
-        Err(_) => Err(AllocError),
-    }
-}
-
-/// Calls the program on these words, over an empty folder. All tests of the crate call it here.
-pub fn call<R: Threads + Wait + Sync, S: Source, P: PatternMaker, G: Gate + Sync>(
-    rt: &R,
-    alloc: Global,
-    words: &[&str],
-    source: &mut S,
-    sink: &mut ListSink,
-    disk: MemoryDisk,
-    patterns: &mut P,
-    gate: &G,
-) -> Result<Exit<MemoryDisk>, AllocError> {
-    let mut all = Vec::new(alloc);
-    for word in words {
-        all.push(String::from_str(alloc, word)?)?;
-    }
-    let mut folder = SureFolder::new(Vec::new(alloc));
-    Ok(emu(
-        rt,
-        alloc,
-        all.as_slice(),
-        source,
-        sink,
-        &mut folder,
-        disk,
-        patterns,
-        gate,
-    ))
+    Ok(call(rt, alloc, words, &mut source, bad_writes, disk, patterns))
 }
 
 /// Runs a script, and compares how the run ends and the lines that it writes.
@@ -175,9 +172,12 @@ pub fn expect_run<R: Abort + Threads + Wait + Sync>(
     wanted: &[&str],
 ) -> Result<(), Fail> {
     let last = wanted.last().copied().unwrap_or("");
-    let ran = run(rt, alloc, &["run"], script, bad_reads, bad_writes)?;
     let wanted = joined(alloc, wanted, "\n")?;
-    assert_eq!(rt; ran.output.as_slice(), wanted.as_slice(), "{last}");
-    assert_eq!(rt; ran.status, status, "{last}");
+    let ran = run(rt, alloc, &["run"], script, bad_reads, bad_writes)?;
+    assert_eq!(rt;
+        (ran.status, ran.sink.bytes()),
+        (status, wanted.as_slice()),
+        "{last}"
+    );
     Ok(())
 }

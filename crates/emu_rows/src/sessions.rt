@@ -1,13 +1,20 @@
 //! The sixteen sessions, each with a look open beside the looks of the others.
-use crate::scripts::{BUNDLE, CONFIG, OTHER_BUNDLE, run};
+use crate::scripts::{BUNDLE, CONFIG, OTHER_BUNDLE, expect};
 use std::alloc::{AllocError, Global};
 use std::test::Fail;
 
-const OF_B1: &str =
-    "{\"attribute\":\"Phonetic\",\"bundle\":\"b1\",\"end\":340175,\"endItem\":2,\"endPos\":1,\"labels\":\"m\",\"level\":\"Phonetic\",\"sampleEnd\":6803,\"sampleRate\":20000,\"sampleStart\":5139,\"session\":\"s1\",\"start\":256925,\"startItem\":2,\"startPos\":1}";
+/// What the line of a reply has behind its number, where the look saw the first bundle alone.
+const ONE: &str =
+    ",\"n\":1,\"segments\":[{\"attribute\":\"Phonetic\",\"bundle\":\"b1\",\"end\":340175,\"endItem\":2,\"endPos\":1,\"labels\":\"m\",\"level\":\"Phonetic\",\"sampleEnd\":6803,\"sampleRate\":20000,\"sampleStart\":5139,\"session\":\"s1\",\"start\":256925,\"startItem\":2,\"startPos\":1}]}";
 
-const OF_B2: &str =
-    "{\"attribute\":\"Phonetic\",\"bundle\":\"b2\",\"end\":340175,\"endItem\":2,\"endPos\":1,\"labels\":\"m\",\"level\":\"Phonetic\",\"sampleEnd\":6803,\"sampleRate\":20000,\"sampleStart\":5139,\"session\":\"s1\",\"start\":256925,\"startItem\":2,\"startPos\":1}";
+/// The same where it saw both.
+const BOTH: &str =
+    ",\"n\":2,\"segments\":[{\"attribute\":\"Phonetic\",\"bundle\":\"b1\",\"end\":340175,\"endItem\":2,\"endPos\":1,\"labels\":\"m\",\"level\":\"Phonetic\",\"sampleEnd\":6803,\"sampleRate\":20000,\"sampleStart\":5139,\"session\":\"s1\",\"start\":256925,\"startItem\":2,\"startPos\":1},{\"attribute\":\"Phonetic\",\"bundle\":\"b2\",\"end\":340175,\"endItem\":2,\"endPos\":1,\"labels\":\"m\",\"level\":\"Phonetic\",\"sampleEnd\":6803,\"sampleRate\":20000,\"sampleStart\":5139,\"session\":\"s1\",\"start\":256925,\"startItem\":2,\"startPos\":1}]}";
+
+const LOOK: &str = ",\"do\":\"look\",\"eql\":\"Phonetic == m\"}";
+
+const BEGIN: &str =
+    "{\"line\":1,\"n\":0,\"ok\":\"config\"}\n{\"line\":2,\"n\":1,\"ok\":\"add_bundle\"}\n";
 
 /// Adds a line for each number from `first` to `last`, the number between two texts.
 fn push_lines(
@@ -27,43 +34,24 @@ fn push_lines(
 
 /// Eight sessions look before the second bundle is added, eight after it; then all finish.
 fn script(alloc: Global) -> Result<String, AllocError> {
-    let look = ",\"do\":\"look\",\"eql\":\"Phonetic == m\"}";
     let mut text = format!(in alloc; "{CONFIG}\n{BUNDLE}\n")?;
-    push_lines(alloc, &mut text, 1, 8, "{\"s\":", look)?;
+    push_lines(alloc, &mut text, 1, 8, "{\"s\":", LOOK)?;
     text.push_str(OTHER_BUNDLE)?;
     text.push('\n')?;
-    push_lines(alloc, &mut text, 9, 16, "{\"s\":", look)?;
+    push_lines(alloc, &mut text, 9, 16, "{\"s\":", LOOK)?;
     push_lines(alloc, &mut text, 1, 16, "{\"s\":", ",\"do\":\"finish\"}")?;
     Ok(text)
 }
 
 /// Each look shows the state at its own line.
 fn replies(alloc: Global) -> Result<String, AllocError> {
-    let one = format!(in alloc; ",\"n\":1,\"segments\":[{OF_B1}]}}")?;
-    let two = format!(in alloc; ",\"n\":2,\"segments\":[{OF_B1},{OF_B2}]}}")?;
     let line = "{\"line\":";
-    let mut text = String::new(alloc);
-    push_lines(alloc, &mut text, 1, 1, line, ",\"n\":0,\"ok\":\"config\"}")?;
-    push_lines(
-        alloc,
-        &mut text,
-        2,
-        2,
-        line,
-        ",\"n\":1,\"ok\":\"add_bundle\"}",
-    )?;
+    let mut text = String::from_str(alloc, BEGIN)?;
     push_lines(alloc, &mut text, 3, 10, line, ",\"n\":1,\"ok\":\"look\"}")?;
-    push_lines(
-        alloc,
-        &mut text,
-        11,
-        11,
-        line,
-        ",\"n\":2,\"ok\":\"add_bundle\"}",
-    )?;
+    text.push_str("{\"line\":11,\"n\":2,\"ok\":\"add_bundle\"}\n")?;
     push_lines(alloc, &mut text, 12, 19, line, ",\"n\":2,\"ok\":\"look\"}")?;
-    push_lines(alloc, &mut text, 20, 27, line, one.as_str())?;
-    push_lines(alloc, &mut text, 28, 35, line, two.as_str())?;
+    push_lines(alloc, &mut text, 20, 27, line, ONE)?;
+    push_lines(alloc, &mut text, 28, 35, line, BOTH)?;
     Ok(text)
 }
 
@@ -71,9 +59,12 @@ fn replies(alloc: Global) -> Result<String, AllocError> {
 fn sixteen_sessions_look(rt: HostRuntime) -> Result<(), Fail> {
     let alloc = rt.alloc();
     let given = script(alloc)?;
-    let bytes = Vec::from_slice(alloc, given.as_bytes())?;
-    let ran = run(&rt, alloc, &["run"], bytes, &[], &[])?;
-    assert_eq!(rt; ran.status, 0);
-    assert_eq!(rt; ran.output.as_slice(), replies(alloc)?.as_bytes());
-    Ok(())
+    let wanted = replies(alloc)?;
+    expect(
+        &rt,
+        alloc,
+        &[given.as_str().trim_end()],
+        0,
+        &[wanted.as_str().trim_end()],
+    )
 }

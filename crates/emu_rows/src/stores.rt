@@ -1,10 +1,11 @@
 //! Runs over a store on a disk in memory: one after another, with a call of the disk that fails, and over bytes that
 //! are no store.
-use crate::scripts::{BUNDLE, CONFIG, Ran, call, joined};
+use crate::scripts::{BUNDLE, CONFIG, Ran, call, joined, words_of};
 use emu_disk::MemoryDisk;
-use emu_io::{ListSink, ListSource, OpenGate};
+use emu_io::ListSource;
 use label_match::RegexMaker;
 use std::alloc::{AllocError, Global};
+use std::process::Abort;
 use std::sync::Wait;
 use std::test::Fail;
 use std::thread::Threads;
@@ -25,94 +26,81 @@ const REFUSED: [&str; 3] = [
     "{\"line\":3,\"n\":1,\"ok\":\"add_bundle\"}",
 ];
 
-/// How a run over a store ended and what it wrote, and its disk.
-#[derive(Drop)]
-struct Stored {
-    ran: Ran,
-    disk: MemoryDisk,
-}
-
 /// Runs a script over the store on a disk.
 fn run_stored<R: Threads + Wait + Sync>(
     rt: &R,
     alloc: Global,
     lines: &[&str],
     disk: MemoryDisk,
-) -> Result<Stored, AllocError> {
+) -> Result<Ran, AllocError> {
     let mut source = ListSource::new(joined(alloc, lines, "\n")?, Vec::new(alloc));
-    let mut sink = ListSink::new(alloc, Vec::new(alloc));
+    let words = words_of(alloc, &["run", "--store"])?;
     let mut patterns = RegexMaker::new();
-    let exit = call(
+    Ok(call(
         rt,
         alloc,
-        &["run", "--store"],
+        words,
         &mut source,
-        &mut sink,
+        Vec::new(alloc),
         disk,
         &mut patterns,
-        &OpenGate,
-    )?;
-    let ran = Ran {
-        status: exit.status,
-        output: Vec::from_slice(alloc, sink.bytes())?,
-    };
-    Ok(Stored {
-        ran,
-        disk: exit.disk,
-    })
+    ))
 }
+
+/// Runs a script over the store on a disk, compares how the run ends and the lines that it writes, and hands the disk
+/// on.
+fn expect_stored<R: Abort + Threads + Wait + Sync>(
+    rt: &R,
+    alloc: Global,
+    lines: &[&str],
+    disk: MemoryDisk,
+    status: u8,
+    wanted: &[&str],
+) -> Result<MemoryDisk, Fail> {
+    let wanted = joined(alloc, wanted, "\n")?;
+    let ran = run_stored(rt, alloc, lines, disk)?;
+    assert_eq!(rt; (ran.status, ran.sink.bytes()), (status, wanted.as_slice()));
+    Ok(ran.disk)
+}
+
+/// The replies to the query and the same bundle, over the store that has it.
+const AGAIN: [&str; 2] = [
+    "{\"line\":1,\"n\":1,\"segments\":[]}",
+    "{\"line\":2,\"n\":1,\"refused\":{\"rule\":\"BundleTaken\"}}",
+];
+
+const NO_PLACE: &str = "{\"cause\":\"ConfigPlace\",\"line\":1,\"status\":3}";
 
 #[test]
 fn a_run_goes_on_over_the_store_of_another(rt: HostRuntime) -> Result<(), Fail> {
     let alloc = rt.alloc();
     let disk = MemoryDisk::new(alloc, &[])?;
-    let first = run_stored(&rt, alloc, &[CONFIG, BUNDLE, QUERY], disk)?;
-    assert_eq!(rt; first.ran.status, 0);
-    assert_eq!(rt;
-        first.ran.output.as_slice(),
-        joined(alloc, &REPLIES, "\n")?.as_slice()
-    );
-    let second = run_stored(&rt, alloc, &[QUERY, BUNDLE], first.disk)?;
-    let wanted = [
-        "{\"line\":1,\"n\":1,\"segments\":[]}",
-        "{\"line\":2,\"n\":1,\"refused\":{\"rule\":\"BundleTaken\"}}",
-    ];
-    assert_eq!(rt; second.ran.status, 0);
-    assert_eq!(rt;
-        second.ran.output.as_slice(),
-        joined(alloc, &wanted, "\n")?.as_slice()
-    );
-    let third = run_stored(&rt, alloc, &[CONFIG], second.disk)?;
-    let wanted = ["{\"cause\":\"ConfigPlace\",\"line\":1,\"status\":3}"];
-    assert_eq!(rt; third.ran.status, 3);
-    assert_eq!(rt;
-        third.ran.output.as_slice(),
-        joined(alloc, &wanted, "\n")?.as_slice()
-    );
+    let disk = expect_stored(&rt, alloc, &[CONFIG, BUNDLE, QUERY], disk, 0, &REPLIES)?;
+    let disk = expect_stored(&rt, alloc, &[QUERY, BUNDLE], disk, 0, &AGAIN)?;
+    let _disk = expect_stored(&rt, alloc, &[CONFIG], disk, 3, &[NO_PLACE])?;
     Ok(())
+}
+
+/// Runs the bundle that is given twice over an empty disk, a call of which fails.
+fn run_twice<R: Threads + Wait + Sync>(rt: &R, alloc: Global, call: u64) -> Result<Ran, Fail> {
+    let mut disk = MemoryDisk::new(alloc, &[])?;
+    disk.fail_at(&[call])?;
+    Ok(run_stored(rt, alloc, &[CONFIG, BUNDLE, BUNDLE], disk)?)
 }
 
 #[test]
 fn each_call_of_the_disk_fails(rt: HostRuntime) -> Result<(), Fail> {
-    let alloc = rt.alloc();
-    let refused = joined(alloc, &REFUSED, "\n")?;
+    let refused = joined(rt.alloc(), &REFUSED, "\n")?;
     let (mut unopened, mut unstored) = (false, false);
     for call in 0..20 {
-        let mut disk = MemoryDisk::new(alloc, &[])?;
-        disk.fail_at(&[call])?;
-        let stored = run_stored(&rt, alloc, &[CONFIG, BUNDLE, BUNDLE], disk)?;
-        if stored.ran.status == 6 {
-            assert_eq!(rt; stored.ran.output.len(), 0, "call {call}");
-            unopened = true;
-        } else {
-            assert_eq!(rt; stored.ran.status, 0, "call {call}");
-            if stored.ran.output == refused {
-                unstored = true;
-            }
-        }
+        let ran = run_twice(&rt, rt.alloc(), call)?;
+        let output = ran.sink.bytes();
+        let good = ran.status == 0 || (ran.status == 6 && output.is_empty());
+        assert!(rt; good, "call {call}");
+        unopened = unopened || ran.status == 6;
+        unstored = unstored || output == refused.as_slice();
     }
-    assert!(rt; unopened);
-    assert!(rt; unstored);
+    assert!(rt; unopened && unstored);
     Ok(())
 }
 
@@ -120,13 +108,8 @@ fn each_call_of_the_disk_fails(rt: HostRuntime) -> Result<(), Fail> {
 fn bytes_that_are_no_store(rt: HostRuntime) -> Result<(), Fail> {
     let alloc = rt.alloc();
     let disk = MemoryDisk::new(alloc, b"NOTASTORE!")?;
-    let stored = run_stored(&rt, alloc, &[CONFIG], disk)?;
     let wanted = ["{\"at\":0,\"cause\":\"Damaged\",\"status\":7}"];
-    assert_eq!(rt; stored.ran.status, 7);
-    assert_eq!(rt;
-        stored.ran.output.as_slice(),
-        joined(alloc, &wanted, "\n")?.as_slice()
-    );
-    assert_eq!(rt; stored.disk.bytes(), b"NOTASTORE!".as_slice());
+    let disk = expect_stored(&rt, alloc, &[CONFIG], disk, 7, &wanted)?;
+    assert_eq!(rt; disk.bytes(), b"NOTASTORE!".as_slice());
     Ok(())
 }
