@@ -119,7 +119,7 @@ fn expect_built<R: Abort + Threads + Wait + Sync>(
     links: &str,
     wanted: &str,
 ) -> Result<(), Fail> {
-    let line = bundle_line(alloc, ("s1", "b1"), rate, levels, links)?;
+    let line = bundle_line(alloc, rate, levels, links)?;
     let reply = format!(in alloc; "{{\"line\":2,{wanted}}}")?;
     let replies = [r#"{"line":1,"n":0,"ok":"config"}"#, reply.as_str()];
     expect(rt, alloc, &[LEVELS, line.as_str()], 0, &replies)

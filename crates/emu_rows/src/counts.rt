@@ -35,17 +35,20 @@ fn added(alloc: Global, config: &Config, counts: Counts, count: u32) -> Result<&
     Ok(ended(alloc, config, counts, &edit))
 }
 
+/// How many bundles and items there are, how many words the bundle has that is added, and what ends the edit.
+static ROWS: [(u32, u32, u32, &str); 6] = [
+    (0, 0, 65536, "none"),
+    (0, 0, 65537, "BundleItems"),
+    (9999, 1_966_080, 33920, "none"),
+    (31, 1_966_080, 33921, "AllItems"),
+    (9999, 2_000_000, 0, "none"),
+    (10000, 0, 0, "Bundles"),
+];
+
 #[test]
 fn counts_keep_the_limits(rt: HostRuntime) -> Result<(), Fail> {
     let config = config(rt.alloc())?;
-    for (bundles, items, count, wanted) in [
-        (0, 0, 65536, "none"),
-        (0, 0, 65537, "BundleItems"),
-        (9999, 1_966_080, 33920, "none"),
-        (31, 1_966_080, 33921, "AllItems"),
-        (9999, 2_000_000, 0, "none"),
-        (10000, 0, 0, "Bundles"),
-    ] {
+    for &(bundles, items, count, wanted) in &ROWS {
         let text = added(rt.alloc(), &config, Counts { bundles, items }, count)?;
         assert_eq!(rt; text, wanted, "{bundles} {items} {count}");
     }

@@ -1,5 +1,5 @@
 //! Queries of levels of each kind, each with two attributes, with the replies that are known from outside.
-use crate::scripts::expect;
+use crate::scripts::{Row, expect, expect_rows};
 use std::alloc::{AllocError, Global};
 use std::test::Fail;
 
@@ -60,27 +60,22 @@ static ROWS: [(&str, &str, &str); 8] = [
     ),
 ];
 
-/// Bundles whose keys come in another order than their own, with the word of each reply.
-static KEYS: [(&str, &str); 4] = [("s1", "b2"), ("s1", "b1"), ("s0", "b3"), ("s2", "b0")];
-
 /// The line that adds a bundle with these levels and links.
 pub fn bundle_line(
     alloc: Global,
-    key: (&str, &str),
     rate: u64,
     levels: &str,
     links: &str,
 ) -> Result<String, AllocError> {
-    let (session, bundle) = key;
     format!(in alloc;
-        "{{\"s\":1,\"do\":\"add_bundle\",\"session\":\"{session}\",\"bundle\":\"{bundle}\",\"annot\":{{\"annotates\":\"b1.wav\",\"sampleRate\":{rate},\"levels\":[{levels}],\"links\":[{links}]}}}}"
+        "{{\"s\":1,\"do\":\"add_bundle\",\"session\":\"s1\",\"bundle\":\"b1\",\"annot\":{{\"annotates\":\"b1.wav\",\"sampleRate\":{rate},\"levels\":[{levels}],\"links\":[{links}]}}}}"
     )
 }
 
 #[test]
 fn levels_are_asked(rt: HostRuntime) -> Result<(), Fail> {
     for (levels, eql, wanted) in &ROWS {
-        let bundle = bundle_line(rt.alloc(), ("s1", "b1"), 20000, levels, "")?;
+        let bundle = bundle_line(rt.alloc(), 20000, levels, "")?;
         let query = format!(in rt.alloc(); "{{\"s\":1,\"do\":\"query\",\"eql\":\"{eql}\"}}")?;
         let reply = format!(in rt.alloc(); "{{\"line\":3,\"n\":1,{wanted}}}")?;
         let lines = [LEVELS, bundle.as_str(), query.as_str()];
@@ -94,50 +89,28 @@ fn levels_are_asked(rt: HostRuntime) -> Result<(), Fail> {
     Ok(())
 }
 
-/// The row of V in a bundle.
-fn row(alloc: Global, key: (&str, &str)) -> Result<String, AllocError> {
-    let (session, bundle) = key;
-    format!(in alloc;
-        "{{\"attribute\":\"Phonetic\",\"bundle\":\"{bundle}\",\"end\":256925,\"endItem\":1,\"endPos\":0,\"labels\":\"V\",\"level\":\"Phonetic\",\"sampleEnd\":5138,\"sampleRate\":20000,\"sampleStart\":3749,\"session\":\"{session}\",\"start\":187425,\"startItem\":1,\"startPos\":0}}"
-    )
-}
-
-/// The script that adds the bundles of `KEYS` and asks for V, and its replies.
-fn keyed(alloc: Global) -> Result<(String, String), AllocError> {
-    let mut script = format!(in alloc; "{LEVELS}\n")?;
-    let mut wanted = String::from_str(alloc, "{\"line\":1,\"n\":0,\"ok\":\"config\"}\n")?;
-    let mut number = 1_u64;
-    for key in &KEYS {
-        let line = bundle_line(alloc, *key, 20000, TWO_SEGMENTS, "")?;
-        let line = format!(in alloc; "{line}\n")?;
-        script.push_str(line.as_str())?;
-        let next = number.saturating_add(1);
-        let reply = format!(in alloc;
-            "{{\"line\":{next},\"n\":{number},\"ok\":\"add_bundle\"}}\n"
-        )?;
-        wanted.push_str(reply.as_str())?;
-        number = next;
-    }
-    script.push_str("{\"s\":1,\"do\":\"query\",\"eql\":\"Phonetic == V\"}\n")?;
-    let first = row(alloc, ("s0", "b3"))?;
-    let second = row(alloc, ("s1", "b1"))?;
-    let third = row(alloc, ("s1", "b2"))?;
-    let last = row(alloc, ("s2", "b0"))?;
-    let reply = format!(in alloc;
-        "{{\"line\":6,\"n\":4,\"segments\":[{first},{second},{third},{last}]}}\n"
-    )?;
-    wanted.push_str(reply.as_str())?;
-    Ok((script, wanted))
-}
+/// Bundles whose keys come in another order than their own.
+static KEYS: [Row; 1] = [Row {
+    lines: &[
+        LEVELS,
+        r#"{"s":1,"do":"add_bundle","session":"s1","bundle":"b2","annot":{"annotates":"b1.wav","sampleRate":20000,"levels":[{"name":"Phonetic","type":"SEGMENT","items":[{"id":1,"sampleStart":3749,"sampleDur":1389,"labels":[{"name":"Phonetic","value":"V"}]},{"id":2,"sampleStart":5139,"sampleDur":1664,"labels":[{"name":"Phonetic","value":"m"}]}]}],"links":[]}}"#,
+        r#"{"s":1,"do":"add_bundle","session":"s1","bundle":"b1","annot":{"annotates":"b1.wav","sampleRate":20000,"levels":[{"name":"Phonetic","type":"SEGMENT","items":[{"id":1,"sampleStart":3749,"sampleDur":1389,"labels":[{"name":"Phonetic","value":"V"}]},{"id":2,"sampleStart":5139,"sampleDur":1664,"labels":[{"name":"Phonetic","value":"m"}]}]}],"links":[]}}"#,
+        r#"{"s":1,"do":"add_bundle","session":"s0","bundle":"b3","annot":{"annotates":"b1.wav","sampleRate":20000,"levels":[{"name":"Phonetic","type":"SEGMENT","items":[{"id":1,"sampleStart":3749,"sampleDur":1389,"labels":[{"name":"Phonetic","value":"V"}]},{"id":2,"sampleStart":5139,"sampleDur":1664,"labels":[{"name":"Phonetic","value":"m"}]}]}],"links":[]}}"#,
+        r#"{"s":1,"do":"add_bundle","session":"s2","bundle":"b0","annot":{"annotates":"b1.wav","sampleRate":20000,"levels":[{"name":"Phonetic","type":"SEGMENT","items":[{"id":1,"sampleStart":3749,"sampleDur":1389,"labels":[{"name":"Phonetic","value":"V"}]},{"id":2,"sampleStart":5139,"sampleDur":1664,"labels":[{"name":"Phonetic","value":"m"}]}]}],"links":[]}}"#,
+        r#"{"s":1,"do":"query","eql":"Phonetic == V"}"#,
+    ],
+    status: 0,
+    output: &[
+        r#"{"line":1,"n":0,"ok":"config"}"#,
+        r#"{"line":2,"n":1,"ok":"add_bundle"}"#,
+        r#"{"line":3,"n":2,"ok":"add_bundle"}"#,
+        r#"{"line":4,"n":3,"ok":"add_bundle"}"#,
+        r#"{"line":5,"n":4,"ok":"add_bundle"}"#,
+        r#"{"line":6,"n":4,"segments":[{"attribute":"Phonetic","bundle":"b3","end":256925,"endItem":1,"endPos":0,"labels":"V","level":"Phonetic","sampleEnd":5138,"sampleRate":20000,"sampleStart":3749,"session":"s0","start":187425,"startItem":1,"startPos":0},{"attribute":"Phonetic","bundle":"b1","end":256925,"endItem":1,"endPos":0,"labels":"V","level":"Phonetic","sampleEnd":5138,"sampleRate":20000,"sampleStart":3749,"session":"s1","start":187425,"startItem":1,"startPos":0},{"attribute":"Phonetic","bundle":"b2","end":256925,"endItem":1,"endPos":0,"labels":"V","level":"Phonetic","sampleEnd":5138,"sampleRate":20000,"sampleStart":3749,"session":"s1","start":187425,"startItem":1,"startPos":0},{"attribute":"Phonetic","bundle":"b0","end":256925,"endItem":1,"endPos":0,"labels":"V","level":"Phonetic","sampleEnd":5138,"sampleRate":20000,"sampleStart":3749,"session":"s2","start":187425,"startItem":1,"startPos":0}]}"#,
+    ],
+}];
 
 #[test]
 fn bundles_are_in_order_of_keys(rt: HostRuntime) -> Result<(), Fail> {
-    let (script, wanted) = keyed(rt.alloc())?;
-    expect(
-        &rt,
-        rt.alloc(),
-        &[script.as_str().trim_end()],
-        0,
-        &[wanted.as_str().trim_end()],
-    )
+    expect_rows(&rt, rt.alloc(), &KEYS)
 }

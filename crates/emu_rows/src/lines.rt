@@ -360,9 +360,12 @@ fn annotations(rt: HostRuntime) -> Result<(), Fail> {
     Ok(())
 }
 
+/// How many spaces stand behind a query, and what is written of it.
+static LENGTHS: [(usize, &str); 2] = [(4083, NO_ROW), (4084, TOO_LONG)];
+
 #[test]
 fn queries_have_a_limit(rt: HostRuntime) -> Result<(), Fail> {
-    for (count, wanted) in [(4083, NO_ROW), (4084, TOO_LONG)] {
+    for &(count, wanted) in &LENGTHS {
         let spaces = repeated(rt.alloc(), " ", count)?;
         let line = format!(in rt.alloc();
             "{{\"do\":\"query\",\"s\":1,\"eql\":\"Phonetic == x{spaces}\"}}"
@@ -372,9 +375,12 @@ fn queries_have_a_limit(rt: HostRuntime) -> Result<(), Fail> {
     Ok(())
 }
 
+/// How deep lists are nested in a member, and what is written of the line.
+static DEPTHS: [(usize, &str); 2] = [(126, NO_COMMAND), (127, NO_JSON)];
+
 #[test]
 fn nesting_has_a_limit(rt: HostRuntime) -> Result<(), Fail> {
-    for (depth, wanted) in [(126, NO_COMMAND), (127, NO_JSON)] {
+    for &(depth, wanted) in &DEPTHS {
         let open = repeated(rt.alloc(), "[", depth)?;
         let close = repeated(rt.alloc(), "]", depth)?;
         let line = format!(in rt.alloc(); "{{\"deep\":{open}{close}}}")?;
