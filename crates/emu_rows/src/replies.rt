@@ -48,90 +48,121 @@ fn expect_reply(rt: &impl Abort, alloc: Global, reply: Reply, wanted: &str) -> R
     Ok(())
 }
 
-#[test]
-fn rows_in_order(rt: HostRuntime) -> Result<(), Fail> {
-    let alloc = rt.alloc();
+/// The answer of one row.
+fn segments(alloc: Global, row: Row) -> Result<Answer, Memory> {
     let mut rows = SegmentList::new(alloc);
-    rows.push(row(alloc, "b1", "m")?)?;
-    let wanted =
-        "{\"line\":3,\"n\":1,\"segments\":[{\"attribute\":\"Phonetic\",\"bundle\":\"b1\",\"end\":340175,\"endItem\":2,\"endPos\":1,\"labels\":\"m\",\"level\":\"Phonetic\",\"sampleEnd\":6803,\"sampleRate\":20000,\"sampleStart\":5139,\"session\":\"s1\",\"start\":256925,\"startItem\":2,\"startPos\":1}]}\n";
-    expect_reply(
-        &rt,
-        alloc,
-        reply(3, Some(1), Answer::Segments(rows)),
-        wanted,
-    )?;
-    let mut rows = SegmentList::new(alloc);
+    rows.push(row)?;
+    Ok(Answer::Segments(rows))
+}
+
+/// A row without times, whose names and labels have escapes.
+fn timeless(alloc: Global) -> Result<Row, Memory> {
     let mut timeless = row(alloc, "b\"\\", "a\"\\\n\u{1f}\u{e9}\u{1f600}")?;
     timeless.start = None;
     timeless.end = None;
     timeless.sample_start = None;
     timeless.sample_end = None;
-    rows.push(timeless)?;
-    let wanted =
-        "{\"line\":4,\"n\":18446744073709551615,\"segments\":[{\"attribute\":\"Phonetic\",\"bundle\":\"b\\\"\\\\\",\"end\":null,\"endItem\":2,\"endPos\":1,\"labels\":\"a\\\"\\\\\\n\\u001f\u{e9}\u{1f600}\",\"level\":\"Phonetic\",\"sampleEnd\":null,\"sampleRate\":20000,\"sampleStart\":null,\"session\":\"s1\",\"start\":null,\"startItem\":2,\"startPos\":1}]}\n";
-    expect_reply(
-        &rt,
-        alloc,
-        reply(4, Some(u64::MAX), Answer::Segments(rows)),
-        wanted,
-    )
+    Ok(timeless)
 }
+
+const TIMED: &str =
+    "{\"line\":3,\"n\":1,\"segments\":[{\"attribute\":\"Phonetic\",\"bundle\":\"b1\",\"end\":340175,\"endItem\":2,\"endPos\":1,\"labels\":\"m\",\"level\":\"Phonetic\",\"sampleEnd\":6803,\"sampleRate\":20000,\"sampleStart\":5139,\"session\":\"s1\",\"start\":256925,\"startItem\":2,\"startPos\":1}]}\n";
+
+const TIMELESS: &str =
+    "{\"line\":4,\"n\":18446744073709551615,\"segments\":[{\"attribute\":\"Phonetic\",\"bundle\":\"b\\\"\\\\\",\"end\":null,\"endItem\":2,\"endPos\":1,\"labels\":\"a\\\"\\\\\\n\\u001f\u{e9}\u{1f600}\",\"level\":\"Phonetic\",\"sampleEnd\":null,\"sampleRate\":20000,\"sampleStart\":null,\"session\":\"s1\",\"start\":null,\"startItem\":2,\"startPos\":1}]}\n";
+
+#[test]
+fn rows_in_order(rt: HostRuntime) -> Result<(), Fail> {
+    let alloc = rt.alloc();
+    let timed = segments(alloc, row(alloc, "b1", "m")?)?;
+    expect_reply(&rt, alloc, reply(3, Some(1), timed), TIMED)?;
+    let timeless = segments(alloc, timeless(alloc)?)?;
+    expect_reply(&rt, alloc, reply(4, Some(u64::MAX), timeless), TIMELESS)
+}
+
+/// A refusal of the table.
+#[derive(Clone, Copy)]
+enum Why {
+    NoLook,
+    LookOpen,
+    Memory,
+    Disk,
+    UnknownName,
+    NoLevel,
+    Overlap,
+    TooManyBundles,
+    LabelTooLong,
+}
+
+/// The refusal that a row names.
+fn refusal(alloc: Global, why: Why) -> Result<Refusal, Memory> {
+    Ok(match why {
+        Why::NoLook => Refusal::NoLook,
+        Why::LookOpen => Refusal::LookOpen,
+        Why::Memory => Refusal::Memory,
+        Why::Disk => Refusal::Disk,
+        Why::UnknownName => { Refusal::Resolve(AskFault::UnknownName(Text::new(alloc, "a\"b\n")?)) }
+        Why::NoLevel => Refusal::Rule(Broken::NoLevel(Text::new(alloc, "Word")?)),
+        Why::Overlap => Refusal::Rule(Broken::Overlap(ItemId(1))),
+        Why::TooManyBundles => Refusal::Rule(Broken::TooMany(What::Bundles)),
+        Why::LabelTooLong => Refusal::Rule(Broken::LabelTooLong),
+    })
+}
+
+/// The number of edits in a reply, its refusal, and its text.
+static REFUSALS: [(Option<u64>, Why, &str); 9] = [
+    (
+        None,
+        Why::NoLook,
+        "{\"line\":7,\"refused\":{\"rule\":\"NoLook\"}}\n",
+    ),
+    (
+        None,
+        Why::LookOpen,
+        "{\"line\":7,\"refused\":{\"rule\":\"LookOpen\"}}\n",
+    ),
+    (
+        None,
+        Why::Memory,
+        "{\"line\":7,\"refused\":{\"rule\":\"Memory\"}}\n",
+    ),
+    (
+        None,
+        Why::Disk,
+        "{\"line\":7,\"refused\":{\"rule\":\"Disk\"}}\n",
+    ),
+    (
+        Some(1),
+        Why::UnknownName,
+        "{\"line\":7,\"n\":1,\"refused\":{\"name\":\"a\\\"b\\n\",\"rule\":\"UnknownName\"}}\n",
+    ),
+    (
+        Some(1),
+        Why::NoLevel,
+        "{\"line\":7,\"n\":1,\"refused\":{\"name\":\"Word\",\"rule\":\"NoLevel\"}}\n",
+    ),
+    (
+        Some(0),
+        Why::Overlap,
+        "{\"line\":7,\"n\":0,\"refused\":{\"id\":1,\"rule\":\"Overlap\"}}\n",
+    ),
+    (
+        Some(9),
+        Why::TooManyBundles,
+        "{\"line\":7,\"n\":9,\"refused\":{\"rule\":\"TooMany\",\"what\":\"Bundles\"}}\n",
+    ),
+    (
+        Some(9),
+        Why::LabelTooLong,
+        "{\"line\":7,\"n\":9,\"refused\":{\"rule\":\"LabelTooLong\"}}\n",
+    ),
+];
 
 #[test]
 fn refusals(rt: HostRuntime) -> Result<(), Fail> {
-    let alloc = rt.alloc();
-    let name = Text::new(alloc, "a\"b\n")?;
-    let unknown = Refusal::Resolve(AskFault::UnknownName(name));
-    let level = Refusal::Rule(Broken::NoLevel(Text::new(alloc, "Word")?));
-    for (n, refusal, wanted) in [
-        (
-            None,
-            Refusal::NoLook,
-            "{\"line\":7,\"refused\":{\"rule\":\"NoLook\"}}\n",
-        ),
-        (
-            None,
-            Refusal::LookOpen,
-            "{\"line\":7,\"refused\":{\"rule\":\"LookOpen\"}}\n",
-        ),
-        (
-            None,
-            Refusal::Memory,
-            "{\"line\":7,\"refused\":{\"rule\":\"Memory\"}}\n",
-        ),
-        (
-            None,
-            Refusal::Disk,
-            "{\"line\":7,\"refused\":{\"rule\":\"Disk\"}}\n",
-        ),
-        (
-            Some(1),
-            unknown,
-            "{\"line\":7,\"n\":1,\"refused\":{\"name\":\"a\\\"b\\n\",\"rule\":\"UnknownName\"}}\n",
-        ),
-        (
-            Some(1),
-            level,
-            "{\"line\":7,\"n\":1,\"refused\":{\"name\":\"Word\",\"rule\":\"NoLevel\"}}\n",
-        ),
-        (
-            Some(0),
-            Refusal::Rule(Broken::Overlap(ItemId(1))),
-            "{\"line\":7,\"n\":0,\"refused\":{\"id\":1,\"rule\":\"Overlap\"}}\n",
-        ),
-        (
-            Some(9),
-            Refusal::Rule(Broken::TooMany(What::Bundles)),
-            "{\"line\":7,\"n\":9,\"refused\":{\"rule\":\"TooMany\",\"what\":\"Bundles\"}}\n",
-        ),
-        (
-            Some(9),
-            Refusal::Rule(Broken::LabelTooLong),
-            "{\"line\":7,\"n\":9,\"refused\":{\"rule\":\"LabelTooLong\"}}\n",
-        ),
-    ] {
-        expect_reply(&rt, alloc, reply(7, n, Answer::Refused(refusal)), wanted)?;
+    for &(n, why, wanted) in &REFUSALS {
+        let answer = Answer::Refused(refusal(rt.alloc(), why)?);
+        expect_reply(&rt, rt.alloc(), reply(7, n, answer), wanted)?;
     }
     Ok(())
 }
