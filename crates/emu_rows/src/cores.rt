@@ -58,12 +58,17 @@ fn replies(mut core: Core, events: Events) -> Result<Replies, Memory>
     core.run(events)
 }
 
+/// The replies to a query of a core without a history.
+fn queried(alloc: Global) -> Result<Replies, Fail> {
+    let events = events(alloc)?;
+    let config = config(alloc)?;
+    let core = core(alloc, config, Entries::new(alloc))?;
+    Ok(replies(core, events)?)
+}
+
 #[test]
 fn a_query_is_run(rt: HostRuntime) -> Result<(), Fail> {
-    let events = events(rt.alloc())?;
-    let config = config(rt.alloc())?;
-    let core = core(rt.alloc(), config, Entries::new(rt.alloc()))?;
-    let replies = replies(core, events)?;
+    let replies = queried(rt.alloc())?;
     assert_eq!(rt; replies.len(), 1);
     let text = print_reply(rt.alloc(), replies.get(0))?;
     assert_eq!(rt; text.as_str(), "{\"line\":2,\"n\":0,\"segments\":[]}\n");
@@ -90,23 +95,23 @@ fn entries(alloc: Global, count: usize) -> Result<Entries, Fail> {
     Ok(entries)
 }
 
-/// The number of the present state and of the entries of a core behind so many entries.
-fn replayed(alloc: Global, count: usize) -> Result<(u64, usize), Fail> {
+/// The core behind so many entries, or why there is none.
+fn replayed(alloc: Global, count: usize) -> Result<Result<Core, Fault>, Fail> {
     let history = entries(alloc, count)?;
-    let core = core(alloc, config(alloc)?, history)?;
-    Ok((core.number(), core.history().len()))
+    let config = config(alloc)?;
+    Ok(core(alloc, config, history))
 }
 
 #[test]
 fn a_history_is_replayed(rt: HostRuntime) -> Result<(), Fail> {
-    assert_eq!(rt; replayed(rt.alloc(), 1)?, (1, 1));
+    let core = replayed(rt.alloc(), 1)??;
+    assert_eq!(rt; (core.number(), core.history().len()), (1, 1));
     Ok(())
 }
 
 #[test]
 fn a_history_that_breaks_a_rule_is_refused(rt: HostRuntime) -> Result<(), Fail> {
-    let history = entries(rt.alloc(), 2)?;
-    let refused = core(rt.alloc(), config(rt.alloc())?, history).err();
+    let refused = replayed(rt.alloc(), 2)?.err();
     assert_eq!(rt; refused, Some(Fault::Broken(Broken::BundleTaken)));
     Ok(())
 }

@@ -1,40 +1,22 @@
 //! A configuration, keys and annotations of it.
-use db_config::{
-    AttributeDef, AttributeDefs, Config, ConfigParts, GroupDefs, LevelDef, LinkDefs, TrackNames,
-};
+use db_config::{Config, read_config};
 use emu_lists::Series;
 use emu_names::{BundleKey, ItemId, LevelKind, Memory, Name, NameFault, Text};
+use json_view::View;
 use level_items::{Annot, AnnotItem, AnnotLevel, Time};
+use serde_json::Value;
 use std::alloc::Global;
 use std::test::Fail;
 
 /// Items Word, with one attribute of the level's name.
-fn words_def(alloc: Global) -> Result<LevelDef, Fail> {
-    let attribute = AttributeDef {
-        name: Name::new(alloc, "Word")?,
-        legal: None,
-        groups: GroupDefs::new(alloc),
-    };
-    Ok(LevelDef {
-        name: Name::new(alloc, "Word")?,
-        kind: LevelKind::Item,
-        attributes: AttributeDefs::one(alloc, attribute)?,
-    })
-}
+static DATABASE: &str =
+    r#"{"name":"t","levelDefinitions":[{"name":"Word","type":"ITEM","attributeDefinitions":[{"name":"Word"}]}]}"#;
 
 /// The configuration with the level Word.
 pub fn config(alloc: Global) -> Result<Config, Fail> {
-    let words = words_def(alloc)?;
-    let parts = ConfigParts {
-        name: Name::new(alloc, "t")?,
-        uuid: Text::new(alloc, "")?,
-        extension: Text::new(alloc, "")?,
-        tracks: TrackNames::new(alloc),
-        levels: Series::from_vec(vec![in alloc; words]?),
-        groups: GroupDefs::new(alloc),
-        links: LinkDefs::new(alloc),
-    };
-    Ok(Config::new(alloc, parts)?)
+    let value = Value::from_str(alloc, DATABASE)?;
+    let view = View::root(alloc, &value)?;
+    Ok(read_config(alloc, &view)?)
 }
 
 /// The key of a bundle.
@@ -44,8 +26,8 @@ pub fn key(alloc: Global, session: &str, bundle: &str) -> Result<BundleKey, Name
     Ok(BundleKey { session, bundle })
 }
 
-/// Words without labels, with the ids from 0 on.
-pub fn words(alloc: Global, count: u32) -> Result<Annot, Memory> {
+/// Items without labels, with the ids from 0 on.
+fn items(alloc: Global, count: u32) -> Result<Vec<AnnotItem>, Memory> {
     let mut items = Vec::new(alloc);
     for id in 0..count {
         items.push(AnnotItem {
@@ -54,13 +36,20 @@ pub fn words(alloc: Global, count: u32) -> Result<Annot, Memory> {
             labels: Series::new(alloc),
         })?;
     }
+    Ok(items)
+}
+
+/// So many words without labels, with the ids from 0 on.
+pub fn words(alloc: Global, count: u32) -> Result<Annot, Memory> {
+    let name = Text::new(alloc, "Word")?;
+    let annotates = Text::new(alloc, "b1.wav")?;
     let level = AnnotLevel {
-        name: Text::new(alloc, "Word")?,
+        name,
         kind: LevelKind::Item,
-        items: Series::from_vec(items),
+        items: Series::from_vec(items(alloc, count)?),
     };
     Ok(Annot {
-        annotates: Text::new(alloc, "b1.wav")?,
+        annotates,
         rate: 20000,
         levels: Series::from_vec(vec![in alloc; level]?),
         links: Series::new(alloc),
