@@ -2,6 +2,8 @@
 #![tactic(auto)]
 
 #[cfg(test)]
+mod lanes;
+#[cfg(test)]
 mod live;
 #[cfg(test)]
 mod scripts;
