@@ -1,3 +1,4 @@
+pub mod Aside
 pub mod Bits
 pub mod Near
 pub mod Order

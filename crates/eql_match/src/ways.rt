@@ -14,6 +14,7 @@ use crate::reach::reach;
 use crate::runs::begun_within;
 use bundle_state::Bundle;
 use db_config::Config;
+use emu_lists::Series;
 use eql_model::{Gathered, MatchFault, Tuple, Tuples};
 use hier_closure::Closure;
 use std::alloc::Global;
@@ -224,7 +225,8 @@ pub(crate) fn sequence(
     }
 }
 
-/// Puts in the left one of each two tuples of which the left one covers the right one.
+/// Puts in the left one of each two tuples of which the left one covers the right one. None does where no
+/// path of definitions leads down to the right level.
 fn put_covering(
     alloc: Global,
     config: &Config,
@@ -247,13 +249,18 @@ fn put_covering(
     ensures over { result ≡ Err MatchFault.TooManyTuples → is_over (put_all gathered.old
         (covering_pairs bundle.now levels lefts.now rights.now)) ≡ true }
 {
+    let _items = bundle.item_count();
+    if !config.is_above(levels.0, levels.1) {
+        return Ok(());
+    }
     match Closure::between(alloc, config, bundle, levels.0, levels.1) {
         Ok(rows) => put_pairs(gathered, &Way::Covers(rows), lefts, rights),
         Err(_) => Err(MatchFault::Memory),
     }
 }
 
-/// Puts in the left one of each two tuples of which the right one covers the left one.
+/// Puts in the left one of each two tuples of which the right one covers the left one. None does where no
+/// path of definitions leads down to the left level.
 fn put_covered(
     alloc: Global,
     config: &Config,
@@ -276,6 +283,10 @@ fn put_covered(
     ensures over { result ≡ Err MatchFault.TooManyTuples → is_over (put_all gathered.old
         (covered_pairs bundle.now levels lefts.now rights.now)) ≡ true }
 {
+    let _items = bundle.item_count();
+    if !config.is_above(levels.1, levels.0) {
+        return Ok(());
+    }
     match Closure::between(alloc, config, bundle, levels.1, levels.0) {
         Ok(rows) => put_pairs(gathered, &Way::CoversLeft(rows), rights, lefts),
         Err(_) => Err(MatchFault::Memory),
@@ -303,6 +314,9 @@ pub(crate) fn dominance(
     ensures { GivesSet result (joined (one_covers bundle.now.links (ids_at bundle.now.levels levels.0)
         (ids_at bundle.now.levels levels.1)) left_with lefts.now rights.now) }
 {
+    if lefts.is_empty() || rights.is_empty() {
+        return Ok(Series::new(alloc));
+    }
     let mut gathered = Gathered::new(alloc);
     match put_covering(alloc, config, bundle, levels, &mut gathered, lefts, rights) {
         Ok(()) => {}
