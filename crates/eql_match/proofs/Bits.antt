@@ -84,7 +84,7 @@ turned_exit found row (Ok made) is told = told ∙ sym (ap (λ b. map (is_as b) 
 
 -- ---- the bits of several rows
 
-or_false : (b : Bool) → (b || false) ≡ b
+pub or_false : (b : Bool) → (b || false) ≡ b
 or_false true = refl
 or_false false = refl
 
@@ -131,6 +131,12 @@ replicated : (n : ℕ) (b : Bool) → replicate n b ≡ map (λ k. b) (range_wit
 replicated n b =
     fill_by_all (λ k. b) (replicate n b) n b (length-replicate n b) (λ k below. get_or-replicate n k b b below)
 
+-- the first of some rows that are joined
+pub all_first : (n : ℕ) (rows : List (List Bool)) (row : List Bool) → 0 < length rows → row ≡ get_or rows 0 row → length row ≡ n →
+    row ≡ all_bits n (take 1 rows)
+all_first n rows row h here wide =
+    flags_are row n wide ∙ (λ j. map (λ k. sym (all_more rows 0 row k h here) j) (range_with_len 0 n))
+
 pub any_none : (n : ℕ) (any : List Bool) (rows : List (List Bool)) → any ≡ replicate n false → any ≡ any_bits n (take 0 rows)
 any_none n any rows is = is ∙ replicated n false
 
@@ -152,10 +158,6 @@ as_wide n rows i row wide h here =
 pub any_wide : (n : ℕ) (rows done : List (List Bool)) (i : ℕ) (row any : List Bool) → any ≡ any_bits n done →
     All (λ r. length r ≡ n) rows → i < length rows → row ≡ get_or rows i row → length any ≡ length row
 any_wide n rows done i row any is wide h here = ap length is ∙ any_long n done ∙ sym (as_wide n rows i row wide h here)
-
-pub all_wide : (n : ℕ) (rows done : List (List Bool)) (i : ℕ) (row all : List Bool) → all ≡ all_bits n done →
-    All (λ r. length r ≡ n) rows → i < length rows → row ≡ get_or rows i row → length all ≡ length row
-all_wide n rows done i row all is wide h here = ap length is ∙ all_long n done ∙ sym (as_wide n rows i row wide h here)
 
 -- ---- rows that are made by tests
 

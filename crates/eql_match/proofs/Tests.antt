@@ -1,14 +1,16 @@
 -- Tests of labels by rows of bits and by numbers.
-use Rattle.std.proofs.Common.{◌≡◌, ◌⊎◌, inl, inr, ℕ, zero, suc, ◌+◌, ◌<◌, ◌≤◌, Bool, false, cond, ◌&&◌, List, [], ◌∷◌, ◌++◌, length, map, take, get_or, nat_eq, Option, None, Some, Result, Ok, Err, refl, sym, ap, subst, ◌∙◌, arith}
-use Rattle.std.specs.Prelude.{All, IfOk, IsSome, replicate, slice_set}
+use Rattle.std.proofs.Common.{◌≡◌, ◌⊎◌, inl, inr, ℕ, zero, suc, ◌+◌, ◌<◌, ◌≤◌, Bool, false, cond, ◌&&◌, List, [], ◌∷◌, ◌++◌, length, map, take, drop, get_or, nat_eq, Option, None, Some, Result, Ok, Err, refl, sym, ap, subst, ◌∙◌, arith}
+use Rattle.std.specs.Prelude.{All, IfOk, IsSome, is_some, replicate, slice_set, true}
 use Rattle.std.specs.List.{filter, flat_map, list_any, list_all, range_with_len, slice_get}
 use Rattle.std.specs.Option.{option_and_then}
+use Rattle.std.specs.Simd.Lanes.{zip2}
 use Rattle.std.specs.Str.{bytes_eq}
 use Rattle.std.proofs.lemmas.Bool.{cases_eq}
 use Rattle.std.proofs.lemmas.Bool.Decides.{nat_tests}
 use Rattle.std.proofs.lemmas.Grind.{flat_map-append}
-use Rattle.std.proofs.lemmas.List.{append-nil, get_or-map, get_or-replicate, get_or-set_other, get_or-set_same, length-map, length-replicate, length-set, map-append, take_more}
+use Rattle.std.proofs.lemmas.List.{append-nil, get_or-map, get_or-replicate, get_or-set_other, get_or-set_same, length-map, length-replicate, length-set, map-append, take-append-drop, take_all, take_more}
 use Rattle.std.proofs.lemmas.List.Concat.{flat_map-cons}
+use Rattle.std.proofs.lemmas.List.Folds.{list_all-append}
 use Rattle.std.proofs.lemmas.List.FromFn.{fill_by_all, get_or-range_with_len, length-range_with_len}
 use Rattle.std.proofs.lemmas.Option.{get_or_from_slice_get, same_Some, slice_get-get_or, slice_get_within, unwrap_or-slice_get}
 use Rattle.emu_names.specs.declared.shortage.Memory.{Memory}
@@ -25,14 +27,15 @@ use Rattle.bundle_index.specs.Index.{attributes_on, has_label, items_on, label_a
 use Rattle.bundle_index.specs.Numbered.{IsColumnOf}
 use Rattle.bundle_index.proofs.Callers.{attributes_asked}
 use Rattle.label_match.specs.Pattern.{matches_label}
+use Rattle.lane_bits.specs.Row.{IsFirst}
 use Rattle.eql_model.specs.declared.tuple.Tuple.{Tuple}
 use Rattle.eql_model.specs.Flags.{flag_at}
-use Rattle.eql_model.specs.Labels.{is_as, label_of, matched_row}
+use Rattle.eql_model.specs.Labels.{is_as, is_wanted, label_of, matched_row, stands_for, wanted_labels}
 use Rattle.eql_model.specs.Meaning.{items_at, single}
 use Rattle.eql_model.proofs.MadeRows.{flag_of_map, no_item}
-use Rattle.eql_match.specs.Labels.{label_row, label_at, HasColumn, AreNumbersOf, AreAnswers}
+use Rattle.eql_match.specs.Labels.{label_row, label_at, HasColumn, IsAlone, AreNumbersOf, AreAnswers}
 use Rattle.eql_match.specs.Rows.{any_bits, all_bits}
-use Rattle.eql_match.proofs.Bits.{IsFilled, filled_all, any_rows_are, rows_wide, all_long}
+use Rattle.eql_match.proofs.Bits.{IsFilled, filled_all, any_rows_are, rows_wide, all_long, all_first, all_none, all_step, or_false}
 
 -- ---- columns that are there
 
@@ -111,6 +114,36 @@ is_label attribute label item = same_text (label_of attribute item) label
 
 abbrev pub is_match : ℕ → List ℕ → Item → Bool
 is_match attribute pattern item = matches_label pattern (label_of attribute item)
+
+-- ---- one label that is wanted
+
+one_text : (written : List (List ℕ)) (w : List ℕ) → length written ≡ 1 → w ≡ get_or written 0 w → written ≡ w ∷ []
+one_text [] w one is = absurd (omega arith)
+one_text (x ∷ []) w one is = ap (λ y. y ∷ []) (sym is)
+one_text (x ∷ y ∷ ws) w one is = absurd (omega arith)
+
+pub alone : (config : ConfigParts) (place : AttributePlace) (written : List (List ℕ)) (w : List ℕ) → length written ≡ 1 →
+    w ≡ get_or written 0 w → stands_for config place w ≡ w ∷ [] → IsAlone config place written
+alone config place written w one is stands = record {
+  one = one;
+  wanted =
+      ap (wanted_labels config place) (one_text written w one is)
+      ∙ flat_map-cons (stands_for config place) w [] ∙ append-nil (stands_for config place w) ∙ stands
+      ∙ sym (one_text written w one is);
+}
+
+wanted_one : (config : ConfigParts) (place : AttributePlace) (written : List (List ℕ)) (w label : List ℕ) → IsAlone config place written →
+    w ≡ get_or written 0 w → same_text label w ≡ is_wanted config place written label
+wanted_one config place written w label only is =
+    sym (ap (list_any (same_text label)) (only.wanted ∙ one_text written w only.one is) ∙ or_false (same_text label w))
+
+pub alone_exit : (config : ConfigParts) (place : AttributePlace) (b : BundleParts) (written : List (List ℕ)) (w : List ℕ)
+    (r : Result (List Bool) Memory) → IsAlone config place written → w ≡ get_or written 0 w →
+    IfOk r (λ row. row ≡ label_row b place w) →
+    IfOk r (λ row. row ≡ map (λ item. is_wanted config place written (label_of place.attribute item)) (items_at b.levels place.level))
+alone_exit config place b written w (Err e) only is told = tt
+alone_exit config place b written w (Ok row) only is told =
+    told ∙ (λ i. map (λ item. wanted_one config place written w (label_of place.attribute item) only is i) (items_at b.levels place.level))
 
 -- ---- numbers of labels
 
@@ -218,6 +251,72 @@ matched_all pattern attribute items row n at so_far long end =
     (λ k below.
     get_or-map (λ item. matches_label pattern (label_of attribute item)) items k no_item false (omega arith)
     ∙ ap (matches_label pattern) (sym (get_or-map (label_of attribute) items k no_item [] (omega arith)))))
+
+-- ---- conditions one after another
+
+mapped_at : {X : Type 0} (f : X → List Bool) (ts : List X) (at : ℕ) (t : X) (row : List Bool) → at < length ts → t ≡ get_or ts at t →
+    row ≡ f t → row ≡ get_or (map f ts) at row
+mapped_at f ts at t row h here is = is ∙ ap f here ∙ sym (get_or-map f ts at t row h)
+
+pub met_first : {X : Type 0} (f : X → List Bool) (ts : List X) (n : ℕ) (t : X) (row : List Bool) → 0 < length ts → t ≡ get_or ts 0 t →
+    row ≡ f t → length (f t) ≡ n → row ≡ all_bits n (take 1 (map f ts))
+met_first f ts n t row h here is wide =
+    all_first n (map f ts) row (omega (arith, length-map ts f)) (mapped_at f ts 0 t row h here is) (ap length is ∙ wide)
+
+pub met_more : {X : Type 0} (f : X → List Bool) (ts : List X) (n at : ℕ) (t : X) (met more : List Bool) →
+    met ≡ all_bits n (take at (map f ts)) → at < length ts → t ≡ get_or ts at t → length (f t) ≡ n →
+    more ≡ zip2 (λ a b. a && b) met (f t) → more ≡ all_bits n (take (at + 1) (map f ts))
+met_more f ts n at t met more so_far h here wide put =
+    all_step n (map f ts) at (f t) met more so_far (omega (arith, length-map ts f)) (mapped_at f ts at t (f t) h here refl) wide put
+
+pub met_whole : {X : Type 0} (f : X → List Bool) (ts : List X) (n at : ℕ) (met : List Bool) → met ≡ all_bits n (take at (map f ts)) →
+    length ts ≤ at → met ≡ all_bits n (map f ts)
+met_whole f ts n at met so_far past = so_far ∙ ap (all_bits n) (take_all at (map f ts) (omega (arith, length-map ts f)))
+
+-- conditions that no item meets, and others
+pub met_nowhere : {X : Type 0} (f : X → List Bool) (ts : List X) (n at : ℕ) (met : List Bool) → met ≡ all_bits n (take at (map f ts)) →
+    ((i : ℕ) → i < length met → slice_get met i ≡ Some false) → met ≡ all_bits n (map f ts)
+met_nowhere f ts n at met so_far none =
+    fill_by_all (λ k. list_all (flag_at k) (map f ts)) met n false long (λ k below. unset k below ∙ sym (whole k below))
+  where
+    long : length met ≡ n
+    long = ap length so_far ∙ all_long n (take at (map f ts))
+
+    unset : (k : ℕ) → k < n → get_or met k false ≡ false
+    unset k below = get_or_from_slice_get met k false false (none k (omega (arith, long)))
+
+    zero_plus : (k : ℕ) → 0 + k ≡ k
+    zero_plus k = omega arith
+
+    front : (k : ℕ) → k < n → list_all (flag_at k) (take at (map f ts)) ≡ false
+    front k below =
+        sym (ap (λ j. list_all (flag_at j) (take at (map f ts))) (get_or-range_with_len 0 n k 0 below ∙ zero_plus k))
+        ∙ sym (get_or-map (λ j. list_all (flag_at j) (take at (map f ts))) (range_with_len 0 n) k 0 false (omega (arith, length-range_with_len 0 n)))
+        ∙ sym (ap (λ row. get_or row k false) so_far) ∙ unset k below
+
+    whole : (k : ℕ) → k < n → list_all (flag_at k) (map f ts) ≡ false
+    whole k below =
+        ap (list_all (flag_at k)) (sym (take-append-drop at (map f ts)))
+        ∙ list_all-append (flag_at k) (take at (map f ts)) (drop at (map f ts))
+        ∙ ap (λ b. b && list_all (flag_at k) (drop at (map f ts))) (front k below)
+
+no_rows : {X : Type 0} (f : X → List Bool) (ts : List X) → length ts ≡ 0 → [] ≡ map f ts
+no_rows f [] none = refl
+no_rows f (t ∷ ts) none = absurd (omega arith)
+
+pub met_none : {X : Type 0} (f : X → List Bool) (ts : List X) (n m : ℕ) (r : Result (List Bool) Memory) → length ts ≡ 0 → n ≡ m →
+    IfOk r (λ row. row ≡ replicate n true) → IfOk r (λ met. met ≡ all_bits m (map f ts))
+met_none f ts n m (Err e) none same told = tt
+met_none f ts n m (Ok row) none same told =
+    told ∙ ap (λ k. replicate k true) same ∙ all_none m (replicate m true) (map f ts) refl ∙ ap (all_bits m) (no_rows f ts none)
+
+pub no_first : (row : List Bool) (o : Option ℕ) → IsFirst row o → is_some o ≡ false → (i : ℕ) → i < length row → slice_get row i ≡ Some false
+no_first row None first none i within = first i within tt
+no_first row (Some at) first none i within = absurd cc
+
+pub some_terms : (n : ℕ) → nat_eq n 0 ≡ false → 0 < n
+some_terms zero h = absurd cc
+some_terms (suc n) h = omega arith
 
 -- ---- the tuples of the positions with a bit
 

@@ -3,11 +3,12 @@ use Rattle.std.specs.Prelude.{◌≡◌, ℕ, ◌<◌, Bool, List, [], Option, S
 use Rattle.level_items.specs.declared.items.Item.{Item}
 use Rattle.std.specs.List.{slice_get}
 use Rattle.db_config.specs.declared.parts.AttributePlace.{AttributePlace}
+use Rattle.db_config.specs.declared.parts.ConfigParts.{ConfigParts}
 use Rattle.db_config.specs.Names.{same_text}
 use Rattle.bundle_state.specs.Bundle.{BundleParts}
 use Rattle.bundle_index.specs.Index.{attributes_on}
 use Rattle.label_match.specs.Pattern.{matches_label}
-use Rattle.eql_model.specs.Labels.{label_of}
+use Rattle.eql_model.specs.Labels.{label_of, wanted_labels}
 use Rattle.eql_model.specs.Meaning.{items_at}
 
 -- the level of an attribute is there, and the attribute is
@@ -19,6 +20,11 @@ pub record HasColumn (b : BundleParts) (place : AttributePlace) : Type 0 where
 abbrev pub label_row : BundleParts → AttributePlace → List ℕ → List Bool
 label_row b place label =
     map (λ item. same_text (label_of place.attribute item) label) (items_at b.levels place.level)
+
+-- one label is written, and it alone is wanted
+pub record IsAlone (config : ConfigParts) (place : AttributePlace) (written : List (List ℕ)) : Type 0 where
+  pub one : length written ≡ 1
+  pub wanted : wanted_labels config place written ≡ written
 
 -- there is a number for each label, and labels of one number are the same
 pub record AreNumbersOf (column : List ℕ) (labels : List (List ℕ)) : Type 0 where

@@ -1,7 +1,8 @@
 //! The items that meet conditions, as one row of bits for each condition, and the tuples of a
 //! conjunction.
-ghost use Rattle.std.specs.Prelude.{◌≡◌, ◌<◌, ◌≤◌, ◌++◌, ◌∷◌, [], All, length, map, IfOk, IsSome, OnOk};
+ghost use Rattle.std.specs.Prelude.{◌≡◌, ◌<◌, ◌≤◌, ◌++◌, ◌∷◌, ◌&&◌, [], All, length, map, IfOk, IsSome, OnOk};
 ghost use Rattle.std.specs.List.{filter, list_any, range_with_len};
+ghost use Rattle.std.specs.Simd.Lanes.{zip2};
 ghost use Rattle.emu_names.specs.declared.limits.TheConstants.{BUNDLE_ITEMS};
 ghost use Rattle.db_config.specs.Lookups.{attribute_at};
 ghost use Rattle.bundle_state.specs.Built.{FitsConfig};
@@ -11,11 +12,12 @@ ghost use Rattle.eql_resolve.specs.View.{labels_in, op_in, term_in};
 ghost use Rattle.eql_model.specs.Flags.{flag_at};
 ghost use Rattle.eql_model.specs.Labels.{is_as, is_matched, is_wanted, label_of, passes};
 ghost use Rattle.eql_model.specs.Meaning.{items_at, meets, met_row, IsTermOn, single, singles};
+ghost use Rattle.eql_match.specs.Rows.{all_bits};
 
 use crate::labels::label_bits;
 use crate::patterns::pattern_bits;
 use crate::positions::{number_bits, position_bits};
-use crate::rows::{all_bits, as_found};
+use crate::rows::{all_set, as_found};
 use bundle_index::Indexed;
 use db_config::{AttributePlace, Config};
 use emu_lists::Series;
@@ -23,7 +25,7 @@ use emu_names::{Memory, Text};
 use eql_model::Tuples;
 use eql_resolve::{AskedTerm, Wanted};
 use label_match::Pattern;
-use lane_bits::BitRow;
+use lane_bits::{BitRow, and_into};
 use std::alloc::Global;
 
 /// For each item of a level whether its label passes a test of labels. The only refusal is want of
@@ -155,25 +157,54 @@ fn met_row(
     Ok(row)
 }
 
-/// For each condition and each item of its level whether the item meets the condition. The only refusal
-/// is want of memory.
-fn met_rows(
+/// Clears the bits of the items of a level that do not meet a condition on it. The only refusal is want
+/// of memory.
+fn clear_others(
+    alloc: Global,
+    config: &Config,
+    indexed: &Indexed,
+    level: usize,
+    term: &AskedTerm,
+    met: &mut BitRow,
+) -> Result<(), Memory>
+    requires fits { FitsConfig config.now indexed.now.bundle }
+    requires term { IsTermOn config.now level (term_in term.now) }
+    requires long { length met.old ≡ length (items_at indexed.now.bundle.levels level) }
+    ensures { OnOk result (met.new ≡ zip2 (λ a b. a && b) met.old
+        (met_row config.now indexed.now.bundle level (term_in term.now))) }
+{
+    let row = met_row(alloc, config, indexed, level, term)?;
+    and_into(met, &row);
+    Ok(())
+}
+
+/// For each item of a level whether it meets all conditions. Where no item meets the first ones, the
+/// others are not asked. The only refusal is want of memory.
+fn all_met(
     alloc: Global,
     config: &Config,
     indexed: &Indexed,
     level: usize,
     terms: &[AskedTerm],
-) -> Result<Series<BitRow>, Memory>
+) -> Result<BitRow, Memory>
     requires fits { FitsConfig config.now indexed.now.bundle }
+    requires level { level < length indexed.now.bundle.levels }
     requires terms { All (λ t. IsTermOn config.now level (term_in t)) terms.now }
-    ensures { IfOk result (λ rows. rows
-        ≡ map (λ t. met_row config.now indexed.now.bundle level (term_in t)) terms.now) }
+    ensures { IfOk result (λ met. met ≡ all_bits
+        (length (items_at indexed.now.bundle.levels level))
+        (map (λ t. met_row config.now indexed.now.bundle level (term_in t)) terms.now)) }
 {
-    let mut rows = Series::new(alloc);
-    for term in terms {
-        rows.push(met_row(alloc, config, indexed, level, term)?)?;
+    if terms.is_empty() {
+        return all_set(alloc, eql_model::items_at(indexed.bundle(), level).len());
     }
-    Ok(rows)
+    let mut met = met_row(alloc, config, indexed, level, &terms[0])?;
+    for at in 1..terms.len() {
+        if met.first().is_none() {
+            return Ok(met);
+        }
+        clear_others(alloc, config, indexed, level, &terms[at], &mut met)?;
+    }
+    Ok(met)
 }
 
 /// Puts the tuple of a position last, where a row has its bit. The only refusal is want of memory.
@@ -195,7 +226,7 @@ fn singles_where(alloc: Global, row: &BitRow, marked: bool) -> Result<Tuples, Me
     ensures { IfOk result (λ made. made ≡ map (single marked)
         (filter (λ k. flag_at k row.now) (range_with_len 0 (length row.now)))) }
 {
-    let mut made = Series::new(alloc);
+    let mut made = Series::from_vec(Vec::with_capacity(alloc, row.count())?);
     for at in 0..row.len() {
         put_single(&mut made, row, marked, at)?;
     }
@@ -219,8 +250,6 @@ pub(crate) fn conjunction(
         (items_at indexed.now.bundle.levels level)) }
 {
     let _items = indexed.bundle().item_count();
-    let rows = met_rows(alloc, config, indexed, level, terms)?;
-    let count = eql_model::items_at(indexed.bundle(), level).len();
-    let met = all_bits(alloc, count, rows.as_slice())?;
+    let met = all_met(alloc, config, indexed, level, terms)?;
     singles_where(alloc, &met, marked)
 }

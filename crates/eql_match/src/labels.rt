@@ -1,9 +1,9 @@
 //! Tests of labels: each wanted label is looked up once, and its number is compared with a whole column.
-ghost use Rattle.std.specs.Prelude.{◌≡◌, ◌++◌, map, IfOk, OnOk, IsSome};
+ghost use Rattle.std.specs.Prelude.{◌≡◌, ◌++◌, ◌∷◌, [], map, true, IfOk, OnOk, IsSome};
 ghost use Rattle.db_config.specs.Lookups.{attribute_at};
 ghost use Rattle.eql_model.specs.Labels.{is_wanted, label_of, stands_for, wanted_labels};
 ghost use Rattle.eql_model.specs.Meaning.{items_at};
-ghost use Rattle.eql_match.specs.Labels.{label_row, HasColumn};
+ghost use Rattle.eql_match.specs.Labels.{label_row, HasColumn, IsAlone};
 
 use crate::rows::any_bits;
 use bundle_index::Indexed;
@@ -84,6 +84,25 @@ fn wanted_rows(
     Ok(rows)
 }
 
+/// Whether a written label stands for itself, and for no label group.
+fn is_no_group(config: &Config, place: AttributePlace, written: &Text) -> bool
+    requires { IsSome (attribute_at place config.now.levels) }
+    ensures { result ≡ true → stands_for config.now place written.now ≡ written.now ∷ [] }
+{
+    match config.group(place, written.as_str()) {
+        Some(_) => false,
+        None => true,
+    }
+}
+
+/// Whether one label is written, and it alone is wanted.
+fn is_alone(config: &Config, place: AttributePlace, written: &[Text]) -> bool
+    requires { IsSome (attribute_at place config.now.levels) }
+    ensures { result ≡ true → IsAlone config.now place written.now }
+{
+    written.len() == 1 && is_no_group(config, place, &written[0])
+}
+
 /// For each item of a level whether its label is wanted. The only refusal is want of memory.
 pub(crate) fn label_bits(
     alloc: Global,
@@ -97,6 +116,9 @@ pub(crate) fn label_bits(
     ensures { IfOk result (λ row. row ≡ map (λ item. is_wanted config.now place written.now
         (label_of place.attribute item)) (items_at indexed.now.bundle.levels place.level)) }
 {
+    if is_alone(config, place, written) {
+        return label_row(alloc, indexed, place, written[0].as_str());
+    }
     let rows = wanted_rows(alloc, config, indexed, place, written)?;
     let count = eql_model::items_at(indexed.bundle(), place.level).len();
     any_bits(alloc, count, rows.as_slice())

@@ -1,10 +1,10 @@
 //! Rows of bits, one bit for each item of a level, and what is asked of several of them at each place.
 ghost use Rattle.std.specs.Prelude.{◌≡◌, All, false, true, length, map, not, replicate, IfOk};
 ghost use Rattle.eql_model.specs.Labels.{is_as};
-ghost use Rattle.eql_match.specs.Rows.{any_bits, all_bits};
+ghost use Rattle.eql_match.specs.Rows.{any_bits};
 
 use emu_names::Memory;
-use lane_bits::{BitRow, and_into, or_into};
+use lane_bits::{BitRow, or_into};
 use std::alloc::Global;
 
 /// A row of bits, none of which is set. The only refusal is want of memory.
@@ -30,7 +30,7 @@ pub(crate) fn turned(alloc: Global, row: &BitRow) -> Result<BitRow, Memory>
 }
 
 /// A row of bits, all of which are set. The only refusal is want of memory.
-fn all_set(alloc: Global, count: usize) -> Result<BitRow, Memory>
+pub(crate) fn all_set(alloc: Global, count: usize) -> Result<BitRow, Memory>
     ensures { IfOk result (λ row. row ≡ replicate count true) }
 {
     let none = none_set(alloc, count)?;
@@ -58,16 +58,4 @@ pub(crate) fn any_bits(alloc: Global, count: usize, rows: &[BitRow]) -> Result<B
         or_into(&mut any, row);
     }
     Ok(any)
-}
-
-/// For each place whether all of these rows have its bit. The only refusal is want of memory.
-pub(crate) fn all_bits(alloc: Global, count: usize, rows: &[BitRow]) -> Result<BitRow, Memory>
-    requires { All (λ row. length row ≡ count) rows.now }
-    ensures { IfOk result (λ all. all ≡ all_bits count rows.now) }
-{
-    let mut all = all_set(alloc, count)?;
-    for row in rows {
-        and_into(&mut all, row);
-    }
-    Ok(all)
 }
