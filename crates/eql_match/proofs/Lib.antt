@@ -1,4 +1,5 @@
 pub mod Aside
+pub mod Bare
 pub mod Bits
 pub mod Near
 pub mod Order

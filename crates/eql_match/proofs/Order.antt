@@ -46,7 +46,7 @@ rise_sorted ts sorted i j d le within = by (cases_lt i j)
 
 -- ---- tuples of single items
 
-abbrev From : ℕ → Tuple → Type 0
+abbrev pub From : ℕ → Tuple → Type 0
 From n t = n ≤ t.first
 
 rise_cons : (x : Tuple) (xs : List Tuple) → All (From x.first) xs → Rise xs → Rise (x ∷ xs)
@@ -58,7 +58,7 @@ rise_cons x xs all rest (suc i) (suc j) d le within = rest i j d (omega arith) (
 rise_nil : Rise []
 rise_nil i j d le within = absurd (omega arith)
 
-abbrev single_at : Bool → ℕ × Item → Tuple
+abbrev pub single_at : Bool → ℕ × Item → Tuple
 single_at marked at = single marked at.0
 
 kept_from : (b : Bool) (n : ℕ) (marked : Bool) (at : ℕ × Item) (kept : List (ℕ × Item)) → n ≤ at.0 →
@@ -66,7 +66,7 @@ kept_from : (b : Bool) (n : ℕ) (marked : Bool) (at : ℕ × Item) (kept : List
 kept_from true n marked at kept h rest = All-cons (From n) (single_at marked at) (map (single_at marked) kept) h rest
 kept_from false n marked at kept h rest = rest
 
-singles_from : (n : ℕ) (marked : Bool) (p : ℕ × Item → Bool) (k : ℕ) (items : List Item) → n ≤ k →
+pub singles_from : (n : ℕ) (marked : Bool) (p : ℕ × Item → Bool) (k : ℕ) (items : List Item) → n ≤ k →
     All (From n) (map (single_at marked) (filter p (enumerate_from k items)))
 singles_from n marked p k [] h = All-nil (From n)
 singles_from n marked p k (x ∷ items) h =

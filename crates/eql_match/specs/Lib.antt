@@ -2,4 +2,5 @@ pub mod Labels
 pub mod Places
 pub mod Reach
 pub mod Rows
+pub mod Shown
 pub mod Ways

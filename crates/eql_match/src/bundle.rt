@@ -1,14 +1,44 @@
 //! The results of a query in a bundle with its columns.
+ghost use Rattle.std.specs.Prelude.{◌≡◌, false};
+ghost use Rattle.std.specs.List.{flat_map, list_all};
+ghost use Rattle.std.specs.List.Sorted.{IsStrictlySortedBy};
 ghost use Rattle.bundle_state.specs.Built.{FitsConfig};
 ghost use Rattle.eql_resolve.specs.Sound.{IsResolvedBy};
-ghost use Rattle.eql_model.specs.Results.{Matches};
+ghost use Rattle.eql_model.specs.Results.{Matches, shown};
+ghost use Rattle.eql_model.specs.Sets.{GivesSet, each_once, is_over, tuple_cmp};
+ghost use Rattle.eql_match.specs.Shown.{is_bare};
 
 use crate::evaluate::evaluate;
 use bundle_index::Indexed;
 use db_config::Config;
-use eql_model::{MatchFault, Spans};
+use eql_model::{MatchFault, Spans, Tuple, Tuples};
 use eql_resolve::Asked;
 use std::alloc::Global;
+
+/// Whether none of some tuples has a mark.
+fn are_bare(tuples: &[Tuple]) -> bool
+    ensures { result ≡ list_all is_bare tuples.now }
+{
+    for tuple in tuples {
+        if tuple.mark.is_some() {
+            return false;
+        }
+    }
+    true
+}
+
+/// What the tuples of a set show, each once: they do themselves, where no mark is asked for and none of
+/// them has one. The only refusal is want of memory.
+fn shown_of(alloc: Global, marked: bool, found: Tuples) -> Result<Tuples, MatchFault>
+    requires sorted { IsStrictlySortedBy tuple_cmp found }
+    requires room { is_over found ≡ false }
+    ensures { GivesSet result (each_once (flat_map (shown marked) found)) }
+{
+    if !marked && are_bare(found.as_slice()) {
+        return Ok(found);
+    }
+    eql_model::shown_once(alloc, marked, found.as_slice())
+}
 
 /// The results of a query in a bundle, in order of first and last position, each once.
 ///
@@ -31,7 +61,7 @@ pub fn match_bundle(
         Ok(found) => found,
         Err(fault) => return Err(fault),
     };
-    let stretches = match eql_model::shown_once(alloc, marked, found.as_slice()) {
+    let stretches = match shown_of(alloc, marked, found) {
         Ok(stretches) => stretches,
         Err(fault) => return Err(fault),
     };
