@@ -159,7 +159,7 @@ count_lt p q (x ∷ xs) (suc k) inside within fails passes =
     let right : count_by q (x ∷ xs) ≡ weight (q x) + count_by q xs = count_cons q x xs in
     omega arith
 
-at_place : (count k : ℕ) → k < count → get_or (range_with_len 0 count) k 0 ≡ k
+pub at_place : (count k : ℕ) → k < count → get_or (range_with_len 0 count) k 0 ≡ k
 at_place count k within = get_or-range_with_len 0 count k 0 within ∙ refl_plus k
   where
     refl_plus : (x : ℕ) → 0 + x ≡ x

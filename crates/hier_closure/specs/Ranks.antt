@@ -1,6 +1,6 @@
 -- In which order the rows of levels are made, and which of them are there.
-use Rattle.std.specs.Prelude.{◌≡◌, ℕ, ◌<◌, ◌≤◌, Bool, true, List, [], count_by, get_or, length, IsTrue, Some}
-use Rattle.std.specs.List.{range_with_len}
+use Rattle.std.specs.Prelude.{◌≡◌, ℕ, ◌<◌, ◌≤◌, ◌&&◌, Bool, true, List, [], count_by, get_or, length, IsTrue, Some}
+use Rattle.std.specs.List.{list_any, range_with_len}
 use Rattle.db_config.specs.declared.parts.LinkDef.{LinkDef}
 use Rattle.db_config.specs.declared.parts.ConfigParts.{ConfigParts}
 use Rattle.db_config.specs.Above.{is_above}
@@ -20,6 +20,14 @@ pub record IsUnder (config : ConfigParts) (bundle : BundleParts) : Type 0 where
 -- how many levels, of those below `count`, are below a level
 abbrev pub rank_of : List LinkDef → ℕ → ℕ → ℕ
 rank_of defs count level = count_by (is_above defs level) (range_with_len 0 count)
+
+-- whether a level is below the one of two levels and above the other
+abbrev pub is_between : List LinkDef → ℕ → ℕ → ℕ → Bool
+is_between defs upper lower level = is_above defs upper level && is_above defs level lower
+
+-- whether some level is, of those below `count`
+abbrev pub any_between : List LinkDef → ℕ → ℕ → ℕ → Bool
+any_between defs count upper lower = list_any (is_between defs upper lower) (range_with_len 0 count)
 
 -- the rows of a level are those of dominance
 abbrev pub IsMade : BundleParts → ℕ → List (List (List Bool)) → ℕ → Type 0

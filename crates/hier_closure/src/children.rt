@@ -15,8 +15,7 @@ use std::alloc::Global;
 
 /// The row that is kept of the item at a position of a level.
 fn kept_row(table: &[Rows], level: usize, position: usize) -> &BitRow
-    requires level { level < length table.now }
-    requires position { position < length (get_or table.now level []) }
+    requires { position < length (get_or table.now level []) }
     ensures { slice_get (get_or table.now level []) position ≡ Some result.now }
 {
     table[level].get(position)
@@ -47,7 +46,6 @@ fn add_child(
 )
     requires under { IsUnder config.now bundle.now }
     requires lower { lower < length bundle.now.levels }
-    requires count { length table.now ≡ length bundle.now.levels }
     requires wide { length row.old ≡ length (ids_at bundle.now.levels lower) }
     requires there { IsSome (level_of_id bundle.now.levels child.0) }
     requires made { AreMadeAtItem bundle.now lower table.now child.0 }
@@ -80,7 +78,6 @@ pub(crate) fn item_row(
 ) -> Result<BitRow, Memory>
     requires under { IsUnder config.now bundle.now }
     requires lower { lower < length bundle.now.levels }
-    requires count { length table.now ≡ length bundle.now.levels }
     requires made { AreMadeBelowItem bundle.now lower table.now item.0 }
     ensures { IfOk result (λ row. row
         ≡ closure_row bundle.now.links (ids_at bundle.now.levels lower) item.0) }

@@ -4,7 +4,7 @@ ghost use Rattle.hier_closure.specs.Dominance.{closure_of};
 ghost use Rattle.hier_closure.specs.Ranks.{IsUnder, AreMadeBelow, AreMadeTo};
 
 use crate::children::item_row;
-use crate::ranks::rank_of;
+use crate::ranks::{any_between, is_between, rank_of};
 use bundle_state::Bundle;
 use db_config::Config;
 use emu_lists::Series;
@@ -27,7 +27,6 @@ pub(crate) fn level_rows(
     requires under { IsUnder config.now bundle.now }
     requires lower { lower < length bundle.now.levels }
     requires level { level < length bundle.now.levels }
-    requires count { length table.now ≡ length bundle.now.levels }
     requires made { AreMadeBelow bundle.now lower table.now level }
     ensures { IfOk result (λ rows. rows ≡ closure_of bundle.now lower level) }
 {
@@ -61,10 +60,10 @@ fn add_level(
         (AreMadeTo bundle.now between.0 between.1 rank (level + 1) table.new.items) }
 {
     let (upper, lower) = between;
-    if rank_of(config, level) != rank {
+    if !is_between(config, upper, lower, level) {
         return Ok(());
     }
-    if !config.is_above(upper, level) || !config.is_above(level, lower) {
+    if rank_of(config, level) != rank {
         return Ok(());
     }
     let rows = level_rows(alloc, config, bundle, lower, table.as_slice(), level)?;
@@ -107,7 +106,8 @@ fn empty_table(alloc: Global, count: usize) -> Result<Vec<Rows>, Memory>
     Ok(table)
 }
 
-/// The rows of all levels between two levels. The only refusal is want of memory.
+/// The rows of all levels between two levels; none, where there is no such level. The only refusal is
+/// want of memory.
 pub(crate) fn rows_between(
     alloc: Global,
     config: &Config,
@@ -118,9 +118,11 @@ pub(crate) fn rows_between(
     requires under { IsUnder config.now bundle.now }
     requires upper { upper < length bundle.now.levels }
     requires lower { lower < length bundle.now.levels }
-    ensures count { IfOk result (λ table. length table.items ≡ length bundle.now.levels) }
-    ensures made { IfOk result (λ table. AreMadeBelow bundle.now lower table.items upper) }
+    ensures { IfOk result (λ table. AreMadeBelow bundle.now lower table.items upper) }
 {
+    if !any_between(config, upper, lower) {
+        return Ok(Vec::new(alloc));
+    }
     let mut table = empty_table(alloc, bundle.level_count())?;
     for rank in 0..rank_of(config, upper) {
         add_rank(alloc, config, bundle, (upper, lower), &mut table, rank)?;

@@ -47,15 +47,8 @@ is_above-requires-clause-lower c =
     let count = same_count c.args.config.now c.args.bundle.now c.requires.under.fits in
     omega (arith, count)
 
-pub kept_row-requires-clause-level : goal.kept_row-requires-clause-level
-kept_row-requires-clause-level c =
-    let at : Stands c.args.bundle.now.levels c.args.child.0 c.in-Some.level c.in-Some.position =
-    stands c.args.bundle.now.levels c.args.child.0 c.in-Some.level c.in-Some.position c.requires.there (sym c.in-Some.is ∙ c.place_near.ensures) in
-    let count : length c.args.table.now ≡ length c.args.bundle.now.levels = c.requires.count in
-    omega (arith, at.within)
-
-pub kept_row-requires-clause-position : goal.kept_row-requires-clause-position
-kept_row-requires-clause-position c =
+pub kept_row-requires : goal.kept_row-requires
+kept_row-requires c =
     let bundle = c.args.bundle.now in
     let at : Stands bundle.levels c.args.child.0 c.in-Some.level c.in-Some.position =
     stands bundle.levels c.args.child.0 c.in-Some.level c.in-Some.position c.requires.there (sym c.in-Some.is ∙ c.place_near.ensures) in
