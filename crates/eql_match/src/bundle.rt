@@ -27,8 +27,8 @@ fn are_bare(tuples: &[Tuple]) -> bool
     true
 }
 
-/// What the tuples of a set show, each once: they do themselves, where no mark is asked for and none of
-/// them has one. The only refusal is want of memory.
+/// The set of what the tuples of a set show: they are it themselves, where no mark is asked for and none
+/// of them has one.
 fn shown_of(alloc: Global, marked: bool, found: Tuples) -> Result<Tuples, MatchFault>
     requires sorted { IsStrictlySortedBy tuple_cmp found }
     requires room { is_over found ≡ false }
