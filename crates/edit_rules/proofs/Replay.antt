@@ -1,14 +1,18 @@
--- How the database after a history follows from that after its beginning.
-use Rattle.std.proofs.Common.{◌≡◌, true, List, [], ◌∷◌, ◌++◌, take, drop, Result, Ok, Err, refl, sym, ◌∙◌, ap, subst, arith}
+-- How the database after a history follows from that after its beginning, and that it keeps its configuration.
+use Rattle.std.proofs.Common.{◌≡◌, true, List, [], ◌∷◌, ◌++◌, take, drop, Option, Result, Ok, Err, refl, sym, ◌∙◌, ap, subst, arith}
 use Rattle.std.proofs.lemmas.List.{take-append-drop}
 use Rattle.emu_names.specs.declared.rules.Broken.{Broken}
 use Rattle.db_config.specs.declared.parts.ConfigParts.{ConfigParts}
 use Rattle.db_config.specs.Valid.{is_valid}
+use Rattle.bundle_state.specs.Bundle.{BundleParts}
 use Rattle.bundle_state.specs.Linked.{onward}
 use Rattle.bundle_state.proofs.LinksKept.{goes_on, ok_same, fine_value}
+use Rattle.edit_rules.specs.declared.edit.Edit.{Edit}
 use Rattle.edit_rules.specs.declared.edit.Entry.{Entry}
-use Rattle.edit_rules.specs.Database.{DatabaseParts, empty_database, KeepsDatabaseRules, all_items}
-use Rattle.edit_rules.specs.Effects.{effect, replayed, after, IsLegal, found_or, database_after}
+use Rattle.edit_rules.specs.Edits.{key_of}
+use Rattle.edit_rules.specs.Changes.{changed}
+use Rattle.edit_rules.specs.Database.{DatabaseParts, empty_database, KeepsDatabaseRules, all_items, bundle_with, counts_of}
+use Rattle.edit_rules.specs.Effects.{put_back, effect, replayed, after, IsLegal, found_or, database_after}
 use Rattle.edit_rules.specs.Laws.{ReplayGoesOn, PrefixesAreLegal, StatesKeepRules}
 use Rattle.edit_rules.proofs.Stays.{edits_keep_rules}
 
@@ -68,3 +72,39 @@ legal_keeps config history valid legal =
 
 pub states_keep_rules : StatesKeepRules
 states_keep_rules config history valid legal n = legal_keeps config (take n history) valid (prefixes_are_legal config history legal n)
+
+-- A history keeps the configuration.
+
+-- a database, where there is one, has this configuration
+abbrev pub HasConfig : ConfigParts → Result DatabaseParts Broken → Type 0
+HasConfig c (Ok database) = database.config ≡ c
+HasConfig c (Err rule) = Unit {0}
+
+put_config : (database : DatabaseParts) (edit : Edit) (next : Result (Option BundleParts) Broken) → HasConfig database.config (onward next (put_back database edit))
+put_config database edit (Ok bundle) = refl
+put_config database edit (Err rule) = tt
+
+has_too : (c d : ConfigParts) (r : Result DatabaseParts Broken) → d ≡ c → HasConfig d r → HasConfig c r
+has_too c d (Ok database) same has = has ∙ same
+has_too c d (Err rule) same has = tt
+
+replay_config : (c : ConfigParts) (r : Result DatabaseParts Broken) (xs : List Entry) → HasConfig c r → HasConfig c (onward r (λ database. replayed database xs))
+replay_config c (Err rule) xs has = tt
+replay_config c (Ok database) [] has = has
+replay_config c (Ok database) (x ∷ xs) has =
+    replay_config c (effect database x.edit) xs
+    (has_too c database.config (effect database x.edit) has
+    (put_config database x.edit (changed database.config (counts_of database.bundles) (bundle_with (key_of x.edit) database.bundles) x.edit)))
+
+abbrev config_in : DatabaseParts → Result DatabaseParts Broken → ConfigParts
+config_in other (Ok database) = database.config
+config_in other (Err rule) = other.config
+
+config_of : (c : ConfigParts) (r : Result DatabaseParts Broken) (database : DatabaseParts) → HasConfig c r → r ≡ Ok database → database.config ≡ c
+config_of c (Ok found) database has is = sym (ap (config_in database) is) ∙ has
+config_of c (Err rule) database has is = absurd cc
+
+-- the database after a history has its configuration
+pub after_config : (c : ConfigParts) (history : List Entry) (database : DatabaseParts) → after c history ≡ Ok database → database.config ≡ c
+after_config c history database is =
+    config_of c (after c history) database (replay_config c (Ok (empty_database c)) history refl) is

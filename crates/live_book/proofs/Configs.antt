@@ -1,16 +1,9 @@
 -- The configuration of each version that a list shows, and the drafts that are made under it.
 use Rattle.std.proofs.Common.{◌≡◌, ℕ, List, [], ◌∷◌, ◌++◌, length, take, drop, Option, None, Some, Result, Ok, Err, IfSome, refl, sym, ◌∙◌, ap, subst, arith, append_assoc, length-append}
 use mathlib.Core.List.{IsPrefix}
-use Rattle.emu_names.specs.declared.rules.Broken.{Broken}
 use Rattle.db_config.specs.declared.parts.ConfigParts.{ConfigParts}
-use Rattle.bundle_state.specs.Bundle.{BundleParts}
-use Rattle.bundle_state.specs.Linked.{onward}
-use Rattle.edit_rules.specs.declared.edit.Edit.{Edit}
 use Rattle.edit_rules.specs.declared.edit.Entry.{Entry}
-use Rattle.edit_rules.specs.Edits.{key_of}
-use Rattle.edit_rules.specs.Changes.{changed}
-use Rattle.edit_rules.specs.Database.{DatabaseParts, empty_database, bundle_with, counts_of}
-use Rattle.edit_rules.specs.Effects.{put_back, effect, replayed, after}
+use Rattle.edit_rules.proofs.Replay.{after_config}
 use Rattle.version_gate.specs.declared.entry.Entry.{Entry as Numbered}
 use Rattle.version_gate.specs.Lists.{EndsIn, entry}
 use Rattle.version_tree.specs.Version.{VersionParts, state_of}
@@ -22,31 +15,10 @@ use Rattle.live_book.specs.Kept.{BookParts}
 use Rattle.live_book.specs.Commits.{Commits}
 use Rattle.live_book.specs.Drafts.{IsAddedBy, IsDraftAt, IsDraftOf}
 
--- The database after a history has its configuration.
-
--- a database, where there is one, has this configuration
-abbrev pub HasConfig : ConfigParts → Result DatabaseParts Broken → Type 0
-HasConfig c (Ok database) = database.config ≡ c
-HasConfig c (Err rule) = Unit {0}
-
-put_config : (database : DatabaseParts) (edit : Edit) (next : Result (Option BundleParts) Broken) → HasConfig database.config (onward next (put_back database edit))
-put_config database edit (Ok bundle) = refl
-put_config database edit (Err rule) = tt
-
-has_too : (c d : ConfigParts) (r : Result DatabaseParts Broken) → d ≡ c → HasConfig d r → HasConfig c r
-has_too c d (Ok database) same has = has ∙ same
-has_too c d (Err rule) same has = tt
-
-replay_config : (c : ConfigParts) (r : Result DatabaseParts Broken) (xs : List Entry) → HasConfig c r → HasConfig c (onward r (λ database. replayed database xs))
-replay_config c (Err rule) xs has = tt
-replay_config c (Ok database) [] has = has
-replay_config c (Ok database) (x ∷ xs) has =
-    replay_config c (effect database x.edit) xs
-    (has_too c database.config (effect database x.edit) has
-    (put_config database x.edit (changed database.config (counts_of database.bundles) (bundle_with (key_of x.edit) database.bundles) x.edit)))
+-- The version after a history has its configuration.
 
 pub state_config : (c : ConfigParts) (history : List Entry) (version : VersionParts) → IsStateAfter c history version → version.config ≡ c
-state_config c history version is = subst (HasConfig c) is.state (replay_config c (Ok (empty_database c)) history refl)
+state_config c history version is = after_config c history (state_of version) is.state
 
 -- So has each version of a list that shows histories.
 

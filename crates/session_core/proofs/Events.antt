@@ -23,6 +23,7 @@ use Rattle.session_core.specs.declared.line.Request.TheVariants as requests
 use Rattle.session_core.specs.declared.line.Line.{Line}
 use Rattle.session_core.specs.declared.line.Reply.{Reply}
 use Rattle.edit_rules.specs.Effects.{IsLegal, edited, database_after}
+use Rattle.edit_rules.proofs.Replay.{replay_goes_on}
 use Rattle.session_core.specs.Answers.{answer_at, memory, is_want_of_memory, grid_number, grid_answer, reply_to, entry_of}
 use Rattle.session_core.specs.Queries.{lacks_memory}
 use Rattle.session_core.specs.Steps.{Opened, State, slot, put_slot, session_places, is_full, opened_at, edit_step, look_step, finish_step, look_answered, query_step, way_answered, query_fails, Asker, by_look, by_query, by_none, asker_of, finish_by, finish_fails_by}
@@ -30,7 +31,6 @@ use Rattle.session_core.specs.Worlds.{Turn, Trouble, untroubled, no_memory, stor
 use Rattle.session_core.specs.Legal.{of_session, lines_of_session, is_of, is_line_of, lines_in, accepting, numbered, IsRight, low_behind, KeepsUp, Look, open_behind, look_behind, finish_behind, LookReplyFits, FinishReplyFits, ReplyFits, session_of, is_disk}
 use Rattle.session_core.proofs.Asking.{answers}
 use Rattle.session_core.proofs.OfCommand.{query_is}
-use Rattle.session_core.proofs.Replay.{after_push}
 use Rattle.session_core.proofs.Turns.{each_map, each_passing, each_kept, each_of_map, filter_more, filter_same, low_of, IsPast, HasSeenStill, seen_in_to, disk_of}
 use Rattle.session_core.proofs.Places.{slot_put, slot_other, put_length}
 use Rattle.session_core.proofs.Seats.{slice_get_last, rights_to, session_no, look_of, IsIn, in_more, IsWaiting, Seat, seat_told, Good, world_of, old_seat, added}
@@ -243,7 +243,7 @@ module _ (opening : List Entry) (store : Bool) (faults : ℕ) (w : World) (g : G
         once faults edit_line (w.state.entries ++ entry_of edit_line edit ∷ []) w.state.looks (Some (length w.state.entries + 1)) (Done command) (entry_of edit_line edit ∷ []) next (record {
           grown = refl;
           most = omega arith;
-          legal = (database, after_push w.state.config w.state.entries (entry_of edit_line edit) ∙ made);
+          legal = (database, replay_goes_on w.state.config w.state.entries (entry_of edit_line edit) ∙ made);
           mark = refl;
           right = (
             omega arith,

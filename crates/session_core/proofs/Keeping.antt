@@ -21,10 +21,10 @@ use Rattle.session_core.specs.declared.line.Request.TheVariants as requests
 use Rattle.session_core.specs.declared.slots.Held.{Held}
 use Rattle.session_core.specs.declared.moves.Head.{Head}
 use Rattle.edit_rules.specs.Effects.{after, effect, edited}
+use Rattle.edit_rules.proofs.Replay.{replay_goes_on, after_config}
 use Rattle.session_core.specs.Queries.{lacks_memory}
 use Rattle.session_core.specs.Steps.{State, slot, put_slot, is_full, session_places, start, edit_event, look_event, edit_step, look_step, finish_step, look_answered, query_step, way_answered, with_query, opened_at, query_fails}
 use Rattle.session_core.specs.Kept.{head_reply, opened_by, opened_in, state_of, IsMoment, IsHeld, AreHeld, IsKept, head_entry, held_at, edit_tried, edit_tried_step, given_tried, looked, look_closed, look_answer, query_closed, query_reply, query_dropped}
-use Rattle.session_core.proofs.Replay.{after_push, after_config}
 use Rattle.session_core.proofs.SlotPlaces.{slot_put, length_put_slot, slot_map, put_slot_map}
 
 -- A history that grows.
@@ -94,7 +94,7 @@ kept_step : (c : ConfigParts) (head : Head) (edit : Edit) (H : List Entry) (bs :
 kept_step c head edit H bs ls qs true made e k = k
 kept_step c head edit H bs ls qs false (Err rule) e k = k
 kept_step c head edit H bs ls qs false (Ok next) e k = record {
-  present = after_push c H (head_entry head edit) ∙ rw k.present e;
+  present = replay_goes_on c H (head_entry head edit) ∙ rw k.present e;
   of_looks = slots_longer c H (head_entry head edit ∷ []) ls k.of_looks;
   of_queries = slots_longer c H (head_entry head edit ∷ []) qs k.of_queries;
 }

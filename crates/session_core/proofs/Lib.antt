@@ -1,4 +1,3 @@
-pub mod Replay
 pub mod Turns
 pub mod Places
 pub mod SlotPlaces
