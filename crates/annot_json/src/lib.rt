@@ -3,6 +3,7 @@
 #![tactic(auto)]
 
 mod forms;
+mod known;
 mod laws;
 mod limits;
 mod print;

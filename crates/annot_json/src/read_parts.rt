@@ -1,13 +1,15 @@
 //! The lists of an annotation, read from a JSON value.
-ghost use Rattle.std.specs.Prelude.{◌≡◌};
+ghost use Rattle.std.specs.Prelude.{◌≡◌, codes};
 ghost use Rattle.json_view.specs.Gives.{Gives};
 ghost use Rattle.json_view.specs.Lists.{each_of};
 ghost use Rattle.json_view.specs.Seen.{seen_at};
+ghost use Rattle.db_config.specs.Forms.{text_member};
 ghost use Rattle.annot_json.specs.Read.{label_in, labels_in, span_in, point_in, time_in, item_in, items_in, level_in, levels_in, link_in, links_in};
 
 use crate::forms::{
-    level_kind_at, put_last, text_member, text_member_like, whole_member, with_capacity,
+    level_kind_at, put_last, shared_with, text_member, text_member_like, whole_member, with_capacity,
 };
+use crate::known::{known_value, last_name};
 use crate::limits::{TOP_ID, TOP_WHOLE};
 use emu_names::{ItemId, LevelKind, Text};
 use json_view::{View, ViewFault};
@@ -17,35 +19,48 @@ use level_items::{
 };
 use std::alloc::Global;
 
-// A label, which shares the name of the label `like` where it has the same.
+// A label at this place among those of its item, which shares the texts of labels at the same place of
+// items before it, where they are the same.
 #[tactic(auto, unfolding(crate::specs::Read::label_in))]
-fn label_in(alloc: Global, view: &View, like: Option<&AnnotLabel>) -> Result<AnnotLabel, ViewFault>
+fn label_in(
+    alloc: Global,
+    view: &View,
+    before: &[AnnotItem],
+    place: usize,
+) -> Result<AnnotLabel, ViewFault>
     ensures { Gives (λ l. l) result (label_in (seen_at view.now)) }
 {
     view.object()?;
-    let name = text_member_like(alloc, view, "name", name_of(like))?;
-    let value = text_member(alloc, view, "value")?;
+    let name = text_member_like(alloc, view, "name", last_name(before, place))?;
+    let value = value_member(alloc, view, before, place)?;
     Ok(AnnotLabel { name, value })
 }
 
-// The name of a label.
-fn name_of(label: Option<&AnnotLabel>) -> Option<&Text> {
-    match label {
-        Some(label) => Some(&label.name),
-        None => None,
-    }
+// The value of a label at this place, which is shared with that of an item before it where they are the
+// same.
+#[tactic(auto, unfolding(db_config::specs::Forms::text_member))]
+fn value_member(
+    alloc: Global,
+    view: &View,
+    before: &[AnnotItem],
+    place: usize,
+) -> Result<Text, ViewFault>
+    ensures { Gives (λ t. t) result (text_member (codes "value") (seen_at view.now)) }
+{
+    let text = view.text_member("value")?;
+    shared_with(alloc, text, known_value(before, place, text))
 }
 
-// The labels of a list, which share the names of the labels `like` where they have the same.
+// The labels of a list, which share the texts of the items before theirs, where they are the same.
 #[tactic(auto, using(json_view::proofs::Each::each_steps), unfolding(json_view::specs::Lists::each_of))]
-fn each_label(alloc: Global, view: &View, like: &[AnnotLabel]) -> Result<AnnotLabels, ViewFault>
+fn each_label(alloc: Global, view: &View, before: &[AnnotItem]) -> Result<AnnotLabels, ViewFault>
     ensures { Gives (λ l. l) result (each_of label_in (seen_at view.now)) }
 {
     let count = view.list_len()?;
     let mut labels = with_capacity(alloc, count)?;
     for place in 0..count {
         let part = view.at(place)?;
-        match label_in(alloc, &part, like.get(place)) {
+        match label_in(alloc, &part, before, place) {
             Ok(label) => put_last(&mut labels, label)?,
             Err(fault) => return Err(fault),
         }
@@ -55,11 +70,11 @@ fn each_label(alloc: Global, view: &View, like: &[AnnotLabel]) -> Result<AnnotLa
 
 // The member `labels`, which may be missing.
 #[tactic(auto, unfolding(crate::specs::Read::labels_in))]
-fn labels_in(alloc: Global, view: &View, like: &[AnnotLabel]) -> Result<AnnotLabels, ViewFault>
+fn labels_in(alloc: Global, view: &View, before: &[AnnotItem]) -> Result<AnnotLabels, ViewFault>
     ensures { Gives (λ l. l) result (labels_in (seen_at view.now)) }
 {
     match view.optional("labels")? {
-        Some(part) => each_label(alloc, &part, like),
+        Some(part) => each_label(alloc, &part, before),
         None => Ok(AnnotLabels::new(alloc)),
     }
 }
@@ -94,14 +109,6 @@ fn time_in(view: &View, kind: LevelKind) -> Result<Time, ViewFault>
     }
 }
 
-// The labels of the last of these items.
-fn last_labels(items: &[AnnotItem]) -> &[AnnotLabel] {
-    match items.last() {
-        Some(item) => item.labels.as_slice(),
-        None => &[],
-    }
-}
-
 // An item of a level of this kind, behind these items of the level.
 #[tactic(auto, unfolding(crate::specs::Read::item_in))]
 fn item_in(
@@ -114,7 +121,7 @@ fn item_in(
 {
     view.object()?;
     let id = ItemId(whole_member(view, "id", TOP_ID)? as u32);
-    let labels = labels_in(alloc, view, last_labels(before))?;
+    let labels = labels_in(alloc, view, before)?;
     let time = time_in(view, kind)?;
     Ok(AnnotItem { id, time, labels })
 }
