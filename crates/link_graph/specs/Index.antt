@@ -4,7 +4,7 @@ use Rattle.std.specs.List.{filter, list_any}
 use Rattle.std.specs.declared.cmp.Ordering.{Ordering}
 use Rattle.std.specs.Ordering.{nat_cmp, ordering_then}
 use Rattle.std.specs.BTreeMap.{get}
-use Rattle.std.specs.BTreeSet.{contains}
+use Rattle.std.specs.Option.{is_some}
 use Rattle.std.specs.declared.vec.Vec.{Vec}
 use Rattle.emu_names.specs.declared.kinds.ItemId.{ItemId}
 use Rattle.link_graph.specs.declared.link.Link.{Link}
@@ -33,7 +33,7 @@ pair_cmp a b = ordering_then (nat_cmp a.0 b.0) (nat_cmp a.1 b.1)
 
 -- whether the pair of ids is kept
 abbrev pub has_pair : Pairs → ℕ → ℕ → Bool
-has_pair pairs from to = contains pair_cmp pairs.pairs (from, to)
+has_pair pairs from to = is_some (get pair_cmp pairs.blocks (from, to))
 
 -- whether a link has this pair of ids
 abbrev pub is_pair : ℕ → ℕ → Link → Bool

@@ -43,15 +43,15 @@ impl Index {
         Ok(Index { down, up, pairs })
     }
 
-    /// Adds a link whose pair of ids is not there. The only refusal is want of memory, after which
-    /// the index is that of the same list.
-    pub(crate) fn add(&mut self, _links: &Blocks, link: Link) -> Result<(), Memory>
-        requires indexed { Indexes self.old _links.now }
-        requires apart { list_any (joins link.from link.to) _links.now ≡ false }
-        ensures ok { OnOk result (Indexes self.new (_links.now ++ link ∷ [])) }
-        ensures err { OnErr result (Indexes self.new _links.now) }
+    /// Adds a link that will be put last, whose pair of ids is not there. The only refusal is want of
+    /// memory, after which the index is that of the same list.
+    pub(crate) fn add(&mut self, links: &Blocks, link: Link) -> Result<(), Memory>
+        requires indexed { Indexes self.old links.now }
+        requires apart { list_any (joins link.from link.to) links.now ≡ false }
+        ensures ok { OnOk result (Indexes self.new (links.now ++ link ∷ [])) }
+        ensures err { OnErr result (Indexes self.new links.now) }
     {
-        self.pairs.insert(link.from, link.to)?;
+        self.pairs.insert(link.from, link.to, links.next_block())?;
         if self.down.push(link.from, link).is_err() {
             self.pairs.remove(link.from, link.to);
             return Err(Memory);

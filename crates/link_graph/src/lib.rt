@@ -5,7 +5,6 @@ mod block;
 mod blocks;
 mod by_item;
 mod ends;
-mod hints;
 mod index;
 mod laws;
 mod link;

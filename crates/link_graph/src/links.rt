@@ -6,9 +6,9 @@ ghost use Rattle.link_graph.specs.Link.{ArePairsApart, joins, names_item, parent
 
 use crate::blocks::Blocks;
 use crate::ends::Ends;
-use crate::hints::Hints;
 use crate::index::Index;
 use crate::link::Link;
+use crate::pairs::Pairs;
 use emu_names::limits::BUNDLE_LINKS;
 use emu_names::{Broken, Fault, ItemId, LinkKind, Memory, What};
 use std::alloc::{AllocError, Global};
@@ -19,7 +19,6 @@ use std::marker::Model;
 pub struct Links {
     links: Blocks,
     index: Index,
-    hints: Hints,
 }
 
 impl Model for Links {
@@ -43,7 +42,6 @@ impl Links {
         Links {
             links: Blocks::new(alloc),
             index: Index::new(alloc),
-            hints: Hints::new(alloc),
         }
     }
 
@@ -123,9 +121,9 @@ impl Links {
         if !self.index.pairs.has(from, to) {
             return Err(Fault::Broken(Broken::NoLink));
         }
+        let block = self.index.pairs.block(from, to);
         self.index.remove(from, to);
-        self.links.take_pair(self.hints.get(from, to), from, to);
-        self.hints.forget(from, to);
+        self.links.take_pair(block, from, to);
         Ok(())
     }
 
@@ -133,8 +131,8 @@ impl Links {
     pub fn remove_item(&mut self, id: ItemId)
         ensures { self.new ≡ filter (λ link. not (names_item id link)) self.old }
     {
-        take_all(&mut self.links, &mut self.hints, self.index.down.at(id));
-        take_all(&mut self.links, &mut self.hints, self.index.up.at(id));
+        take_all(&mut self.links, &self.index.pairs, self.index.down.at(id));
+        take_all(&mut self.links, &self.index.pairs, self.index.up.at(id));
         self.index.remove_item(id);
     }
 
@@ -144,12 +142,7 @@ impl Links {
     {
         let links = self.links.copy(alloc)?;
         let index = self.index.copy()?;
-        let hints = self.hints.copy()?;
-        Ok(Links {
-            links,
-            index,
-            hints,
-        })
+        Ok(Links { links, index })
     }
 
     /// The first rule that a new link breaks.
@@ -197,12 +190,8 @@ impl Links {
         ensures err { OnErr result (self.new ≡ self.old) }
     {
         self.index.add(&self.links, link)?;
-        let block = self.links.next_block();
         match self.links.push(link) {
-            Ok(()) => {
-                self.hints.put(link.from, link.to, block);
-                Ok(())
-            }
+            Ok(()) => Ok(()),
             Err(fault) => {
                 self.index.remove(link.from, link.to);
                 Err(fault)
@@ -225,13 +214,12 @@ impl Clone for Links {
 }
 
 /// Takes these links out of the list.
-fn take_all(links: &mut Blocks, hints: &mut Hints, ends: &[Link])
+fn take_all(links: &mut Blocks, pairs: &Pairs, ends: &[Link])
     requires { ArePairsApart links.old }
     ensures { links.new ≡ filter (λ link. not (is_among ends.now link)) links.old }
 {
     for link in ends {
-        links.take_pair(hints.get(link.from, link.to), link.from, link.to);
-        hints.forget(link.from, link.to);
+        links.take_pair(pairs.block(link.from, link.to), link.from, link.to);
     }
 }
 

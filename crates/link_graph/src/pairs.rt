@@ -1,15 +1,16 @@
-//! The pairs of ids that are linked.
+//! The pairs of ids that are linked, each with the block in which its link is looked for first.
 ghost use Rattle.std.specs.Prelude.{◌≡◌, ◌==◌, ◌&&◌, ◌||◌, ℕ, IfOk, OnOk, OnErr, false, true, not};
 ghost use Rattle.link_graph.specs.Index.{has_pair};
 
 use emu_names::{ItemId, Memory};
 use std::alloc::Global;
-use std::collections::BTreeSet;
+use std::collections::BTreeMap;
 
-/// A set of pairs of ids, the upper item's first.
+/// A set of pairs of ids, the upper item's first. Each has the number of a block of the list of links, a
+/// hint of which nothing is promised, nor that there is such a block.
 #[derive(Drop)]
 pub(crate) struct Pairs {
-    pairs: BTreeSet<(u32, u32)>,
+    blocks: BTreeMap<(u32, u32), u32>,
 }
 
 impl Pairs {
@@ -18,7 +19,7 @@ impl Pairs {
         ensures { (from to : ℕ) → has_pair result from to ≡ false }
     {
         Pairs {
-            pairs: BTreeSet::new(alloc),
+            blocks: BTreeMap::new(alloc),
         }
     }
 
@@ -26,7 +27,12 @@ impl Pairs {
     pub(crate) fn has(&self, from: ItemId, to: ItemId) -> bool
         ensures { result ≡ has_pair self.now from.0 to.0 }
     {
-        self.pairs.contains(&(from.0, to.0))
+        self.blocks.contains_key(&(from.0, to.0))
+    }
+
+    /// The block in which the link of a pair is looked for first.
+    pub(crate) fn block(&self, from: ItemId, to: ItemId) -> usize {
+        self.blocks.get(&(from.0, to.0)).copied().unwrap_or(0) as usize
     }
 
     /// The same pairs again. The only refusal is want of memory.
@@ -34,17 +40,19 @@ impl Pairs {
         ensures { IfOk result (λ made. (from to : ℕ)
             → has_pair made from to ≡ has_pair self.now from to) }
     {
-        let pairs = self.pairs.clone()?;
-        Ok(Pairs { pairs })
+        let blocks = self.blocks.clone()?;
+        Ok(Pairs { blocks })
     }
 
-    /// Puts a pair in. The only refusal is want of memory, which changes nothing.
-    pub(crate) fn insert(&mut self, from: ItemId, to: ItemId) -> Result<(), Memory>
+    /// Puts a pair in, with the block in which its link is looked for first. The only refusal is want of
+    /// memory, which changes nothing.
+    pub(crate) fn insert(&mut self, from: ItemId, to: ItemId, block: usize) -> Result<(), Memory>
         ensures ok { OnOk result ((a b : ℕ) → has_pair self.new a b
             ≡ (has_pair self.old a b || ((from.0 == a) && (to.0 == b)))) }
         ensures err { OnErr result ((a b : ℕ) → has_pair self.new a b ≡ has_pair self.old a b) }
     {
-        self.pairs.insert((from.0, to.0))?;
+        let block = u32::try_from(block).unwrap_or(u32::MAX);
+        self.blocks.insert((from.0, to.0), block)?;
         Ok(())
     }
 
@@ -53,6 +61,6 @@ impl Pairs {
         ensures { (a b : ℕ) → has_pair self.new a b
             ≡ (not ((from.0 == a) && (to.0 == b)) && has_pair self.old a b) }
     {
-        self.pairs.remove(&(from.0, to.0));
+        self.blocks.remove(&(from.0, to.0));
     }
 }

@@ -5,7 +5,7 @@ use Rattle.link_graph.proofs.index.Index.add.Goals as goal
 pub returns-then-is_err-2-clause-err : goal.returns-then-is_err-2-clause-err
 returns-then-is_err-2-clause-err c =
     let link = c.args.link in
-    let links = c.args._links.now in
+    let links = c.args.links.now in
     let apart = c.requires.apart in
     let pushed = at_ok c.push.result _ (sym c.is_err.ensures.value ∙ c.if-is_err.false) c.push.ensures.ok in
     let kept = at_err c.push-2.result _ (sym c.is_err-2.ensures.value ∙ c.if-is_err-2.true) c.push-2.ensures.err in
