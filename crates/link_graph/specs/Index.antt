@@ -1,22 +1,29 @@
 -- What the index of a list of links holds: the links of each item, and the pairs of ids.
-use Rattle.std.specs.Prelude.{◌≡◌, ℕ, Bool, List, [], Option, None, Some, ◌==◌, ◌&&◌, not, if◌then◌else◌}
+use Rattle.std.specs.Prelude.{◌≡◌, ℕ, Bool, List, [], ◌∷◌, Option, None, Some, ◌==◌, ◌&&◌, not, if◌then◌else◌}
 use Rattle.std.specs.List.{filter, list_any}
 use Rattle.std.specs.declared.cmp.Ordering.{Ordering}
 use Rattle.std.specs.Ordering.{nat_cmp, ordering_then}
 use Rattle.std.specs.BTreeMap.{get}
 use Rattle.std.specs.Option.{is_some}
-use Rattle.std.specs.declared.vec.Vec.{Vec}
 use Rattle.emu_names.specs.declared.kinds.ItemId.{ItemId}
 use Rattle.link_graph.specs.declared.link.Link.{Link}
 use Rattle.link_graph.specs.Link.{names_item}
 use Rattle.link_graph.specs.declared.by_item.ByItem.{ByItem}
+use Rattle.link_graph.specs.declared.item_links.ItemLinks.{ItemLinks}
+use Rattle.link_graph.specs.declared.item_links.ItemLinks.TheVariants.{Empty, One, Many}
 use Rattle.link_graph.specs.declared.pairs.Pairs.{Pairs}
 use Rattle.link_graph.specs.declared.index.Index.{Index}
 
--- the elements, or none where there is no list
-abbrev pub elements : {A : Type 0} → Option (Vec Link A) → List Link
+-- the links of an item, in the order in which they were added
+abbrev pub links_of : ItemLinks → List Link
+links_of Empty = []
+links_of (One link) = link ∷ []
+links_of (Many links) = links.value.items
+
+-- the links, or none where there is no entry
+abbrev pub elements : Option ItemLinks → List Link
 elements None = []
-elements (Some links) = links.items
+elements (Some links) = links_of links
 
 -- the links that are kept at an item's id
 abbrev pub links_at : ByItem → ℕ → List Link

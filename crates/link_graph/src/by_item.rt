@@ -1,11 +1,11 @@
 //! The links of each item, by the item's id, each list in the order in which it grew.
 ghost use Rattle.std.specs.Prelude.{◌≡◌, ◌==◌, ◌++◌, ◌∷◌, ℕ, [], IfOk, OnOk, OnErr, not, if◌then◌else◌};
 ghost use Rattle.std.specs.List.{filter};
-ghost use Rattle.link_graph.specs.Index.{links_at};
+ghost use Rattle.link_graph.specs.Index.{links_at, links_of};
 ghost use Rattle.link_graph.specs.Link.{joins, names_item};
 
+use crate::item_links::ItemLinks;
 use crate::link::Link;
-use crate::taken::{take_item, take_pair};
 use emu_names::{ItemId, Memory};
 use std::alloc::Global;
 use std::collections::BTreeMap;
@@ -14,7 +14,7 @@ use std::collections::BTreeMap;
 #[derive(Drop)]
 pub(crate) struct ByItem {
     alloc: Global,
-    lists: BTreeMap<u32, Vec<Link>>,
+    lists: BTreeMap<u32, ItemLinks>,
 }
 
 impl ByItem {
@@ -55,8 +55,8 @@ impl ByItem {
             ≡ (if at.0 == id then links_at self.old id ++ link ∷ [] else links_at self.old id)) }
         ensures err { OnErr result ((id : ℕ) → links_at self.new id ≡ links_at self.old id) }
     {
-        let links = self.lists.entry(at.0)?.or_insert(Vec::new(self.alloc));
-        push_link(links, link)
+        let links = self.lists.entry(at.0)?.or_insert(ItemLinks::Empty);
+        links.push(self.alloc, link)
     }
 
     /// Takes the links at an item out that lead from `from` to `to`.
@@ -66,19 +66,19 @@ impl ByItem {
             else links_at self.old id) }
     {
         if let Some(links) = self.lists.get_mut(&at.0) {
-            take_pair(links, from, to);
+            links.take_pair(from, to);
         }
     }
 
     /// Takes all links at an item out, and gives them.
-    pub(crate) fn take(&mut self, at: ItemId) -> Vec<Link>
-        ensures taken { result.items ≡ links_at self.old at.0 }
+    pub(crate) fn take(&mut self, at: ItemId) -> ItemLinks
+        ensures taken { links_of result ≡ links_at self.old at.0 }
         ensures rest { (id : ℕ) → links_at self.new id
             ≡ (if at.0 == id then [] else links_at self.old id) }
     {
         match self.lists.remove(&at.0) {
             Some(links) => links,
-            None => Vec::new(self.alloc),
+            None => ItemLinks::Empty,
         }
     }
 
@@ -89,20 +89,7 @@ impl ByItem {
             else links_at self.old key) }
     {
         if let Some(links) = self.lists.get_mut(&at.0) {
-            take_item(links, id);
+            links.take_item(id);
         }
     }
-}
-
-/// Puts a link last. A list of one link, as nearly all are that lead up, takes the room of one. The only
-/// refusal is want of memory, which changes nothing.
-fn push_link(links: &mut Vec<Link>, link: Link) -> Result<(), Memory>
-    ensures ok { OnOk result (links.new.items ≡ links.old.items ++ link ∷ []) }
-    ensures err { OnErr result (links.new.items ≡ links.old.items) }
-{
-    if links.is_empty() {
-        links.reserve_exact(1)?;
-    }
-    links.push(link)?;
-    Ok(())
 }

@@ -6,6 +6,7 @@ mod blocks;
 mod by_item;
 mod ends;
 mod index;
+mod item_links;
 mod laws;
 mod link;
 mod links;

@@ -1,8 +1,7 @@
 use Rattle.std.proofs.Common.{rules}
-use Rattle.link_graph.proofs.Clones.{all_same, elements_same}
+use Rattle.link_graph.proofs.Clones.{elements_same}
 use Rattle.link_graph.proofs.by_item.ByItem.copy.Goals as goal
 
 pub returns : goal.returns
 returns c id =
-    let same = elements_same _ _ id c.args.self.now.lists.entries c.in_ok-lists.lists.entries c.in_ok-lists.ensures.cases in
-    same (λ x y k. search rules) (λ v w k. all_same _ (λ x y k. search rules) v.items w.items k.0)
+    elements_same _ _ id c.args.self.now.lists.entries c.in_ok-lists.lists.entries c.in_ok-lists.ensures.cases (λ x y k. search rules) (λ v w k. k)

@@ -1,0 +1,104 @@
+//! The links of one item.
+ghost use Rattle.std.specs.Prelude.{◌≡◌, ◌++◌, ◌∷◌, [], IfOk, OnOk, OnErr, not};
+ghost use Rattle.std.specs.List.{filter};
+ghost use Rattle.link_graph.specs.Index.{links_of};
+ghost use Rattle.link_graph.specs.Link.{joins, names_item};
+
+use crate::link::Link;
+use crate::taken::{take_item, take_pair};
+use emu_names::{ItemId, Memory};
+use std::alloc::{AllocError, Global};
+use std::slice;
+
+/// The links of one item in the order in which they were added. One link, as nearly all items have that lead
+/// up, stands in place.
+#[derive(Drop)]
+pub(crate) enum ItemLinks {
+    /// No link.
+    Empty,
+    /// One link.
+    One(Link),
+    /// Two links or more, or what is left of them.
+    Many(Box<Vec<Link>>),
+}
+
+impl ItemLinks {
+    /// The links as a slice.
+    pub(crate) fn as_slice(&self) -> &[Link]
+        ensures { result.now ≡ links_of self.now }
+    {
+        match self {
+            ItemLinks::Empty => &[],
+            ItemLinks::One(link) => slice::from_ref(link),
+            ItemLinks::Many(links) => links.as_slice(),
+        }
+    }
+
+    /// Puts a link last. The only refusal is want of memory, which changes nothing.
+    pub(crate) fn push(&mut self, alloc: Global, link: Link) -> Result<(), Memory>
+        ensures ok { OnOk result (links_of self.new ≡ links_of self.old ++ link ∷ []) }
+        ensures err { OnErr result (links_of self.new ≡ links_of self.old) }
+    {
+        match self {
+            ItemLinks::Empty => *self = ItemLinks::One(link),
+            ItemLinks::One(first) => *self = ItemLinks::Many(both(alloc, *first, link)?),
+            ItemLinks::Many(links) => links.push(link)?,
+        }
+        Ok(())
+    }
+
+    /// Takes the links out that lead from `from` to `to`.
+    pub(crate) fn take_pair(&mut self, from: ItemId, to: ItemId)
+        ensures { links_of self.new
+            ≡ filter (λ link. not (joins from to link)) (links_of self.old) }
+    {
+        match self {
+            ItemLinks::Empty => {}
+            ItemLinks::One(link) => {
+                if link.from == from && link.to == to {
+                    *self = ItemLinks::Empty;
+                }
+            }
+            ItemLinks::Many(links) => take_pair(links, from, to),
+        }
+    }
+
+    /// Takes the links out that name `id`, at either end.
+    pub(crate) fn take_item(&mut self, id: ItemId)
+        ensures { links_of self.new
+            ≡ filter (λ link. not (names_item id link)) (links_of self.old) }
+    {
+        match self {
+            ItemLinks::Empty => {}
+            ItemLinks::One(link) => {
+                if link.from == id || link.to == id {
+                    *self = ItemLinks::Empty;
+                }
+            }
+            ItemLinks::Many(links) => take_item(links, id),
+        }
+    }
+}
+
+impl Clone for ItemLinks {
+    ghost use Rattle.std.specs.Prelude.{◌≡◌};
+    ghost use Rattle.link_graph.specs.Index.{links_of};
+
+    ghost is_clone = { λ s t. links_of t ≡ links_of s };
+
+    fn clone(&self) -> Result<ItemLinks, AllocError> {
+        match self {
+            ItemLinks::Empty => Ok(ItemLinks::Empty),
+            ItemLinks::One(link) => Ok(ItemLinks::One(*link)),
+            ItemLinks::Many(links) => Ok(ItemLinks::Many(links.clone()?)),
+        }
+    }
+}
+
+/// A list of two links. The only refusal is want of memory.
+fn both(alloc: Global, first: Link, second: Link) -> Result<Box<Vec<Link>>, Memory>
+    ensures { IfOk result (λ made. made.value.items ≡ first ∷ second ∷ []) }
+{
+    let links = Vec::from_slice(alloc, &[first, second])?;
+    Ok(Box::new(alloc, links)?)
+}
