@@ -1,3 +1,4 @@
+pub mod Held
 pub mod Times
 pub mod Levels
 pub mod Faults

@@ -3,7 +3,7 @@ ghost use Rattle.std.specs.Prelude.{◌≡◌, IfOk};
 
 use crate::labels::Labels;
 use crate::times::Time;
-use emu_lists::{PlainData, Shared};
+use emu_lists::PlainData;
 use emu_names::{ItemId, Memory};
 use std::alloc::Global;
 
@@ -15,7 +15,7 @@ pub struct Item {
     /// When it is.
     pub time: Time,
     /// Its labels, in the order of the level's attributes. Copies of the item share them.
-    pub labels: Shared<Labels>,
+    pub labels: Labels,
 }
 
 impl Item {

@@ -1,15 +1,29 @@
 //! The labels of an item, which contracts see as a list of texts.
 ghost use Rattle.std.specs.Prelude.{◌≡◌, ◌<◌, ◌==◌, [], ◌∷◌, ◌++◌, length, IfOk, OnOk, OnErr, slice_get, slice_set, Some};
+ghost use Rattle.level_items.specs.Held.{held_labels};
 
-use emu_lists::{PlainData, Shared};
+use emu_lists::{PlainData, Series, Shared};
 use emu_names::{Memory, Text};
 use std::alloc::Global;
 use std::marker::Model;
 
-/// A list of labels, one for each attribute of a level where it belongs to an item.
+/// A list of labels, one for each attribute of a level where it belongs to an item. Copies share the
+/// texts. One label takes no block of memory for the list.
 #[derive(Drop)]
 pub struct Labels {
-    labels: Vec<Text>,
+    alloc: Global,
+    held: Held,
+}
+
+/// Where the labels are. There may be one of them, or none, in a list too.
+#[derive(Drop)]
+enum Held {
+    /// No label.
+    None,
+    /// One label, in place.
+    One(Text),
+    /// Any number of labels, in a list that copies share.
+    Many(Shared<Series<Text>>),
 }
 
 impl Model for Labels {
@@ -17,7 +31,9 @@ impl Model for Labels {
 
     ghost Value = { List (List ℕ) };
 
-    ghost view = { λ l. l.labels.items };
+    ghost use Rattle.level_items.specs.Held.{held_labels};
+
+    ghost view = { λ l. held_labels l.held };
 }
 
 impl Labels {
@@ -26,7 +42,8 @@ impl Labels {
         ensures { result ≡ [] }
     {
         Labels {
-            labels: Vec::new(alloc),
+            alloc,
+            held: Held::None,
         }
     }
 
@@ -34,8 +51,12 @@ impl Labels {
     pub fn with_capacity(alloc: Global, count: usize) -> Result<Labels, Memory>
         ensures { IfOk result (λ made. made ≡ []) }
     {
-        let labels = Vec::with_capacity(alloc, count)?;
-        Ok(Labels { labels })
+        if count < 2 {
+            return Ok(Labels::new(alloc));
+        }
+        let labels = Series::from_vec(Vec::with_capacity(alloc, count)?);
+        let held = Held::Many(Shared::new(alloc, labels)?);
+        Ok(Labels { alloc, held })
     }
 
     /// Puts a label last. The only refusal is want of memory, which changes nothing.
@@ -43,7 +64,11 @@ impl Labels {
         ensures ok { OnOk result (self.new ≡ self.old ++ label ∷ []) }
         ensures err { OnErr result (self.new ≡ self.old) }
     {
-        self.labels.push(label)?;
+        match &mut self.held {
+            Held::None => self.held = Held::One(label),
+            Held::One(first) => self.held = Held::Many(pair(self.alloc, first, label)?),
+            Held::Many(labels) => push_last(labels, label)?,
+        }
         Ok(())
     }
 
@@ -51,14 +76,14 @@ impl Labels {
     pub fn len(&self) -> usize
         ensures { result ≡ length self.now }
     {
-        self.labels.len()
+        self.as_slice().len()
     }
 
     /// Whether there is no label.
     pub fn is_empty(&self) -> bool
         ensures { result ≡ (length self.now == 0) }
     {
-        self.labels.is_empty()
+        self.as_slice().is_empty()
     }
 
     /// The label at a place, counted from 0.
@@ -66,46 +91,39 @@ impl Labels {
         requires { place < length self.now }
         ensures { slice_get self.now place ≡ Some result.now }
     {
-        &self.labels[place]
+        &self.as_slice()[place]
     }
 
     /// All labels, in order.
     pub fn as_slice(&self) -> &[Text]
         ensures { result.now ≡ self.now }
     {
-        self.labels.as_slice()
+        match &self.held {
+            Held::None => &[],
+            Held::One(label) => std::slice::from_ref(label),
+            Held::Many(labels) => labels.as_ref().as_slice(),
+        }
     }
 
-    /// Puts `label` in the place of the label that stands there.
-    pub fn set(&mut self, place: usize, label: Text)
-        requires { place < length self.old }
-        ensures { self.new ≡ slice_set self.old place label }
-    {
-        self.labels[place] = label;
-    }
-
-    /// These labels with `label` in the place of the one that stands there, for copies to share. The only
-    /// refusal is want of memory.
-    pub(crate) fn with(
-        &self,
-        alloc: Global,
-        place: usize,
-        label: Text,
-    ) -> Result<Shared<Labels>, Memory>
+    /// These labels with `label` in the place of the one that stands there. The only refusal is want of
+    /// memory.
+    pub(crate) fn with(&self, alloc: Global, place: usize, label: Text) -> Result<Labels, Memory>
         requires { place < length self.now }
         ensures { IfOk result (λ made. made ≡ slice_set self.now place label) }
     {
-        let mut made = self.copy(alloc)?;
-        made.set(place, label);
-        Shared::new(alloc, made)
+        let held = match &self.held {
+            Held::Many(labels) => Held::Many(replaced(alloc, labels, place, label)?),
+            Held::None | Held::One(_) => Held::One(label),
+        };
+        Ok(Labels { alloc, held })
     }
 
-    /// The same labels again. The only refusal is want of memory.
+    /// The same labels again, which shares them. The only refusal is want of memory.
     pub fn copy(&self, alloc: Global) -> Result<Labels, Memory>
         ensures { IfOk result (λ made. made ≡ self.now) }
     {
-        let labels = copied(alloc, self.labels.as_slice())?;
-        Ok(Labels { labels })
+        let held = self.held.copy(alloc)?;
+        Ok(Labels { alloc, held })
     }
 }
 
@@ -115,12 +133,50 @@ impl PlainData for Labels {
     }
 }
 
-fn copied(alloc: Global, labels: &[Text]) -> Result<Vec<Text>, Memory>
-    ensures { IfOk result (λ made. made.items ≡ labels.now) }
-{
-    let mut made = Vec::with_capacity(alloc, labels.len())?;
-    for label in labels {
-        made.push(label.copy(alloc)?)?;
+impl Held {
+    /// The same labels again, which shares them. The only refusal is want of memory.
+    fn copy(&self, alloc: Global) -> Result<Held, Memory>
+        ensures { IfOk result (λ made. held_labels made ≡ held_labels self.now) }
+    {
+        match self {
+            Held::None => Ok(Held::None),
+            Held::One(label) => Ok(Held::One(label.copy(alloc)?)),
+            Held::Many(labels) => Ok(Held::Many(labels.copy(alloc)?)),
+        }
     }
+}
+
+/// The list of two labels. The only refusal is want of memory.
+fn pair(alloc: Global, first: &Text, second: Text) -> Result<Shared<Series<Text>>, Memory>
+    ensures { IfOk result (λ made. made ≡ first.now ∷ second ∷ []) }
+{
+    let mut labels = Vec::with_capacity(alloc, 2)?;
+    labels.push(first.copy(alloc)?)?;
+    labels.push(second)?;
+    Shared::new(alloc, Series::from_vec(labels))
+}
+
+/// Puts a label last. The only refusal is want of memory, which changes nothing.
+fn push_last(labels: &mut Shared<Series<Text>>, label: Text) -> Result<(), Memory>
+    ensures ok { OnOk result (labels.new ≡ labels.old ++ label ∷ []) }
+    ensures err { OnErr result (labels.new ≡ labels.old) }
+{
+    let end = labels.as_ref().len();
+    labels.insert(end, label)
+}
+
+/// These labels with `label` in the place of the one that stands there, for copies to share. The only
+/// refusal is want of memory.
+fn replaced(
+    alloc: Global,
+    labels: &Shared<Series<Text>>,
+    place: usize,
+    label: Text,
+) -> Result<Shared<Series<Text>>, Memory>
+    requires { place < length labels.now }
+    ensures { IfOk result (λ made. made ≡ slice_set labels.now place label) }
+{
+    let mut made = labels.copy(alloc)?;
+    made.set(place, label)?;
     Ok(made)
 }

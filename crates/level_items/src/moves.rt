@@ -124,7 +124,7 @@ pub(crate) fn set_label_in(
     ensures kept { OnErr result (items.new ≡ items.old) }
 {
     let item = &mut items[position];
-    item.labels = item.labels.as_ref().with(alloc, attribute, label)?;
+    item.labels = item.labels.with(alloc, attribute, label)?;
     Ok(())
 }
 

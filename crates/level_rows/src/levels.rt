@@ -1,7 +1,6 @@
 //! Lists worked by hand from the level rule, and each call that allocates on its happy path.
 ghost use Rattle.std.specs.Prelude.{◌≡◌, IfOk};
 
-use emu_lists::Shared;
 use emu_names::{Broken, Fault, ItemId, LevelKind, Memory, Text};
 use level_items::Time::{NoTime, Point, Span};
 use level_items::{Item, Labels, LevelList, Time};
@@ -289,7 +288,7 @@ fn put(
     requires { list.old.attributes ≡ 0 }
     ensures { list.new.attributes ≡ 0 }
 {
-    let labels = Shared::new(alloc, Labels::new(alloc))?;
+    let labels = Labels::new(alloc);
     list.insert(position, Item { id, time, labels })
 }
 
@@ -441,7 +440,6 @@ fn labels_are_set_and_copied(rt: HostRuntime) -> Result<(), Fail> {
     let mut labels = Labels::new(rt.alloc());
     labels.push(Text::new(rt.alloc(), "V")?)?;
     labels.push(Text::new(rt.alloc(), "")?)?;
-    let labels = Shared::new(rt.alloc(), labels)?;
     let mut list = LevelList::new(rt.alloc(), LevelKind::Item, 2)?;
     let item = Item {
         id: ItemId(7),
@@ -453,6 +451,6 @@ fn labels_are_set_and_copied(rt: HostRuntime) -> Result<(), Fail> {
     let copied = list.copy(rt.alloc())?;
     crosses_threads(&copied);
     assert_eq!(rt; copied.len(), 1);
-    expect_labels(&rt, copied.get(0).labels.as_ref(), "V", "m");
+    expect_labels(&rt, &copied.get(0).labels, "V", "m");
     Ok(())
 }
