@@ -1,5 +1,5 @@
 //! A row of bits, and the questions and joins that fill it.
-ghost use Rattle.std.specs.Prelude.{◌≡◌, ◌<◌, ◌||◌, ◌&&◌, ◌==◌, count_by, length, map, replicate, slice_get, slice_set, false, IfOk, Some};
+ghost use Rattle.std.specs.Prelude.{◌≡◌, ◌<◌, ◌≤◌, ◌||◌, ◌&&◌, ◌==◌, count_by, length, map, replicate, slice_get, slice_set, false, IfOk, IsOk, Some};
 ghost use Rattle.std.specs.Simd.Lanes.{zip2};
 ghost use Rattle.lane_bits.specs.Row.{is_between, IsFirst, IsLast};
 
@@ -7,14 +7,16 @@ use crate::bits::{clear_words, count_words, first_set, last_set, with_bit};
 use crate::columns::{eq_words, range_words};
 use crate::joins::{and_words, or_words};
 use crate::shortage::Memory;
+use smallvec::SmallVec;
 use std::alloc::Global;
 use std::marker::Model;
 
 /// A row of bits, which contracts see as the list of its bits. It lies in words of 64 bits, and all
-/// bits of the last word that are past the row's length are 0.
+/// bits of the last word that are past the row's length are 0. A row of at most 64 bits has its word
+/// in the value itself, and takes no block of memory.
 #[derive(Drop)]
 pub struct BitRow {
-    words: Vec<u64>,
+    words: SmallVec<u64, 1>,
     len: usize,
 }
 
@@ -29,12 +31,24 @@ impl Model for BitRow {
     ghost invariant = { λ r. Hold r.words.items (bits_of r.len r.words.items) };
 }
 
+/// So many words, all of them 0. The allocator is asked only for more than one.
+fn zero_words(alloc: Global, count: usize) -> Result<SmallVec<u64, 1>, Memory>
+    ensures zeros { IfOk result (λ words. words.items ≡ replicate count 0) }
+    ensures one { count ≤ 1 → IsOk result }
+{
+    if count <= 1 {
+        return Ok(SmallVec::from_buf_and_len(alloc, [0], count));
+    }
+    let words = vec![in alloc; 0; count]?;
+    Ok(SmallVec::from_vec(words))
+}
+
 impl BitRow {
     /// A row of `len` bits, none of which is set. The only refusal is want of memory.
     pub fn new(alloc: Global, len: usize) -> Result<BitRow, Memory>
         ensures { IfOk result (λ row. row ≡ replicate len false) }
     {
-        let words = vec![in alloc; 0; len.div_ceil(64)]?;
+        let words = zero_words(alloc, len.div_ceil(64))?;
         Ok(BitRow { words, len })
     }
 
@@ -50,7 +64,8 @@ impl BitRow {
         requires { at < length self.now }
         ensures { slice_get self.now at ≡ Some result }
     {
-        (self.words[at / 64] >> (at % 64)) & 1 == 1
+        let words = self.words.as_slice();
+        (words[at / 64] >> (at % 64)) & 1 == 1
     }
 
     /// Sets or clears the bit at a place.
@@ -58,8 +73,9 @@ impl BitRow {
         requires { at < length self.old }
         ensures { self.new ≡ slice_set self.old at bit }
     {
-        let word = self.words[at / 64];
-        self.words[at / 64] = with_bit(word, at % 64, bit);
+        let words = self.words.as_mut_slice();
+        let word = words[at / 64];
+        words[at / 64] = with_bit(word, at % 64, bit);
     }
 
     /// How many bits are set.
@@ -87,7 +103,7 @@ impl BitRow {
     pub fn copy(&self, alloc: Global) -> Result<BitRow, Memory>
         ensures { IfOk result (λ row. row ≡ self.now) }
     {
-        let words = self.words.as_slice().to_vec(alloc)?;
+        let words = SmallVec::from_slice(alloc, self.words.as_slice())?;
         Ok(BitRow {
             words,
             len: self.len,

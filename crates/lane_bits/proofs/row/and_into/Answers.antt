@@ -15,7 +15,7 @@ held c =
     let right = seen_held c.other.inside.words.items c.other.inside.len c.args.other.now c.other.invariant c.other.view_is in
     let words : c.and_words.new.into ≡ zip2 bit_and c.into.inside.words.items c.other.inside.words.items =
     c.and_words.ensures ∙ ap (λ ws. zip2 bit_and ws c.as_slice.result.now) c.as_mut_slice.ensures.value
-    ∙ ap (λ vs. zip2 bit_and c.into.inside.words.items vs) c.as_slice.ensures.value in
+    ∙ ap (λ vs. zip2 bit_and c.into.inside.words.items vs) c.as_slice.ensures in
     rw words (and_held c.into.inside.words.items c.other.inside.words.items c.args.into.now c.args.other.now left.0 right.0 c.requires)
 
 long : (c : goal.After-into-1) → length (joined c) ≡ c.into.inside.len
@@ -25,10 +25,10 @@ long c =
 
 pub invariant_of-into : goal.invariant_of-into
 invariant_of-into c =
-    written_held c.into.inside.len c.into.inside.words.len c.and_words.new.into c.into.inside.words.items (joined c)
-    (c.and_words.auto.into ∙ c.as_mut_slice.ensures.len) (held c) (long c)
+    written_held c.into.inside.len (length c.into.inside.words.items) c.and_words.new.into c.into.inside.words.items (joined c)
+    (c.and_words.auto.into ∙ ap length c.as_mut_slice.ensures.value) (held c) (long c)
 
 pub returns : goal.returns
 returns c =
-    written_is c.into.inside.len c.into.inside.words.len c.and_words.new.into c.into.inside.words.items (joined c)
-    (c.and_words.auto.into ∙ c.as_mut_slice.ensures.len) (held c) (long c)
+    written_is c.into.inside.len (length c.into.inside.words.items) c.and_words.new.into c.into.inside.words.items (joined c)
+    (c.and_words.auto.into ∙ ap length c.as_mut_slice.ensures.value) (held c) (long c)

@@ -33,20 +33,20 @@ none c =
 
 pub invariant_of-out : goal.invariant_of-out
 invariant_of-out c =
-    written_held c.out.inside.len c.out.inside.words.len c.range_words.new.words c.out.inside.words.items _
-    (c.range_words.auto.words ∙ c.as_mut_slice.ensures.len) c.range_words.ensures (long c)
+    written_held c.out.inside.len (length c.out.inside.words.items) c.range_words.new.words c.out.inside.words.items _
+    (c.range_words.auto.words ∙ ap length c.as_mut_slice.ensures.value) c.range_words.ensures (long c)
 
 pub invariant_of-out-else-low-high : goal.invariant_of-out-else-low-high
 invariant_of-out-else-low-high c =
-    written_held c.out.inside.len c.out.inside.words.len c.clear_words.new.words c.out.inside.words.items _
-    (c.clear_words.auto.words ∙ c.as_mut_slice-else-low-high.ensures.len) (none c) (none_long c)
+    written_held c.out.inside.len (length c.out.inside.words.items) c.clear_words.new.words c.out.inside.words.items _
+    (c.clear_words.auto.words ∙ ap length c.as_mut_slice-else-low-high.ensures.value) (none c) (none_long c)
 
 pub returns-then-low-high : goal.returns-then-low-high
 returns-then-low-high c =
-    written_is c.out.inside.len c.out.inside.words.len c.range_words.new.words c.out.inside.words.items _
-    (c.range_words.auto.words ∙ c.as_mut_slice.ensures.len) c.range_words.ensures (long c)
+    written_is c.out.inside.len (length c.out.inside.words.items) c.range_words.new.words c.out.inside.words.items _
+    (c.range_words.auto.words ∙ ap length c.as_mut_slice.ensures.value) c.range_words.ensures (long c)
 
 pub returns-else-low-high : goal.returns-else-low-high
 returns-else-low-high c =
-    written_is c.out.inside.len c.out.inside.words.len c.clear_words.new.words c.out.inside.words.items _
-    (c.clear_words.auto.words ∙ c.as_mut_slice-else-low-high.ensures.len) (none c) (none_long c)
+    written_is c.out.inside.len (length c.out.inside.words.items) c.clear_words.new.words c.out.inside.words.items _
+    (c.clear_words.auto.words ∙ ap length c.as_mut_slice-else-low-high.ensures.value) (none c) (none_long c)

@@ -7,9 +7,8 @@ use Rattle.lane_bits.proofs.row.BitRow.new.Goals as goal
 
 held : (c : goal.In_ok-words) → Hold c.in_ok-words.words.items (replicate c.args.len false)
 held c =
-    let zeros : c.in_ok-words.words.items ≡ replicate c.div_ceil.result 0 = c.in_ok-words.ensures.items_if_clones_equal (λ y e. e) in
     let all : c.in_ok-words.words.items ≡ replicate (div_ceil c.args.len 64) 0 =
-    zeros ∙ ap (λ n. let none : ℕ = 0 in replicate n none) c.div_ceil.ensures in
+    c.in_ok-words.ensures.zeros ∙ ap (λ n. let none : ℕ = 0 in replicate n none) c.div_ceil.ensures in
     subst (λ (ws : List ℕ). Hold ws (replicate c.args.len false)) (sym all) (new_held c.args.len)
 
 pub invariant_of-result : goal.invariant_of-result
