@@ -5,6 +5,7 @@ pub mod ChangedKept
 pub mod ChangedLevels
 pub mod ChangedLinks
 pub mod FaultSteps
+pub mod FewLevels
 pub mod IdLevels
 pub mod LevelsKept
 pub mod LinkRefusals

@@ -239,6 +239,7 @@ impl Bundle {
             → item_added level position item self.old ≡ Err rule }
         ensures kept { OnErr result (self.new ≡ self.old) }
     {
+        let _parts = _config.parts();
         if self.level_with(item.id).is_some() {
             return Err(Fault::Broken(Broken::IdTaken(item.id)));
         }

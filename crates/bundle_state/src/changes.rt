@@ -2,6 +2,7 @@
 ghost use Rattle.std.specs.Prelude.{◌≡◌, ◌<◌, ℕ, length, nat_eq, None, Some, IfSome, IsTrue, OnErr, OnOk, if◌then◌else◌};
 ghost use Rattle.std.specs.List.{list_any, slice_get};
 ghost use Rattle.emu_names.specs.Gives.{FindsFault};
+ghost use Rattle.emu_names.specs.declared.limits.TheConstants.{LEVELS};
 ghost use Rattle.level_items.specs.Levels.{are_labels_for};
 ghost use Rattle.link_graph.specs.Link.{names_item};
 ghost use Rattle.bundle_state.specs.Placed.{level_in};
@@ -25,6 +26,7 @@ pub(crate) fn put_item(
     item: Item,
 ) -> Result<(), Fault>
     requires level { level < length levels.old }
+    requires number { level < LEVELS }
     requires labels { IfSome (slice_get levels.old level)
         (λ l. IsTrue (are_labels_for l.attributes item.labels)) }
     requires free { level_in places.old item.id.0 ≡ None }

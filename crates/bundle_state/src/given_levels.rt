@@ -10,7 +10,6 @@ use crate::annot_rules::annot_passes;
 use crate::handle::Handle;
 use crate::shared_levels::SharedLevels;
 use db_config::{AttributeDef, Config, LevelDef};
-use emu_lists::Shared;
 use emu_names::{Fault, Memory, Text};
 use level_items::{Annot, AnnotItem, AnnotLabel, AnnotLevel, Item, Labels, LevelList};
 use std::alloc::Global;
@@ -33,14 +32,14 @@ fn made_labels(
     alloc: Global,
     defs: &[AttributeDef],
     labels: &[AnnotLabel],
-) -> Result<Shared<Labels>, Memory>
+) -> Result<Labels, Memory>
     ensures { IfOk result (λ made. made ≡ made_labels defs.now labels.now) }
 {
     let mut made = Labels::with_capacity(alloc, defs.len())?;
     for def in defs {
         made.push(label_named(alloc, def, labels)?)?;
     }
-    Shared::new(alloc, made)
+    Ok(made)
 }
 
 /// The item of a bundle. The only refusal is want of memory.

@@ -1,7 +1,8 @@
 //! For each id of a bundle the level of its item.
-ghost use Rattle.std.specs.Prelude.{◌≡◌, ℕ, nat_eq, take, IfOk, OnOk, OnErr, Some, None, if◌then◌else◌};
+ghost use Rattle.std.specs.Prelude.{◌≡◌, ◌<◌, ◌≤◌, ℕ, length, nat_eq, take, IfOk, OnOk, OnErr, Some, None, if◌then◌else◌};
 ghost use Rattle.std.specs.Option.{option_or};
 ghost use Rattle.std.specs.List.{list_any};
+ghost use Rattle.emu_names.specs.declared.limits.TheConstants.{LEVELS};
 ghost use Rattle.level_items.specs.Levels.{ids_of};
 ghost use Rattle.bundle_state.specs.Placed.{level_in};
 ghost use Rattle.bundle_state.specs.Kept.{ArePlacesOf};
@@ -12,10 +13,10 @@ use level_items::{Item, LevelList};
 use std::alloc::{AllocError, Global};
 use std::collections::BTreeMap;
 
-/// The number of the level of each id.
+/// The number of the level of each id, which fits a byte, since there are at most 64 levels.
 #[derive(Drop)]
 pub(crate) struct Places {
-    levels: BTreeMap<u32, usize>,
+    levels: BTreeMap<u32, u8>,
 }
 
 impl Places {
@@ -32,17 +33,19 @@ impl Places {
     pub(crate) fn level_of(&self, id: ItemId) -> Option<usize>
         ensures { result ≡ level_in self.now id.0 }
     {
-        self.levels.get(&id.0).copied()
+        let level = self.levels.get(&id.0)?;
+        Some(usize::from(*level))
     }
 
     /// Keeps the level of an id that has none yet. The only refusal is want of memory, which changes
     /// nothing.
     pub(crate) fn put(&mut self, id: ItemId, level: usize) -> Result<(), Memory>
+        requires { level < LEVELS }
         ensures ok { OnOk result ((q : ℕ) → level_in self.new q
             ≡ option_or (level_in self.old q) (if nat_eq q id.0 then Some level else None)) }
         ensures err { OnErr result ((q : ℕ) → level_in self.new q ≡ level_in self.old q) }
     {
-        self.levels.entry(id.0)?.or_insert(level);
+        self.levels.entry(id.0)?.or_insert(level as u8);
         Ok(())
     }
 
@@ -56,6 +59,7 @@ impl Places {
 
     /// Keeps the level of all ids of these items. The only refusal is want of memory.
     fn put_all(&mut self, items: &[Item], level: usize) -> Result<(), Memory>
+        requires { level < LEVELS }
         ensures { OnOk result ((q : ℕ) → level_in self.new q
             ≡ option_or (level_in self.old q)
             (if list_any (nat_eq q) (ids_of items.now) then Some level else None)) }
@@ -81,6 +85,7 @@ impl Clone for Places {
 
 /// The places of the items of these levels. The only refusal is want of memory.
 pub(crate) fn places_of(alloc: Global, levels: &[Handle<LevelList>]) -> Result<Places, Memory>
+    requires { length levels.now ≤ LEVELS }
     ensures { IfOk result (λ made. ArePlacesOf levels.now made) }
 {
     let mut places = Places::new(alloc);

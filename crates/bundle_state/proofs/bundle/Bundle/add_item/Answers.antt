@@ -5,7 +5,12 @@ use Rattle.level_items.specs.Levels.{are_labels_for}
 use Rattle.bundle_state.specs.Changed.{item_added, with_levels}
 use Rattle.bundle_state.specs.Bundle.{BundleParts, item_count, level_of_id}
 use Rattle.bundle_state.proofs.ChangedKept.{taken_breaks, id_free, add_gives, add_breaks, add_kept}
+use Rattle.bundle_state.proofs.FewLevels.{fitting_low}
 use Rattle.bundle_state.proofs.bundle.Bundle.add_item.Goals as goal
+
+pub put_item-requires-clause-number : goal.put_item-requires-clause-number
+put_item-requires-clause-number c =
+    fitting_low c.args._config.now c.args.self.now c.args.level c.parts-parts.ensures.valid c.requires.fits c.requires.level
 
 pub returns-then-is_some-clause-broken : goal.returns-then-is_some-clause-broken
 returns-then-is_some-clause-broken c =

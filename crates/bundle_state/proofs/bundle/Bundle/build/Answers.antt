@@ -1,4 +1,5 @@
-use Rattle.std.proofs.Common.{◌∙◌, sym, ap, []}
+use Rattle.std.proofs.Common.{◌≤◌, ◌∙◌, length, sym, ap, subst, []}
+use Rattle.emu_names.specs.declared.limits.TheConstants.{LEVELS}
 use Rattle.bundle_state.specs.Built.{built}
 use Rattle.bundle_state.specs.Faults.{annot_fault}
 use Rattle.bundle_state.specs.Made.{made_levels}
@@ -6,7 +7,13 @@ use Rattle.bundle_state.specs.Linked.{put_links}
 use Rattle.bundle_state.specs.Placed.{level_in}
 use Rattle.bundle_state.proofs.LinksKept.{fine_value}
 use Rattle.bundle_state.proofs.BuiltKept.{unbroken, linked_by, build_rules, build_gives, build_breaks, build_stops}
+use Rattle.bundle_state.proofs.FewLevels.{made_few}
 use Rattle.bundle_state.proofs.bundle.Bundle.build.Goals as goal
+
+pub places_of-requires : goal.places_of-requires
+places_of-requires c =
+    subst (λ ls. length ls ≤ LEVELS) (sym c.as_slice.ensures)
+    (made_few c.args.config.now c.args.annot.now c.in_ok-levels.levels c.parts-parts.ensures.valid c.in_ok-levels.ensures)
 
 pub returns-in_err-links : goal.returns-in_err-links
 returns-in_err-links c =
