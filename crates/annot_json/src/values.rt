@@ -101,7 +101,7 @@ fn item_value(alloc: Global, defs: &[AttributeDef], item: &Item) -> Result<Value
     ensures value { IfOk result (λ v. view v ≡ item_data (given_item defs.now item.now)) }
     ensures id { IfOk result (λ _. has_read_id item.now ≡ true) }
 {
-    let labels = labels_value(alloc, defs, item.labels.as_ref().as_slice())?;
+    let labels = labels_value(alloc, defs, item.labels.as_slice())?;
     let mut members = Map::new(alloc);
     serde_json::put(&mut members, alloc, "id", id_value(item.id))?;
     serde_json::put(&mut members, alloc, "labels", labels)?;

@@ -38,7 +38,7 @@ fn label_column(
 {
     let mut column = Vec::with_capacity(alloc, items.len())?;
     for item in items {
-        let number = labels.number(alloc, item.labels.as_ref().get(attribute).as_str())?;
+        let number = labels.number(alloc, item.labels.get(attribute).as_str())?;
         column.push(number)?;
     }
     Ok(Series::from_vec(column))
@@ -104,7 +104,7 @@ fn label_count(items: &[Item]) -> usize
     ensures { result ≡ label_count items.now }
 {
     match items.first() {
-        Some(item) => item.labels.as_ref().len(),
+        Some(item) => item.labels.len(),
         None => 0,
     }
 }

@@ -8,7 +8,6 @@ ghost use Rattle.edit_rules.specs.Changes.{label_fault, given_label_fault, new_l
 ghost use Rattle.edit_rules.specs.Given.{names_of};
 
 use db_config::AttributeDef;
-use emu_lists::Shared;
 use emu_names::limits::LABEL_BYTES;
 use emu_names::{Broken, Fault, Memory, Text};
 use level_items::{AnnotItem, AnnotLabel, Item, Labels};
@@ -125,7 +124,7 @@ fn made_labels(
     alloc: Global,
     defs: &[AttributeDef],
     labels: &[AnnotLabel],
-) -> Result<Shared<Labels>, Memory>
+) -> Result<Labels, Memory>
     ensures { IfOk result (λ made. made ≡ made_labels defs.now labels.now) }
 {
     let mut made = Labels::new(alloc);
@@ -133,7 +132,7 @@ fn made_labels(
         let label = Text::new(alloc, label_named(def, labels))?;
         made.push(label)?;
     }
-    Shared::new(alloc, made)
+    Ok(made)
 }
 
 /// The item of a bundle, with one label for each attribute. The only refusal is want of memory.
@@ -153,12 +152,12 @@ pub(crate) fn made_item(
 }
 
 /// This many empty labels. The only refusal is want of memory.
-pub(crate) fn empty_labels(alloc: Global, count: usize) -> Result<Shared<Labels>, Memory>
+pub(crate) fn empty_labels(alloc: Global, count: usize) -> Result<Labels, Memory>
     ensures { IfOk result (λ made. made ≡ replicate count []) }
 {
     let mut made = Labels::new(alloc);
     for _place in 0..count {
         made.push(Text::new(alloc, "")?)?;
     }
-    Shared::new(alloc, made)
+    Ok(made)
 }

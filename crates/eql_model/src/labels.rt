@@ -17,7 +17,7 @@ use std::alloc::Global;
 pub fn label_of(item: &Item, attribute: usize) -> &str
     ensures { result.now ≡ label_of attribute item.now }
 {
-    match item.labels.as_ref().as_slice().get(attribute) {
+    match item.labels.as_slice().get(attribute) {
         Some(label) => label.as_str(),
         None => "",
     }

@@ -89,7 +89,7 @@ fn label_count(bundle: &Bundle) -> usize {
     for level in 0..bundle.level_count() {
         let items = bundle.level(level).as_slice();
         if let Some(item) = items.first() {
-            let labels = items.len().saturating_mul(item.labels.as_ref().len());
+            let labels = items.len().saturating_mul(item.labels.len());
             count = count.saturating_add(labels);
         }
     }
