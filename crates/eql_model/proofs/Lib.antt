@@ -11,4 +11,5 @@ mod Mirrored
 mod Opposite
 pub mod Places
 pub mod Ranges
+mod Rising
 pub mod Shown

@@ -170,7 +170,7 @@ put_sorted : (set ts : List Tuple) → IsStrictlySortedBy tuple_cmp set → IsSt
 put_sorted set [] sorted = sorted
 put_sorted set (t ∷ ts) sorted = put_sorted (insert_key tuple_cmp set t) ts (sorted_insert set t sorted)
 
-nothing_sorted : IsStrictlySortedBy tuple_cmp []
+pub nothing_sorted : IsStrictlySortedBy tuple_cmp []
 unfolding IsStrictlySortedBy
 nothing_sorted = tt
 

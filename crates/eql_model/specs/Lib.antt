@@ -2,6 +2,7 @@ pub mod Below
 pub mod Bits
 pub mod Flags
 pub mod Joins
+pub mod Kept
 pub mod Labels
 pub mod Laws
 pub mod Meaning

@@ -3,18 +3,19 @@ ghost use Rattle.std.specs.Prelude.{◌≡◌, [], ◌∷◌, true, false, Err, 
 ghost use Rattle.eql_model.specs.Sets.{put_all, is_over};
 
 use crate::faults::MatchFault;
+use crate::kept::Kept;
 use crate::tuple::{Tuple, Tuples};
 use emu_lists::Series;
 use emu_names::Memory;
 use emu_names::limits::TUPLES;
 use std::alloc::Global;
-use std::collections::BTreeSet;
 use std::marker::Model;
 
 /// A set of tuples, which contracts see as the list of its tuples in order.
 #[derive(Drop)]
 pub struct Gathered {
-    set: BTreeSet<Tuple>,
+    kept: Kept,
+    alloc: Global,
 }
 
 impl Model for Gathered {
@@ -23,7 +24,11 @@ impl Model for Gathered {
 
     ghost Value = { List Tuple };
 
-    ghost view = { λ s. s.set.keys };
+    ghost use Rattle.eql_model.specs.Kept.{kept_tuples, IsInOrder};
+
+    ghost view = { λ s. kept_tuples s.kept };
+
+    ghost invariant = { λ s. IsInOrder s.kept };
 }
 
 impl Gathered {
@@ -32,7 +37,8 @@ impl Gathered {
         ensures { result ≡ [] }
     {
         Gathered {
-            set: BTreeSet::new(alloc),
+            kept: Kept::Rising(Series::new(alloc)),
+            alloc,
         }
     }
 
@@ -44,11 +50,11 @@ impl Gathered {
         ensures over { result ≡ Err MatchFault.TooManyTuples
             → is_over (put_all self.old (tuple ∷ [])) ≡ true }
     {
-        match self.set.insert(tuple) {
-            Ok(_) => {}
+        match self.kept.put(self.alloc, tuple) {
+            Ok(()) => {}
             Err(_) => return Err(MatchFault::Memory),
         }
-        if self.set.len() > TUPLES {
+        if self.kept.len() > TUPLES {
             return Err(MatchFault::TooManyTuples);
         }
         Ok(())
@@ -58,10 +64,14 @@ impl Gathered {
     pub fn listed(&self, alloc: Global) -> Result<Tuples, Memory>
         ensures { IfOk result (λ list. list ≡ self.now) }
     {
-        let mut list = Series::new(alloc);
-        for tuple in &self.set {
-            list.push(*tuple)?;
-        }
-        Ok(list)
+        self.kept.listed(alloc)
+    }
+
+    /// The tuples in order, in place of the set. The only refusal is want of memory.
+    pub fn into_listed(self) -> Result<Tuples, Memory>
+        ensures { IfOk result (λ list. list ≡ self) }
+    {
+        let Gathered { kept, alloc } = self;
+        kept.into_listed(alloc)
     }
 }

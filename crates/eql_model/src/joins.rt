@@ -205,7 +205,7 @@ pub(crate) fn joined(
         Ok(()) => {}
         Err(fault) => return Err(fault),
     }
-    match gathered.listed(alloc) {
+    match gathered.into_listed() {
         Ok(made) => Ok(made),
         Err(_) => Err(MatchFault::Memory),
     }

@@ -9,6 +9,7 @@ mod faults;
 mod flags;
 mod gathered;
 mod joins;
+mod kept;
 mod labels;
 mod laws;
 mod pairs;

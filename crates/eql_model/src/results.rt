@@ -67,7 +67,7 @@ pub fn shown_once(alloc: Global, marked: bool, tuples: &[Tuple]) -> Result<Tuple
         Ok(()) => {}
         Err(fault) => return Err(fault),
     }
-    match gathered.listed(alloc) {
+    match gathered.into_listed() {
         Ok(made) => Ok(made),
         Err(_) => Err(MatchFault::Memory),
     }

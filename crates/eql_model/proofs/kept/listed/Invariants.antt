@@ -1,5 +1,5 @@
 use Rattle.std.proofs.Common.{◌≡◌, map}
-use Rattle.eql_model.proofs.gathered.Gathered.listed.Given as goal
+use Rattle.eql_model.proofs.kept.listed.Given as goal
 
 -- the tuples so far
 abbrev pub invariant-loop-tuple : goal.invariant-loop-tuple
