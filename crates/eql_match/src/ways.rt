@@ -198,11 +198,11 @@ fn put_pairs(
 }
 
 /// The tuples of a set, in order.
-fn listed(alloc: Global, gathered: &Gathered) -> Result<Tuples, MatchFault>
-    requires { is_over gathered.now ≡ false }
-    ensures { GivesSet result gathered.now }
+fn listed(gathered: Gathered) -> Result<Tuples, MatchFault>
+    requires { is_over gathered ≡ false }
+    ensures { GivesSet result gathered }
 {
-    match gathered.listed(alloc) {
+    match gathered.into_listed() {
         Ok(made) => Ok(made),
         Err(_) => Err(MatchFault::Memory),
     }
@@ -220,7 +220,7 @@ pub(crate) fn sequence(
 {
     let mut gathered = Gathered::new(alloc);
     match put_pairs(&mut gathered, &Way::Behind, lefts, rights) {
-        Ok(()) => listed(alloc, &gathered),
+        Ok(()) => listed(gathered),
         Err(fault) => Err(fault),
     }
 }
@@ -326,5 +326,5 @@ pub(crate) fn dominance(
         Ok(()) => {}
         Err(fault) => return Err(fault),
     }
-    listed(alloc, &gathered)
+    listed(gathered)
 }
