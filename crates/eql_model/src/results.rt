@@ -97,7 +97,7 @@ pub(crate) fn spans_at(
     requires attribute { place.attribute < 2 ^ 32 }
     ensures { IfOk result (λ made. made ≡ map (span_at place) stretches.now) }
 {
-    let mut made = Series::new(alloc);
+    let mut made = Series::from_vec(Vec::with_capacity(alloc, stretches.len())?);
     for stretch in stretches {
         made.push(span_at(place, *stretch))?;
     }
