@@ -60,13 +60,6 @@ impl Gathered {
         Ok(())
     }
 
-    /// The tuples in order. The only refusal is want of memory.
-    pub fn listed(&self, alloc: Global) -> Result<Tuples, Memory>
-        ensures { IfOk result (λ list. list ≡ self.now) }
-    {
-        self.kept.listed(alloc)
-    }
-
     /// The tuples in order, in place of the set. The only refusal is want of memory.
     pub fn into_listed(self) -> Result<Tuples, Memory>
         ensures { IfOk result (λ list. list ≡ self) }

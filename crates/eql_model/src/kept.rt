@@ -6,7 +6,7 @@ ghost use Rattle.eql_model.specs.Sets.{each_once, tuple_cmp};
 ghost use Rattle.eql_model.specs.Kept.{kept_tuples, order_behind, IsInOrder};
 
 use crate::tuple::{Tuple, Tuples};
-use emu_lists::{PlainData, Series};
+use emu_lists::Series;
 use emu_names::Memory;
 use std::alloc::Global;
 use std::cmp::Ordering;
@@ -86,16 +86,6 @@ impl Kept {
                 set.insert(tuple)?;
                 Ok(())
             }
-        }
-    }
-
-    /// The tuples in order, beside this set. The only refusal is want of memory.
-    pub(crate) fn listed(&self, alloc: Global) -> Result<Tuples, Memory>
-        ensures { IfOk result (λ list. list ≡ kept_tuples self.now) }
-    {
-        match self {
-            Kept::Rising(list) => list.copy(alloc),
-            Kept::Mixed(set) => listed(alloc, set),
         }
     }
 
