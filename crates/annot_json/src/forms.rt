@@ -44,11 +44,7 @@ pub(crate) fn put_last<T: Drop>(list: &mut Series<T>, item: T) -> Result<(), Vie
 }
 
 /// A text that is shared with `like` where they are the same. It fails only for want of memory.
-pub(crate) fn shared_with(
-    alloc: Global,
-    text: &str,
-    like: Option<&Text>,
-) -> Result<Text, ViewFault>
+pub(crate) fn shared_with(alloc: Global, text: &str, like: Option<&Text>) -> Result<Text, ViewFault>
     ensures text { IfOk result (λ made. made ≡ text.now) }
     ensures memory { IfErr result (λ e. e ≡ ViewFault.Memory) }
 {

@@ -20,7 +20,11 @@ pub(crate) fn last_name(items: &[AnnotItem], place: usize) -> Option<&Text> {
 }
 
 /// The value of the label at a place of one of the last of these items, where one of them is this text.
-pub(crate) fn known_value<'a>(items: &'a [AnnotItem], place: usize, text: &str) -> Option<&'a Text> {
+pub(crate) fn known_value<'a>(
+    items: &'a [AnnotItem],
+    place: usize,
+    text: &str,
+) -> Option<&'a Text> {
     let from = items.len().saturating_sub(NEAR);
     for item in &items[from..] {
         let Some(label) = label_at(item, place) else {

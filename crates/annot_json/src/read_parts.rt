@@ -7,7 +7,8 @@ ghost use Rattle.db_config.specs.Forms.{text_member};
 ghost use Rattle.annot_json.specs.Read.{label_in, labels_in, span_in, point_in, time_in, item_in, items_in, level_in, levels_in, link_in, links_in};
 
 use crate::forms::{
-    level_kind_at, put_last, shared_with, text_member, text_member_like, whole_member, with_capacity,
+    level_kind_at, put_last, shared_with, text_member, text_member_like, whole_member,
+    with_capacity,
 };
 use crate::known::{known_value, last_name};
 use crate::limits::{TOP_ID, TOP_WHOLE};
