@@ -226,8 +226,14 @@ fn singles_where(alloc: Global, row: &BitRow, marked: bool) -> Result<Tuples, Me
     ensures { IfOk result (λ made. made ≡ map (single marked)
         (filter (λ k. flag_at k row.now) (range_with_len 0 (length row.now)))) }
 {
+    let Some(first) = row.first() else {
+        return Ok(Series::new(alloc));
+    };
+    let Some(last) = row.last() else {
+        return Ok(Series::new(alloc));
+    };
     let mut made = Series::from_vec(Vec::with_capacity(alloc, row.count())?);
-    for at in 0..row.len() {
+    for at in first..last + 1 {
         put_single(&mut made, row, marked, at)?;
     }
     Ok(made)
