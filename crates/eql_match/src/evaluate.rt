@@ -93,12 +93,15 @@ pub(crate) fn evaluate(
     requires one_level { AreOnOneLevel (query_in query.now) }
     ensures { Finds result config.now indexed.now.bundle (query_in query.now) }
 {
-    let level = query.level();
-    let marked = query.is_marked();
     match query {
-        AskedQuery::Terms(conditions) => {
-            conjunction_tuples(alloc, config, indexed, level, marked, conditions.as_slice())
-        }
+        AskedQuery::Terms(conditions) => conjunction_tuples(
+            alloc,
+            config,
+            indexed,
+            query.level(),
+            query.is_marked(),
+            conditions.as_slice(),
+        ),
         AskedQuery::Sequence(left, right) => {
             let lefts = match evaluate(alloc, config, indexed, left) {
                 Ok(found) => found,
