@@ -14,9 +14,10 @@ use Rattle.session_core.specs.InOrder.{ComeInOrder}
 use Rattle.session_core.specs.Legal.{Legal, disk_replies}
 use Rattle.script_lines.specs.Texts.{reply_text}
 use Rattle.live_book.specs.Kept.{LostMayFollow, StandsOrLost}
-use Rattle.live_run.specs.declared.marks.Mark.{Mark}
+use Rattle.live_seats.specs.declared.marks.Mark.{Mark}
 use Rattle.live_run.specs.declared.run.Ended.{Ended as LiveEnded}
-use Rattle.live_run.specs.Runs.{AreGrouped, marks_from}
+use Rattle.live_run.specs.Runs.{AreGrouped}
+use Rattle.live_seats.specs.Marks.{marks_from}
 use Rattle.store_commands.specs.Texts.{from_text, mark_text}
 use Rattle.emu_cli.specs.declared.spread.Spread.{Spread}
 use Rattle.emu_cli.specs.declared.status.Status.{Status}

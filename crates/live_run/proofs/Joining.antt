@@ -28,7 +28,8 @@ use Rattle.lane_laws.proofs.Joined.{lanes_legal}
 use Rattle.live_run.specs.declared.run.Ended.{Ended}
 use Rattle.live_run.specs.Grouping.{HasRooms, IsPlaced, QueueParts}
 use Rattle.live_run.specs.Running.{EndsOver, HasEnded, HaveLanes, accepts_in, refuses_in}
-use Rattle.live_run.specs.Runs.{AreGrouped, RunsLive, marks_from}
+use Rattle.live_run.specs.Runs.{AreGrouped, RunsLive}
+use Rattle.live_seats.specs.Marks.{marks_from}
 use Rattle.live_seats.specs.Seats.{IsAsked, KeepsLane, lane_of}
 use Rattle.live_run.proofs.Regrouped.{ordered}
 use Rattle.live_run.proofs.Wholes.{AreAlike, all_accepted, all_alike, all_named, all_placed, all_refused, each_line, few_accepted, rooms_alike}

@@ -1,5 +1,4 @@
 mod Joins
-mod Marking
 mod Queues
 mod Sessions
 mod Laid

@@ -8,7 +8,7 @@ use Rattle.session_core.specs.Legal.{Legal, disk_replies}
 use Rattle.session_core.specs.Steps.{session_places}
 use Rattle.live_book.specs.Kept.{BookParts, KeepsIn, faults_in}
 use Rattle.live_book.specs.Commits.{IsSameBook, has_journal}
-use Rattle.live_run.specs.declared.marks.Mark.{Mark}
+use Rattle.live_seats.specs.Marks.{marks_from}
 use Rattle.live_run.specs.declared.run.Ended.{Ended}
 
 -- a reply is one of a session
@@ -23,11 +23,6 @@ replies_from s (suc count) replies = filter (is_reply_of s) replies ++ replies_f
 -- replies are grouped by session in rising order
 abbrev pub AreGrouped : List Reply → Type 0
 AreGrouped replies = replies_from 0 session_places replies ≡ replies
-
--- a mark of each entry, the first of which has this place in the history, counted from 1
-abbrev pub marks_from : ℕ → List Entry → List Mark
-marks_from at [] = []
-marks_from at (e ∷ es) = record { at = at; line = e.line; session = e.session } ∷ marks_from (at + 1) es
 
 -- The lines were run: the replies are legal beside the book's history, which goes on from the one before; they are
 -- grouped by session; there is a mark of each new entry, in order; and where the disk answered no line, nothing in the

@@ -8,12 +8,11 @@ ghost use Rattle.live_run.specs.Running.{EndsOver, HaveLanes, accepts_in, refuse
 ghost use Rattle.live_seats.specs.Seats.{IsAsked};
 
 use crate::ending::{Rest, finish_all};
-use crate::marks::marks_of;
 use crate::room::Joint;
 use crate::run::{Ended, LiveEnd};
 use emu_disk::Disk;
 use live_book::{Book, Opening};
-use live_seats::{Answered, Row};
+use live_seats::{Answered, Row, marks_of};
 use session_core::Lines;
 use std::sync::Wait;
 

@@ -5,10 +5,8 @@ mod ending;
 mod gathering;
 mod grouping;
 mod lanes;
-mod marks;
 mod places;
 mod room;
 mod run;
 
-pub use marks::{Mark, Marks};
 pub use run::{Ended, LiveEnd, run_live};

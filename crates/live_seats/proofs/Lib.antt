@@ -6,3 +6,4 @@ mod Lines
 mod Seating
 mod Telling
 pub mod Crossings
+mod Marking

@@ -2,3 +2,4 @@ pub mod Notes
 pub mod Seats
 pub mod Replies
 pub mod Tables
+pub mod Marks

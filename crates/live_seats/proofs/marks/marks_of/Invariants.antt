@@ -1,6 +1,6 @@
 use Rattle.std.proofs.Common.{◌≡◌, ◌+◌, ◌++◌, drop, vec_capacity, vec_len}
-use Rattle.live_run.specs.Runs.{marks_from}
-use Rattle.live_run.proofs.marks.marks_of.Given as goal
+use Rattle.live_seats.specs.Marks.{marks_from}
+use Rattle.live_seats.proofs.marks.marks_of.Given as goal
 
 -- the entries before the place are marked, in the room that was made
 abbrev pub invariant-loop-place : goal.invariant-loop-place

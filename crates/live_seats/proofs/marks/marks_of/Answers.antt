@@ -1,7 +1,7 @@
 use Rattle.std.proofs.Common.{arith, refl, sym, ◌∙◌, ◌+◌, drop, subst, ◌≡◌, ◌++◌}
-use Rattle.live_run.specs.Runs.{marks_from}
-use Rattle.live_run.proofs.Marking.{mark_first, mark_more, marked}
-use Rattle.live_run.proofs.marks.marks_of.Goals as goal
+use Rattle.live_seats.specs.Marks.{marks_from}
+use Rattle.live_seats.proofs.Marking.{mark_first, mark_more, marked}
+use Rattle.live_seats.proofs.marks.marks_of.Goals as goal
 
 -- src/marks.rt:39:5
 pub loop-place-init : goal.loop-place-init

@@ -1,6 +1,6 @@
 //! The marks of the entries that came in a run.
 ghost use Rattle.std.specs.Prelude.{◌≡◌, ◌≤◌, ◌+◌, ◌-◌, drop, length, IfOk, vec_capacity, vec_len};
-ghost use Rattle.live_run.specs.Runs.{marks_from};
+ghost use Rattle.live_seats.specs.Marks.{marks_from};
 
 use edit_rules::Entries;
 use emu_lists::Series;
@@ -22,7 +22,7 @@ pub struct Mark {
 pub type Marks = Series<Mark>;
 
 /// Room for so many marks. The only refusal is want of memory.
-pub(crate) fn mark_room(alloc: Global, marks: usize) -> Result<Vec<Mark>, Memory>
+pub fn mark_room(alloc: Global, marks: usize) -> Result<Vec<Mark>, Memory>
     ensures { IfOk result (λ room. (vec_len room ≡ 0) × (marks ≤ vec_capacity room)) }
 {
     let room = Vec::with_capacity(alloc, marks)?;
@@ -30,7 +30,7 @@ pub(crate) fn mark_room(alloc: Global, marks: usize) -> Result<Vec<Mark>, Memory
 }
 
 /// A mark of each entry of a history past the first `from`, in room that was made for them.
-pub(crate) fn marks_of(room: Vec<Mark>, history: &Entries, from: usize) -> Marks
+pub fn marks_of(room: Vec<Mark>, history: &Entries, from: usize) -> Marks
     requires empty { vec_len room ≡ 0 }
     requires room { length history.now - from ≤ vec_capacity room }
     ensures { result ≡ marks_from (from + 1) (drop from history.now) }

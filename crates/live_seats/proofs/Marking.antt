@@ -2,8 +2,8 @@
 use Rattle.std.proofs.Common.{◌≡◌, ℕ, zero, suc, ◌+◌, ◌≤◌, List, [], ◌∷◌, ◌++◌, length, drop, Some, arith, refl, sym, ap, ◌∙◌, add-one, append_assoc, append-nil, drop_of_length-le}
 use Rattle.std.specs.List.{slice_get}
 use Rattle.edit_rules.specs.declared.edit.Entry.{Entry}
-use Rattle.live_run.specs.declared.marks.Mark.{Mark}
-use Rattle.live_run.specs.Runs.{marks_from}
+use Rattle.live_seats.specs.declared.marks.Mark.{Mark}
+use Rattle.live_seats.specs.Marks.{marks_from}
 
 -- what stands from a place on begins with what stands there
 pub drop_at : {A : Type 0} (xs : List A) (i : ℕ) (x : A) → slice_get xs i ≡ Some x → drop i xs ≡ x ∷ drop (suc i) xs
