@@ -6,11 +6,11 @@ use Rattle.edit_rules.specs.declared.edit.Entry.{Entry}
 use Rattle.emu_disk.specs.Disk.{LeavesOnly}
 use Rattle.edit_journal.specs.declared.journal.Journal.{Journal}
 use Rattle.edit_journal.specs.Held.{disk_of}
-use Rattle.live_book.specs.declared.fault.OpenFault.{OpenFault}
-use Rattle.live_book.specs.declared.fault.OpenFault.TheVariants as opens
+use Rattle.store_opening.specs.declared.fault.OpenFault.{OpenFault}
+use Rattle.store_opening.specs.declared.fault.OpenFault.TheVariants as opens
 use Rattle.live_book.specs.Kept.{BookParts, KeepsIn, CrashLeaves, faults_in}
 use Rattle.live_book.specs.Commits.{has_journal}
-use Rattle.live_book.specs.Opens.{IsEmpty, IsNew, IsNoBookFor, DuringNew, DuringNoBook}
+use Rattle.store_opening.specs.Opens.{IsEmpty, IsNew, IsNoBookFor, DuringNew, DuringNoBook}
 use Rattle.script_lines.specs.Made.{times_too_large}
 use Rattle.script_lines.specs.declared.faults.ReadLine.TheVariants as reads
 use Rattle.emu_cli.specs.declared.ended.Ended.{Ended}

@@ -7,10 +7,10 @@ use Rattle.emu_io.specs.declared.whole.Front.{Front}
 use Rattle.emu_io.specs.declared.faults.ReadFault.{ReadFault}
 use Rattle.emu_io.specs.declared.faults.ReadFault.TheVariants as read_faults
 use Rattle.edit_journal.specs.declared.journal.Journal.{Journal}
-use Rattle.live_book.specs.declared.fault.OpenFault.{OpenFault}
-use Rattle.live_book.specs.declared.fault.OpenFault.TheVariants as opens
+use Rattle.store_opening.specs.declared.fault.OpenFault.{OpenFault}
+use Rattle.store_opening.specs.declared.fault.OpenFault.TheVariants as opens
 use Rattle.live_book.specs.Kept.{faults_in}
-use Rattle.live_book.specs.Opens.{IsNoStoreFor}
+use Rattle.store_opening.specs.Opens.{IsNoStoreFor}
 use Rattle.store_commands.specs.Texts.{damaged_text}
 use Rattle.emu_cli.specs.declared.ended.Ended.{Ended}
 use Rattle.emu_cli.specs.declared.ended.Ended.TheVariants as ends

@@ -11,7 +11,7 @@ use Rattle.edit_journal.specs.Held.{disk_of}
 use Rattle.edit_journal.proofs.Kept.{stands_may}
 use Rattle.live_book.specs.Kept.{faults_in}
 use Rattle.live_book.specs.Commits.{has_journal}
-use Rattle.live_book.specs.Opens.{DuringNew}
+use Rattle.store_opening.specs.Opens.{DuringNew}
 use Rattle.live_book.proofs.Storing.{images}
 use Rattle.emu_cli.specs.Scripts.{Parsed}
 use Rattle.emu_cli.specs.Bases.{Base, no_store, bare_store, store_of, is_stored, config_by, counted, EachOf, LeavesStore}

@@ -6,7 +6,7 @@ use Rattle.db_config.specs.declared.parts.ConfigParts.{ConfigParts}
 use Rattle.edit_journal.specs.declared.journal.Journal.{Journal}
 use Rattle.live_book.specs.Kept.{KeepsIn}
 use Rattle.live_book.specs.Commits.{has_journal}
-use Rattle.live_book.specs.Opens.{IsEmpty}
+use Rattle.store_opening.specs.Opens.{IsEmpty}
 use Rattle.script_lines.specs.declared.faults.LineFault.TheVariants as faults_of
 use Rattle.script_lines.specs.declared.faults.ReadLine.TheVariants as reads
 use Rattle.script_lines.specs.Texts.{reply_text}

@@ -11,7 +11,7 @@ use Rattle.session_core.specs.InOrder.{Outage}
 use Rattle.edit_journal.specs.declared.journal.Journal.{Journal}
 use Rattle.live_book.specs.Kept.{KeepsIn}
 use Rattle.live_book.specs.Commits.{has_journal}
-use Rattle.live_book.specs.Opens.{IsEmpty}
+use Rattle.store_opening.specs.Opens.{IsEmpty}
 use Rattle.emu_cli.specs.declared.ended.Ended.{Ended}
 use Rattle.emu_cli.specs.declared.ended.Ended.TheVariants as ends
 use Rattle.emu_cli.specs.declared.status.Status.{Status}

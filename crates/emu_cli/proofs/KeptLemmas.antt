@@ -11,7 +11,7 @@ use Rattle.session_core.specs.InOrder.{Outage, is_disk_outage, disk_outages, one
 use Rattle.edit_journal.specs.declared.journal.Journal.{Journal}
 use Rattle.live_book.specs.Kept.{KeepsIn, faults_in}
 use Rattle.live_book.specs.Commits.{has_journal}
-use Rattle.live_book.specs.Opens.{IsEmpty}
+use Rattle.store_opening.specs.Opens.{IsEmpty}
 use Rattle.session_run.specs.Orders.{IsDiskRefused, LeftBehind, state_of}
 use Rattle.script_lines.specs.declared.faults.ReadLine.TheVariants as reads
 use Rattle.emu_cli.specs.declared.running.Running.{Running}

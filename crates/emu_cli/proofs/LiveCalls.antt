@@ -11,12 +11,12 @@ use Rattle.db_config.specs.declared.parts.ConfigParts.{ConfigParts}
 use Rattle.db_config.specs.Valid.{is_valid}
 use Rattle.edit_journal.specs.declared.journal.Journal.{Journal}
 use Rattle.session_core.specs.declared.line.Line.{Line}
-use Rattle.live_book.specs.declared.fault.OpenFault.{OpenFault}
-use Rattle.live_book.specs.declared.fault.OpenFault.TheVariants as opens
+use Rattle.store_opening.specs.declared.fault.OpenFault.{OpenFault}
+use Rattle.store_opening.specs.declared.fault.OpenFault.TheVariants as opens
 use Rattle.live_book.specs.Histories.{OfRead, IsBare}
 use Rattle.live_book.specs.Kept.{BookParts, KeepsIn, CrashLeaves, faults_in}
 use Rattle.live_book.specs.Commits.{has_journal}
-use Rattle.live_book.specs.Opens.{IsEmpty, IsNoBookFor, IsNoStoreFor, IsNew, DuringNew, DuringNoBook}
+use Rattle.store_opening.specs.Opens.{IsEmpty, IsNoBookFor, IsNoStoreFor, IsNew, DuringNew, DuringNoBook}
 use Rattle.script_lines.specs.declared.faults.ReadLine.TheVariants as reads
 use Rattle.store_commands.specs.Texts.{damaged_text}
 use Rattle.emu_cli.specs.declared.ended.Ended.{Ended}

@@ -6,7 +6,7 @@ use Rattle.live_book.specs.declared.published.Published.{Published}
 use Rattle.live_book.specs.Histories.{OfRead, IsBare, Stands}
 use Rattle.live_book.specs.Kept.{BookParts, KeepsIn, faults_in}
 use Rattle.live_book.specs.Commits.{has_journal}
-use Rattle.live_book.specs.Opens.{AreAtFront, IsEmpty, IsOpenedAs, journal_in}
+use Rattle.store_opening.specs.Opens.{AreAtFront, IsEmpty, IsOpenedAs, journal_in}
 use Rattle.emu_cli.specs.Ran.{BeginsBefore}
 use Rattle.emu_cli.proofs.CallLemmas.{begins_before}
 

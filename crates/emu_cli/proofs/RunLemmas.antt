@@ -15,7 +15,7 @@ use Rattle.session_core.specs.InOrder.{Outage}
 use Rattle.edit_journal.specs.declared.journal.Journal.{Journal}
 use Rattle.live_book.specs.Kept.{KeepsIn, faults_in}
 use Rattle.live_book.specs.Commits.{has_journal}
-use Rattle.live_book.specs.Opens.{IsEmpty}
+use Rattle.store_opening.specs.Opens.{IsEmpty}
 use Rattle.session_run.specs.Orders.{state_of}
 use Rattle.script_lines.specs.declared.faults.LineFault.TheVariants as faults_of
 use Rattle.script_lines.specs.declared.faults.ReadLine.{ReadLine}

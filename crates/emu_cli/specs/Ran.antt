@@ -6,8 +6,8 @@ use Rattle.emu_disk.specs.declared.disk.Disk as disks
 use Rattle.edit_journal.specs.declared.journal.Journal.{Journal}
 use Rattle.edit_journal.specs.Held.{disk_of, count_in}
 use Rattle.live_book.specs.Commits.{has_journal}
-use Rattle.live_book.specs.declared.fault.OpenFault.{OpenFault}
-use Rattle.live_book.specs.declared.fault.OpenFault.TheVariants as opens
+use Rattle.store_opening.specs.declared.fault.OpenFault.{OpenFault}
+use Rattle.store_opening.specs.declared.fault.OpenFault.TheVariants as opens
 use Rattle.script_lines.specs.Texts.{fault_text}
 use Rattle.store_commands.specs.Texts.{damaged_text}
 use Rattle.emu_cli.specs.declared.ended.Ended.{Ended}

@@ -11,12 +11,12 @@ use Rattle.session_core.specs.Steps.{start}
 use Rattle.session_core.specs.InOrder.{Outage, disk_outages, in_turn}
 use Rattle.edit_journal.specs.declared.journal.Journal.{Journal}
 use Rattle.edit_journal.specs.Held.{disk_of}
-use Rattle.live_book.specs.declared.fault.OpenFault.{OpenFault}
-use Rattle.live_book.specs.declared.fault.OpenFault.TheVariants as opens
+use Rattle.store_opening.specs.declared.fault.OpenFault.{OpenFault}
+use Rattle.store_opening.specs.declared.fault.OpenFault.TheVariants as opens
 use Rattle.live_book.specs.Histories.{HeadPassesLimit}
 use Rattle.live_book.specs.Kept.{KeepsIn, faults_in}
 use Rattle.live_book.specs.Commits.{has_journal}
-use Rattle.live_book.specs.Opens.{IsEmpty, DuringNew}
+use Rattle.store_opening.specs.Opens.{IsEmpty, DuringNew}
 use Rattle.session_run.specs.Orders.{state_of}
 use Rattle.script_lines.specs.declared.faults.LineFault.TheVariants as faults
 use Rattle.script_lines.specs.declared.faults.ReadLine.TheVariants as reads

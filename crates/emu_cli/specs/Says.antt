@@ -9,7 +9,7 @@ use Rattle.session_core.specs.InOrder.{Outage}
 use Rattle.script_lines.specs.declared.faults.LineFault.{LineFault}
 use Rattle.script_lines.specs.declared.faults.ReadLine.TheVariants as reads
 use Rattle.live_book.specs.Histories.{OfRead, IsBare, IsDamagedAt, HeadPassesLimit}
-use Rattle.live_book.specs.Opens.{DuringNew}
+use Rattle.store_opening.specs.Opens.{DuringNew}
 use Rattle.store_commands.specs.Texts.{damaged_text}
 use Rattle.store_calls.specs.declared.ending.Ending.{Ending}
 use Rattle.store_calls.specs.declared.ending.Ending.TheVariants as endings

@@ -5,7 +5,7 @@ ghost use Rattle.std.specs.List.{flat_map};
 ghost use Rattle.emu_io.specs.Fronts.{IsFrontOf, TakesFront};
 ghost use Rattle.live_book.specs.Kept.{KeepsIn, faults_in};
 ghost use Rattle.live_book.specs.Commits.{has_journal};
-ghost use Rattle.live_book.specs.Opens.{AreAtFront, IsEmpty, IsOpenedAs, journal_in};
+ghost use Rattle.store_opening.specs.Opens.{AreAtFront, IsEmpty, IsOpenedAs, journal_in};
 ghost use Rattle.script_lines.specs.Texts.{reply_text};
 ghost use Rattle.session_core.specs.InOrder.{ComeInOrder};
 ghost use Rattle.store_commands.specs.Texts.{from_text, mark_text};
@@ -32,7 +32,7 @@ use emu_io::{Gate, Sink, Source, read_front};
 use emu_names::limits::SCRIPT_BYTES;
 use emu_names::{Memory, SessionNo};
 use label_match::PatternMaker;
-use live_book::{Book, MadeBook, NoBook, NoStore, Opened, Published, new_book, open_store};
+use live_book::{Book, Published};
 use live_run::{Ended as LiveEnded, LiveEnd, run_live};
 use live_seats::Marks;
 use session_core::{Lines, Replies};
@@ -40,6 +40,7 @@ use std::alloc::Global;
 use std::sync::Wait;
 use std::thread::Threads;
 use store_commands::{print_from, print_mark};
+use store_opening::{MadeBook, NoBook, NoStore, Opened, new_book, open_store};
 use version_gate::Passes;
 
 /// Writes the reply of the configuration, where the script gave one.

@@ -3,7 +3,7 @@
 ghost use Rattle.std.specs.Prelude.{◌≡◌, ◌≢◌, ◌≤◌, ℕ, List, Bool, true, false, None, Option};
 ghost use Rattle.live_book.specs.Kept.{KeepsIn, faults_in};
 ghost use Rattle.live_book.specs.Commits.{has_journal};
-ghost use Rattle.live_book.specs.Opens.{AreAtFront, IsEmpty, IsOpenedAs, journal_in};
+ghost use Rattle.store_opening.specs.Opens.{AreAtFront, IsEmpty, IsOpenedAs, journal_in};
 ghost use Rattle.emu_cli.specs.Bases.{fresh_base, store_of};
 ghost use Rattle.emu_cli.specs.Ran.{HasDisk, IsUnread, RunsOver, SaysUnopened};
 ghost use Rattle.emu_cli.specs.Told.{CompletesBy, SaysBy};
@@ -16,10 +16,11 @@ use emu_disk::Disk;
 use emu_io::{ReadFault, Sink, Source, read_front};
 use emu_names::limits::SCRIPT_BYTES;
 use label_match::PatternMaker;
-use live_book::{Book, NoStore, OpenFault, Opened, Published, open_store};
+use live_book::{Book, Published};
 use std::alloc::Global;
 use std::sync::Wait;
 use std::thread::Threads;
+use store_opening::{NoStore, OpenFault, Opened, open_store};
 use version_gate::Passes;
 
 /// How a run ended, and its disk.

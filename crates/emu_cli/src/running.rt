@@ -3,7 +3,7 @@ ghost use Rattle.std.specs.Prelude.{◌≡◌, ◌+◌, ◌<◌, [], None, IfOk,
 ghost use Rattle.emu_names.specs.declared.limits.TheConstants.{SCRIPT_LINES};
 ghost use Rattle.session_core.specs.Steps.{start};
 ghost use Rattle.live_book.specs.Kept.{KeepsIn};
-ghost use Rattle.live_book.specs.Opens.{AreAtFront};
+ghost use Rattle.store_opening.specs.Opens.{AreAtFront};
 ghost use Rattle.script_lines.specs.Known.{Known};
 ghost use Rattle.emu_cli.specs.Reached.{IsBegun};
 ghost use Rattle.emu_cli.specs.Turns.{IsUnreadFor, ReadsNext};

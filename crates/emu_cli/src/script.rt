@@ -3,7 +3,7 @@ ghost use Rattle.std.specs.Prelude.{◌≡◌, ◌≤◌, ℕ, List, [], true, �
 ghost use Rattle.db_config.specs.declared.parts.ConfigParts.{ConfigParts as Configuration};
 ghost use Rattle.live_book.specs.Kept.{KeepsIn, faults_in};
 ghost use Rattle.live_book.specs.Commits.{has_journal};
-ghost use Rattle.live_book.specs.Opens.{AreAtFront, IsEmpty};
+ghost use Rattle.store_opening.specs.Opens.{AreAtFront, IsEmpty};
 ghost use Rattle.script_lines.specs.Texts.{reply_text};
 ghost use Rattle.emu_cli.specs.Bases.{Base, fresh_base, store_of, wants_by};
 ghost use Rattle.emu_cli.specs.Cuts.{cut};
@@ -21,12 +21,13 @@ use emu_disk::Disk;
 use emu_io::Sink;
 use emu_names::SessionNo;
 use label_match::PatternMaker;
-use live_book::{Book, MadeBook, NoBook, OpenFault, Published, new_book};
+use live_book::{Book, Published};
 use script_lines::{LineFault, LineSet, ReadLine};
 use session_core::{Answer, Command, Reply};
 use std::alloc::Global;
 use std::sync::Wait;
 use std::thread::Threads;
+use store_opening::{MadeBook, NoBook, OpenFault, new_book};
 use version_gate::Passes;
 
 /// How many passes a run asks for.

@@ -1,16 +1,10 @@
-mod HeadCodes
-mod States
+pub mod States
 mod Codes
-mod Changes
-mod Drafting
 mod Configs
 mod Ahead
 pub mod Storing
 mod Showing
 mod Committing
-mod Readings
-mod FirstBooks
-mod Stores
 mod Answering
 pub mod Lists
 pub mod Living

@@ -2,7 +2,6 @@
 use Rattle.std.specs.Prelude.{◌≡◌, ◌⊎◌, ℕ, suc, ◌<◌, ◌≤◌, List, [], ◌∷◌, ◌++◌, length, Bool, true, false, Option, None, Some, Result, Ok, Err, IsErrOf}
 use Rattle.fault_counts.specs.Count.{Rose}
 use Rattle.emu_names.specs.declared.limits.TheConstants.{HISTORY_EDITS}
-use Rattle.emu_names.specs.declared.kinds.SessionNo.{SessionNo}
 use Rattle.db_config.specs.declared.parts.ConfigParts.{ConfigParts}
 use Rattle.edit_rules.specs.declared.edit.Edit.{Edit}
 use Rattle.edit_rules.specs.declared.edit.Entry.{Entry}
@@ -16,10 +15,7 @@ use Rattle.version_gate.specs.declared.entry.Entry.{Entry as Numbered}
 use Rattle.version_gate.specs.Lists.{entry}
 use Rattle.live_book.specs.declared.published.Published.{Published}
 use Rattle.live_book.specs.Kept.{BookParts, KeepsIn, IsAsBefore, StandsOrLost, CrashLeaves, faults_in}
-
--- an entry of a session and a line
-abbrev pub entry_of : SessionNo → ℕ → Edit → Entry
-entry_of session line edit = record { session = session; line = line; edit = edit }
+pub use Rattle.version_steps.specs.Drafts.{entry_of}
 
 -- there is a journal
 abbrev pub has_journal : {D : Type 0} → Option (Journal D) → Bool

@@ -1,62 +1,11 @@
--- What a commit makes before it asks the book: what depends on the configuration and the edit alone.
-use Rattle.std.specs.Prelude.{◌≡◌, ℕ, List, Option, None, Some, Result, Ok, Err, ◌+◌, nat_le, nat_lt, if◌then◌else◌}
-use Rattle.emu_names.specs.declared.limits.TheConstants.{ALL_ITEMS, BUNDLES}
-use Rattle.emu_names.specs.declared.rules.Broken.{Broken}
-use Rattle.emu_names.specs.declared.rules.Broken.TheVariants as rules
-use Rattle.emu_names.specs.declared.rules.What.TheVariants as counted
-use Rattle.emu_names.specs.declared.rules.Fault.{Fault}
-use Rattle.emu_names.specs.declared.rules.Fault.TheVariants as faults
-use Rattle.db_config.specs.declared.parts.ConfigParts.{ConfigParts}
-use Rattle.bundle_state.specs.Bundle.{BundleParts, item_count}
-use Rattle.bundle_state.specs.Built.{built}
-use Rattle.bundle_index.specs.Index.{IndexParts}
-use Rattle.edit_rules.specs.declared.bundle_change.Counts.{Counts}
-use Rattle.edit_rules.specs.declared.edit.Edit.{Edit}
-use Rattle.edit_rules.specs.declared.edit.Edit.TheVariants as edits
+-- A draft that was made before a commit asks for the book.
+use Rattle.std.specs.Prelude.{ℕ, List}
 use Rattle.edit_rules.specs.declared.edit.Entry.{Entry}
 use Rattle.version_gate.specs.declared.entry.Entry.{Entry as Numbered}
 use Rattle.version_gate.specs.Lists.{EndsIn, entry}
-use Rattle.live_book.specs.declared.draft.Draft.{Draft}
+use Rattle.version_steps.specs.declared.draft.Draft.{Draft}
 use Rattle.live_book.specs.declared.published.Published.{Published}
-
--- a bundle with its columns is the bundle that a definition gives, and a refusal by a rule is the
--- definition's; want of memory says nothing
-abbrev pub GivesIndexed : Result IndexParts Fault → Result BundleParts Broken → Type 0
-GivesIndexed (Ok x) there = there ≡ Ok x.bundle
-GivesIndexed (Err (faults.Broken rule)) there = there ≡ Err rule
-GivesIndexed (Err faults.Memory) there = Unit {0}
-
--- the same where the definition gives what stands behind an edit, which is a bundle here
-abbrev pub GivesAdded : Result IndexParts Fault → Result (Option BundleParts) Broken → Type 0
-GivesAdded (Ok x) there = there ≡ Ok (Some x.bundle)
-GivesAdded (Err (faults.Broken rule)) there = there ≡ Err rule
-GivesAdded (Err faults.Memory) there = Unit {0}
-
--- what was made of an annotation, unless all bundles would have too many items with it
-abbrev pub fitting : Counts → Result IndexParts Fault → Result IndexParts Fault
-fitting counts (Ok x) =
-    if nat_lt ALL_ITEMS (counts.items + item_count x.bundle.levels) then Err (faults.Broken (rules.TooMany counted.AllItems))
-    else Ok x
-fitting counts (Err fault) = Err fault
-
--- the same, unless there are too many bundles with it
-abbrev pub room_for : Counts → Result IndexParts Fault → Result IndexParts Fault
-room_for counts made =
-    if nat_le BUNDLES counts.bundles then Err (faults.Broken (rules.TooMany counted.Bundles))
-    else fitting counts made
-
--- what is made of the annotation of an edit that adds a bundle, under a configuration: the bundle that is
--- built of it, or the rule that it breaks first. Of another edit nothing is made
-abbrev pub IsAddedBy : ConfigParts → Edit → Option (Result IndexParts Fault) → Type 0
-IsAddedBy config (edits.AddBundle key annot) None = ⊥
-IsAddedBy config (edits.AddBundle key annot) (Some made) = GivesIndexed made (built config key annot)
-IsAddedBy config edit None = Unit {0}
-IsAddedBy config edit (Some made) = ⊥
-
--- a draft is that of an entry, under a configuration
-pub record IsDraftOf (config : ConfigParts) (next : Entry) (draft : Draft) : Type 0 where
-  pub entry : draft.entry ≡ next
-  pub added : IsAddedBy config next.edit draft.added
+use Rattle.version_steps.specs.Drafts.{IsDraftOf}
 
 -- a draft is that of an entry, under the configuration of the last version of a list
 pub record IsDraftAt (list : List (Numbered Published)) (next : Entry) (draft : Draft) : Type 0 where

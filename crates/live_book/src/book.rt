@@ -7,10 +7,9 @@ ghost use Rattle.live_book.specs.Histories.{IsHistory};
 ghost use Rattle.live_book.specs.Published.{IsStateAfter, AreShown};
 ghost use Rattle.live_book.specs.Kept.{IsBook, book_of, Holding};
 ghost use Rattle.live_book.specs.Commits.{entry_of, Commits};
-ghost use Rattle.live_book.specs.Drafts.{IsAddedBy};
+ghost use Rattle.version_steps.specs.Drafts.{IsAddedBy};
 
 use crate::commit::commit_in;
-use crate::draft::Draft;
 use crate::fault::EditFault;
 use crate::parts::Parts;
 use crate::published::Published;
@@ -22,6 +21,7 @@ use std::alloc::Global;
 use std::marker::Model;
 use std::sync::{Arc, Wait};
 use version_gate::{Note, Pass};
+use version_steps::Draft;
 
 /// A book: a configuration, a history of at most 100,000 entries, the version after all of them, the
 /// gate that publishes each version, and, if there is one, the journal that holds the codes of the
@@ -42,7 +42,7 @@ impl<D: Disk> Model for Book<D> {
 
 impl<D: Disk> Book<D> {
     /// The book of these fields.
-    pub(crate) fn of(parts: Parts<D>) -> Book<D>
+    pub fn of(parts: Parts<D>) -> Book<D>
         requires { IsBook D.may_leave parts }
         ensures { result ≡ book_of parts }
     {

@@ -12,12 +12,10 @@ ghost use Rattle.version_gate.specs.Lists.{entry};
 ghost use Rattle.live_book.specs.Published.{IsStateAfter};
 ghost use Rattle.live_book.specs.Kept.{IsBook, KeepsIn, IsAsBefore, CrashLeaves, book_of, config_in, faults_in};
 ghost use Rattle.live_book.specs.Commits.{has_journal, IsAnswer, IsWelcome, DuringCommit, Commits};
-ghost use Rattle.live_book.specs.Drafts.{IsAddedBy};
+ghost use Rattle.version_steps.specs.Drafts.{IsAddedBy};
 ghost use Rattle.live_book.specs.Prepared.{IsFrameOf, IsReady, IsTest, HasRoomFor, HoldsSome, ForStoreIn, refusal_of, entries_behind};
 
-use crate::draft::Draft;
 use crate::fault::EditFault;
-use crate::next::next_drafted;
 use crate::parts::Parts;
 use crate::published::Published;
 use crate::store::{append_in, is_too_much};
@@ -30,6 +28,7 @@ use emu_names::limits::HISTORY_EDITS;
 use emu_names::{Fault, Memory};
 use std::alloc::Global;
 use std::sync::{Arc, Wait};
+use version_steps::{Draft, next_drafted};
 use version_tree::Version;
 
 /// What a commit has ready before it calls the disk.

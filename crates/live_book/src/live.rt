@@ -2,14 +2,14 @@
 ghost use Rattle.std.specs.Prelude.{◌≡◌, ◌<◌, ◌≤◌, ℕ, IfSome, None, drop, length, take};
 ghost use mathlib.Core.List.{IsPrefix};
 ghost use Rattle.live_book.specs.Commits.{Commits, entry_of};
-ghost use Rattle.live_book.specs.Drafts.{IsDraftAt, IsDraftOf};
+ghost use Rattle.live_book.specs.Drafts.{IsDraftAt};
+ghost use Rattle.version_steps.specs.Drafts.{IsDraftOf};
 ghost use Rattle.live_book.specs.Kept.{Holding, KeepsIn};
 ghost use Rattle.live_book.specs.Live.{EditsLive, HasGrown, Opened, accepted_behind, all_parts, count_behind, merged, no_opening, one_part, opening_of, refused_behind, whole_share, without_part};
 ghost use Rattle.live_book.specs.Published.{AreShown};
 ghost use Rattle.version_gate.specs.Lists.{Numbered as IsNumbered};
 
 use crate::book::Book;
-use crate::draft::Draft;
 use crate::fault::EditFault;
 use crate::published::Published;
 use edit_rules::Edit;
@@ -20,6 +20,7 @@ use std::marker::{Brand, Model};
 use std::sync::ledger::{self, Blank, Ledger};
 use std::sync::{Mutex, MutexGuard, Wait};
 use version_gate::Pass;
+use version_steps::Draft;
 
 /// Which opening it is: the book as it is at the moment at which threads begin to edit it. It is also the ledger of
 /// the edits that are accepted. Its members are plain values, which contracts alone see.

@@ -11,12 +11,12 @@ use Rattle.edit_journal.specs.Held.{disk_of, Holds}
 use Rattle.edit_journal.proofs.Kept.{stands_may}
 use Rattle.live_book.specs.declared.fault.EditFault.{EditFault}
 use Rattle.live_book.specs.declared.fault.EditFault.TheVariants as edit_faults
-use Rattle.live_book.specs.declared.fault.OpenFault.{OpenFault}
-use Rattle.live_book.specs.declared.fault.OpenFault.TheVariants as open_faults
+use Rattle.store_opening.specs.declared.fault.OpenFault.{OpenFault}
+use Rattle.store_opening.specs.declared.fault.OpenFault.TheVariants as open_faults
 use Rattle.live_book.specs.Histories.{IsBare}
 use Rattle.live_book.specs.Kept.{BookParts, KeepsIn, faults_in}
 use Rattle.live_book.specs.Commits.{Commits}
-use Rattle.live_book.specs.Opens.{IsNoBookFor}
+use Rattle.store_opening.specs.Opens.{IsNoBookFor}
 use Rattle.live_book.proofs.Storing.{images}
 use Rattle.store_commands.specs.declared.faults.Refused.{Refused}
 use Rattle.store_commands.specs.declared.faults.CommandFault.{CommandFault}

@@ -11,7 +11,7 @@ use Rattle.live_book.specs.declared.published.Published.{Published}
 use Rattle.live_book.specs.Histories.{OfRead, IsBare, Stands}
 use Rattle.live_book.specs.Kept.{BookParts, KeepsIn, faults_in}
 use Rattle.live_book.specs.Commits.{has_journal}
-use Rattle.live_book.specs.Opens.{IsOpenedAs, LeavesFrom, journal_in}
+use Rattle.store_opening.specs.Opens.{IsOpenedAs, LeavesFrom, journal_in}
 use Rattle.store_calls.specs.declared.ending.Ending.{Ending}
 use Rattle.store_calls.specs.Ends.{EndsLoad, EndsOnStore, EndsReading, IsMadeText, IsUntouched, Outside}
 

@@ -19,8 +19,8 @@ use Rattle.live_book.specs.Published.{IsStateAfter}
 use Rattle.live_book.specs.Kept.{BookParts, StandsOrLost}
 use Rattle.edit_code.specs.Codes.{head_code}
 use Rattle.edit_journal.specs.Store.{StandsFor}
-use Rattle.live_book.specs.declared.fault.OpenFault.{OpenFault}
-use Rattle.live_book.specs.declared.fault.OpenFault.TheVariants as open_faults
+use Rattle.store_opening.specs.declared.fault.OpenFault.{OpenFault}
+use Rattle.store_opening.specs.declared.fault.OpenFault.TheVariants as open_faults
 use Rattle.store_commands.specs.declared.faults.Refused.{Refused}
 use Rattle.store_commands.specs.declared.faults.Refused.TheVariants as refusals
 use Rattle.store_commands.specs.declared.faults.CommandFault.{CommandFault}

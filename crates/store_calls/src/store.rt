@@ -16,12 +16,13 @@ use edit_journal::Journal;
 use emu_disk::Disk;
 use emu_io::{Folder, Gate};
 use label_match::PatternMaker;
-use live_book::{Book, NoStore, OpenFault, Opened, open_store};
+use live_book::Book;
 use std::alloc::Global;
 use std::sync::Wait;
 use std::thread::Threads;
 use store_commands::{Refused, print_damaged};
 use store_loading::{Loaded, import, load};
+use store_opening::{NoStore, OpenFault, Opened, open_store};
 
 /// How many passes a command asks for. It looks at the book itself.
 const READERS: u32 = 1;

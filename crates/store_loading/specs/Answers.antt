@@ -7,8 +7,8 @@ use Rattle.emu_io.specs.declared.folder.FolderFault.TheVariants as folder_faults
 use Rattle.session_core.specs.declared.line.Refusal.TheVariants as requests
 use Rattle.live_book.specs.declared.fault.EditFault.{EditFault}
 use Rattle.live_book.specs.declared.fault.EditFault.TheVariants as edit_faults
-use Rattle.live_book.specs.declared.fault.OpenFault.{OpenFault}
-use Rattle.live_book.specs.declared.fault.OpenFault.TheVariants as open_faults
+use Rattle.store_opening.specs.declared.fault.OpenFault.{OpenFault}
+use Rattle.store_opening.specs.declared.fault.OpenFault.TheVariants as open_faults
 use Rattle.store_commands.specs.declared.faults.FileFault.{FileFault}
 use Rattle.store_commands.specs.declared.faults.FileFault.TheVariants as file_faults
 use Rattle.store_commands.specs.declared.faults.Refused.{Refused}

@@ -10,10 +10,10 @@ use Rattle.edit_rules.specs.declared.edit.Edit.TheVariants as edits
 use Rattle.edit_rules.specs.declared.edit.Entry.{Entry}
 use Rattle.edit_journal.specs.declared.journal.Journal.{Journal}
 use Rattle.live_book.specs.declared.fault.EditFault.{EditFault}
-use Rattle.live_book.specs.declared.fault.OpenFault.{OpenFault}
+use Rattle.store_opening.specs.declared.fault.OpenFault.{OpenFault}
 use Rattle.live_book.specs.Kept.{BookParts, Keeps}
 use Rattle.live_book.specs.Commits.{Commits, IsAnswer, IsWelcome, entry_of}
-use Rattle.live_book.specs.Opens.{IsNoBookFor}
+use Rattle.store_opening.specs.Opens.{IsNoBookFor}
 use Rattle.store_commands.specs.declared.faults.Refused.{Refused}
 use Rattle.store_commands.specs.declared.faults.CommandFault.{CommandFault}
 use Rattle.store_commands.specs.declared.faults.CommandFault.TheVariants as faults

@@ -7,11 +7,12 @@ use edit_rules::Edit;
 use emu_disk::Disk;
 use emu_io::FolderFault;
 use emu_names::{SessionNo, Text};
-use live_book::{Book, EditFault, OpenFault};
+use live_book::{Book, EditFault};
 use session_core::Refusal;
 use std::alloc::Global;
 use std::sync::Wait;
 use store_commands::{CommandFault, FileFault, Refused};
+use store_opening::OpenFault;
 
 /// The refusal of the file or the folder of a path. The only other answer is want of memory.
 pub(crate) fn refuse(alloc: Global, path: &str, fault: FileFault) -> CommandFault

@@ -16,10 +16,11 @@ use db_config::Config;
 use edit_journal::Journal;
 use emu_disk::Disk;
 use emu_io::Folder;
-use live_book::{Book, MadeBook, NoBook, new_book};
+use live_book::Book;
 use std::alloc::Global;
 use std::sync::Wait;
 use store_commands::CommandFault;
+use store_opening::{MadeBook, NoBook, new_book};
 
 /// The journal that a `load` leaves, and its answer: the number of bundles, or why it ended before.
 #[derive(Drop)]

@@ -1,0 +1,4 @@
+mod HeadCodes
+mod Readings
+mod FirstBooks
+mod Stores
