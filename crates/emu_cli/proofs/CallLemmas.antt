@@ -1,89 +1,16 @@
 -- What a status says, of a whole call.
-use Rattle.std.proofs.Common.{◌≡◌, ◌≢◌, ◌⊎◌, inl, inr, ℕ, ◌≤◌, Bool, true, false, List, [], Option, Some, None, Result, Ok, Err, IfErr, refl, sym, ◌∙◌, ap, subst, arith}
-use Rattle.std.specs.Io.KnownBytes.{Appends}
-use Rattle.std.proofs.KnownBytes.{Appends-nil}
-use Rattle.fault_counts.specs.Count.{Rose}
-use Rattle.emu_io.specs.declared.whole.Front.{Front}
-use Rattle.emu_io.specs.declared.faults.ReadFault.{ReadFault}
-use Rattle.emu_io.specs.declared.faults.ReadFault.TheVariants as read_faults
-use Rattle.edit_journal.specs.declared.journal.Journal.{Journal}
-use Rattle.store_opening.specs.declared.fault.OpenFault.{OpenFault}
-use Rattle.store_opening.specs.declared.fault.OpenFault.TheVariants as opens
-use Rattle.live_book.specs.Kept.{faults_in}
-use Rattle.store_opening.specs.Opens.{IsNoStoreFor}
-use Rattle.store_commands.specs.Texts.{damaged_text}
-use Rattle.emu_cli.specs.declared.ended.Ended.{Ended}
-use Rattle.emu_cli.specs.declared.ended.Ended.TheVariants as ends
-use Rattle.emu_cli.specs.declared.status.Status.{Status}
-use Rattle.emu_cli.specs.declared.status.Status.TheVariants as statuses
-use Rattle.emu_cli.specs.Scripts.{read_from}
-use Rattle.emu_cli.specs.Runs.{usage_text}
-use Rattle.emu_cli.specs.Bases.{Base, wants_by, IsBaseOf, EachOf}
+use Rattle.std.proofs.Common.{◌≡◌, ◌⊎◌, inl, inr, ℕ, Bool, true, false, List, Option, Some, None, refl, sym, ◌∙◌, ap, subst}
+use Rattle.run_output.specs.declared.status.Status.{Status}
+use Rattle.run_output.specs.declared.status.Status.TheVariants as statuses
+use Rattle.run_output.specs.Texts.{usage_text}
 use Rattle.cli_words.specs.declared.words.Words.{Words}
 use Rattle.cli_words.specs.declared.words.Words.TheVariants as forms
 use Rattle.cli_words.specs.Forms.{words_of}
 use Rattle.store_calls.specs.declared.ending.Ending.{Ending}
 use Rattle.store_calls.specs.Ends.{is_of_store}
-use Rattle.emu_cli.specs.Says.{Call, call_of, Says, WritesLast, code_of}
+use Rattle.script_runs.specs.Says.{Call}
+use Rattle.run_output.specs.Statuses.{WritesLast, code_of}
 use Rattle.emu_cli.specs.Calls.{AskForRun, AsksForStore, CallEnds, IsLiveWords, IsNoCommand, IsNoLive, IsNoRun, IsRunWords, RunCompletes, SaysStore, SaysUsage, live_asked, run_asked}
-use Rattle.emu_cli.specs.Reached.{IsDone, EndHasCause, IsTold}
-use Rattle.emu_cli.specs.Ran.{IsUnread, BeginsBefore, SaysUnopened}
-use Rattle.emu_cli.proofs.SaysLemmas.{says_unread, says_unopened}
-
--- an end that has its cause has a fault that is told
-pub told_end : (end : Ended) (before now : ℕ) → EndHasCause end before now → IsTold end
-told_end ends.Limit before now h = tt
-told_end (ends.AtFault number fault) before now h = h
-told_end ends.NoRoom before now h = tt
-told_end ends.Disk before now h = tt
-told_end ends.Write before now h = tt
-told_end ends.Memory before now h = tt
-
-pub told_ended : {A : Type 0} (result : Result A Ended) (before now : ℕ) → IfErr result (λ end. EndHasCause end before now) → IfErr result IsTold
-told_ended (Ok x) before now h = tt
-told_ended (Err end) before now h = told_end end before now h
-
-pub begins_before : {D : Type 0} (faults : D → ℕ) (journal : Option (Journal D)) (disk : D) → faults disk ≤ faults_in faults journal → BeginsBefore faults journal disk
-begins_before faults None disk h = tt
-begins_before faults (Some journal) disk h = h
-
-abbrev pub err_fault : ReadFault → Result Front ReadFault
-err_fault fault = Err fault
-
--- the script could not be read
-module _ (store : Bool) (stored left left_after : Option (List ℕ)) (r rs m f fs : ℕ) (base : Base) (begins : IsBaseOf store stored base) (before images : List ℕ → Type 0) where
-  pub unread_says : (fault : ReadFault) (status : Status) (now : Option (List ℕ)) (w : ℕ) → IsUnread fault status → (fault ≡ read_faults.Failed → Rose r rs) → IsDone base f fs images (read_from (wants_by base)) [] → Says status (call_of store stored left left_after now now r rs w w m m f fs) before images
-  unread_says read_faults.Failed status now w is cause d =
-      subst (λ st. Says st (call_of store stored left left_after now now r rs w w m m f fs) before images) (sym is) (says_unopened store stored left left_after r rs m m f fs base begins before images now w (cause refl) d)
-  unread_says read_faults.Memory status now w is cause d =
-      subst (λ st. Says st (call_of store stored left left_after now now r rs w w m m f fs) before images) (sym is) (says_unread store stored left left_after r rs m m f fs base begins before images now w w (omega arith) d)
-
--- a store that is not opened is never full
-pub not_full : {D : Type 0} (stored : Option (List ℕ)) (faults : D → ℕ) (old new : D) (fault : OpenFault) → IsNoStoreFor stored faults old fault new → fault ≢ opens.StoreFull
-not_full stored faults old new fault why same = subst (λ f. IsNoStoreFor stored faults old f new) same why
-
--- the store could not be opened
-module _ {D : Type 0} (faults : D → ℕ) (old new : D) (stored left before after : Option (List ℕ)) (r w ws m : ℕ) (images images_after : List ℕ → Type 0) (none_new : EachOf images_after images) where
-  abbrev call : Call
-  call = call_of true stored left left before after r r w ws m m (faults old) (faults new)
-
-  pub says_no_store : (fault : OpenFault) (status : Status) → IsNoStoreFor stored faults old fault new → SaysUnopened fault status before after w ws → Says status call images images_after
-  says_no_store opens.Disk status why h =
-      subst (λ st. Says st call images images_after) (sym h.0) (record { stored = refl; cause = why; leaves = inl none_new; output = subst (λ now. Appends before now []) (sym h.1) (Appends-nil before) })
-  says_no_store (opens.Damaged at) status why (inl h) =
-      subst (λ st. Says st call images images_after) (sym h.0) (record { at = at; damage = record { stored = refl; damaged = why }; leaves = none_new; output = h.1 })
-  says_no_store (opens.Damaged at) status why (inr (inl h)) =
-      subst (λ st. Says st call images images_after) (sym h.0) (record {
-        cause = h.1;
-        output = inr (inr (record { stored = refl; leaves = none_new; last = damaged_text at; line = inr (at, record { stored = refl; damaged = why }, refl); output = h.2 }));
-      })
-  says_no_store (opens.Damaged at) status why (inr (inr h)) =
-      subst (λ st. Says st call images images_after) (sym h.0)
-      (inr (inr (record { stored = refl; leaves = none_new; last = damaged_text at; line = inr (at, record { stored = refl; damaged = why }, refl); output = h.1 })))
-  says_no_store opens.StoreFull status why h = absurd why
-  says_no_store opens.Memory status why h =
-      subst (λ st. Says st call images images_after) (sym h.0)
-      (inr (inr (record { stored = refl; leaves = none_new; last = []; line = inl refl; output = (0, subst (λ now. Appends before now []) (sym h.1) (Appends-nil before)) })))
 
 -- the last line, as a status says it
 pub usage_says : (status : Status) (before after : Option (List ℕ)) (w ws : ℕ) (call : Call) → call.written ≡ before → call.written_after ≡ after → call.writes ≡ w → call.writes_after ≡ ws → WritesLast status statuses.Usage before after w ws usage_text → SaysUsage status call

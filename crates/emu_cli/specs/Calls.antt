@@ -14,13 +14,14 @@ use Rattle.cli_words.specs.declared.words.Words.TheVariants as forms
 use Rattle.cli_words.specs.Forms.{words_of}
 use Rattle.store_calls.specs.declared.ending.Ending.{Ending}
 use Rattle.store_calls.specs.Ends.{EndsOnStore, is_of_store, outside_of}
-use Rattle.emu_cli.specs.declared.status.Status.{Status}
-use Rattle.emu_cli.specs.declared.status.Status.TheVariants as statuses
-use Rattle.emu_cli.specs.Bases.{EachOf}
-use Rattle.emu_cli.specs.Runs.{usage_text}
-use Rattle.emu_cli.specs.Says.{Call, Completes, IsFaultless, Says, code_of}
-use Rattle.emu_cli.specs.Lives.{SaysLive}
-use Rattle.emu_cli.specs.Told.{FinishesBy, call_by}
+use Rattle.run_output.specs.declared.status.Status.{Status}
+use Rattle.run_output.specs.declared.status.Status.TheVariants as statuses
+use Rattle.script_runs.specs.Bases.{EachOf}
+use Rattle.run_output.specs.Texts.{usage_text}
+use Rattle.script_runs.specs.Says.{Call, Completes, IsFaultless, Says}
+use Rattle.run_output.specs.Statuses.{code_of}
+use Rattle.script_runs.specs.Lives.{SaysLive}
+use Rattle.script_runs.specs.Told.{FinishesBy, call_by}
 
 -- the bytes of each word of a command line
 abbrev pub texts_of : {A : Type 0} → List (String A) → List (List ℕ)

@@ -2,21 +2,19 @@
 ghost use Rattle.std.specs.Prelude.{◌≡◌, ◌≤◌, true, false};
 ghost use Rattle.store_calls.specs.declared.ending.Ending.{Ending as Ends};
 ghost use Rattle.store_calls.specs.Ends.{HasRate, is_of_store};
-ghost use Rattle.emu_cli.specs.Runs.{usage_text};
-ghost use Rattle.emu_cli.specs.Calls.{AskForRun, AsksForStore, CallCompletesBy, CallEndsBy, CallSaysBy};
-ghost use Rattle.emu_cli.specs.Calls.{EndsOnStoreBy, RunCompletesBy, live_asked, run_asked, texts_of};
-ghost use Rattle.emu_cli.specs.Says.{WritesLast};
-ghost use Rattle.emu_cli.specs.Told.{FinishesBy};
+ghost use Rattle.run_output.specs.Texts.{usage_text};
+ghost use Rattle.emu_cli.specs.Calls.{AskForRun, AsksForStore, CallCompletesBy, CallEndsBy, CallSaysBy, EndsOnStoreBy, RunCompletesBy, live_asked, run_asked, texts_of};
+ghost use Rattle.run_output.specs.Statuses.{WritesLast};
+ghost use Rattle.script_runs.specs.Told.{FinishesBy};
 
 use crate::at_once::live;
-use crate::in_order::{Ran, run};
-use crate::last::{finish, usage};
-use crate::spread::Spread;
-use crate::status::{Status, code};
+use crate::in_order::run;
 use cli_words::{Words, WordsFault};
 use emu_disk::Disk;
 use emu_io::{Folder, Gate, Sink, Source};
 use label_match::PatternMaker;
+use run_output::{Status, code, finish, usage};
+use script_runs::{Ran, Spread};
 use std::alloc::Global;
 use std::sync::Wait;
 use std::thread::Threads;

@@ -1,4 +1,4 @@
-use Rattle.emu_cli.proofs.CompleteLemmas.{complete_live}
+use Rattle.script_runs.proofs.CompleteLemmas.{complete_live}
 use Rattle.emu_cli.proofs.at_once.live.Goals as goal
 
 pub returns-then-store-clause-complete : goal.returns-then-store-clause-complete

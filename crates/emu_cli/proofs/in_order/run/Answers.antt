@@ -1,4 +1,4 @@
-use Rattle.emu_cli.proofs.CompleteLemmas.{complete}
+use Rattle.script_runs.proofs.CompleteLemmas.{complete}
 use Rattle.emu_cli.proofs.in_order.run.Goals as goal
 
 pub returns-then-store-clause-complete : goal.returns-then-store-clause-complete

@@ -1,0 +1,47 @@
+-- What a run writes beside the replies to its requests.
+use Rattle.std.specs.Prelude.{ℕ, Bool, true, false, List, [], ◌++◌, flat_map, Some, codes}
+use Rattle.session_core.specs.declared.line.Command.TheVariants as commands
+use Rattle.session_core.specs.declared.line.Answer.TheVariants.{Done}
+use Rattle.session_core.specs.declared.line.Reply.{Reply}
+use Rattle.script_lines.specs.Texts.{reply_text}
+use Rattle.script_lines.specs.LastLines.{last_text}
+use Rattle.live_seats.specs.declared.marks.Mark.{Mark}
+use Rattle.live_run.specs.declared.run.Ended.{Ended as LiveEnded}
+use Rattle.store_commands.specs.Texts.{from_text, mark_text}
+
+-- the reply to the line of the configuration, which is the first
+abbrev pub config_reply : Reply
+config_reply = record { line = 1; session = record { 0 = 0 }; n = Some 0; answer = Done commands.Config }
+
+-- The last line of a run that ends early.
+
+-- where the words are no command
+abbrev pub usage_text : List ℕ
+usage_text = last_text (codes "Usage") 2
+
+-- where a limit is passed
+abbrev pub limit_text : List ℕ
+limit_text = last_text (codes "Limit") 9
+
+-- What a live run writes.
+
+-- the reply of the configuration, where the script gives one
+abbrev pub given_text : Bool → List ℕ
+given_text true = reply_text config_reply
+given_text false = []
+
+-- the line of a new entry
+abbrev pub text_of_mark : Mark → List ℕ
+text_of_mark mark = mark_text mark.at mark.line mark.session.0
+
+-- how many entries stood before a live run, and a line for each new entry, in the order of the history
+abbrev pub entries_text : LiveEnded → List ℕ
+entries_text ended = from_text ended.from ++ flat_map text_of_mark ended.marks
+
+-- the replies, session by session, and then that
+abbrev pub ended_text : LiveEnded → List ℕ
+ended_text ended = flat_map reply_text ended.replies ++ entries_text ended
+
+-- what a live run writes: the reply of the configuration, where the script gives one, and then what it was answered
+abbrev pub live_text : Bool → LiveEnded → List ℕ
+live_text given ended = given_text given ++ ended_text ended

@@ -1,0 +1,70 @@
+-- The disk behind a run: its count, and its images.
+use Rattle.std.proofs.Common.{◌≡◌, ℕ, Bool, true, false, List, [], Option, Some, None, refl, sym, ap, subst, arith}
+use Rattle.fault_counts.specs.Count.{Rose, RoseBy}
+use Rattle.db_config.specs.declared.parts.ConfigParts.{ConfigParts}
+use Rattle.edit_rules.specs.declared.edit.Entry.{Entry}
+use Rattle.session_core.specs.declared.line.Line.{Line}
+use Rattle.session_core.specs.declared.line.Reply.{Reply}
+use Rattle.session_core.specs.InOrder.{Outage, disk_outages}
+use Rattle.edit_journal.specs.declared.journal.Journal.{Journal}
+use Rattle.edit_journal.specs.Held.{disk_of}
+use Rattle.edit_journal.proofs.Kept.{stands_may}
+use Rattle.live_book.specs.Kept.{faults_in}
+use Rattle.live_book.specs.Commits.{has_journal}
+use Rattle.store_opening.specs.Opens.{DuringNew}
+use Rattle.live_book.proofs.Storing.{images}
+use Rattle.script_runs.specs.Scripts.{Parsed}
+use Rattle.script_runs.specs.Bases.{Base, no_store, bare_store, store_of, is_stored, config_by, counted, EachOf, LeavesStore}
+use Rattle.script_runs.specs.Runs.{replies_by, history_by}
+use Rattle.script_runs.specs.Reached.{IsKept, IsDone, IsFailed, IsBeginOf, KeepsStore, KeepsHistory}
+use Rattle.script_runs.specs.Ran.{HasDisk, BeginsBefore}
+
+-- the disk's count rose, and each image is bare or has the configuration alone
+pub record FailedBy (begin now : ℕ) (images : List ℕ → Type 0) (config : ConfigParts) : Type 0 where
+  pub cause : Rose begin now
+  pub each : EachOf images (DuringNew config)
+
+module _ {D : Type 0} (may_leave : D → List ℕ → Type 0) (faults : D → ℕ) where
+  pub counted_is : (base : Base) (journal : Option (Journal D)) (disk : D) → has_journal journal ≡ is_stored base → HasDisk journal disk → counted base (faults disk) ≡ faults_in faults journal
+  counted_is no_store None disk s h = refl
+  counted_is bare_store (Some journal) disk s h = ap faults h
+  counted_is (store_of config history) (Some journal) disk s h = ap faults h
+  counted_is no_store (Some journal) disk s h = absurd (cc)
+  counted_is bare_store None disk s h = absurd (cc)
+  counted_is (store_of config history) None disk s h = absurd (cc)
+
+  history_left : (config : ConfigParts) (lines : List Line) (replies : List Reply) (history : List Entry) (journal : Journal D) → KeepsHistory may_leave config lines replies history (Some journal) → LeavesStore true (Some config) lines replies history (may_leave (disk_of journal))
+  history_left config lines replies history journal k = record { lost = k.lost; why = k.why; each = λ c image. images may_leave config history k.lost journal k.keeps c image }
+
+  store_left : (config : Option ConfigParts) (lines : List Line) (replies : List Reply) (history : List Entry) (journal : Journal D) → KeepsStore may_leave config lines replies history (Some journal) → LeavesStore true config lines replies history (may_leave (disk_of journal))
+  store_left None lines replies history journal k = λ c image. stands_may may_leave [] None journal k c image
+  store_left (Some config) lines replies history journal k = history_left config lines replies history journal k
+
+  leaves_store : (stored : Bool) (config : Option ConfigParts) (lines : List Line) (replies : List Reply) (history : List Entry) (journal : Option (Journal D)) (disk : D) → has_journal journal ≡ stored → HasDisk journal disk → KeepsStore may_leave config lines replies history journal →
+      LeavesStore stored config lines replies history (may_leave disk)
+  leaves_store false config lines replies history journal disk s h k = tt
+  leaves_store true config lines replies history (Some journal) disk s h k = subst (λ d. LeavesStore true config lines replies history (may_leave d)) (sym h) (store_left config lines replies history journal k)
+  leaves_store true config lines replies history None disk s h k = absurd (cc)
+
+  -- what the journal keeps, of its disk
+  pub done_of : (base : Base) (begin : ℕ) (journal : Option (Journal D)) (disk : D) → HasDisk journal disk → (p : Parsed) (outages : List Outage) → IsKept may_leave faults base begin journal p outages → IsDone base begin (faults disk) (may_leave disk) p outages
+  done_of base begin journal disk h p outages k = record {
+    each = k.each;
+    rose = subst (λ n. RoseBy (disk_outages (is_stored base) outages) (counted base begin) n) (sym (counted_is base journal disk k.stored h)) k.rose;
+    left = leaves_store (is_stored base) (config_by base p.config) p.requests (replies_by base p outages) (history_by base p outages) journal disk k.stored h k.kept;
+  }
+
+  pub failed_of : (begin : ℕ) (journal : Option (Journal D)) (disk : D) → has_journal journal ≡ true → HasDisk journal disk → (config : ConfigParts) → IsFailed may_leave faults begin journal config → FailedBy begin (faults disk) (may_leave disk) config
+  failed_of begin (Some journal) disk s h config f = record {
+    cause = subst (λ n. Rose begin n) (sym (ap faults h)) f.cause;
+    each = subst (λ d. EachOf (may_leave d) (DuringNew config)) (sym h) (f.images journal refl);
+  }
+  failed_of begin None disk s h config f = absurd (cc)
+
+  pub begin_of : (base : Base) (journal : Option (Journal D)) (disk : D) → has_journal journal ≡ is_stored base → BeginsBefore faults journal disk → IsBeginOf faults base journal (faults disk)
+  begin_of no_store None disk s h = omega arith
+  begin_of bare_store (Some journal) disk s h = h
+  begin_of (store_of config history) (Some journal) disk s h = h
+  begin_of no_store (Some journal) disk s h = absurd (cc)
+  begin_of bare_store None disk s h = absurd (cc)
+  begin_of (store_of config history) None disk s h = absurd (cc)

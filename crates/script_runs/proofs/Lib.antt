@@ -1,0 +1,23 @@
+mod CutLemmas
+mod ParseLemmas
+mod ReadLemmas
+mod NextLemmas
+mod ComeLemmas
+mod ReadingLemmas
+mod TextLemmas
+mod KeptLemmas
+mod DiskLemmas
+mod RunLemmas
+mod FreshLemmas
+mod BookLemmas
+mod Rises
+mod OrderedLemmas
+mod SaysLemmas
+mod EndLemmas
+mod FreshSays
+mod OpenLemmas
+mod DamageLemmas
+pub mod CompleteLemmas
+mod LiveLemmas
+mod LiveSays
+mod LiveCalls
