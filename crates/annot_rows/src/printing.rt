@@ -5,7 +5,7 @@ ghost use Rattle.bundle_state.specs.Built.{FitsConfig};
 use annot_json::{print_annot, read_annot};
 use bundle_state::Bundle;
 use db_config::{Config, read_config};
-use emu_names::{BundleKey, Fault, Name, Text};
+use emu_names::{BundleKey, Fault, Name, NameFault, Text};
 use json_view::View;
 use level_items::Annot;
 use serde_json::Value;
@@ -35,18 +35,36 @@ static ROWS: [Row; 3] = [
     ),
 ];
 
+/// The configuration of a value.
+fn config_of_value(alloc: Global, value: &Value) -> Result<Config, Fail> {
+    let view = View::root(alloc, value)?;
+    Ok(read_config(alloc, &view)?)
+}
+
 /// The configuration of a text.
 fn config_of(alloc: Global, text: &str) -> Result<Config, Fail> {
     let value = Value::from_str(alloc, text)?;
-    let view = View::root(alloc, &value)?;
-    Ok(read_config(alloc, &view)?)
+    config_of_value(alloc, &value)
+}
+
+/// The annotation of a value.
+fn annot_of_value(alloc: Global, value: &Value) -> Result<Annot, Fail> {
+    let view = View::root(alloc, value)?;
+    Ok(read_annot(alloc, &view)?)
 }
 
 /// The annotation of a text.
 fn annot_of(alloc: Global, text: &str) -> Result<Annot, Fail> {
     let value = Value::from_str(alloc, text)?;
-    let view = View::root(alloc, &value)?;
-    Ok(read_annot(alloc, &view)?)
+    annot_of_value(alloc, &value)
+}
+
+/// The key of the bundle b1.
+fn key_of(alloc: Global) -> Result<BundleKey, NameFault> {
+    Ok(BundleKey {
+        session: Name::new(alloc, "s1")?,
+        bundle: Name::new(alloc, "b1")?,
+    })
 }
 
 /// The bundle of an annotation.
@@ -57,21 +75,37 @@ fn built(alloc: Global, config: &Config, key: BundleKey, annot: &Annot) -> Resul
     Bundle::build(alloc, config, key, annot)
 }
 
+/// The bundle b1 of an annotation.
+fn bundle_of(alloc: Global, config: &Config, annot: &Annot) -> Result<Bundle, Fail>
+    ensures { IfOk result (λ bundle. FitsConfig config.now bundle) }
+{
+    let key = key_of(alloc)?;
+    Ok(built(alloc, config, key, annot)?)
+}
+
 /// The text of the bundle b1 of an annotation.
 fn printed(alloc: Global, config: &Config, annot: &Annot) -> Result<Text, Fail> {
-    let session = Name::new(alloc, "s1")?;
-    let bundle = Name::new(alloc, "b1")?;
-    let bundle = built(alloc, config, BundleKey { session, bundle }, annot)?;
+    let bundle = bundle_of(alloc, config, annot)?;
     Ok(print_annot(alloc, config, &bundle)?)
+}
+
+/// The text of the bundle b1 of the annotation of a text.
+fn printed_of(alloc: Global, config: &Config, annot: &str) -> Result<Text, Fail> {
+    let annot = annot_of(alloc, annot)?;
+    printed(alloc, config, &annot)
+}
+
+/// The text of a row.
+fn answer(alloc: Global, config: &str, annot: &str) -> Result<Text, Fail> {
+    let config = config_of(alloc, config)?;
+    printed_of(alloc, &config, annot)
 }
 
 #[test]
 fn bundles_are_printed(rt: HostRuntime) -> Result<(), Fail> {
-    for (config, annot, wanted) in &ROWS {
-        let config = config_of(rt.alloc(), config)?;
-        let annot = annot_of(rt.alloc(), annot)?;
-        let text = printed(rt.alloc(), &config, &annot)?;
-        assert_eq!(rt; text.as_str(), *wanted);
+    for &(config, annot, wanted) in &ROWS {
+        let text = answer(rt.alloc(), config, annot)?;
+        assert_eq!(rt; text.as_str(), wanted);
     }
     Ok(())
 }

@@ -2,8 +2,7 @@
 use annot_json::read_annot;
 use json_view::{View, Wanted};
 use serde_json::Value;
-use std::alloc::Global;
-use std::process::Abort;
+use std::alloc::{AllocError, Global};
 use std::test::Fail;
 
 /// The member `annot` of a line, and what reading it answers: `ok`, or the fault.
@@ -130,15 +129,31 @@ static ROWS: [Row; 31] = [
     ),
 ];
 
+/// What reading an annotation answers.
+fn told(alloc: Global, view: &View) -> Result<String, AllocError> {
+    match read_annot(alloc, view) {
+        Ok(_) => String::from_str(alloc, "ok"),
+        Err(fault) => format!(in alloc; "{fault}"),
+    }
+}
+
+/// What reading the member `annot` of a value answers.
+fn told_of(alloc: Global, value: &Value) -> Result<String, Fail> {
+    let view = View::root(alloc, value)?;
+    let member = view.member("annot", Wanted::Object)?;
+    Ok(told(alloc, &member)?)
+}
+
 /// What reading the member `annot` of a line answers.
+fn answer_of(alloc: Global, line: &str) -> Result<String, Fail> {
+    let value = Value::from_str(alloc, line)?;
+    told_of(alloc, &value)
+}
+
+/// What reading an annotation in a line answers.
 fn answer(alloc: Global, annot: &str) -> Result<String, Fail> {
     let line = format!(in alloc; "{{\"annot\":{annot}}}")?;
-    let value = Value::from_str(alloc, line.as_str())?;
-    let view = View::root(alloc, &value)?.member("annot", Wanted::Object)?;
-    match read_annot(alloc, &view) {
-        Ok(_) => Ok(String::from_str(alloc, "ok")?),
-        Err(fault) => Ok(format!(in alloc; "{fault}")?),
-    }
+    answer_of(alloc, line.as_str())
 }
 
 #[test]

@@ -300,11 +300,16 @@ fn told_of(alloc: Global, value: &Value) -> Result<String, Fail> {
     Ok(told(alloc, &member)?)
 }
 
-/// What reading the configuration of a line answers.
+/// What reading the member `config` of a line answers.
+fn answer_of(alloc: Global, line: &str) -> Result<String, Fail> {
+    let value = Value::from_str(alloc, line)?;
+    told_of(alloc, &value)
+}
+
+/// What reading a configuration in a line answers.
 fn answer(alloc: Global, config: &str) -> Result<String, Fail> {
     let line = format!(in alloc; "{{\"do\":\"config\",\"config\":{config}}}")?;
-    let value = Value::from_str(alloc, line.as_str())?;
-    told_of(alloc, &value)
+    answer_of(alloc, line.as_str())
 }
 
 /// Reads the configuration of a line, and compares.
@@ -314,12 +319,18 @@ fn check(rt: &impl Abort, alloc: Global, config: &str, wanted: &str) -> Result<(
     Ok(())
 }
 
-#[test]
-fn configurations_are_read_or_refused(rt: HostRuntime) -> Result<(), Fail> {
-    for &(config, wanted) in ROWS.iter().chain(&CASES) {
-        check(&rt, rt.alloc(), config, wanted)?;
+/// Reads the configurations of a table, and compares.
+fn check_all(rt: &impl Abort, alloc: Global, rows: &[Row]) -> Result<(), Fail> {
+    for &(config, wanted) in rows {
+        check(rt, alloc, config, wanted)?;
     }
     Ok(())
+}
+
+#[test]
+fn configurations_are_read_or_refused(rt: HostRuntime) -> Result<(), Fail> {
+    check_all(&rt, rt.alloc(), &ROWS)?;
+    check_all(&rt, rt.alloc(), &CASES)
 }
 
 /// A configuration with a list of so many zeros.

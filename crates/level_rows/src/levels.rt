@@ -327,8 +327,7 @@ fn after(
     let mut list = LevelList::new(alloc, kind, 0)?;
     for row in rows {
         let (word, number) = answered(alloc, &mut list, row);
-        assert_eq!(rt; word, row.3, "{number} at the id {}", row.1);
-        assert_eq!(rt; number, row.4, "{word} at the id {}", row.1);
+        assert_eq!(rt; (word, number), (row.3, row.4), "the id {}", row.1);
     }
     Ok(list)
 }
@@ -343,19 +342,38 @@ fn stand(rt: &impl Abort, list: &LevelList, ids: &[u32]) {
     assert_eq!(rt; list.find(ItemId(99)), None);
 }
 
+/// Asserts the same of a copy.
+fn copy_stands(
+    rt: &impl Abort,
+    alloc: Global,
+    list: &LevelList,
+    ids: &[u32],
+) -> Result<(), Memory> {
+    let copied = list.copy(alloc)?;
+    stand(rt, &copied, ids);
+    Ok(())
+}
+
+/// Asserts that the list after these steps, and its copy, have these ids.
+fn expect_after(
+    rt: &impl Abort,
+    alloc: Global,
+    kind: LevelKind,
+    rows: &[Row],
+    ids: &[u32],
+) -> Result<(), Memory> {
+    let list = after(rt, alloc, kind, rows)?;
+    stand(rt, &list, ids);
+    copy_stands(rt, alloc, &list, ids)
+}
+
 #[test]
 fn lists_keep_the_level_rule(rt: HostRuntime) -> Result<(), Fail> {
     let alloc = rt.alloc();
-    let segments = after(&rt, alloc, LevelKind::Segment, &SEGMENTS)?;
-    stand(&rt, &segments, &[2, 5, 1, 4]);
-    stand(&rt, &segments.copy(alloc)?, &[2, 5, 1, 4]);
-    let cut = after(&rt, alloc, LevelKind::Segment, &BOUNDARIES)?;
-    stand(&rt, &cut, &[1, 2]);
-    let points = after(&rt, alloc, LevelKind::Event, &POINTS)?;
-    stand(&rt, &points, &[5, 1, 3, 2]);
-    let words = after(&rt, alloc, LevelKind::Item, &WORDS)?;
-    stand(&rt, &words, &[3, 2, 4, 5]);
-    stand(&rt, &words.copy(alloc)?, &[3, 2, 4, 5]);
+    expect_after(&rt, alloc, LevelKind::Segment, &SEGMENTS, &[2, 5, 1, 4])?;
+    expect_after(&rt, alloc, LevelKind::Segment, &BOUNDARIES, &[1, 2])?;
+    expect_after(&rt, alloc, LevelKind::Event, &POINTS, &[5, 1, 3, 2])?;
+    expect_after(&rt, alloc, LevelKind::Item, &WORDS, &[3, 2, 4, 5])?;
     Ok(())
 }
 
@@ -404,9 +422,8 @@ fn change_front(rt: &impl Abort, list: &mut LevelList, alloc: Global) -> Result<
     requires { list.old.attributes ≡ 0 }
     ensures { list.new.attributes ≡ 0 }
 {
-    for id in [1_000_000, 1_000_001] {
-        put(alloc, list, Some(0), ItemId(id), NoTime)?;
-    }
+    put(alloc, list, Some(0), ItemId(1_000_000), NoTime)?;
+    put(alloc, list, Some(0), ItemId(1_000_001), NoTime)?;
     assert!(rt; list.len() > 0);
     let taken = list.remove(0)?;
     assert_eq!(rt; taken.id, ItemId(1_000_001));

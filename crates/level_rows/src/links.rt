@@ -139,23 +139,31 @@ fn full(alloc: Global, lower: u32) -> Result<Links, Fault>
     Ok(links)
 }
 
+/// Asserts that there is no room for more links, that each item has the others, and that an item is taken
+/// out with its links.
+fn expect_full(rt: &impl Abort, links: &mut Links, upper: u32, lower: u32) {
+    let more = links.add(0, MANY, ItemId(1_000_000), ItemId(0));
+    assert!(rt; more == Err(Fault::Broken(Broken::TooMany(What::BundleLinks))));
+    for id in 0..upper {
+        assert_eq!(rt; links.children(ItemId(id)).count(), lower as usize);
+    }
+    for id in 0..lower {
+        let parents = links.parents(ItemId(1_000_000u32.saturating_add(id)));
+        assert_eq!(rt; parents.count(), upper as usize);
+    }
+    links.remove_item(ItemId(0));
+    assert_eq!(rt; links.len(), 262_144usize.saturating_sub(lower as usize));
+}
+
+/// How many items there are above, and how many below.
+static FULL: [(u32, u32); 3] = [(1, 262_144), (512, 512), (262_144, 1)];
+
 #[test]
 fn many_links_are_soon_there(rt: HostRuntime) -> Result<(), Fail> {
-    for (upper, lower) in [(1, 262_144), (512, 512), (262_144, 1)] {
+    for &(upper, lower) in &FULL {
+        assert!(rt; lower > 0);
         let mut links = full(rt.alloc(), lower)?;
-        let more = links.add(0, MANY, ItemId(1_000_000), ItemId(0));
-        assert!(rt; more == Err(Fault::Broken(Broken::TooMany(What::BundleLinks))));
-        for id in 0..upper {
-            assert_eq!(rt; links.children(ItemId(id)).count(), lower as usize);
-        }
-        for id in 0..lower {
-            assert_eq!(rt;
-                links.parents(ItemId(1_000_000 + id)).count(),
-                upper as usize
-            );
-        }
-        links.remove_item(ItemId(0));
-        assert_eq!(rt; links.len(), 262_144 - lower as usize);
+        expect_full(&rt, &mut links, upper, lower);
     }
     Ok(())
 }

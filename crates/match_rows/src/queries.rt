@@ -7,10 +7,10 @@ use annot_json::read_annot;
 use bundle_index::Indexed;
 use bundle_state::Bundle;
 use db_config::{Config, read_config};
-use emu_names::{BundleKey, Fault, Name};
+use emu_names::{BundleKey, Fault, Name, NameFault};
 use eql_match::match_bundle;
 use eql_model::{Span, match_plain};
-use eql_resolve::{Asked, prepare, resolve};
+use eql_resolve::{Asked, PrepareFault, Prepared, prepare, resolve};
 use json_view::View;
 use label_match::RegexMaker;
 use level_items::Annot;
@@ -76,18 +76,36 @@ static ROWS: [(&str, &str); 33] = [
     ),
 ];
 
+/// The configuration of a value.
+fn config_of_value(alloc: Global, value: &Value) -> Result<Config, Fail> {
+    let view = View::root(alloc, value)?;
+    Ok(read_config(alloc, &view)?)
+}
+
 /// The configuration of a text.
 fn config_of(alloc: Global, text: &str) -> Result<Config, Fail> {
     let value = Value::from_str(alloc, text)?;
-    let view = View::root(alloc, &value)?;
-    Ok(read_config(alloc, &view)?)
+    config_of_value(alloc, &value)
+}
+
+/// The annotation of a value.
+fn annot_of_value(alloc: Global, value: &Value) -> Result<Annot, Fail> {
+    let view = View::root(alloc, value)?;
+    Ok(read_annot(alloc, &view)?)
 }
 
 /// The annotation of a text.
 fn annot_of(alloc: Global, text: &str) -> Result<Annot, Fail> {
     let value = Value::from_str(alloc, text)?;
-    let view = View::root(alloc, &value)?;
-    Ok(read_annot(alloc, &view)?)
+    annot_of_value(alloc, &value)
+}
+
+/// The key of the bundle b1.
+fn key_of(alloc: Global) -> Result<BundleKey, NameFault> {
+    Ok(BundleKey {
+        session: Name::new(alloc, "s1")?,
+        bundle: Name::new(alloc, "b1")?,
+    })
 }
 
 /// The bundle of an annotation.
@@ -98,14 +116,28 @@ fn built(alloc: Global, config: &Config, key: BundleKey, annot: &Annot) -> Resul
     Bundle::build(alloc, config, key, annot)
 }
 
+/// The bundle b1 of an annotation.
+fn bundle_of(alloc: Global, config: &Config, annot: &Annot) -> Result<Bundle, Fail>
+    ensures { IfOk result (λ bundle. FitsConfig config.now bundle) }
+{
+    let key = key_of(alloc)?;
+    Ok(built(alloc, config, key, annot)?)
+}
+
 /// The bundle b1 of an annotation, with its columns.
 fn indexed(alloc: Global, config: &Config, annot: &Annot) -> Result<Indexed, Fail>
     ensures { IfOk result (λ made. FitsConfig config.now made.bundle) }
 {
-    let session = Name::new(alloc, "s1")?;
-    let bundle = Name::new(alloc, "b1")?;
-    let bundle = built(alloc, config, BundleKey { session, bundle }, annot)?;
+    let bundle = bundle_of(alloc, config, annot)?;
     Ok(Indexed::new(alloc, bundle)?)
+}
+
+/// The bundle b1 of the annotation of a text, with its columns.
+fn indexed_of(alloc: Global, config: &Config, text: &str) -> Result<Indexed, Fail>
+    ensures { IfOk result (λ made. FitsConfig config.now made.bundle) }
+{
+    let annot = annot_of(alloc, text)?;
+    indexed(alloc, config, &annot)
 }
 
 /// The first and last positions of results, as the table says them.
@@ -153,34 +185,72 @@ fn plain(
     }
 }
 
-/// Asks both evaluators one query.
-fn ask(
-    rt: &impl Abort,
+/// What both evaluators find, the fast one first.
+fn both(
     alloc: Global,
     config: &Config,
     indexed: &Indexed,
-    row: &(&str, &str),
-) -> Result<(), Fail>
+    asked: &Asked,
+) -> Result<(String, String), AllocError>
+    requires resolved { IsResolvedBy config.now asked.now }
+    requires fits { FitsConfig config.now indexed.now.bundle }
+{
+    let fast = fast(alloc, config, indexed, asked)?;
+    let plain = plain(alloc, config, indexed.bundle(), asked)?;
+    Ok((fast, plain))
+}
+
+/// What both evaluators find for a prepared query.
+fn found(
+    alloc: Global,
+    config: &Config,
+    indexed: &Indexed,
+    prepared: &Prepared,
+) -> Result<(String, String), Fail>
     requires { FitsConfig config.now indexed.now.bundle }
 {
-    let (text, wanted) = *row;
+    let asked = resolve(alloc, config, prepared, None)?;
+    Ok(both(alloc, config, indexed, &asked)?)
+}
+
+/// The prepared query of a text.
+fn prepared_of(alloc: Global, text: &str) -> Result<Prepared, PrepareFault> {
     let mut maker = RegexMaker::new();
-    let prepared = prepare(alloc, &mut maker, text)?;
-    let asked = resolve(alloc, config, &prepared, None)?;
-    let found = fast(alloc, config, indexed, &asked)?;
-    assert_eq!(rt; found.as_str(), wanted, "{text}");
-    let found = plain(alloc, config, indexed.bundle(), &asked)?;
-    assert_eq!(rt; found.as_str(), wanted, "{text}, plainly");
+    prepare(alloc, &mut maker, text)
+}
+
+/// What both evaluators find for a text.
+fn found_for(
+    alloc: Global,
+    config: &Config,
+    indexed: &Indexed,
+    text: &str,
+) -> Result<(String, String), Fail>
+    requires { FitsConfig config.now indexed.now.bundle }
+{
+    let prepared = prepared_of(alloc, text)?;
+    found(alloc, config, indexed, &prepared)
+}
+
+/// Asks all queries of the table.
+fn ask_all(rt: &impl Abort, alloc: Global, config: &Config, indexed: &Indexed) -> Result<(), Fail>
+    requires { FitsConfig config.now indexed.now.bundle }
+{
+    for &(text, wanted) in &ROWS {
+        let (fast, plain) = found_for(alloc, config, indexed, text)?;
+        assert_eq!(rt; (fast.as_str(), plain.as_str()), (wanted, wanted), "{text}");
+    }
     Ok(())
+}
+
+/// Asks all queries of the bundle.
+fn ask_of_bundle(rt: &impl Abort, alloc: Global, config: &Config) -> Result<(), Fail> {
+    let indexed = indexed_of(alloc, config, BUNDLE)?;
+    ask_all(rt, alloc, config, &indexed)
 }
 
 #[test]
 fn results_are_those_of_the_table(rt: HostRuntime) -> Result<(), Fail> {
     let config = config_of(rt.alloc(), DATABASE)?;
-    let annot = annot_of(rt.alloc(), BUNDLE)?;
-    let indexed = indexed(rt.alloc(), &config, &annot)?;
-    for row in &ROWS {
-        ask(&rt, rt.alloc(), &config, &indexed, row)?;
-    }
-    Ok(())
+    ask_of_bundle(&rt, rt.alloc(), &config)
 }

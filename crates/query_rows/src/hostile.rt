@@ -1,8 +1,9 @@
 //! Texts that are made to hurt a reader, long ones, deep ones and names of signs, worked by hand from the
 //! grammar and the limits: 4,096 bytes and 32 open brackets.
 
+use crate::queries::print_of;
 use eql_syntax::QueryFault::{Syntax, TextTooLong, TooDeep, TwoMarks};
-use eql_syntax::{Query, QueryFault, Term, print_query, read_query};
+use eql_syntax::{Query, QueryFault, Term, read_query};
 use std::alloc::{AllocError, Global};
 use std::test::Fail;
 
@@ -143,10 +144,9 @@ fn test_of(alloc: Global, name: &str) -> Result<String, AllocError> {
 
 #[test]
 fn names_of_signs_stand_in_quotes(rt: HostRuntime) -> Result<(), Fail> {
-    for name in &NAMES {
+    for &name in &NAMES {
         let text = test_of(rt.alloc(), name)?;
-        let query = read_query(rt.alloc(), text.as_str())?;
-        let printed = print_query(rt.alloc(), &query)?;
+        let printed = print_of(rt.alloc(), text.as_str())?;
         assert_eq!(rt; printed.as_str(), text.as_str(), "{name}");
     }
     Ok(())
@@ -163,23 +163,35 @@ fn label_count(query: &Query) -> usize {
     }
 }
 
+/// How many labels the first test of a text's query has.
+fn label_count_of(alloc: Global, text: &str) -> Result<usize, QueryFault> {
+    let query = read_query(alloc, text)?;
+    Ok(label_count(&query))
+}
+
+/// How many labels are put behind the first one, and how many there are then.
+static LABELS: [(usize, usize); 3] = [(0, 1), (99, 100), (2045, 2046)];
+
 #[test]
 fn a_test_has_many_labels(rt: HostRuntime) -> Result<(), Fail> {
-    for (more, wanted) in [(0, 1), (99, 100), (2045, 2046)] {
+    for &(more, wanted) in &LABELS {
         let text = text_of(rt.alloc(), "", more, "A == a", "|a")?;
-        let query = read_query(rt.alloc(), text.as_str())?;
-        assert_eq!(rt; label_count(&query), wanted);
+        let found = label_count_of(rt.alloc(), text.as_str());
+        assert_eq!(rt; found, Ok(wanted));
     }
     Ok(())
 }
 
-/// A pattern of so many groups in one another, in quotes.
+/// A test for one pattern of so many groups in one another, in quotes.
+fn grouped(alloc: Global, count: usize) -> Result<String, AllocError> {
+    let groups = text_of(alloc, "(", count, "a", ")")?;
+    format!(in alloc; "A =~ '{groups}'")
+}
+
 #[test]
 fn a_pattern_fills_the_text(rt: HostRuntime) -> Result<(), Fail> {
-    let groups = text_of(rt.alloc(), "(", 2044, "a", ")")?;
-    let text = format!(in rt.alloc(); "A =~ '{groups}'")?;
-    assert_eq!(rt; text.len(), 4096);
-    let query = read_query(rt.alloc(), text.as_str())?;
-    assert_eq!(rt; label_count(&query), 1);
+    let text = grouped(rt.alloc(), 2044)?;
+    let found = label_count_of(rt.alloc(), text.as_str());
+    assert_eq!(rt; (text.len(), found), (4096, Ok(1)));
     Ok(())
 }

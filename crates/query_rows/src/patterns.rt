@@ -73,14 +73,29 @@ static ROWS: [(&str, &str, Says); 48] = [
     ("\\(", "(", Yes),
 ];
 
+/// Whether a pattern matches a label.
+fn said(alloc: Global, pattern: &Pattern, label: &str) -> Result<bool, PatternFault> {
+    match pattern.matches(alloc, label) {
+        Ok(found) => Ok(found),
+        Err(_) => Err(PatternFault::Memory),
+    }
+}
+
+/// Whether the pattern of `text` matches `label`, or why there is none.
+fn tried<P: PatternMaker>(
+    maker: &mut P,
+    alloc: Global,
+    text: &str,
+    label: &str,
+) -> Result<bool, PatternFault> {
+    let pattern = maker.compile(alloc, text)?;
+    said(alloc, &pattern, label)
+}
+
 fn answer(alloc: Global, text: &str, label: &str) -> Result<Says, PatternFault> {
-    let mut maker = RegexMaker::new();
-    match maker.compile(alloc, text) {
-        Ok(pattern) => match pattern.matches(alloc, label) {
-            Ok(true) => Ok(Yes),
-            Ok(false) => Ok(No),
-            Err(_) => Err(PatternFault::Memory),
-        },
+    match tried(&mut RegexMaker::new(), alloc, text, label) {
+        Ok(true) => Ok(Yes),
+        Ok(false) => Ok(No),
         Err(PatternFault::Syntax) => Ok(Refused),
         Err(fault) => Err(fault),
     }
@@ -94,75 +109,79 @@ fn patterns_match_whole_labels(rt: HostRuntime) -> Result<(), Fail> {
     Ok(())
 }
 
-/// Whether the pattern of `text` matches `label`, or why there is none.
-fn tried<P: PatternMaker>(
-    maker: &mut P,
-    alloc: Global,
-    text: &str,
-    label: &str,
-) -> Result<bool, PatternFault> {
-    let pattern = maker.compile(alloc, text)?;
-    match pattern.matches(alloc, label) {
-        Ok(found) => Ok(found),
-        Err(_) => Err(PatternFault::Memory),
+/// A text, whether its pattern matches the label, and the refusals that are counted then.
+type Call = (&'static str, Result<bool, PatternFault>, u64);
+
+static REFUSALS: [Call; 4] = [
+    ("(?:a{1000}){1000}", Err(PatternFault::Size), 1),
+    ("(", Err(PatternFault::Syntax), 1),
+    ("a", Ok(true), 1),
+    ("a{4294967295}", Err(PatternFault::Size), 2),
+];
+
+#[test]
+fn refusals_are_counted(rt: HostRuntime) {
+    let mut maker = RegexMaker::new();
+    for &(text, wanted, refusals) in &REFUSALS {
+        let found = tried(&mut maker, rt.alloc(), text, "a");
+        assert_eq!(rt; (found, maker.refusals()), (wanted, refusals), "{text}");
     }
 }
 
-#[test]
-fn refusals_are_counted(rt: HostRuntime) -> Result<(), Fail> {
-    let mut maker = RegexMaker::new();
-    for (text, wanted, refusals) in [
-        ("(?:a{1000}){1000}", Err(PatternFault::Size), 1),
-        ("(", Err(PatternFault::Syntax), 1),
-        ("a", Ok(true), 1),
-        ("a{4294967295}", Err(PatternFault::Size), 2),
-    ] {
-        let found = tried(&mut maker, rt.alloc(), text, "a");
-        assert!(rt; found == wanted && maker.refusals() == refusals, "{text}");
+static LISTED: [Call; 5] = [
+    ("[Vm]", Err(PatternFault::Size), 1),
+    ("[Vm]", Ok(true), 1),
+    (")", Err(PatternFault::Syntax), 1),
+    ("(", Err(PatternFault::Size), 2),
+    ("v", Ok(false), 2),
+];
+
+/// Compares the calls of a maker.
+fn expect_listed(rt: &impl Abort, alloc: Global, maker: &mut ListMaker) {
+    for &(text, wanted, refusals) in &LISTED {
+        let found = tried(maker, alloc, text, "V");
+        assert_eq!(rt; (found, maker.refusals()), (wanted, refusals), "{text}");
     }
-    Ok(())
 }
 
 #[test]
 fn listed_calls_are_refused(rt: HostRuntime) -> Result<(), Fail> {
-    let mut maker = ListMaker::new(Vec::from_array(rt.alloc(), [1, 4])?);
-    for (text, wanted, refusals) in [
-        ("[Vm]", Err(PatternFault::Size), 1),
-        ("[Vm]", Ok(true), 1),
-        (")", Err(PatternFault::Syntax), 1),
-        ("(", Err(PatternFault::Size), 2),
-        ("v", Ok(false), 2),
-    ] {
-        let found = tried(&mut maker, rt.alloc(), text, "V");
-        assert!(rt; found == wanted && maker.refusals() == refusals, "{text}");
-    }
+    let mut maker = ListMaker::new(Vec::from_slice(rt.alloc(), &[1, 4])?);
+    expect_listed(&rt, rt.alloc(), &mut maker);
     Ok(())
 }
 
-/// How many of the first `count` labels of a list that says `V`, `Vm`, `V`, `m`, `V`, `Vm` again and
-/// again the pattern matches, asked by one search.
+/// The label at a place of a list that says `V`, `Vm`, `V`, `m`, `V`, `Vm` again and again.
+fn label_at(place: u32) -> &'static str {
+    if place % 2 == 0 {
+        "V"
+    } else if place % 3 == 0 {
+        "m"
+    } else {
+        "Vm"
+    }
+}
+
+/// How many of the first `count` labels of that list the pattern matches, asked by one search.
 fn matched(alloc: Global, pattern: &Pattern, count: u32) -> Result<u32, Memory> {
     let mut matching = pattern.matcher(alloc)?;
     let mut found: u32 = 0;
-    for at in 0..count {
-        let label = if at % 2 == 0 {
-            "V"
-        } else if at % 3 == 0 {
-            "m"
-        } else {
-            "Vm"
-        };
-        if matching.matches(label) {
-            found = found.saturating_add(1);
-        }
+    for place in 0..count {
+        let more = u32::from(matching.matches(label_at(place)));
+        found = found.saturating_add(more);
     }
     Ok(found)
 }
 
+/// How many of so many labels the pattern of a text matches.
+fn matched_by(alloc: Global, text: &str, count: u32) -> Result<u32, Fail> {
+    let pattern = RegexMaker::new().compile(alloc, text)?;
+    Ok(matched(alloc, &pattern, count)?)
+}
+
 #[test]
 fn one_search_asks_many_labels(rt: HostRuntime) -> Result<(), Fail> {
-    let mut maker = RegexMaker::new();
-    let pattern = maker.compile(rt.alloc(), "[Vm]")?;
-    assert_eq!(rt; matched(rt.alloc(), &pattern, 200_000)?, 133_333);
+    let found = matched_by(rt.alloc(), "[Vm]", 200_000)?;
+    assert_eq!(rt; found, 133_333);
     Ok(())
 }

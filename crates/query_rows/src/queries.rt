@@ -1,9 +1,9 @@
 //! Faults and their places, and the prints of queries, worked by hand from the grammar and the rules of printing.
 
 use emu_names::{Memory, Text};
-use eql_syntax::QueryFault::{Syntax, TextTooLong, TooDeep, TwoMarks};
+use eql_syntax::QueryFault::{Syntax, TwoMarks};
 use eql_syntax::{Op, Query, QueryFault, Term, Terms, Words, print_query, read_query};
-use std::alloc::{AllocError, Global};
+use std::alloc::Global;
 use std::test::Fail;
 
 static FAULTS: [(&str, QueryFault); 81] = [
@@ -170,23 +170,34 @@ static PRINTS: [(&str, &str); 44] = [
 
 #[test]
 fn faults_and_places(rt: HostRuntime) {
-    for (text, fault) in &FAULTS {
-        match read_query(rt.alloc(), text) {
-            Ok(_query) => assert!(rt; false, "{text} is read"),
-            Err(found) => assert_eq!(rt; found, *fault, "{text}"),
-        }
+    for &(text, fault) in &FAULTS {
+        let found = read_query(rt.alloc(), text).err();
+        assert_eq!(rt; found, Some(fault), "{text}");
     }
+}
+
+/// The print of a text's query.
+pub(crate) fn print_of(alloc: Global, text: &str) -> Result<Text, QueryFault> {
+    let query = read_query(alloc, text)?;
+    Ok(print_query(alloc, &query)?)
+}
+
+/// The print of a copy of a text's query.
+fn print_of_copy(alloc: Global, text: &str) -> Result<Text, QueryFault> {
+    let query = read_query(alloc, text)?.copy(alloc)?;
+    Ok(print_query(alloc, &query)?)
 }
 
 #[test]
 fn texts_and_their_prints(rt: HostRuntime) -> Result<(), Fail> {
-    for (text, print) in &PRINTS {
-        let query = read_query(rt.alloc(), text)?.copy(rt.alloc())?;
-        let printed = print_query(rt.alloc(), &query)?;
-        assert_eq!(rt; printed.as_str(), *print, "{text}");
-        let again = read_query(rt.alloc(), print)?;
-        let printed_again = print_query(rt.alloc(), &again)?;
-        assert_eq!(rt; printed_again.as_str(), *print, "{text}");
+    for &(text, print) in &PRINTS {
+        let printed = print_of_copy(rt.alloc(), text)?;
+        let again = print_of(rt.alloc(), print)?;
+        assert_eq!(rt;
+            (printed.as_str(), again.as_str()),
+            (print, print),
+            "{text}"
+        );
     }
     Ok(())
 }
@@ -214,49 +225,29 @@ fn terms(alloc: Global) -> Result<Terms, Memory> {
     Ok(terms)
 }
 
+/// The print of a copy of the query of that test.
+fn print_of_made(alloc: Global) -> Result<Text, Memory> {
+    let query = Query::Terms(terms(alloc)?.copy(alloc)?);
+    print_query(alloc, &query)
+}
+
 #[test]
 fn a_query_made_by_hand(rt: HostRuntime) -> Result<(), Fail> {
-    let query = Query::Terms(terms(rt.alloc())?.copy(rt.alloc())?);
-    let text = print_query(rt.alloc(), &query)?;
+    let text = print_of_made(rt.alloc())?;
     assert_eq!(rt; text.as_str(), "#'B' != 'a'");
     Ok(())
+}
+
+/// How many terms there are.
+fn count_of_terms(alloc: Global) -> Result<usize, Memory> {
+    Ok(terms(alloc)?.len())
 }
 
 #[test]
 fn lists_count(rt: HostRuntime) -> Result<(), Fail> {
     let labels = labels(rt.alloc())?;
     assert_eq!(rt; labels.len(), 1);
-    assert_eq!(rt; labels.get(0).as_str(), "a");
-    assert_eq!(rt; terms(rt.alloc())?.len(), 1);
-    Ok(())
-}
-
-/// A text, this many times.
-fn repeated(alloc: Global, text: &str, count: usize) -> Result<String, AllocError> {
-    let mut all = String::new(alloc);
-    for _ in 0..count {
-        all.push_str(text)?;
-    }
-    Ok(all)
-}
-
-#[test]
-fn brackets_have_a_limit(rt: HostRuntime) -> Result<(), Fail> {
-    let open = repeated(rt.alloc(), "[", 32)?;
-    let close = repeated(rt.alloc(), "]", 32)?;
-    let deep = format!(in rt.alloc(); "{open}A == a{close}")?;
-    let _query = read_query(rt.alloc(), deep.as_str())?;
-    Ok(())
-}
-
-#[test]
-fn texts_have_a_limit(rt: HostRuntime) -> Result<(), Fail> {
-    for (count, fault) in [(4096, TooDeep(32)), (4097, TextTooLong)] {
-        let text = repeated(rt.alloc(), "[", count)?;
-        match read_query(rt.alloc(), text.as_str()) {
-            Ok(_query) => assert!(rt; false, "{count} brackets are read"),
-            Err(found) => assert_eq!(rt; found, fault),
-        }
-    }
+    let count = count_of_terms(rt.alloc());
+    assert_eq!(rt; (labels.get(0).as_str(), count), ("a", Ok(1)));
     Ok(())
 }

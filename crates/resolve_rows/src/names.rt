@@ -1,12 +1,13 @@
 //! Queries with what they ask of a database, or with why they cannot be asked.
 
 use db_config::{Config, read_config};
-use emu_names::Text;
-use eql_resolve::{Asked, Prepared, prepare, resolve};
+use emu_names::{Memory, Text};
+use eql_resolve::{Asked, PrepareFault, Prepared, prepare, resolve};
 use json_view::View;
 use label_match::RegexMaker;
 use serde_json::Value;
 use std::alloc::{AllocError, Global};
+use std::process::Abort;
 use std::test::Fail;
 
 /// ITEM levels Word, Foot and Syl; below Word the SEGMENT levels Phonetic and Gesture and the EVENT
@@ -101,10 +102,16 @@ static ROWS: [(&str, &str, &str); 30] = [
     ("Start == a", "", "there is no level or attribute Start"),
 ];
 
+/// The configuration of a value.
+fn config_of_value(alloc: Global, value: &Value) -> Result<Config, Fail> {
+    let view = View::root(alloc, value)?;
+    Ok(read_config(alloc, &view)?)
+}
+
+/// The configuration of the database.
 fn config_of(alloc: Global) -> Result<Config, Fail> {
     let value = Value::from_str(alloc, DATABASE)?;
-    let view = View::root(alloc, &value)?;
-    Ok(read_config(alloc, &view)?)
+    config_of_value(alloc, &value)
 }
 
 /// What a query asks, as the table says it.
@@ -130,24 +137,43 @@ fn answer(
     }
 }
 
-/// Prepares a query and asks the database; the empty name stands for none.
-fn tried(alloc: Global, config: &Config, text: &str, time: &str) -> Result<String, Fail> {
+/// The prepared query of a text.
+fn prepared_of(alloc: Global, text: &str) -> Result<Prepared, PrepareFault> {
     let mut maker = RegexMaker::new();
-    let prepared = prepare(alloc, &mut maker, text)?;
+    prepare(alloc, &mut maker, text)
+}
+
+/// What a prepared query asks of the database with a name for the times; the empty name stands for none.
+fn answer_with(
+    alloc: Global,
+    config: &Config,
+    prepared: &Prepared,
+    time: &str,
+) -> Result<String, Memory> {
     if time.is_empty() {
-        return Ok(answer(alloc, config, &prepared, None)?);
+        return Ok(answer(alloc, config, prepared, None)?);
     }
     let name = Text::new(alloc, time)?;
-    Ok(answer(alloc, config, &prepared, Some(&name))?)
+    Ok(answer(alloc, config, prepared, Some(&name))?)
+}
+
+/// Prepares a query and asks the database.
+fn tried(alloc: Global, config: &Config, text: &str, time: &str) -> Result<String, Fail> {
+    let prepared = prepared_of(alloc, text)?;
+    Ok(answer_with(alloc, config, &prepared, time)?)
+}
+
+/// Asks the queries of the table, and compares.
+fn expect_answers(rt: &impl Abort, alloc: Global, config: &Config) -> Result<(), Fail> {
+    for &(text, time, wanted) in &ROWS {
+        let found = tried(alloc, config, text, time)?;
+        assert_eq!(rt; found.as_str(), wanted, "{text}");
+    }
+    Ok(())
 }
 
 #[test]
 fn names_are_resolved(rt: HostRuntime) -> Result<(), Fail> {
-    let alloc = rt.alloc();
-    let config = config_of(alloc)?;
-    for &(text, time, wanted) in &ROWS {
-        let found = tried(alloc, &config, text, time)?;
-        assert_eq!(rt; found.as_str(), wanted, "{text}");
-    }
-    Ok(())
+    let config = config_of(rt.alloc())?;
+    expect_answers(&rt, rt.alloc(), &config)
 }

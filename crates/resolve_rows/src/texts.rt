@@ -1,6 +1,6 @@
 //! Texts of queries with the patterns that are compiled of them, or with why they are refused.
 
-use eql_resolve::{PrepareFault, prepare};
+use eql_resolve::{PrepareFault, Prepared, prepare};
 use eql_syntax::QueryFault;
 use label_match::{ListMaker, PatternMaker, RegexMaker};
 use std::alloc::{AllocError, Global};
@@ -67,40 +67,47 @@ fn pattern_count<P: PatternMaker>(
     Ok(prepared.patterns().len())
 }
 
+/// How many patterns the text is prepared to, where the maker refuses one call.
+fn listed(
+    alloc: Global,
+    text: &str,
+    refused: u64,
+) -> Result<Result<usize, PrepareFault>, AllocError> {
+    let mut maker = ListMaker::new(Vec::from_slice(alloc, &[refused])?);
+    Ok(pattern_count(alloc, &mut maker, text))
+}
+
 #[test]
 fn texts_are_prepared_or_refused(rt: HostRuntime) -> Result<(), Fail> {
     for &(text, refused, wanted) in &ROWS {
-        let mut maker = ListMaker::new(Vec::from_array(rt.alloc(), [refused])?);
-        let found = pattern_count(rt.alloc(), &mut maker, text);
-        assert!(rt; found == wanted, "{text}");
+        let found = listed(rt.alloc(), text, refused)?;
+        assert_eq!(rt; found, wanted, "{text}");
     }
     Ok(())
 }
 
 /// Whether these are the texts of the patterns of a query.
+fn has_patterns(prepared: &Prepared, wanted: &[&str]) -> bool {
+    let patterns = prepared.patterns();
+    patterns.len() == wanted.len()
+        && patterns
+            .iter()
+            .zip(wanted)
+            .all(|(pattern, text)| pattern.as_str() == *text)
+}
+
+/// Whether these are the texts of the patterns of a text's query.
 fn are_patterns_of(alloc: Global, text: &str, wanted: &[&str]) -> Result<bool, PrepareFault> {
     let mut maker = RegexMaker::new();
     let prepared = prepare(alloc, &mut maker, text)?;
-    let patterns = prepared.patterns();
-    if patterns.len() != wanted.len() {
-        return Ok(false);
-    }
-    for (pattern, text) in patterns.iter().zip(wanted) {
-        if pattern.as_str() != *text {
-            return Ok(false);
-        }
-    }
-    Ok(true)
+    Ok(has_patterns(&prepared, wanted))
 }
 
 #[test]
-fn patterns_stand_in_the_order_of_the_text(rt: HostRuntime) -> Result<(), Fail> {
+fn patterns_stand_in_the_order_of_the_text(rt: HostRuntime) {
     let text = "[[A =~ a & B !~ b|c] -> [[C == d ^ D =~ e] ^ E !~ f & F =~ '']]";
-    assert_eq!(rt;
-        are_patterns_of(rt.alloc(), text, &["a", "b", "c", "e", "f", ""]),
-        Ok(true)
-    );
-    Ok(())
+    let found = are_patterns_of(rt.alloc(), text, &["a", "b", "c", "e", "f", ""]);
+    assert_eq!(rt; found, Ok(true));
 }
 
 /// A test for one pattern of so many groups in one another.
@@ -118,18 +125,25 @@ fn grouped(alloc: Global, count: usize) -> Result<String, AllocError> {
     Ok(text)
 }
 
+/// How many patterns a test of so many groups is prepared to.
+fn grouped_count(alloc: Global, count: usize) -> Result<Result<usize, PrepareFault>, AllocError> {
+    let text = grouped(alloc, count)?;
+    let mut maker = RegexMaker::new();
+    Ok(pattern_count(alloc, &mut maker, text.as_str()))
+}
+
 /// 2,044 groups fill the 4,096 bytes of a text; patterns are nested 250 deep at most.
+static GROUPS: [(usize, Result<usize, PrepareFault>); 3] = [
+    (0, Ok(1)),
+    (100, Ok(1)),
+    (2044, Err(PrepareFault::BadPattern(0))),
+];
+
 #[test]
 fn groups_in_one_another_have_a_limit(rt: HostRuntime) -> Result<(), Fail> {
-    for (count, wanted) in [
-        (0, Ok(1)),
-        (100, Ok(1)),
-        (2044, Err(PrepareFault::BadPattern(0))),
-    ] {
-        let text = grouped(rt.alloc(), count)?;
-        let mut maker = RegexMaker::new();
-        let found = pattern_count(rt.alloc(), &mut maker, text.as_str());
-        assert!(rt; found == wanted, "{count}");
+    for &(count, wanted) in &GROUPS {
+        let found = grouped_count(rt.alloc(), count)?;
+        assert_eq!(rt; found, wanted, "{count}");
     }
     Ok(())
 }

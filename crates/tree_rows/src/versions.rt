@@ -6,7 +6,7 @@ use bundle_index::Indexed;
 use bundle_state::Bundle;
 use db_config::{Config, read_config};
 use emu_lists::Series;
-use emu_names::{BundleKey, Fault, Memory, Name, Text};
+use emu_names::{BundleKey, Fault, Memory, Name, NameFault, Text};
 use json_view::View;
 use level_items::Annot;
 use serde_json::Value;
@@ -24,20 +24,35 @@ const COUNT: u32 = 10_000;
 /// Steps by which the numbers of bundles are gone through: upwards, downwards, and to and fro.
 static STEPS: [u32; 3] = [1, 9_999, 7_001];
 
-/// The configuration of the database.
-fn config_of(alloc: Global) -> Result<Config, Fail> {
-    let value = Value::from_str(alloc, DATABASE)?;
-    let view = View::root(alloc, &value)?;
+/// The configuration of a value.
+fn config_of_value(alloc: Global, value: &Value) -> Result<Config, Fail> {
+    let view = View::root(alloc, value)?;
     Ok(read_config(alloc, &view)?)
 }
 
-/// The key of a bundle, whose keys rise as the numbers do.
-fn key_of(alloc: Global, number: u32) -> Result<BundleKey, Fail> {
+/// The configuration of the database.
+fn config_of(alloc: Global) -> Result<Config, Fail> {
+    let value = Value::from_str(alloc, DATABASE)?;
+    config_of_value(alloc, &value)
+}
+
+/// The name of a session.
+fn session_of(alloc: Global, number: u32) -> Result<Name, NameFault> {
     let session = format!(in alloc; "s{:02}", number / 500)?;
+    Name::new(alloc, session.as_str())
+}
+
+/// The name of a bundle.
+fn bundle_of(alloc: Global, number: u32) -> Result<Name, NameFault> {
     let bundle = format!(in alloc; "b{number:05}")?;
+    Name::new(alloc, bundle.as_str())
+}
+
+/// The key of a bundle, whose keys rise as the numbers do.
+fn key_of(alloc: Global, number: u32) -> Result<BundleKey, NameFault> {
     Ok(BundleKey {
-        session: Name::new(alloc, session.as_str())?,
-        bundle: Name::new(alloc, bundle.as_str())?,
+        session: session_of(alloc, number)?,
+        bundle: bundle_of(alloc, number)?,
     })
 }
 
@@ -60,11 +75,19 @@ fn built(alloc: Global, config: &Config, key: BundleKey, annot: &Annot) -> Resul
 }
 
 /// The bundle of a number.
+fn bundle_numbered(alloc: Global, config: &Config, number: u32) -> Result<Bundle, Fail>
+    ensures { IfOk result (λ bundle. FitsConfig config.now bundle) }
+{
+    let key = key_of(alloc, number)?;
+    let annot = annot_of(alloc)?;
+    Ok(built(alloc, config, key, &annot)?)
+}
+
+/// The bundle of a number, with its columns.
 fn indexed(alloc: Global, config: &Config, number: u32) -> Result<Indexed, Fail>
     ensures { IfOk result (λ made. FitsConfig config.now made.bundle) }
 {
-    let annot = annot_of(alloc)?;
-    let bundle = built(alloc, config, key_of(alloc, number)?, &annot)?;
+    let bundle = bundle_numbered(alloc, config, number)?;
     Ok(Indexed::new(alloc, bundle)?)
 }
 
@@ -86,57 +109,96 @@ fn without(alloc: Global, version: &Version, key: &BundleKey) -> Result<Version,
     }
 }
 
+/// Checks that a bundle stands at a place, and is found.
+fn check_at(rt: &impl Abort, version: &Version, place: usize, key: &BundleKey) {
+    assert!(rt; place < version.len());
+    let found = version.at(place).bundle().key();
+    assert_eq!(rt;
+        (found.bundle.as_str(), version.get(key).is_some()),
+        (key.bundle.as_str(), true)
+    );
+}
+
 /// Checks that just the bundles from a number on stand in order.
-fn check(rt: &impl Abort, alloc: Global, version: &Version, first: u32) -> Result<(), Fail> {
+fn check(rt: &impl Abort, alloc: Global, version: &Version, first: u32) -> Result<(), NameFault> {
     assert_eq!(rt; version.len(), (COUNT - first.min(COUNT)) as usize);
     let mut number = first;
     for place in 0..version.len() {
         let key = key_of(alloc, number)?;
-        let found = version.at(place).bundle().key();
-        assert_eq!(rt; found.bundle.as_str(), key.bundle.as_str());
-        assert!(rt; version.get(&key).is_some());
+        check_at(rt, version, place, &key);
         number = number.saturating_add(1);
     }
     Ok(())
 }
 
+/// The version with the bundle of a number.
+fn with_number(alloc: Global, version: &Version, number: u32) -> Result<Version, Fail> {
+    let next = indexed(alloc, version.config(), number)?;
+    Ok(with(alloc, version, next)?)
+}
+
 /// A version with all bundles, put in by steps.
 fn filled(alloc: Global, step: u32) -> Result<Version, Fail> {
-    let mut version = Version::new(alloc, config_of(alloc)?)?;
+    let mut version = empty(alloc)?;
     let mut number = 0;
     for _bundle in 0..COUNT {
-        let next = indexed(alloc, version.config(), number)?;
-        version = with(alloc, &version, next)?;
+        version = with_number(alloc, &version, number)?;
         number = number.saturating_add(step) % COUNT;
     }
     Ok(version)
 }
 
+/// A version without bundles.
+fn empty(alloc: Global) -> Result<Version, Fail> {
+    Ok(Version::new(alloc, config_of(alloc)?)?)
+}
+
+/// The version without the bundle of a number, where it is there.
+fn without_number(alloc: Global, version: &Version, number: u32) -> Result<Version, Fail> {
+    let key = key_of(alloc, number)?;
+    Ok(without(alloc, version, &key)?)
+}
+
 /// A version without the bundles below a limit, taken out by steps.
-fn emptied(alloc: Global, version: Version, step: u32, limit: u32) -> Result<Version, Fail> {
-    let mut version = version;
+fn emptied(alloc: Global, version: &Version, step: u32, limit: u32) -> Result<Version, Fail> {
+    let mut left = version.copy(alloc)?;
     let mut number = 0;
     for _bundle in 0..COUNT {
         if number < limit {
-            let key = key_of(alloc, number)?;
-            version = without(alloc, &version, &key)?;
+            left = without_number(alloc, &left, number)?;
         }
         number = number.saturating_add(step) % COUNT;
     }
-    Ok(version)
+    Ok(left)
+}
+
+/// Takes the bundles out of a version, first one half, and checks what is left.
+fn expect_emptied(rt: &impl Abort, alloc: Global, full: &Version, step: u32) -> Result<(), Fail> {
+    let half = emptied(alloc, full, step, 5_000)?;
+    check(rt, alloc, &half, 5_000)?;
+    let empty = emptied(alloc, &half, step, COUNT)?;
+    assert_eq!(rt; empty.len(), 0);
+    Ok(())
+}
+
+/// Fills a version, and checks it.
+fn expect_full(rt: &impl Abort, alloc: Global, step: u32) -> Result<(), Fail> {
+    let full = filled(alloc, step)?;
+    expect_kept(rt, alloc, &full, step)
+}
+
+/// Checks a full version, and once more when the bundles were taken out of its copy.
+fn expect_kept(rt: &impl Abort, alloc: Global, full: &Version, step: u32) -> Result<(), Fail> {
+    check(rt, alloc, full, 0)?;
+    expect_emptied(rt, alloc, full, step)?;
+    check(rt, alloc, full, 0)?;
+    Ok(())
 }
 
 #[test]
 fn bundles_come_and_go(rt: HostRuntime) -> Result<(), Fail> {
-    for step in STEPS {
-        let full = filled(rt.alloc(), step)?;
-        check(&rt, rt.alloc(), &full, 0)?;
-        let kept = full.copy(rt.alloc())?;
-        let half = emptied(rt.alloc(), full, step, 5_000)?;
-        check(&rt, rt.alloc(), &half, 5_000)?;
-        let empty = emptied(rt.alloc(), half, step, COUNT)?;
-        assert_eq!(rt; empty.len(), 0);
-        check(&rt, rt.alloc(), &kept, 0)?;
+    for &step in &STEPS {
+        expect_full(&rt, rt.alloc(), step)?;
     }
     Ok(())
 }
