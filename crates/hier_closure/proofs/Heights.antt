@@ -88,7 +88,7 @@ links_above defs level (l ∷ links) a b all h =
 same_level : (n m : ℕ) (o : Option ℕ) → o ≡ Some n → o ≡ Some m → n ≡ m
 same_level n m o p q = cc
 
-way_above : (defs : List LinkDef) (level : ℕ → Option ℕ) (links : List Link) (a b : ℕ) → All (IsBetween defs level) links → Way links a b →
+pub way_above : (defs : List LinkDef) (level : ℕ → Option ℕ) (links : List Link) (a b : ℕ) → All (IsBetween defs level) links → Way links a b →
     AreAbove defs level a b
 way_above defs level links a b all (ways.linked h) = links_above defs level links a b all h
 way_above defs level links a b all (ways.further {b = m} h p) =

@@ -3,6 +3,7 @@ pub mod Bits
 pub mod Heights
 pub mod Ids
 pub mod Joins
+pub mod Passes
 pub mod Near
 pub mod Tables
 pub mod Ways

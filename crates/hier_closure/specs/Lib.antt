@@ -1,4 +1,5 @@
 pub mod Dominance
 pub mod Held
 pub mod Laws
+pub mod Linked
 pub mod Ranks

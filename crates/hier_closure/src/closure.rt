@@ -2,11 +2,15 @@
 ghost use Rattle.std.specs.Prelude.{◌≡◌, ◌<◌, length, slice_get, IfOk, Some};
 ghost use Rattle.bundle_state.specs.Built.{FitsConfig};
 ghost use Rattle.hier_closure.specs.Dominance.{closure_of};
+ghost use Rattle.hier_closure.specs.Linked.{AreLinkedIn};
 
 use crate::held::Held;
 use crate::levels::{level_rows, rows_between};
+use crate::linked::{LinkedLevels, rows_at};
+use crate::ranks::any_between;
 use bundle_state::Bundle;
 use db_config::Config;
+use emu_lists::PlainData;
 use emu_names::Memory;
 use lane_bits::BitRow;
 use std::alloc::Global;
@@ -55,6 +59,38 @@ impl Closure {
         Ok(Closure {
             held: Held::Each(rows),
         })
+    }
+
+    /// The same rows of dominance. They are taken from the rows of the bundle's links, where no level lies
+    /// between the two and those of the two are among them, and made else. The only refusal is want of
+    /// memory.
+    pub fn kept(
+        alloc: Global,
+        config: &Config,
+        bundle: &Bundle,
+        all: &[LinkedLevels],
+        upper: usize,
+        lower: usize,
+    ) -> Result<Closure, Memory>
+        requires fits { FitsConfig config.now bundle.now }
+        requires upper { upper < length bundle.now.levels }
+        requires lower { lower < length bundle.now.levels }
+        requires kept { AreLinkedIn bundle.now all.now }
+        ensures { IfOk result (λ made. made ≡ closure_of bundle.now lower upper) }
+    {
+        let _parts = config.parts();
+        if any_between(config, upper, lower) {
+            return Closure::between(alloc, config, bundle, upper, lower);
+        }
+        match rows_at(all, upper, lower) {
+            Some(rows) => {
+                let rows = rows.copy(alloc)?;
+                Ok(Closure {
+                    held: Held::Common(rows),
+                })
+            }
+            None => Closure::between(alloc, config, bundle, upper, lower),
+        }
     }
 
     /// The row of an item of the upper level, by its position.

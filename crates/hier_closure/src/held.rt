@@ -6,6 +6,7 @@ ghost use Rattle.hier_closure.specs.Held.{rows_in};
 
 use crate::levels::Rows;
 use bundle_state::Bundle;
+use emu_lists::Shared;
 use emu_names::Memory;
 use lane_bits::BitRow;
 use std::alloc::Global;
@@ -15,6 +16,8 @@ use std::alloc::Global;
 pub(crate) enum Held {
     /// A row for each item.
     Each(Rows),
+    /// The same, which others share.
+    Common(Shared<Rows>),
     /// How many items there are, and the row that each of them has.
     Alike(usize, BitRow),
 }
@@ -49,6 +52,7 @@ impl Held {
     {
         match self {
             Held::Each(rows) => rows.get(position),
+            Held::Common(rows) => rows.as_ref().get(position),
             Held::Alike(_, row) => row,
         }
     }

@@ -7,7 +7,9 @@ mod closure;
 mod held;
 mod laws;
 mod levels;
+mod linked;
 mod ranks;
 
 pub use closure::Closure;
 pub use laws::{bits_are_dominance, dominance_is_by_chains, dominance_is_by_first_links};
+pub use linked::{LinkedLevels, linked_levels};

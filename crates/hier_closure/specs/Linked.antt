@@ -1,0 +1,21 @@
+-- Which items of a level link to which of another.
+use Rattle.std.specs.Prelude.{◌≡◌, ℕ, Bool, List, All, map}
+use Rattle.link_graph.specs.declared.link.Link.{Link}
+use Rattle.bundle_state.specs.Bundle.{BundleParts}
+use Rattle.bundle_state.specs.Valid.{KeepsBundleRules}
+use Rattle.hier_closure.specs.Dominance.{links_to, ids_at}
+use Rattle.hier_closure.specs.declared.linked.LinkedLevels.{LinkedLevels}
+
+-- for each lower item, whether a link leads to it from an upper one
+abbrev pub linked_row : List Link → List ℕ → ℕ → List Bool
+linked_row links lowers upper = map (links_to links upper) lowers
+
+-- one such row for each item of the upper level
+abbrev pub linked_of : BundleParts → ℕ → ℕ → List Link → List (List Bool)
+linked_of bundle upper lower links =
+    map (linked_row links (ids_at bundle.levels lower)) (ids_at bundle.levels upper)
+
+-- the bundle keeps its rules, and these rows are those of its links
+pub record AreLinkedIn (bundle : BundleParts) (all : List LinkedLevels) : Type 0 where
+  pub rules : KeepsBundleRules bundle
+  pub each : All (λ one. one.rows ≡ linked_of bundle one.upper one.lower bundle.links) all

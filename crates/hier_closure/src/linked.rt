@@ -1,0 +1,180 @@
+//! The rows of links between two levels, as a bundle with few links keeps them: between levels of which
+//! one is right above the other they are its rows of dominance.
+ghost use Rattle.std.specs.Prelude.{◌≡◌, ◌≢◌, ◌<◌, ◌+◌, true, false, [], take, replicate, length, get_or, slice_get, slice_set, IfOk, IfNone, IfSome, IsSome, OnOk, Some};
+ghost use Rattle.bundle_state.specs.Bundle.{BundleParts, level_of_id};
+ghost use Rattle.bundle_state.specs.Valid.{KeepsBundleRules};
+ghost use Rattle.hier_closure.specs.Dominance.{ids_at};
+ghost use Rattle.hier_closure.specs.Linked.{AreLinkedIn, linked_of};
+
+use crate::levels::Rows;
+use bundle_state::Bundle;
+use emu_lists::{Series, Shared};
+use emu_names::{ItemId, Memory};
+use lane_bits::BitRow;
+use link_graph::Link;
+use std::alloc::Global;
+
+/// The most links of a bundle whose rows are kept.
+const KEPT_LINKS: usize = 128;
+
+/// Two levels of a bundle, and for each item of the upper one, in order, which items of the lower one it
+/// links to.
+#[derive(Drop)]
+pub struct LinkedLevels {
+    /// The number of the upper level.
+    pub upper: usize,
+    /// The number of the lower level.
+    pub lower: usize,
+    /// A row for each item of the upper level, which closures share.
+    pub rows: Shared<Series<BitRow>>,
+}
+
+/// A row of which no bit is set. The only refusal is want of memory.
+fn unset_row(alloc: Global, width: usize) -> Result<BitRow, Memory>
+    ensures { IfOk result (λ row. row ≡ replicate width false) }
+{
+    match BitRow::new(alloc, width) {
+        Ok(row) => Ok(row),
+        Err(_) => Err(Memory),
+    }
+}
+
+/// Rows of which no bit is set. The only refusal is want of memory.
+fn unset_rows(alloc: Global, count: usize, width: usize) -> Result<Vec<BitRow>, Memory>
+    ensures { IfOk result (λ rows. rows.items ≡ replicate count (replicate width false)) }
+{
+    let mut rows = Vec::with_capacity(alloc, count)?;
+    for _ in 0..count {
+        rows.push(unset_row(alloc, width)?)?;
+    }
+    Ok(rows)
+}
+
+/// Sets a bit of one of some rows.
+fn set_bit(rows: &mut [BitRow], row: usize, at: usize)
+    requires row { row < length rows.old }
+    requires at { at < length (get_or rows.old row []) }
+    ensures { rows.new ≡ slice_set rows.old row (slice_set (get_or rows.old row []) at true) }
+{
+    rows[row].set(at, true);
+}
+
+/// The position of an item of the bundle, where it is one of this level.
+fn position_on(bundle: &Bundle, level: usize, id: ItemId) -> Option<usize>
+    requires { IsSome (level_of_id bundle.now.levels id.0) }
+    ensures there { IfSome result
+        (λ position. slice_get (ids_at bundle.now.levels level) position ≡ Some id.0) }
+    ensures none { IfNone result (level_of_id bundle.now.levels id.0 ≢ Some level) }
+{
+    match bundle.place(id) {
+        Some((on, position)) => { if on == level { Some(position) } else { None } }
+        None => None,
+    }
+}
+
+/// Sets the bit of the link at a place of the bundle's list, if it leads from the one level to the other.
+fn add_link(rows: &mut [BitRow], bundle: &Bundle, upper: usize, lower: usize, place: usize)
+    requires rules { KeepsBundleRules bundle.now }
+    requires place { place < length bundle.now.links }
+    requires made { rows.old ≡ linked_of bundle.now upper lower (take place bundle.now.links) }
+    ensures { rows.new ≡ linked_of bundle.now upper lower (take (place + 1) bundle.now.links) }
+{
+    let link = bundle.links().get(place);
+    match position_on(bundle, upper, link.from) {
+        None => {}
+        Some(row) => match position_on(bundle, lower, link.to) {
+            None => {}
+            Some(at) => set_bit(rows, row, at),
+        },
+    }
+}
+
+/// The rows of links between two levels. The only refusal is want of memory.
+fn rows_of(alloc: Global, bundle: &Bundle, upper: usize, lower: usize) -> Result<Rows, Memory>
+    requires rules { KeepsBundleRules bundle.now }
+    requires upper { upper < length bundle.now.levels }
+    requires lower { lower < length bundle.now.levels }
+    ensures { IfOk result (λ rows. rows ≡ linked_of bundle.now upper lower bundle.now.links) }
+{
+    let count = bundle.level(upper).len();
+    let width = bundle.level(lower).len();
+    let mut rows = unset_rows(alloc, count, width)?;
+    for place in 0..bundle.links().len() {
+        add_link(&mut rows, bundle, upper, lower, place);
+    }
+    Ok(Series::from_vec(rows))
+}
+
+/// Puts the rows of links between two levels last, unless rows of the two are there or there is no such
+/// level. The only refusal is want of memory.
+fn put_levels(
+    alloc: Global,
+    bundle: &Bundle,
+    all: &mut Series<LinkedLevels>,
+    upper: usize,
+    lower: usize,
+) -> Result<(), Memory>
+    requires { AreLinkedIn bundle.now all.old }
+    ensures { OnOk result (AreLinkedIn bundle.now all.new) }
+{
+    if upper >= bundle.level_count() || lower >= bundle.level_count() {
+        return Ok(());
+    }
+    if rows_at(all.as_slice(), upper, lower).is_some() {
+        return Ok(());
+    }
+    let rows = rows_of(alloc, bundle, upper, lower)?;
+    let rows = Shared::new(alloc, rows)?;
+    all.push(LinkedLevels { upper, lower, rows })
+}
+
+/// Puts the rows of links between the levels of the two items of a link last, unless they are there. The
+/// only refusal is want of memory.
+fn put_levels_of(
+    alloc: Global,
+    bundle: &Bundle,
+    all: &mut Series<LinkedLevels>,
+    link: Link,
+) -> Result<(), Memory>
+    requires { AreLinkedIn bundle.now all.old }
+    ensures { OnOk result (AreLinkedIn bundle.now all.new) }
+{
+    let Some((upper, _)) = bundle.place(link.from) else {
+        return Ok(());
+    };
+    let Some((lower, _)) = bundle.place(link.to) else {
+        return Ok(());
+    };
+    put_levels(alloc, bundle, all, upper, lower)
+}
+
+/// The rows of links of a bundle, for each two levels between which a link leads; none where there are over
+/// 128 links. The only refusal is want of memory.
+pub fn linked_levels(alloc: Global, bundle: &Bundle) -> Result<Series<LinkedLevels>, Memory>
+    ensures { IfOk result (λ all. AreLinkedIn bundle.now all) }
+{
+    let _items = bundle.item_count();
+    let mut all = Series::new(alloc);
+    let count = bundle.links().len();
+    if count > KEPT_LINKS {
+        return Ok(all);
+    }
+    for place in 0..count {
+        let link = *bundle.links().get(place);
+        put_levels_of(alloc, bundle, &mut all, link)?;
+    }
+    Ok(all)
+}
+
+/// The rows of two levels, where they are there.
+pub(crate) fn rows_at(all: &[LinkedLevels], upper: usize, lower: usize) -> Option<&Shared<Rows>>
+    ensures { IfSome result (λ rows. (bundle : BundleParts) → AreLinkedIn bundle all.now
+        → rows.now ≡ linked_of bundle upper lower bundle.links) }
+{
+    for one in all {
+        if one.upper == upper && one.lower == lower {
+            return Some(&one.rows);
+        }
+    }
+    None
+}
