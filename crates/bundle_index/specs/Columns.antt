@@ -5,6 +5,9 @@ use Rattle.emu_names.specs.declared.kinds.LevelKind.TheVariants as kinds
 use Rattle.level_items.specs.declared.items.Item.{Item}
 use Rattle.level_items.specs.Levels.{Level}
 use Rattle.level_items.specs.Times.{first_sample, last_sample}
+use Rattle.bundle_state.specs.Bundle.{BundleParts}
+use Rattle.hier_closure.specs.Linked.{AreLinkedIn}
+use Rattle.hier_closure.specs.declared.linked.LinkedLevels.{LinkedLevels}
 use Rattle.bundle_index.specs.declared.columns.LevelColumns.{LevelColumns}
 use Rattle.bundle_index.specs.Numbered.{IsColumnOf}
 use Rattle.bundle_index.specs.Index.{label_at}
@@ -49,3 +52,9 @@ pub record AreColumnsFor (numbered : List (List ℕ)) (levels : List Level) (all
   pub each : (k : ℕ) (level : Level) (columns : LevelColumns) →
       slice_get levels k ≡ Some level → slice_get all k ≡ Some columns →
       AreColumnsOf numbered level columns
+
+-- there are columns for each level of the bundle, and rows of links that are those of its links
+pub record AreKeptOf (bundle : BundleParts) (numbered : List (List ℕ)) (all : List LevelColumns)
+    (rows : List LinkedLevels) : Type 0 where
+  pub columns : AreColumnsFor numbered bundle.levels all
+  pub linked : AreLinkedIn bundle rows

@@ -2,6 +2,8 @@
 ghost use Rattle.std.specs.Prelude.{◌≡◌, ◌<◌, ◌==◌, false, length, map, replicate, IfOk, position};
 ghost use Rattle.std.specs.Str.{bytes_eq};
 ghost use Rattle.lane_bits.specs.Row.{is_between};
+ghost use Rattle.bundle_state.specs.Built.{FitsConfig};
+ghost use Rattle.hier_closure.specs.Dominance.{closure_of};
 ghost use Rattle.bundle_index.specs.Numbered.{AreNumbered, IsColumnOf};
 ghost use Rattle.bundle_index.specs.Index.{IsTimed, attributes_on, has_label, items_on, label_at, starts_within};
 ghost use Rattle.bundle_index.specs.Columns.{AreColumnsBut, AreColumnsFor, AreOtherwiseSame, ends_of, starts_of};
@@ -9,8 +11,10 @@ ghost use Rattle.bundle_index.specs.Columns.{AreColumnsBut, AreColumnsFor, AreOt
 use crate::labels::Labels;
 use crate::shared::SharedColumns;
 use bundle_state::Bundle;
+use db_config::Config;
 use emu_lists::Series;
 use emu_names::Memory;
+use hier_closure::{Closure, LinkedLevels, linked_levels};
 use lane_bits::{BitRow, eq_lanes, range_lanes};
 use std::alloc::Global;
 use std::marker::Model;
@@ -23,12 +27,14 @@ const KEPT_LABELS: usize = 4_194_304;
 ///
 /// It always keeps for each attribute of each level the column of the numbers of its items' labels, where
 /// the number of a label is its place in the list, and for each SEGMENT and EVENT level the columns of its
-/// items' first and last samples.
+/// items' first and last samples. Of a bundle of at most 128 links it also keeps, for each two levels between
+/// which a link leads, which items of the upper one link to which items of the lower one.
 #[derive(Drop)]
 pub struct Indexed {
     bundle: Bundle,
     labels: Labels,
     columns: Series<SharedColumns>,
+    linked: Series<LinkedLevels>,
 }
 
 impl Model for Indexed {
@@ -36,11 +42,11 @@ impl Model for Indexed {
 
     ghost Value = { IndexParts };
 
-    ghost use Rattle.bundle_index.specs.Columns.{AreColumnsFor};
+    ghost use Rattle.bundle_index.specs.Columns.{AreKeptOf};
 
     ghost view = { λ x. record { bundle = x.bundle; labels = x.labels } };
 
-    ghost invariant = { λ x. AreColumnsFor x.labels x.bundle.levels x.columns };
+    ghost invariant = { λ x. AreKeptOf x.bundle x.labels x.columns x.linked };
 }
 
 impl Indexed {
@@ -51,16 +57,18 @@ impl Indexed {
     {
         let mut labels = Labels::new(alloc)?;
         let columns = all_columns(alloc, &bundle, &mut labels)?;
+        let linked = linked_levels(alloc, &bundle)?;
         Ok(Indexed {
             bundle,
             labels,
             columns,
+            linked,
         })
     }
 
     /// The bundle, whose levels are those of this one but for one level, with its columns. The columns of
-    /// that level are made anew, and all others are shared. The only refusal is want of memory, or of a
-    /// number for a label.
+    /// that level are made anew, and all others are shared. The rows of links are made anew. The only
+    /// refusal is want of memory, or of a number for a label.
     ///
     /// The labels of this one keep their numbers, unless there are more than 4,194,304 labels then, many
     /// of which no item may have any longer: all columns are made anew in that case.
@@ -73,10 +81,12 @@ impl Indexed {
         if labels.len() > KEPT_LABELS {
             return Indexed::new(alloc, bundle);
         }
+        let linked = linked_levels(alloc, &bundle)?;
         Ok(Indexed {
             bundle,
             labels,
             columns,
+            linked,
         })
     }
 
@@ -127,6 +137,25 @@ impl Indexed {
         ensures { result.now ≡ ends_of (items_on self.now.bundle level) }
     {
         self.columns.get(level).as_ref().ends.as_slice()
+    }
+
+    /// The rows of dominance between two levels of the bundle, which has the levels and the link definitions
+    /// of the configuration: bit j of row i says whether item i of the upper level dominates item j of the
+    /// lower one. The only refusal is want of memory.
+    pub fn closure(
+        &self,
+        alloc: Global,
+        config: &Config,
+        upper: usize,
+        lower: usize,
+    ) -> Result<Closure, Memory>
+        requires fits { FitsConfig config.now self.now.bundle }
+        requires upper { upper < length self.now.bundle.levels }
+        requires lower { lower < length self.now.bundle.levels }
+        ensures { IfOk result (λ made. made ≡ closure_of self.now.bundle lower upper) }
+    {
+        let linked = self.linked.as_slice();
+        Closure::kept(alloc, config, &self.bundle, linked, upper, lower)
     }
 
     /// For each item of a level, in order, whether this is its label for an attribute. The only refusal is
