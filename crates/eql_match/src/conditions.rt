@@ -117,7 +117,7 @@ fn term_bits(
         } => position_bits(
             alloc,
             config,
-            indexed.bundle(),
+            indexed,
             (*upper, lower.level),
             *place,
             *wanted,
@@ -131,7 +131,7 @@ fn term_bits(
         } => number_bits(
             alloc,
             config,
-            indexed.bundle(),
+            indexed,
             (upper.level, *lower),
             *compare,
             *number,

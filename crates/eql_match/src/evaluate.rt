@@ -77,7 +77,7 @@ fn dominance_tuples(
         (dominance (query_in left.now) (query_in right.now))) }
 {
     let levels = (left.level(), right.level());
-    dominance(alloc, config, indexed.bundle(), levels, lefts, rights)
+    dominance(alloc, config, indexed, levels, lefts, rights)
 }
 
 /// The set of the tuples of a query. `TooManyTuples` comes exactly where the query or some part of it

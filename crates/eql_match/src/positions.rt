@@ -10,7 +10,7 @@ ghost use Rattle.eql_match.specs.Rows.{any_bits};
 ghost use Rattle.eql_match.specs.Places.{AddsPlaced, ArePlaced, PassPlace};
 
 use crate::rows::{none_set, turned};
-use bundle_state::Bundle;
+use bundle_index::Indexed;
 use db_config::Config;
 use emu_names::Memory;
 use eql_syntax::{Compare, Place};
@@ -114,21 +114,22 @@ fn place_bits(
 pub(crate) fn position_bits(
     alloc: Global,
     config: &Config,
-    bundle: &Bundle,
+    indexed: &Indexed,
     levels: (usize, usize),
     place: Place,
     wanted: bool,
 ) -> Result<BitRow, Memory>
-    requires fits { FitsConfig config.now bundle.now }
-    requires upper { levels.0 < length bundle.now.levels }
-    requires lower { levels.1 < length bundle.now.levels }
-    ensures { IfOk result (λ row. row ≡ map (λ item. has_place bundle.now.links
-        (ids_at bundle.now.levels levels.0) (ids_at bundle.now.levels levels.1) place wanted item.id.0)
-        (items_at bundle.now.levels levels.1)) }
+    requires fits { FitsConfig config.now indexed.now.bundle }
+    requires upper { levels.0 < length indexed.now.bundle.levels }
+    requires lower { levels.1 < length indexed.now.bundle.levels }
+    ensures { IfOk result (λ row. row ≡ map (λ item. has_place indexed.now.bundle.links
+        (ids_at indexed.now.bundle.levels levels.0) (ids_at indexed.now.bundle.levels levels.1) place wanted item.id.0)
+        (items_at indexed.now.bundle.levels levels.1)) }
 {
     let (upper, lower) = levels;
+    let bundle = indexed.bundle();
     let _items = bundle.item_count();
-    let rows = Closure::between(alloc, config, bundle, upper, lower)?;
+    let rows = indexed.closure(alloc, config, upper, lower)?;
     let count = eql_model::items_at(bundle, upper).len();
     let width = eql_model::items_at(bundle, lower).len();
     place_bits(alloc, &rows, count, width, place, wanted)
@@ -158,20 +159,21 @@ fn count_bits(
 pub(crate) fn number_bits(
     alloc: Global,
     config: &Config,
-    bundle: &Bundle,
+    indexed: &Indexed,
     levels: (usize, usize),
     compare: Compare,
     number: u32,
 ) -> Result<BitRow, Memory>
-    requires fits { FitsConfig config.now bundle.now }
-    requires upper { levels.0 < length bundle.now.levels }
-    requires lower { levels.1 < length bundle.now.levels }
-    ensures { IfOk result (λ row. row ≡ map (λ item. has_number bundle.now.links
-        (ids_at bundle.now.levels levels.1) compare number item.id.0)
-        (items_at bundle.now.levels levels.0)) }
+    requires fits { FitsConfig config.now indexed.now.bundle }
+    requires upper { levels.0 < length indexed.now.bundle.levels }
+    requires lower { levels.1 < length indexed.now.bundle.levels }
+    ensures { IfOk result (λ row. row ≡ map (λ item. has_number indexed.now.bundle.links
+        (ids_at indexed.now.bundle.levels levels.1) compare number item.id.0)
+        (items_at indexed.now.bundle.levels levels.0)) }
 {
     let (upper, lower) = levels;
-    let rows = Closure::between(alloc, config, bundle, upper, lower)?;
+    let bundle = indexed.bundle();
+    let rows = indexed.closure(alloc, config, upper, lower)?;
     let count = eql_model::items_at(bundle, upper).len();
     count_bits(alloc, &rows, count, compare, number)
 }

@@ -12,7 +12,7 @@ ghost use Rattle.eql_match.specs.Ways.{joins, makes, covering_pairs, covered_pai
 
 use crate::reach::reach;
 use crate::runs::begun_within;
-use bundle_state::Bundle;
+use bundle_index::Indexed;
 use db_config::Config;
 use emu_lists::Series;
 use eql_model::{Gathered, MatchFault, Tuple, Tuples};
@@ -230,30 +230,30 @@ pub(crate) fn sequence(
 fn put_covering(
     alloc: Global,
     config: &Config,
-    bundle: &Bundle,
+    indexed: &Indexed,
     levels: (usize, usize),
     gathered: &mut Gathered,
     lefts: &[Tuple],
     rights: &[Tuple],
 ) -> Result<(), MatchFault>
-    requires fits { FitsConfig config.now bundle.now }
-    requires left { levels.0 < length bundle.now.levels }
-    requires right { levels.1 < length bundle.now.levels }
+    requires fits { FitsConfig config.now indexed.now.bundle }
+    requires left { levels.0 < length indexed.now.bundle.levels }
+    requires right { levels.1 < length indexed.now.bundle.levels }
     requires room { is_over gathered.old ≡ false }
-    requires lefts { LieOn bundle.now.levels levels.0 lefts.now }
-    requires rights { LieOn bundle.now.levels levels.1 rights.now }
+    requires lefts { LieOn indexed.now.bundle.levels levels.0 lefts.now }
+    requires rights { LieOn indexed.now.bundle.levels levels.1 rights.now }
     requires rise { Rise rights.now }
     ensures ok { OnOk result (gathered.new
-        ≡ put_all gathered.old (covering_pairs bundle.now levels lefts.now rights.now)) }
+        ≡ put_all gathered.old (covering_pairs indexed.now.bundle levels lefts.now rights.now)) }
     ensures fits { OnOk result (is_over gathered.new ≡ false) }
     ensures over { result ≡ Err MatchFault.TooManyTuples → is_over (put_all gathered.old
-        (covering_pairs bundle.now levels lefts.now rights.now)) ≡ true }
+        (covering_pairs indexed.now.bundle levels lefts.now rights.now)) ≡ true }
 {
-    let _items = bundle.item_count();
+    let _items = indexed.bundle().item_count();
     if !config.is_above(levels.0, levels.1) {
         return Ok(());
     }
-    match Closure::between(alloc, config, bundle, levels.0, levels.1) {
+    match indexed.closure(alloc, config, levels.0, levels.1) {
         Ok(rows) => put_pairs(gathered, &Way::Covers(rows), lefts, rights),
         Err(_) => Err(MatchFault::Memory),
     }
@@ -264,30 +264,30 @@ fn put_covering(
 fn put_covered(
     alloc: Global,
     config: &Config,
-    bundle: &Bundle,
+    indexed: &Indexed,
     levels: (usize, usize),
     gathered: &mut Gathered,
     lefts: &[Tuple],
     rights: &[Tuple],
 ) -> Result<(), MatchFault>
-    requires fits { FitsConfig config.now bundle.now }
-    requires left { levels.0 < length bundle.now.levels }
-    requires right { levels.1 < length bundle.now.levels }
+    requires fits { FitsConfig config.now indexed.now.bundle }
+    requires left { levels.0 < length indexed.now.bundle.levels }
+    requires right { levels.1 < length indexed.now.bundle.levels }
     requires room { is_over gathered.old ≡ false }
-    requires lefts { LieOn bundle.now.levels levels.0 lefts.now }
-    requires rights { LieOn bundle.now.levels levels.1 rights.now }
+    requires lefts { LieOn indexed.now.bundle.levels levels.0 lefts.now }
+    requires rights { LieOn indexed.now.bundle.levels levels.1 rights.now }
     requires rise { Rise lefts.now }
     ensures ok { OnOk result (gathered.new
-        ≡ put_all gathered.old (covered_pairs bundle.now levels lefts.now rights.now)) }
+        ≡ put_all gathered.old (covered_pairs indexed.now.bundle levels lefts.now rights.now)) }
     ensures fits { OnOk result (is_over gathered.new ≡ false) }
     ensures over { result ≡ Err MatchFault.TooManyTuples → is_over (put_all gathered.old
-        (covered_pairs bundle.now levels lefts.now rights.now)) ≡ true }
+        (covered_pairs indexed.now.bundle levels lefts.now rights.now)) ≡ true }
 {
-    let _items = bundle.item_count();
+    let _items = indexed.bundle().item_count();
     if !config.is_above(levels.1, levels.0) {
         return Ok(());
     }
-    match Closure::between(alloc, config, bundle, levels.1, levels.0) {
+    match indexed.closure(alloc, config, levels.1, levels.0) {
         Ok(rows) => put_pairs(gathered, &Way::CoversLeft(rows), rights, lefts),
         Err(_) => Err(MatchFault::Memory),
     }
@@ -299,30 +299,30 @@ fn put_covered(
 pub(crate) fn dominance(
     alloc: Global,
     config: &Config,
-    bundle: &Bundle,
+    indexed: &Indexed,
     levels: (usize, usize),
     lefts: &[Tuple],
     rights: &[Tuple],
 ) -> Result<Tuples, MatchFault>
-    requires fits { FitsConfig config.now bundle.now }
-    requires left { levels.0 < length bundle.now.levels }
-    requires right { levels.1 < length bundle.now.levels }
-    requires lefts { LieOn bundle.now.levels levels.0 lefts.now }
-    requires rights { LieOn bundle.now.levels levels.1 rights.now }
+    requires fits { FitsConfig config.now indexed.now.bundle }
+    requires left { levels.0 < length indexed.now.bundle.levels }
+    requires right { levels.1 < length indexed.now.bundle.levels }
+    requires lefts { LieOn indexed.now.bundle.levels levels.0 lefts.now }
+    requires rights { LieOn indexed.now.bundle.levels levels.1 rights.now }
     requires lefts_rise { Rise lefts.now }
     requires rights_rise { Rise rights.now }
-    ensures { GivesSet result (joined (one_covers bundle.now.links (ids_at bundle.now.levels levels.0)
-        (ids_at bundle.now.levels levels.1)) left_with lefts.now rights.now) }
+    ensures { GivesSet result (joined (one_covers indexed.now.bundle.links (ids_at indexed.now.bundle.levels levels.0)
+        (ids_at indexed.now.bundle.levels levels.1)) left_with lefts.now rights.now) }
 {
     if lefts.is_empty() || rights.is_empty() {
         return Ok(Series::new(alloc));
     }
     let mut gathered = Gathered::new(alloc);
-    match put_covering(alloc, config, bundle, levels, &mut gathered, lefts, rights) {
+    match put_covering(alloc, config, indexed, levels, &mut gathered, lefts, rights) {
         Ok(()) => {}
         Err(fault) => return Err(fault),
     }
-    match put_covered(alloc, config, bundle, levels, &mut gathered, lefts, rights) {
+    match put_covered(alloc, config, indexed, levels, &mut gathered, lefts, rights) {
         Ok(()) => {}
         Err(fault) => return Err(fault),
     }

@@ -1,6 +1,3 @@
-use Rattle.std.proofs.Common.{◌<◌, length, sym, subst}
-use Rattle.bundle_state.specs.Bundle.{BundleParts}
-use Rattle.eql_model.specs.Meaning.{LieOn}
 use Rattle.eql_resolve.specs.View.{query_in}
 use Rattle.eql_model.proofs.Fitting.{found_fit, level_there}
 use Rattle.eql_match.proofs.Order.{found_rise}
@@ -8,27 +5,23 @@ use Rattle.eql_match.proofs.evaluate.dominance_tuples.Goals as goal
 
 pub dominance-requires-clause-left : goal.dominance-requires-clause-left
 dominance-requires-clause-left c =
-    subst (λ (b : BundleParts). c.level.result < length b.levels) (sym c.bundle.ensures)
-    (level_there c.args.config.now c.args.indexed.now.bundle (query_in c.args.left.now) c.level.result c.requires.fits c.requires.left
-    c.level.ensures)
+    level_there c.args.config.now c.args.indexed.now.bundle (query_in c.args.left.now) c.level.result c.requires.fits c.requires.left
+    c.level.ensures
 
 pub dominance-requires-clause-right : goal.dominance-requires-clause-right
 dominance-requires-clause-right c =
-    subst (λ (b : BundleParts). c.level-2.result < length b.levels) (sym c.bundle.ensures)
-    (level_there c.args.config.now c.args.indexed.now.bundle (query_in c.args.right.now) c.level-2.result c.requires.fits c.requires.right
-    c.level-2.ensures)
+    level_there c.args.config.now c.args.indexed.now.bundle (query_in c.args.right.now) c.level-2.result c.requires.fits c.requires.right
+    c.level-2.ensures
 
 pub dominance-requires-clause-lefts : goal.dominance-requires-clause-lefts
 dominance-requires-clause-lefts c =
-    subst (λ (b : BundleParts). LieOn b.levels c.level.result c.args.lefts.now) (sym c.bundle.ensures)
-    (found_fit c.args.config.now c.args.indexed.now.bundle (query_in c.args.left.now) c.level.result c.args.lefts.now c.requires.left_level
-    c.level.ensures c.requires.lefts)
+    found_fit c.args.config.now c.args.indexed.now.bundle (query_in c.args.left.now) c.level.result c.args.lefts.now c.requires.left_level
+    c.level.ensures c.requires.lefts
 
 pub dominance-requires-clause-rights : goal.dominance-requires-clause-rights
 dominance-requires-clause-rights c =
-    subst (λ (b : BundleParts). LieOn b.levels c.level-2.result c.args.rights.now) (sym c.bundle.ensures)
-    (found_fit c.args.config.now c.args.indexed.now.bundle (query_in c.args.right.now) c.level-2.result c.args.rights.now
-    c.requires.right_level c.level-2.ensures c.requires.rights)
+    found_fit c.args.config.now c.args.indexed.now.bundle (query_in c.args.right.now) c.level-2.result c.args.rights.now
+    c.requires.right_level c.level-2.ensures c.requires.rights
 
 pub dominance-requires-clause-lefts_rise : goal.dominance-requires-clause-lefts_rise
 dominance-requires-clause-lefts_rise c =

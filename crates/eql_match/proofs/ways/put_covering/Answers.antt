@@ -1,5 +1,6 @@
 use Rattle.std.proofs.Common.{◌≡◌, List, true, sym, ap, subst, ◌∙◌}
 use Rattle.db_config.specs.Above.{is_above}
+use Rattle.bundle_state.specs.Valid.{KeepsBundleRules}
 use Rattle.eql_model.specs.declared.tuple.Tuple.{Tuple}
 use Rattle.eql_model.specs.Sets.{put_all, is_over}
 use Rattle.eql_match.proofs.Passes.{others_fit, covering_is}
@@ -8,17 +9,18 @@ use Rattle.eql_match.proofs.ways.put_covering.Goals as goal
 
 pub put_pairs-requires-clause-others : goal.put_pairs-requires-clause-others
 put_pairs-requires-clause-others c =
-    others_fit c.args.bundle.now c.args.levels.1 c.args.levels.0 c.in-Ok.rows c.args.rights.now c.in-Ok.ensures c.requires.rights
+    others_fit c.args.indexed.now.bundle c.args.levels.1 c.args.levels.0 c.in-Ok.rows c.args.rights.now c.in-Ok.ensures c.requires.rights
 
 pub returns-in-Ok-clause-over : goal.returns-in-Ok-clause-over
 returns-in-Ok-clause-over c = λ told.
     subst (λ (ps : List Tuple). is_over (put_all c.args.gathered.now ps) ≡ true)
-    (covering_is c.args.bundle.now c.args.levels c.in-Ok.rows c.args.lefts.now c.args.rights.now c.in-Ok.ensures)
+    (covering_is c.args.indexed.now.bundle c.args.levels c.in-Ok.rows c.args.lefts.now c.args.rights.now c.in-Ok.ensures)
     (c.put_pairs.ensures.over told)
 
 pub returns-then-not-is_above-clause-ok : goal.returns-then-not-is_above-clause-ok
 returns-then-not-is_above-clause-ok c =
-    covering_kept c.args.bundle.now c.args.levels c.args.lefts.now c.args.rights.now c.args.gathered.now c.item_count-items.ensures.rules
+    covering_kept c.args.indexed.now.bundle c.args.levels c.args.lefts.now c.args.rights.now c.args.gathered.now
+    (subst KeepsBundleRules c.bundle.ensures c.item_count-items.ensures.rules)
     (ap (λ defs. is_above defs c.args.levels.0 c.args.levels.1) c.requires.fits.definitions
     ∙ (sym c.is_above.ensures ∙ c.if-not-is_above.true))
     c.requires.rights
