@@ -181,11 +181,6 @@ pub range_is : (low high : ℕ) (items : List Item) →
 range_is low high [] = refl
 range_is low high (i ∷ items) = ap (λ (bits : List Bool). starts_within low high i ∷ bits) (range_is low high items)
 
--- a column of what is seen is one of what is kept
-pub labels_seen : (x y : IndexParts) (column : List ℕ) (labels : List (List ℕ)) → x ≡ y → IsColumnOf y.labels column labels →
-    IsColumnOf x.labels column labels
-labels_seen x y column labels shown is = subst (λ (i : IndexParts). IsColumnOf i.labels column labels) (sym shown) is
-
 -- ---- one level changed
 
 -- the columns of the first k levels, and the labels that they were begun with

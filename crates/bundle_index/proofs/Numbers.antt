@@ -59,6 +59,15 @@ module _ {K : Type 0} (v : K → List ℕ) where
       (Some (position_or_len (bytes_eq l) (map v ks))) None) (length-map ks v))
       ∙ ap (position (bytes_eq l)) shown
 
+  pub place_kept : (ks : List K) (seen : List (List ℕ)) (i : ℕ) → map v ks ≡ seen → i < length seen → i < length ks
+  place_kept ks seen i shown within = omega (arith, length-map ks v, ap length shown, within)
+
+  -- the label at the place of its key
+  pub label_kept : (ks : List K) (seen : List (List ℕ)) (i : ℕ) (k : K) → map v ks ≡ seen → slice_get ks i ≡ Some k →
+      slice_get seen i ≡ Some (v k)
+  label_kept ks seen i k shown at =
+      sym (ap (λ (ls : List (List ℕ)). slice_get ls i) shown) ∙ slice_get-map v ks i ∙ ap (option_map v) at
+
   -- where a key is put, its label is
   pub label_put : (ks : List K) (i : ℕ) (k text : K) (l : List ℕ) → slice_get ks i ≡ Some k →
       bytes_eq (v text) (v k) ≡ true → v text ≡ l → slice_get (map v ks) i ≡ Some l

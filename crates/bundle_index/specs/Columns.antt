@@ -11,6 +11,7 @@ use Rattle.hier_closure.specs.declared.linked.LinkedLevels.{LinkedLevels}
 use Rattle.bundle_index.specs.declared.columns.LevelColumns.{LevelColumns}
 use Rattle.bundle_index.specs.Numbered.{IsColumnOf}
 use Rattle.bundle_index.specs.Index.{label_at}
+use Rattle.bundle_index.specs.Keys.{AreKeysOf}
 
 -- the first samples of the items, in order
 abbrev pub starts_of : List Item → List ℕ
@@ -53,8 +54,9 @@ pub record AreColumnsFor (numbered : List (List ℕ)) (levels : List Level) (all
       slice_get levels k ≡ Some level → slice_get all k ≡ Some columns →
       AreColumnsOf numbered level columns
 
--- there are columns for each level of the bundle, and rows of links that are those of its links
-pub record AreKeptOf (bundle : BundleParts) (numbered : List (List ℕ)) (all : List LevelColumns)
+-- there are columns for each level of the bundle, keys of the labels, and rows of links that are those of its links
+pub record AreKeptOf (bundle : BundleParts) (numbered : List (List ℕ)) (keys : List ℕ) (all : List LevelColumns)
     (rows : List LinkedLevels) : Type 0 where
   pub columns : AreColumnsFor numbered bundle.levels all
+  pub keys_of : AreKeysOf numbered keys
   pub linked : AreLinkedIn bundle rows

@@ -1,3 +1,4 @@
 pub mod Numbered
 pub mod Index
+pub mod Keys
 pub mod Columns

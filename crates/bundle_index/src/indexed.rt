@@ -10,6 +10,7 @@ ghost use Rattle.bundle_index.specs.Columns.{AreColumnsBut, AreColumnsFor, AreOt
 
 use crate::labels::Labels;
 use crate::shared::SharedColumns;
+use crate::short_keys::ShortKeys;
 use bundle_state::Bundle;
 use db_config::Config;
 use emu_lists::Series;
@@ -28,11 +29,13 @@ const KEPT_LABELS: usize = 4_194_304;
 /// It always keeps for each attribute of each level the column of the numbers of its items' labels, where
 /// the number of a label is its place in the list, and for each SEGMENT and EVENT level the columns of its
 /// items' first and last samples. Of a bundle of at most 128 links it also keeps, for each two levels between
-/// which a link leads, which items of the upper one link to which items of the lower one.
+/// which a link leads, which items of the upper one link to which items of the lower one; and of at most 16
+/// labels it keeps keys, by which a short label is found without a look at the labels.
 #[derive(Drop)]
 pub struct Indexed {
     bundle: Bundle,
     labels: Labels,
+    keys: ShortKeys,
     columns: Series<SharedColumns>,
     linked: Series<LinkedLevels>,
 }
@@ -46,7 +49,7 @@ impl Model for Indexed {
 
     ghost view = { λ x. record { bundle = x.bundle; labels = x.labels } };
 
-    ghost invariant = { λ x. AreKeptOf x.bundle x.labels x.columns x.linked };
+    ghost invariant = { λ x. AreKeptOf x.bundle x.labels x.keys x.columns x.linked };
 }
 
 impl Indexed {
@@ -58,9 +61,11 @@ impl Indexed {
         let mut labels = Labels::new(alloc)?;
         let columns = all_columns(alloc, &bundle, &mut labels)?;
         let linked = linked_levels(alloc, &bundle)?;
+        let keys = ShortKeys::of(alloc, &labels)?;
         Ok(Indexed {
             bundle,
             labels,
+            keys,
             columns,
             linked,
         })
@@ -82,9 +87,11 @@ impl Indexed {
             return Indexed::new(alloc, bundle);
         }
         let linked = linked_levels(alloc, &bundle)?;
+        let keys = ShortKeys::of(alloc, &labels)?;
         Ok(Indexed {
             bundle,
             labels,
+            keys,
             columns,
             linked,
         })
@@ -103,7 +110,12 @@ impl Indexed {
         ensures number { result ≡ position (bytes_eq label.now) self.now.labels }
         ensures rule { AreNumbered self.now.labels }
     {
-        self.labels.find(label)
+        if self.keys.can_tell(label) {
+            let _labels = self.labels.len();
+            self.keys.find(label)
+        } else {
+            self.labels.find(label)
+        }
     }
 
     /// The numbers of the items' labels for an attribute of a level, one for each item in order.
@@ -173,7 +185,7 @@ impl Indexed {
             row ≡ map (has_label attribute label.now) (items_on self.now.bundle level)) }
     {
         let column = self.column(level, attribute);
-        match self.labels.find(label) {
+        match self.label_number(label) {
             Some(number) => row_of_number(alloc, column, number),
             None => row_of(alloc, column.len()),
         }

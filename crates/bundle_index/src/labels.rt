@@ -1,5 +1,5 @@
 //! The distinct labels of a bundle, each with its number, as indexed bundles share them.
-ghost use Rattle.std.specs.Prelude.{◌≡◌, [], IfOk, OnOk, length, position, slice_get, Some};
+ghost use Rattle.std.specs.Prelude.{◌≡◌, ◌<◌, [], IfOk, OnOk, length, position, slice_get, Some};
 ghost use Rattle.std.specs.Str.{bytes_eq};
 ghost use Rattle.bundle_index.specs.Numbered.{AreNumbered, HasGrown};
 
@@ -59,11 +59,20 @@ impl LabelSet {
         }
     }
 
-    /// How many labels there are.
+    /// How many labels there are. Whoever asks may rely on the numbers.
     fn len(&self) -> usize
-        ensures { result ≡ length self.now }
+        ensures len { result ≡ length self.now }
+        ensures rule { AreNumbered self.now }
     {
         self.set.len()
+    }
+
+    /// The label of a number.
+    fn get(&self, place: usize) -> &str
+        requires { place < length self.now }
+        ensures { slice_get self.now place ≡ Some result.now }
+    {
+        self.set.as_slice()[place].as_str()
     }
 
     /// Puts a label last, and answers its number. The only refusal is want of memory, or of a number.
@@ -112,11 +121,20 @@ impl Labels {
         Ok(Labels { inside })
     }
 
-    /// How many labels there are.
+    /// How many labels there are. Whoever asks may rely on the numbers.
     pub fn len(&self) -> usize
-        ensures { result ≡ length self.now }
+        ensures len { result ≡ length self.now }
+        ensures rule { AreNumbered self.now }
     {
         self.inside.as_ref().len()
+    }
+
+    /// The label of a number.
+    pub fn get(&self, place: usize) -> &str
+        requires { place < length self.now }
+        ensures { slice_get self.now place ≡ Some result.now }
+    {
+        self.inside.as_ref().get(place)
     }
 
     /// The number of a label, where it is in the list. Whoever asks may rely on the numbers.

@@ -5,5 +5,6 @@ mod columns;
 mod indexed;
 mod labels;
 mod shared;
+mod short_keys;
 
 pub use indexed::Indexed;

@@ -1,0 +1,16 @@
+use Rattle.std.proofs.Common.{◌==◌, ap, ◌∙◌}
+use Rattle.std.specs.List.{position}
+use Rattle.bundle_index.proofs.ShortLabels.{place_same}
+use Rattle.bundle_index.proofs.short_keys.ShortKeys.find.Goals as goal
+
+pub returns-in-Some : goal.returns-in-Some
+returns-in-Some c labels are =
+    c.in-Some.ensures.place ∙ ap (position (λ k. k == c.key_of-key.result)) (c.as_slice.ensures ∙ c.self.view_is)
+    ∙ place_same c.args.label.now c.key_of-key.result c.requires.short c.key_of-key.ensures labels c.args.self.now
+    (are.each c.requires.keys)
+
+pub returns-in-None : goal.returns-in-None
+returns-in-None c labels are =
+    c.in-None.ensures.place ∙ ap (position (λ k. k == c.key_of-key.result)) (c.as_slice.ensures ∙ c.self.view_is)
+    ∙ place_same c.args.label.now c.key_of-key.result c.requires.short c.key_of-key.ensures labels c.args.self.now
+    (are.each c.requires.keys)
