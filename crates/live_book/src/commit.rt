@@ -138,6 +138,26 @@ fn tested<D: Disk>(
     }
 }
 
+/// The frame of an entry, where there is a store, and the next version twice.
+fn made_for<D: Disk>(
+    alloc: Global,
+    journal: &Option<Journal<D>>,
+    version: Version,
+    entry: &Entry,
+) -> Result<(Option<Frame>, Arc<Published>, Arc<Published>), Memory>
+    requires { HasRoomFor D.may_leave (has_journal journal.now) entry.now journal.now }
+    ensures frame { IfOk result (λ made. IsFrameOf entry.now journal.now made.0) }
+    ensures coded { has_journal journal.now ≡ true → OnOk result (IsCoded entry.now) }
+    ensures next { IfOk result (λ made.
+        arc_value made.1 ≡ record { version = version; last = Some entry.now }) }
+    ensures kept { IfOk result (λ made.
+        arc_value made.2 ≡ record { version = version; last = Some entry.now }) }
+{
+    let frame = frame_for(alloc, journal, entry)?;
+    let (next, kept) = published_twice(alloc, version, entry)?;
+    Ok((frame, next, kept))
+}
+
 /// All that an accepted entry needs: its frame, and the next version twice.
 fn make_ready<D: Disk>(
     alloc: Global,
@@ -151,14 +171,15 @@ fn make_ready<D: Disk>(
         → version.config ≡ config → IsStateAfter config (history ++ entry ∷ []) version
         → IsReady journal.now config history ready) }
 {
-    let frame = frame_for(alloc, journal, &entry)?;
-    let (next, kept) = published_twice(alloc, version, &entry)?;
-    Ok(Ready {
-        entry,
-        frame,
-        next,
-        kept,
-    })
+    match made_for(alloc, journal, version, &entry) {
+        Ok((frame, next, kept)) => Ok(Ready {
+            entry,
+            frame,
+            next,
+            kept,
+        }),
+        Err(fault) => Err(fault),
+    }
 }
 
 /// Publishes the next version, and keeps it.
