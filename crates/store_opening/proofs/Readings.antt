@@ -1,5 +1,5 @@
 -- What reading a history of its codes owes.
-use Rattle.std.proofs.Common.{◌≡◌, ℕ, suc, ◌+◌, ◌<◌, List, [], ◌∷◌, ◌++◌, length, map, take, drop, Result, Ok, Err, IfErr, IsTrue, refl, sym, ◌∙◌, ap, subst, arith, get_or, length-append, take-append-drop, drop-cons}
+use Rattle.std.proofs.Common.{◌≡◌, ℕ, suc, ◌+◌, ◌<◌, List, [], ◌∷◌, ◌++◌, length, map, take, drop, Result, Ok, Err, IfErr, IsTrue, inl, inr, refl, sym, ◌∙◌, ap, subst, arith, get_or, length-append, take-append-drop, drop-cons}
 use Rattle.std.specs.Prelude.{IsErrAnd}
 use Rattle.std.proofs.lemmas.List.{take_more}
 use Rattle.emu_names.specs.declared.rules.Broken.{Broken}
@@ -19,7 +19,7 @@ use Rattle.live_book.specs.Histories.{codes_of, AreCoded, AreEntryCodes, IsBroke
 use Rattle.live_book.specs.Published.{IsStateAfter}
 use Rattle.live_book.specs.Commits.{HasRoom}
 use Rattle.store_opening.specs.Opens.{IsReplay, IsWrong, IsWrongIn}
-use Rattle.store_opening.specs.Prepared.{IsWrongTail}
+use Rattle.store_opening.specs.Prepared.{BreaksRule, IsWrongTail}
 use Rattle.store_opening.proofs.HeadCodes.{entry_is, head_is}
 use Rattle.live_book.proofs.States.{next_state, edited_as}
 
@@ -76,6 +76,9 @@ module _ (config : ConfigParts) (texts : List (List ℕ)) (old : Replayed) (is :
 
   pub broken_entry : (text : List ℕ) (e : Entry) (rule : Broken) → IsEntryCode text e → effect (state_of old.version) e.edit ≡ Err rule → IsBrokenEntry config old.entries text
   broken_entry text e rule code broken = record { entry = e; code = code; rule = rule; broken = edited_as config old.entries e old.version is.state (Err rule) broken }
+
+  pub broken_next : (body : Body) (e : Entry) → IsEntryCode body.bytes e → (at : ℕ) → (at ≡ body.at) × BreaksRule old.version e.edit → (at ≡ body.at) × IsNoNext config old.entries body.bytes
+  broken_next body e code at is = (is.0, inr (inl (broken_entry body.bytes e is.1.0 code is.1.1)))
 
   pub wrong_tail : (all front behind : List Body) (wrong : Body) (at : ℕ) → all ≡ front ++ wrong ∷ behind → texts ≡ texts_of front → at ≡ wrong.at → IsNoNext config old.entries wrong.bytes → IsWrongTail config all at
   wrong_tail all front behind wrong at split same place no_next = record {

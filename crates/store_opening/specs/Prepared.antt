@@ -1,9 +1,12 @@
 -- What opening a store, and making a book, have ready.
-use Rattle.std.specs.Prelude.{◌≡◌, ℕ, List, [], ◌∷◌, ◌++◌, length, All, ◌<◌, ◌≤◌, IsTrue, true, Option, None, Some}
+use Rattle.std.specs.Prelude.{◌≡◌, ℕ, List, [], ◌∷◌, ◌++◌, length, All, ◌<◌, ◌≤◌, IsTrue, true, Option, None, Some, Err}
 use Rattle.std.specs.Arc.{arc_value}
 use Rattle.db_config.specs.declared.parts.ConfigParts.{ConfigParts}
 use Rattle.db_config.specs.Valid.{is_valid}
+use Rattle.emu_names.specs.declared.rules.Broken.{Broken}
+use Rattle.edit_rules.specs.declared.edit.Edit.{Edit}
 use Rattle.edit_rules.specs.declared.edit.Entry.{Entry}
+use Rattle.edit_rules.specs.Effects.{effect}
 use Rattle.edit_code.specs.Codes.{head_code, IsHeadCode}
 use Rattle.edit_journal.specs.declared.body.Body.{Body}
 use Rattle.edit_journal.specs.declared.fault.JournalFault.{JournalFault}
@@ -11,7 +14,7 @@ use Rattle.edit_journal.specs.declared.fault.JournalFault.TheVariants as journal
 use Rattle.edit_journal.specs.declared.journal.Journal.{Journal}
 use Rattle.edit_journal.specs.Held.{texts_of}
 use Rattle.version_gate.specs.Lists.{Front, front, entry}
-use Rattle.version_tree.specs.Version.{VersionParts, first_version}
+use Rattle.version_tree.specs.Version.{VersionParts, first_version, state_of}
 use Rattle.store_opening.specs.declared.fault.OpenFault.{OpenFault}
 use Rattle.store_opening.specs.declared.fault.OpenFault.TheVariants as open_faults
 use Rattle.live_book.specs.declared.published.Published.{Published}
@@ -28,6 +31,10 @@ abbrev pub IsHistoryOf : List (List ℕ) → Replayed → Type 0
 IsHistoryOf [] replayed = ⊥
 IsHistoryOf (head ∷ texts) replayed =
     (config : ConfigParts) × IsHeadCode head config × IsReplay config texts replayed
+
+-- an edit breaks a rule behind a version
+abbrev pub BreaksRule : VersionParts → Edit → Type 0
+BreaksRule version edit = (rule : Broken) × (effect (state_of version) edit ≡ Err rule)
 
 -- of the bodies behind a configuration, the first that cannot be the next entry
 pub record IsWrongTail (config : ConfigParts) (bodies : List Body) (at : ℕ) : Type 0 where

@@ -4,6 +4,7 @@ ghost use Rattle.fault_counts.specs.Count.{HasCause};
 ghost use Rattle.db_config.specs.declared.parts.ConfigParts.{ConfigParts};
 ghost use Rattle.edit_journal.specs.Held.{Holds, LeavesIn, count_in};
 ghost use Rattle.edit_code.specs.Codes.{head_code, IsHeadCode};
+ghost use Rattle.version_tree.specs.Version.{first_version};
 ghost use Rattle.live_book.specs.Histories.{HeadPassesLimit};
 ghost use Rattle.live_book.specs.Kept.{Keeps, KeepsIn, CrashLeaves, faults_in};
 ghost use Rattle.live_book.specs.Commits.{has_journal};
@@ -202,6 +203,20 @@ pub fn new_book<D: Disk, R: Wait>(
     }
 }
 
+/// A gate whose opening is the first version of a configuration.
+fn show_config<R: Wait>(
+    rt: &R,
+    alloc: Global,
+    config: Config,
+    readers: u32,
+) -> Result<Shown, Memory>
+    requires { (1 ≤ readers) × (readers ≤ 16) }
+    ensures { IfOk result (λ shown. IsFirstShown (first_version config) 0 readers shown) }
+{
+    let version = Version::new(alloc, config)?;
+    show_first(rt, alloc, version, 0, readers)
+}
+
 /// What a new book needs before the disk is called.
 struct Begun {
     frame: Option<Frame>,
@@ -222,8 +237,7 @@ fn prepare<D: Disk, R: Wait>(
     ensures { IfOk result (λ begun. IsBegun journal.now config readers begun) }
 {
     let frame = head_frame(alloc, journal, &config)?;
-    let version = Version::new(alloc, config)?;
-    let shown = show_first(rt, alloc, version, 0, readers)?;
+    let shown = show_config(rt, alloc, config, readers)?;
     Ok(Begun {
         frame,
         entries: Entries::new(alloc),

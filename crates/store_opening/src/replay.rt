@@ -1,21 +1,23 @@
 //! The history of a store, read of its bodies.
-ghost use Rattle.std.specs.Prelude.{◌≡◌, ◌<◌, ◌++◌, [], ◌∷◌, ℕ, List, length, IfOk, IfErr, OnOk, IsTrue};
+ghost use Rattle.std.specs.Prelude.{◌≡◌, ◌<◌, ◌++◌, [], ◌∷◌, ℕ, List, length, IfOk, IfErr, Ok, OnOk, IsTrue};
 ghost use Rattle.db_config.specs.declared.parts.ConfigParts.{ConfigParts};
 ghost use Rattle.db_config.specs.Valid.{is_valid};
 ghost use Rattle.edit_code.specs.Codes.{IsEntryCode, IsHeadCode};
 ghost use Rattle.edit_journal.specs.Held.{texts_of};
-ghost use Rattle.version_tree.specs.Version.{first_version};
+ghost use Rattle.edit_rules.specs.Database.{KeepsDatabaseRules};
+ghost use Rattle.edit_rules.specs.Effects.{effect};
+ghost use Rattle.version_tree.specs.Version.{first_version, state_of, next_number};
 ghost use Rattle.live_book.specs.Histories.{IsNoEntry, IsNoHead, IsNoNext};
 ghost use Rattle.store_opening.specs.Opens.{IsReplay, IsWrong, IsWrongIn};
-ghost use Rattle.store_opening.specs.Prepared.{IsHistoryOf, IsWrongTail};
+ghost use Rattle.store_opening.specs.Prepared.{BreaksRule, IsHistoryOf, IsWrongTail};
 
 use crate::fault::OpenFault;
 use db_config::Config;
 use edit_code::{CodeFault, read_entry, read_head};
 use edit_journal::Body;
 use edit_rules::{Entries, Entry};
-use emu_names::Fault;
 use emu_names::limits::HISTORY_EDITS;
+use emu_names::{Fault, Memory};
 use std::alloc::Global;
 use version_steps::next_version;
 use version_tree::Version;
@@ -53,6 +55,38 @@ fn entry_of(alloc: Global, body: &Body) -> Result<Entry, OpenFault>
     }
 }
 
+/// The version behind an entry that stands in a body.
+fn version_behind(
+    alloc: Global,
+    version: &Version,
+    entry: &Entry,
+    body: &Body,
+) -> Result<Version, OpenFault>
+    requires { KeepsDatabaseRules (state_of version.now) }
+    ensures state { IfOk result (λ next.
+        effect (state_of version.now) entry.now.edit ≡ Ok (state_of next)) }
+    ensures config { IfOk result (λ next. next.config ≡ version.now.config) }
+    ensures number { IfOk result (λ next. next.number ≡ next_number version.now.number) }
+    ensures err { IfErr result (λ fault. IsWrong (λ at.
+        (at ≡ body.now.at) × BreaksRule version.now entry.now.edit) fault) }
+{
+    match next_version(alloc, version, &entry.edit) {
+        Ok(next) => Ok(next),
+        Err(Fault::Broken(_)) => Err(OpenFault::Damaged(body.at)),
+        Err(Fault::Memory) => Err(OpenFault::Memory),
+    }
+}
+
+/// Puts an entry behind those that were read, and its version in the place of theirs.
+fn put(replayed: &mut Replayed, entry: Entry, version: Version) -> Result<(), Memory>
+    ensures entries { OnOk result (replayed.new.entries ≡ replayed.old.entries ++ entry ∷ []) }
+    ensures version { OnOk result (replayed.new.version ≡ version) }
+{
+    replayed.entries.push(entry)?;
+    replayed.version = version;
+    Ok(())
+}
+
 /// Adds the entry of a body.
 fn add(alloc: Global, replayed: &mut Replayed, body: &Body) -> Result<(), OpenFault>
     requires { (config : ConfigParts) × (texts : List (List ℕ)) × IsReplay config texts replayed.old }
@@ -66,14 +100,10 @@ fn add(alloc: Global, replayed: &mut Replayed, body: &Body) -> Result<(), OpenFa
         return Err(OpenFault::Damaged(body.at));
     }
     let entry = entry_of(alloc, body)?;
-    let version = match next_version(alloc, &replayed.version, &entry.edit) {
-        Ok(version) => version,
-        Err(Fault::Broken(_)) => return Err(OpenFault::Damaged(body.at)),
-        Err(Fault::Memory) => return Err(OpenFault::Memory),
-    };
-    replayed.entries.push(entry)?;
-    replayed.version = version;
-    Ok(())
+    match version_behind(alloc, &replayed.version, &entry, body) {
+        Ok(version) => Ok(put(replayed, entry, version)?),
+        Err(fault) => Err(fault),
+    }
 }
 
 /// Adds the entries of bodies, behind the version of a configuration.
