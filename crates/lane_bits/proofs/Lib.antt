@@ -2,5 +2,6 @@ mod Between
 mod Counted
 mod Joined
 mod Masks
+mod Next
 mod Places
 mod Rows

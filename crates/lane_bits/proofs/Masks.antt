@@ -121,3 +121,22 @@ rest_few p column at word is few =
 pub bit_small : (b : Bool) → bool_byte b ≤ 1
 bit_small true = omega arith
 bit_small false = omega arith
+
+-- the bits of at most 55 elements are below 2 ^ 55
+pub behind_few : (p : ℕ → Bool) (column : List ℕ) (at word : ℕ) → word ≡ mask_l (map p (drop at column)) → length column ≤ at + 55 → word < 2 ^ 55
+behind_few p column at word is few =
+    let below : mask_l (map p (drop at column)) < 2 ^ 55 = mask_few p (drop at column) 55 (omega (arith, length-drop at column)) in
+    omega arith
+
+-- eight elements before all that are behind them
+pub eight_before : (p : ℕ → Bool) (column : List ℕ) (from word eight : ℕ) → from + 8 ≤ length column →
+    eight ≡ mask_l (map p (take 8 (drop from column))) → word ≡ mask_l (map p (drop (from + 8) column)) →
+    word * 256 + eight ≡ mask_l (map p (drop from column))
+eight_before p column from word eight room here behind =
+    let k : ℕ = length column in
+    let all : take k (drop (from + 8) column) ≡ drop (from + 8) column =
+    take_all k (drop (from + 8) column) (omega (arith, length-drop (from + 8) column)) in
+    let more : take (8 + k) (drop from column) ≡ drop from column =
+    take_all (8 + k) (drop from column) (omega (arith, length-drop from column)) in
+    eight_more p column from k word eight room here (behind ∙ ap (λ xs. mask_l (map p xs)) (sym all))
+    ∙ ap (λ xs. mask_l (map p xs)) more

@@ -15,7 +15,7 @@ pub length-bits_of : (n : ℕ) (words : List ℕ) → length (bits_of n words) �
 length-bits_of n words = length-map-range_with_len (bit_in words) 0 n
 
 -- a place whose bit is set is one of the row
-set_within : (words : List ℕ) (bits : List Bool) (at : ℕ) → Hold words bits → bit_in words at ≡ true → at < length bits
+pub set_within : (words : List ℕ) (bits : List Bool) (at : ℕ) → Hold words bits → bit_in words at ≡ true → at < length bits
 set_within words bits at hold set = elim (cases_lt at (length bits)) [
   | inl within ↦ within
   | inr past ↦
@@ -23,25 +23,25 @@ set_within words bits at hold set = elim (cases_lt at (length bits)) [
       let here : bit_in words at ≡ get_or bits at false = hold.each at in cc
 ]
 
-set_there : (words : List ℕ) (bits : List Bool) (at : ℕ) → Hold words bits → bit_in words at ≡ true → slice_get bits at ≡ Some true
+pub set_there : (words : List ℕ) (bits : List Bool) (at : ℕ) → Hold words bits → bit_in words at ≡ true → slice_get bits at ≡ Some true
 set_there words bits at hold set =
     slice_get-get_or bits at false (set_within words bits at hold set) ∙ ap (λ b. Some b) (sym (hold.each at) ∙ set)
 
 -- no place of the row is set where no bit of the words is
-none_there : (words : List ℕ) (bits : List Bool) (P : ℕ → Type 0) → Hold words bits →
+pub none_there : (words : List ℕ) (bits : List Bool) (P : ℕ → Type 0) → Hold words bits →
     ((i : ℕ) → P i → bit_in words i ≡ false) → NoneWhere bits P
 none_there words bits P hold clear i within here =
     slice_get-get_or bits i false within ∙ ap (λ b. Some b) (sym (hold.each i) ∙ clear i here)
 
 -- a place of a word, by the word and the bit
-bit_of_word : (words : List ℕ) (k j : ℕ) → j < 64 → bit_in words (64 * k + j) ≡ nat_eq (bit_at (get_or words k 0) j) 1
+pub bit_of_word : (words : List ℕ) (k j : ℕ) → j < 64 → bit_in words (64 * k + j) ≡ nat_eq (bit_at (get_or words k 0) j) 1
 bit_of_word words k j below =
     let word : (64 * k + j) / 64 ≡ k = omega arith in
     let bit : (64 * k + j) % 64 ≡ j = omega arith in
     ap (λ q. nat_eq (bit_at (get_or words q 0) ((64 * k + j) % 64)) 1) word
     ∙ ap (λ r. nat_eq (bit_at (get_or words k 0) r) 1) bit
 
-clear_word : (words : List ℕ) (i : ℕ) → get_or words (i / 64) 0 ≡ 0 → bit_in words i ≡ false
+pub clear_word : (words : List ℕ) (i : ℕ) → get_or words (i / 64) 0 ≡ 0 → bit_in words i ≡ false
 clear_word words i zero_word =
     ap (λ w. nat_eq (bit_at w (i % 64)) 1) zero_word ∙ ap (λ n. nat_eq n 1) (bit_at-zero (i % 64))
 

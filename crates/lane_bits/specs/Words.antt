@@ -1,7 +1,8 @@
 -- Rows of bits in words of 64 bits, the first bit of a word being its lowest.
-use Rattle.std.specs.Prelude.{◌≡◌, ℕ, ◌+◌, ◌*◌, ◌/◌, ◌%◌, ◌<◌, ◌≤◌, Bool, false, List, length, get_or, map, nat_eq}
+use Rattle.std.specs.Prelude.{◌≡◌, ℕ, ◌+◌, ◌*◌, ◌/◌, ◌%◌, ◌<◌, ◌≤◌, ◌&&◌, Bool, false, List, length, get_or, map, nat_eq}
 use Rattle.std.specs.Int.{bit_at}
-use Rattle.std.specs.List.{range_with_len}
+use Rattle.std.specs.List.{list_any, range_with_len}
+use Rattle.std.specs.Simd.Lanes.{zip2}
 
 -- the bit at a place of the words, 0 behind them
 abbrev pub bit_in : List ℕ → ℕ → Bool
@@ -26,3 +27,9 @@ pub record JoinedIn (op : ℕ → ℕ → ℕ) (old other new : List ℕ) (from 
   pub inside : (i : ℕ) → from ≤ i → i < to → get_or new i 0 ≡ op (get_or old i 0) (get_or other i 0)
   pub before : (i : ℕ) → i < from → get_or new i 0 ≡ get_or old i 0
   pub behind : (i : ℕ) → to ≤ i → get_or new i 0 ≡ get_or old i 0
+
+-- whether two rows have a common bit, whatever rows of one length the words hold
+abbrev pub SaysMeet : List ℕ → List ℕ → Bool → Type 0
+SaysMeet words others meet =
+    (ls rs : List Bool) → Hold words ls → Hold others rs → length ls ≡ length rs →
+    meet ≡ list_any (λ bit. bit) (zip2 (λ a b. a && b) ls rs)

@@ -1,10 +1,11 @@
-//! The bits of words of 64 bits: one at a time, how many are set, the first and the last.
-ghost use Rattle.std.specs.Prelude.{◌≡◌, ◌≢◌, ℕ, ◌+◌, ◌<◌, ◌≤◌, ◌^◌, if◌then◌else◌, count_by, length, take, drop, map, replicate};
+//! The bits of words of 64 bits: one at a time, how many are set, the first, the next and the last, and
+//! whether some bit is set in both of two.
+ghost use Rattle.std.specs.Prelude.{◌≡◌, ◌≢◌, ℕ, ◌+◌, ◌<◌, ◌≤◌, ◌*◌, ◌^◌, if◌then◌else◌, count_by, length, take, drop, map, replicate};
 ghost use Rattle.std.specs.Simd.Lanes.{sum_l};
 ghost use Rattle.std.specs.Int.{bit_at};
 ghost use Rattle.std.specs.Int.RustNames.{count_ones};
-ghost use Rattle.lane_bits.specs.Row.{IsFirst, IsLast};
-ghost use Rattle.lane_bits.specs.Words.{bits_of, Hold};
+ghost use Rattle.lane_bits.specs.Row.{IsFirst, IsLast, IsNext};
+ghost use Rattle.lane_bits.specs.Words.{bits_of, Hold, SaysMeet};
 
 use std::simd::prelude::*;
 
@@ -76,6 +77,49 @@ pub fn first_set(words: &[u64], len: usize) -> Option<usize>
         }
     }
     None
+}
+
+/// The place of the first bit that is set in the words from one on.
+fn next_from_word(words: &[u64], len: usize, from: usize) -> Option<usize>
+    requires { Hold words.now (bits_of len words.now) }
+    ensures { IsNext (64 * from) (bits_of len words.now) result }
+{
+    for k in from..words.len() {
+        let word = words[k];
+        if word > 0 {
+            return Some(64 * k + word.trailing_zeros() as usize);
+        }
+    }
+    None
+}
+
+/// The place of the first bit that is set from a place on.
+pub fn next_set(words: &[u64], len: usize, from: usize) -> Option<usize>
+    requires { Hold words.now (bits_of len words.now) }
+    ensures { IsNext from (bits_of len words.now) result }
+{
+    let at = from / 64;
+    if at >= words.len() {
+        return None;
+    }
+    let word = words[at] >> (from % 64);
+    if word > 0 {
+        return Some(from + word.trailing_zeros() as usize);
+    }
+    next_from_word(words, len, at + 1)
+}
+
+/// Whether some bit is set in both.
+pub fn share_bit(words: &[u64], others: &[u64]) -> bool
+    requires { length words.now ≡ length others.now }
+    ensures { SaysMeet words.now others.now result }
+{
+    for k in 0..words.len() {
+        if words[k] & others[k] > 0 {
+            return true;
+        }
+    }
+    false
 }
 
 /// The place of the last bit that is set.

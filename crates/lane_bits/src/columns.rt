@@ -4,10 +4,10 @@ ghost use Rattle.std.specs.Simd.Lanes.{mask_l};
 ghost use Rattle.lane_bits.specs.Row.{is_between};
 ghost use Rattle.lane_bits.specs.Words.{AreFor, Hold};
 
-use crate::lanes::{eq_word, range_word};
+use crate::lanes::{eq_eight, eq_word, range_word};
 
-/// Which of the fewer than 64 numbers from `from` on are `label`.
-fn eq_rest(column: &[u32], from: usize, label: u32) -> u64
+/// Which of the fewer than 64 numbers from `from` on are `label`, one by one.
+fn eq_singly(column: &[u32], from: usize, label: u32) -> u64
     requires near { from ≤ length column.now }
     requires few { length column.now < from + 64 }
     ensures { result ≡ mask_l (map (λ x. x == label) (drop from column.now)) }
@@ -17,6 +17,21 @@ fn eq_rest(column: &[u32], from: usize, label: u32) -> u64
     while at > from {
         at -= 1;
         word = word * 2 + (column[at] == label) as u64;
+    }
+    word
+}
+
+/// Which of the fewer than 64 numbers from `from` on are `label`.
+fn eq_rest(column: &[u32], from: usize, label: u32) -> u64
+    requires near { from ≤ length column.now }
+    requires few { length column.now < from + 64 }
+    ensures { result ≡ mask_l (map (λ x. x == label) (drop from column.now)) }
+{
+    let eights = (column.len() - from) / 8;
+    let mut word = eq_singly(column, from + 8 * eights, label);
+    for done in 0..eights {
+        let eight = eq_eight(column, from + 8 * (eights - done - 1), label);
+        word = word * 256 + eight;
     }
     word
 }

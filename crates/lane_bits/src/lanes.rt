@@ -15,6 +15,16 @@ pub fn eq_word(column: &[u32], at: usize, label: u32) -> u64
     lanes.simd_eq(u32x64::splat(label)).to_bitmask()
 }
 
+/// Which of the 8 numbers from `at` on are `label`.
+#[inline(always)]
+pub fn eq_eight(column: &[u32], at: usize, label: u32) -> u64
+    requires { at + 8 ≤ length column.now }
+    ensures { result ≡ mask_l (map (λ x. x == label) (take 8 (drop at column.now))) }
+{
+    let lanes = u32x8::from_slice(&column[at..]);
+    lanes.simd_eq(u32x8::splat(label)).to_bitmask()
+}
+
 /// Which of the 8 numbers from `at` on are from `low` to `high`.
 #[inline(always)]
 pub fn range_eight(column: &[u64], at: usize, low: u64, high: u64) -> u64

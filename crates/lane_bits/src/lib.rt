@@ -8,5 +8,5 @@ mod lanes;
 mod row;
 mod shortage;
 
-pub use row::{BitRow, and_into, eq_lanes, or_into, range_lanes};
+pub use row::{BitRow, and_into, eq_lanes, meet, or_into, range_lanes};
 pub use shortage::Memory;

@@ -1,9 +1,10 @@
 //! A row of bits, and the questions and joins that fill it.
 ghost use Rattle.std.specs.Prelude.{◌≡◌, ◌<◌, ◌≤◌, ◌||◌, ◌&&◌, ◌==◌, count_by, length, map, replicate, slice_get, slice_set, false, IfOk, IsOk, Some};
+ghost use Rattle.std.specs.List.{list_any};
 ghost use Rattle.std.specs.Simd.Lanes.{zip2};
-ghost use Rattle.lane_bits.specs.Row.{is_between, IsFirst, IsLast};
+ghost use Rattle.lane_bits.specs.Row.{is_between, IsFirst, IsLast, IsNext};
 
-use crate::bits::{clear_words, count_words, first_set, last_set, with_bit};
+use crate::bits::{clear_words, count_words, first_set, last_set, next_set, share_bit, with_bit};
 use crate::columns::{eq_words, range_words};
 use crate::joins::{and_words, or_words};
 use crate::shortage::Memory;
@@ -92,6 +93,13 @@ impl BitRow {
         first_set(self.words.as_slice(), self.len)
     }
 
+    /// The first place from a place on at which a bit is set, or `None`, where no bit is.
+    pub fn next(&self, from: usize) -> Option<usize>
+        ensures { IsNext from self.now result }
+    {
+        next_set(self.words.as_slice(), self.len, from)
+    }
+
     /// The last place at which a bit is set, or `None`, where no bit is.
     pub fn last(&self) -> Option<usize>
         ensures { IsLast self.now result }
@@ -129,6 +137,14 @@ pub fn range_lanes(column: &[u64], low: u64, high: u64, out: &mut BitRow)
     } else {
         clear_words(out.words.as_mut_slice());
     }
+}
+
+/// Whether some place has its bit in both rows.
+pub fn meet(one: &BitRow, other: &BitRow) -> bool
+    requires { length one.now ≡ length other.now }
+    ensures { result ≡ list_any (λ bit. bit) (zip2 (λ a b. a && b) one.now other.now) }
+{
+    share_bit(one.words.as_slice(), other.words.as_slice())
 }
 
 /// Sets each bit of `into` that is set there or in `other`.

@@ -1,13 +1,8 @@
-use Rattle.std.proofs.Common.{◌≡◌, ◌≤◌, ◌==◌, length, map, drop}
+use Rattle.std.proofs.Common.{◌≡◌, ◌+◌, ◌-◌, ◌*◌, ◌==◌, map, drop}
 use Rattle.std.specs.Simd.Lanes.{mask_l}
 use Rattle.lane_bits.proofs.columns.eq_rest.Given as goal
 
-abbrev pub invariant-loop-at : goal.invariant-loop-at
-invariant-loop-at l = record {
-  low : l.from ≤ l.at;
-  high : l.at ≤ length l.column;
-  same : l.word ≡ mask_l (map (λ x. x == l.label) (drop l.at l.column));
-}
-
-abbrev pub decreases-loop-at : goal.decreases-loop-at
-decreases-loop-at l = l.at
+-- the numbers behind those that are still to be asked have been
+abbrev pub invariant-loop-done : goal.invariant-loop-done
+invariant-loop-done l =
+    l.word ≡ mask_l (map (λ x. x == l.label) (drop (l.from + 8 * (l.eights - l.done)) l.column))

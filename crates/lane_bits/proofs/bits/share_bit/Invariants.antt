@@ -1,0 +1,7 @@
+use Rattle.std.proofs.Common.{◌≡◌, ◌<◌, ℕ, get_or}
+use Rattle.std.specs.Int.Bits.{bit_and}
+use Rattle.lane_bits.proofs.bits.share_bit.Given as goal
+
+-- the words before have no common bit
+abbrev pub invariant-loop-k : goal.invariant-loop-k
+invariant-loop-k l = (j : ℕ) → j < l.k → bit_and (get_or l.words j 0) (get_or l.others j 0) ≡ 0
