@@ -1,13 +1,13 @@
 -- The rows of links between two levels: a pass over the links of a bundle, which sets their bits.
 use Rattle.std.proofs.Common.{◌≡◌, ◌≢◌, ℕ, zero, suc, ◌+◌, ◌<◌, Bool, true, false, not, ◌&&◌, ◌||◌, ◌==◌, List, [], ◌∷◌, length, map, get_or, take, replicate, refl, sym, ap, ◌∙◌, subst, Option, Some, None, arith, ⊎_elim, slice_set, option_map}
 use Rattle.std.specs.Prelude.{IsSome}
-use Rattle.std.specs.List.{list_any, slice_get, All}
-use Rattle.std.proofs.lemmas.Bool.{and_parts, and_from, not-true, cases_Bool, eqb-true, eq-eqb}
+use Rattle.std.specs.List.{slice_get, All}
+use Rattle.std.proofs.lemmas.Bool.{and_parts, not-true, cases_Bool, eqb-true, eq-eqb}
 use Rattle.std.proofs.lemmas.Simd.{zip2-map, splat_is_map}
 use Rattle.std.proofs.lemmas.List.{length-map}
 use Rattle.std.proofs.lemmas.List.Elements.{All-head, All-tail}
 use Rattle.std.proofs.lemmas.List.Folds.{list_any_more}
-use Rattle.std.proofs.lemmas.Option.{slice_get-map, slice_get-get_or, slice_get_within, get_or_from_slice_get}
+use Rattle.std.proofs.lemmas.Option.{slice_get-map, slice_get_within, get_or_from_slice_get}
 use Rattle.link_graph.specs.declared.link.Link.{Link}
 use Rattle.link_graph.specs.Index.{is_pair}
 use Rattle.db_config.specs.declared.parts.ConfigParts.{ConfigParts}
@@ -21,7 +21,7 @@ use Rattle.bundle_state.proofs.IdLevels.{number_within}
 use Rattle.hier_closure.specs.Dominance.{links_to, dominates, ids_at, closure_row, closure_of}
 use Rattle.hier_closure.specs.Ranks.{any_between}
 use Rattle.hier_closure.specs.Linked.{linked_row, linked_of}
-use Rattle.hier_closure.proofs.Ways.{Way, or_left, or_right, pair_from, pair_to, same_truth}
+use Rattle.hier_closure.proofs.Ways.{Way, pair_from, pair_to, same_truth}
 use Rattle.hier_closure.proofs.Ways as ways
 use Rattle.hier_closure.proofs.Ids.{is_in, level_is, ids_different, Stands, some_place, stands, missing}
 use Rattle.hier_closure.proofs.Heights.{AreAbove, links_above, way_above, same_count}

@@ -1,5 +1,5 @@
 -- Which place of a row is the first one from a place on that is set, by the words that hold it; and whether two rows have a common one.
-use Rattle.std.proofs.Common.{◌≡◌, ◌+◌, ◌*◌, ◌/◌, ◌%◌, ◌-◌, ◌^◌, ◌<◌, ◌≤◌, ◌&&◌, inl, inr, ℕ, Bool, true, false, List, length, get_or, nat_eq, ap, sym, ◌∙◌, subst, arith, slice_get, Option, Some, None, All}
+use Rattle.std.proofs.Common.{◌≡◌, ◌+◌, ◌*◌, ◌/◌, ◌%◌, ◌-◌, ◌^◌, ◌<◌, ◌≤◌, ◌&&◌, inl, inr, ℕ, Bool, true, false, List, length, get_or, nat_eq, ap, sym, ◌∙◌, arith, slice_get, Option, Some, None}
 use Rattle.std.proofs.lemmas.Bool.{cases_lt}
 use Rattle.std.proofs.lemmas.List.{get_or_past}
 use Rattle.std.proofs.lemmas.List.Elements.{All-from_get_or}
@@ -10,10 +10,9 @@ use Rattle.std.proofs.lemmas.Option.{slice_get-get_or}
 use Rattle.std.proofs.lemmas.Simd.{length-zip2, get_or-zip2}
 use Rattle.std.specs.Int.{bit_at, trailing_zeros}
 use Rattle.std.specs.Int.Bits.{bit_and}
-use Rattle.std.specs.List.{list_any}
 use lib.Lanes.{zip2}
 use mir.Syntax.{w64}
-use Rattle.lane_bits.specs.Row.{NoneWhere, IsNext}
+use Rattle.lane_bits.specs.Row.{IsNext}
 use Rattle.lane_bits.specs.Words.{bit_in, bits_of, Hold, SaysMeet}
 use Rattle.lane_bits.proofs.Places.{set_within, set_there, none_there, bit_of_word, clear_word, length-bits_of}
 use Rattle.lane_bits.proofs.Rows.{and_held}

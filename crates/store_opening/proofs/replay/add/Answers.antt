@@ -1,5 +1,4 @@
 use Rattle.std.proofs.Common.{◌≡◌, Ok, sym, ◌∙◌, ap, subst, arith}
-use Rattle.std.proofs.lemmas.Result.{IfErr-weaker}
 use Rattle.edit_rules.specs.Effects.{effect}
 use Rattle.version_tree.specs.Version.{VersionParts, state_of}
 use Rattle.live_book.specs.Commits.{HasRoom}

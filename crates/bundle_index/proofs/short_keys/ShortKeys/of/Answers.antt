@@ -1,7 +1,6 @@
 use Rattle.std.proofs.Common.{[], ◌∷◌, arith}
 use Rattle.std.proofs.lemmas.List.{length-append}
-use Rattle.bundle_index.specs.Keys.{AreKeysOf}
-use Rattle.bundle_index.proofs.ShortLabels.{all_keyed, key_more, none_keyed}
+use Rattle.bundle_index.proofs.ShortLabels.{all_keyed, key_more}
 use Rattle.bundle_index.proofs.short_keys.ShortKeys.of.Goals as goal
 
 pub loop-place-preserved : goal.loop-place-preserved
