@@ -20,6 +20,3 @@ pub use gate::{Made, new_gate};
 pub use pass::{Note, Pass};
 pub use passes::Passes;
 pub use publisher::Publisher;
-
-#[cfg(test)]
-mod tests;

@@ -1,15 +1,16 @@
 //! What looks give around a stage, a publish and a learnt note, on one thread and beside a
 //! publisher on another.
-ghost use Rattle.std.specs.Prelude.{◌≡◌, IfOk};
+ghost use Rattle.std.specs.Prelude.{◌≡◌, ◌≤◌, IfOk};
 
-use crate::law::catch_up;
-use crate::{LookFault, Made, Memory, Note, Pass, Publisher, new_gate};
 use std::alloc::Global;
+use std::marker::Model;
 use std::sync::atomic::AtomicBool;
 use std::sync::atomic::Ordering::SeqCst;
 use std::sync::{Arc, Wait};
 use std::test::Fail;
 use std::thread::join;
+use version_gate::law::catch_up;
+use version_gate::{LookFault, Made, Memory, Note, Pass, Passes, Publisher, new_gate};
 
 // A gate with two passes, of which one will learn.
 struct Two {
@@ -41,13 +42,15 @@ fn two_passes<R: Wait>(rt: &R, alloc: Global, number: u64, version: u64) -> Resu
     }
 }
 
-// The number and version that a look gives, and the number that the pass has then seen.
+// The number and version that a look gives, and the number that the pass has then seen. What it gives
+// may go to other threads.
 fn look(pass: &mut Pass<u64>) -> Option<(u64, u64, u64)>
     ensures { pass.new.gate ≡ pass.old.gate }
 {
     let Ok(found) = pass.look() else {
         return None;
     };
+    is_shared(&found);
     Some((found.number, *found.version, pass.seen()))
 }
 
@@ -98,49 +101,108 @@ fn a_version_is_seen_once_it_is_published(rt: HostRuntime) -> Result<(), Fail> {
         Some((8, 80, 8)),
         Some((8, 80, 8)),
     ];
-    assert_eq!(rt; found, Ok((wanted, true)));
-    assert_eq!(rt; pass.look().err(), Some(LookFault::NoEntry));
-    assert_eq!(rt; pass.seen(), 8);
+    let closed = pass.look().err();
+    assert_eq!(rt;
+        (found, closed, pass.seen()),
+        (Ok((wanted, true)), Some(LookFault::NoEntry), 8)
+    );
     Ok(())
+}
+
+// How many passes there are, what the first of them has seen, whether one stands at a place, and how
+// many there are once the last is taken and once it is back.
+type Counts = (usize, Option<u64>, bool, usize, usize);
+
+fn counts(passes: &mut Passes<u64>, place: usize) -> Result<Counts, Memory> {
+    let count = passes.len();
+    let first = passes.get(0).map(|pass| pass.seen());
+    let stands = passes.get(place).is_some();
+    let last = passes.pop();
+    let without = passes.len();
+    if let Some(pass) = last {
+        passes.push(pass)?;
+    }
+    Ok((count, first, stands, without, passes.len()))
+}
+
+// The counts of a gate for so many readers, and whether a pass stands behind as many.
+fn counts_for<R: Wait>(rt: &R, alloc: Global, readers: u32) -> Result<Counts, Memory>
+    requires { (1 ≤ readers) × (readers ≤ 16) }
+{
+    let opening = Arc::new(alloc, 5)?;
+    let Made {
+        publisher,
+        mut passes,
+    } = new_gate(rt, alloc, 3, opening, readers)?;
+    publisher.close(rt);
+    counts(&mut passes, readers as usize)
 }
 
 #[test]
 fn a_gate_has_as_many_passes_as_readers(rt: HostRuntime) -> Result<(), Fail> {
-    for readers in [1, 2, 16] {
-        let opening = Arc::new(rt.alloc(), 5)?;
-        let Made {
-            publisher,
-            mut passes,
-        } = new_gate(&rt, rt.alloc(), 3, opening, readers)?;
-        publisher.close(&rt);
-        assert_eq!(rt; passes.len(), readers as usize);
-        assert_eq!(rt; passes.get(0).map(|pass| pass.seen()), Some(3));
-        assert!(rt; passes.get(readers as usize).is_none());
-        let last = passes.pop();
-        assert_eq!(rt; passes.len(), readers as usize - 1);
-        if let Some(pass) = last {
-            passes.push(pass)?;
-        }
-        assert_eq!(rt; passes.len(), readers as usize);
-    }
+    let alloc = rt.alloc();
+    let found = [
+        counts_for(&rt, alloc, 1),
+        counts_for(&rt, alloc, 2),
+        counts_for(&rt, alloc, 16),
+    ];
+    let wanted = [
+        Ok((1, Some(3), false, 0, 1)),
+        Ok((2, Some(3), false, 1, 2)),
+        Ok((16, Some(3), false, 15, 16)),
+    ];
+    assert_eq!(rt; found, wanted);
     Ok(())
 }
 
-// Publishes so many versions; each is three times its number.
-fn publish_many<R: Wait>(
-    rt: &R,
-    alloc: Global,
-    publisher: &mut Publisher<u64>,
-    count: u64,
-) -> Result<(), Memory> {
-    for _ in 0..count {
-        let Some(number) = publisher.number().checked_add(1) else {
+// A publisher, and the number of its last version.
+struct Counted {
+    publisher: Publisher<u64>,
+    number: u64,
+}
+
+impl Model for Counted {
+    ghost use Rattle.std.specs.Prelude.{◌≡◌, ℕ};
+
+    ghost Value = { ℕ };
+
+    ghost view = { λ c. c.number };
+
+    ghost invariant = { λ c. c.publisher.number ≡ c.number };
+}
+
+impl Counted {
+    // Publishes the next version, which is three times its number.
+    fn publish_next<R: Wait>(&mut self, rt: &R, alloc: Global) -> Result<(), Memory> {
+        let Some(number) = self.number.checked_add(1) else {
             return Err(Memory);
         };
-        publisher.stage(number, Arc::new(alloc, number.wrapping_mul(3))?)?;
-        publisher.publish(rt);
+        let version = Arc::new(alloc, number.wrapping_mul(3))?;
+        self.publisher.stage(number, version)?;
+        self.publisher.publish(rt);
+        self.number = number;
+        Ok(())
     }
-    Ok(())
+
+    // Publishes so many versions.
+    fn publish_many<R: Wait>(&mut self, rt: &R, alloc: Global, count: u64) -> Result<(), Memory> {
+        for _ in 0..count {
+            self.publish_next(rt, alloc)?;
+        }
+        Ok(())
+    }
+
+    fn tell(&mut self) -> Note<u64> {
+        self.publisher.tell()
+    }
+
+    fn close<R: Wait>(self, rt: &R) {
+        let Counted {
+            publisher,
+            number: _,
+        } = self;
+        publisher.close(rt);
+    }
 }
 
 // Looks until it finds a number, or an older one once the publisher has ended. Whether it found it,
@@ -177,39 +239,38 @@ fn all_cross<T: Drop + Send + Sync>(publisher: &Publisher<T>, pass: &Pass<T>, no
 #[test]
 fn looks_beside_a_publisher_never_go_back(rt: HostRuntime) -> Result<(), Fail> {
     let alloc = rt.alloc();
-    let opening = Arc::new(alloc, 21)?;
-    let Made {
-        mut publisher,
-        mut passes,
-    } = new_gate(&rt, alloc, 7, opening, 2)?;
-    let (Some(mut one), Some(mut other)) = (passes.pop(), passes.pop()) else {
-        publisher.close(&rt);
-        return Err(Memory.into());
+    let Two {
+        publisher,
+        mut pass,
+        mut other,
+    } = two_passes(&rt, alloc, 7, 21)?;
+    let mut counted = Counted {
+        publisher,
+        number: 7,
     };
     let ended = AtomicBool::new(false);
-    let (published, looks) = join(
+    let raced = join(
         &rt,
         || {
-            let published = publish_many(&rt, alloc, &mut publisher, 100);
+            let published = counted.publish_many(&rt, alloc, 100);
             ended.store(true, SeqCst);
             published
         },
         || {
             join(
                 &rt,
-                || look_up_to(&mut one, 107, &ended),
+                || look_up_to(&mut pass, 107, &ended),
                 || look_up_to(&mut other, 107, &ended),
             )
         },
     );
-    let note = publisher.tell();
-    all_cross(&publisher, &one, &note);
-    let found = one.look();
-    publisher.close(&rt);
-    assert_eq!(rt; published, Ok(()));
-    assert_eq!(rt; looks, (true, true));
-    let found = found?;
-    is_shared(&found);
-    assert_eq!(rt; (found.number, *found.version), (107, 321));
+    let note = counted.tell();
+    all_cross(&counted.publisher, &pass, &note);
+    let found = look(&mut pass);
+    counted.close(&rt);
+    assert_eq!(rt;
+        (raced, found),
+        ((Ok(()), (true, true)), Some((107, 321, 107)))
+    );
     Ok(())
 }

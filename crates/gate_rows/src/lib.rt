@@ -1,0 +1,5 @@
+//! Gates of versions, with looks beside a publisher.
+#![tactic(auto)]
+
+#[cfg(test)]
+mod looks;
