@@ -13,3 +13,4 @@ pub mod Places
 pub mod Ranges
 mod Rising
 pub mod Shown
+pub mod Walk

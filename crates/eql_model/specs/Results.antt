@@ -1,7 +1,7 @@
 -- The results of a query in one bundle (EMU-SDMS Manual, "The EMU Query Language (EQL)": results are
 -- stretches of items, or the items that a `#` marks).
 use Rattle.std.specs.Prelude.{◌≡◌, ◌<◌, ◌≤◌, ℕ, Bool, true, false, List, [], ◌∷◌, All, length, map, Option, Some, None, IsSome, Result, Ok, Err}
-use Rattle.std.specs.List.{flat_map}
+use Rattle.std.specs.List.{filter, flat_map, range_with_len}
 use Rattle.db_config.specs.declared.parts.AttributePlace.{AttributePlace}
 use Rattle.db_config.specs.declared.parts.ConfigParts.{ConfigParts}
 use Rattle.db_config.specs.Lookups.{attribute_at, place_of}
@@ -11,6 +11,7 @@ use Rattle.eql_model.specs.declared.tuple.Tuple.{Tuple}
 use Rattle.eql_model.specs.declared.tuple.Span.{Span}
 use Rattle.eql_model.specs.declared.faults.MatchFault.{MatchFault}
 use Rattle.eql_model.specs.declared.faults.MatchFault.TheVariants.{TooManyTuples, Memory}
+use Rattle.eql_model.specs.Flags.{flag_at}
 use Rattle.eql_model.specs.Sets.{each_once}
 use Rattle.eql_model.specs.Meaning.{items_at, tuples, has_too_many}
 
@@ -36,6 +37,11 @@ stretches c b q = each_once (flat_map (shown (is_marked q)) (tuples c b q))
 abbrev pub span_at : AttributePlace → Tuple → Span
 span_at place t =
     record { level = place.level; attribute = place.attribute; first = t.first; last = t.last }
+
+-- the items of which a row has the bit, each as a stretch of its own
+abbrev pub row_spans : AttributePlace → List Bool → List Span
+row_spans place row =
+    map (λ k. span_at place (bare k k)) (filter (λ k. flag_at k row) (range_with_len 0 (length row)))
 
 -- the results of a query
 abbrev pub results : ConfigParts → BundleParts → AskedQuery → List Span

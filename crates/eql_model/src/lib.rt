@@ -21,7 +21,7 @@ mod terms;
 mod times;
 mod tuple;
 
-pub use answer::{answer_plain, match_plain, spans_of};
+pub use answer::{answer_plain, match_plain, spans_of, spans_of_row};
 pub use conjunction::single;
 pub use faults::MatchFault;
 pub use gathered::Gathered;

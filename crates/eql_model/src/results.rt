@@ -1,8 +1,9 @@
 //! The results of a query in a bundle, each once.
-ghost use Rattle.std.specs.Prelude.{◌≡◌, ◌<◌, ◌^◌, true, false, map, Err, IfOk, OnOk};
+ghost use Rattle.std.specs.Prelude.{◌≡◌, ◌<◌, ◌≤◌, ◌^◌, length, true, false, map, Err, IfOk, OnOk};
+ghost use Rattle.emu_names.specs.declared.limits.TheConstants.{BUNDLE_ITEMS};
 ghost use Rattle.std.specs.List.{flat_map};
 ghost use Rattle.eql_model.specs.Sets.{GivesSet, each_once, is_over, put_all};
-ghost use Rattle.eql_model.specs.Results.{bare, shown, span_at};
+ghost use Rattle.eql_model.specs.Results.{bare, row_spans, shown, span_at};
 
 use crate::faults::MatchFault;
 use crate::gathered::Gathered;
@@ -10,6 +11,7 @@ use crate::tuple::{Span, Spans, Tuple, Tuples};
 use db_config::AttributePlace;
 use emu_lists::Series;
 use emu_names::Memory;
+use lane_bits::BitRow;
 use std::alloc::Global;
 
 /// A stretch without a mark.
@@ -100,6 +102,33 @@ pub(crate) fn spans_at(
     let mut made = Series::from_vec(Vec::with_capacity(alloc, stretches.len())?);
     for stretch in stretches {
         made.push(span_at(place, *stretch))?;
+    }
+    Ok(made)
+}
+
+/// An item as a stretch on the level of the attribute that is shown.
+fn item_span(place: AttributePlace, at: usize) -> Span
+    requires level { place.level < 2 ^ 32 }
+    requires attribute { place.attribute < 2 ^ 32 }
+    requires few { at < BUNDLE_ITEMS }
+    ensures { result ≡ span_at place (bare at at) }
+{
+    span_at(place, bare(at as u32, at as u32))
+}
+
+/// The items of which a row has the bit, on the level of the attribute that is shown. The only refusal is
+/// want of memory.
+pub(crate) fn spans_in(alloc: Global, place: AttributePlace, row: &BitRow) -> Result<Spans, Memory>
+    requires few { length row.now ≤ BUNDLE_ITEMS }
+    requires level { place.level < 2 ^ 32 }
+    requires attribute { place.attribute < 2 ^ 32 }
+    ensures { IfOk result (λ made. made ≡ row_spans place row.now) }
+{
+    let mut made = Series::from_vec(Vec::with_capacity(alloc, row.count())?);
+    let mut from = 0;
+    while let Some(at) = row.next(from) {
+        from = at + 1;
+        made.push(item_span(place, at))?;
     }
     Ok(made)
 }
