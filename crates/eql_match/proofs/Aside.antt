@@ -124,3 +124,13 @@ pub covered_kept : (b : BundleParts) (levels : ℕ × ℕ) (ls rs gathered : Lis
     is_above b.definitions levels.1 levels.0 ≡ false → LieOn b.levels levels.0 ls →
     gathered ≡ put_all gathered (covered_pairs b levels ls rs)
 covered_kept b levels ls rs gathered rules aside lie = sym (ap (put_all gathered) (covered_none b levels ls rs rules aside lie))
+
+-- ---- rows between such levels
+
+pub no_bit_aside : (b : BundleParts) (upper lower : ℕ) → KeepsBundleRules b → is_above b.definitions upper lower ≡ false → (i j : ℕ) →
+    bit_at (closure_of b lower upper) i j ≡ false
+no_bit_aside b upper lower rules aside i j =
+    ap (λ rows. bit_at rows i j)
+    (sym (rows_aside b upper lower (length (ids_at b.levels upper)) (length (ids_at b.levels lower)) (replicate (length (ids_at b.levels lower)) false)
+    rules aside refl refl refl))
+    ∙ no_bit (length (ids_at b.levels upper)) (length (ids_at b.levels lower)) i j

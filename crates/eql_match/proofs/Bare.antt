@@ -28,7 +28,7 @@ use Rattle.eql_match.proofs.Order.{single_at, singles_from, From}
 
 -- ---- the tuples of a query are in order
 
-less_by_first : (a b : Tuple) → a.first < b.first → tuple_cmp a b ≡ Less
+pub less_by_first : (a b : Tuple) → a.first < b.first → tuple_cmp a b ≡ Less
 less_by_first a b before =
     sym (ap (λ o. ordering_then o (ordering_then (nat_cmp a.last b.last) (option_cmp nat_cmp a.mark b.mark))) (nat_cmp_is a.first b.first Less before))
 
@@ -106,7 +106,7 @@ shown_bare (t ∷ ts) all =
     let parts = and_parts (is_bare t) (list_all is_bare ts) all in
     flat_map-cons (shown false) t ts ∙ (λ i. bare_is t parts.0 i ∷ shown_bare ts parts.1 i)
 
-show_themselves : (marked : Bool) (ts : List Tuple) → IsStrictlySortedBy tuple_cmp ts → marked ≡ false → list_all is_bare ts ≡ true →
+pub show_themselves : (marked : Bool) (ts : List Tuple) → IsStrictlySortedBy tuple_cmp ts → marked ≡ false → list_all is_bare ts ≡ true →
     ts ≡ each_once (flat_map (shown marked) ts)
 show_themselves marked ts sorted unmarked all =
     sym (ap (λ m. each_once (flat_map (shown m) ts)) unmarked ∙ ap each_once (shown_bare ts all) ∙ once_is ts sorted)

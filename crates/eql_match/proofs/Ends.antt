@@ -1,32 +1,15 @@
 -- The places at which a row of bits has none set: before its first one and behind its last one.
-use Rattle.std.proofs.Common.{◌≡◌, ℕ, zero, suc, ◌+◌, ◌-◌, ◌<◌, ◌≤◌, Bool, true, false, cond, List, [], ◌∷◌, ◌++◌, length, Some, refl, sym, ap, ◌∙◌, arith}
+use Rattle.std.proofs.Common.{◌≡◌, ℕ, ◌+◌, ◌-◌, ◌<◌, ◌≤◌, Bool, true, false, List, [], ◌++◌, length, Some, refl, sym, ap, ◌∙◌, arith}
 use Rattle.std.specs.Prelude.{map, nat_lt, unwrap_or}
 use Rattle.std.specs.List.{filter, range_with_len, slice_get}
 use Rattle.std.proofs.lemmas.Bool.{ltb-true, ltb-false}
+use Rattle.std.proofs.lemmas.List.{append-nil}
 use Rattle.std.proofs.lemmas.List.Elements.{filter-append}
 use Rattle.std.proofs.lemmas.Option.{slice_get_past, slice_get_within}
 use Rattle.lane_bits.specs.Row.{NoneWhere, IsLast}
 use Rattle.eql_model.specs.Flags.{flag_at}
 use Rattle.eql_model.specs.declared.tuple.Tuple.{Tuple}
-
-none_among : (q : ℕ → Bool) (a n : ℕ) → ((i : ℕ) → a ≤ i → i < a + n → q i ≡ false) → filter q (range_with_len a n) ≡ []
-none_among q a zero none = refl
-none_among q a (suc n) none =
-    ap (λ b. cond b (a ∷ filter q (range_with_len (a + 1) n)) (filter q (range_with_len (a + 1) n))) (none a (omega arith) (omega arith))
-    ∙ none_among q (a + 1) n (λ i from to. none i (omega arith) (omega arith))
-
-range_split : (a m n : ℕ) → range_with_len a (m + n) ≡ range_with_len a m ++ range_with_len (a + m) n
-range_split a zero n =
-    let none : 0 + n ≡ n = omega arith in let from : a ≡ a + 0 = omega arith in
-    ap (range_with_len a) none ∙ ap (λ b. range_with_len b n) from
-range_split a (suc m) n =
-    let more : suc m + n ≡ suc (m + n) = omega arith in let from : a + 1 + m ≡ a + suc m = omega arith in
-    ap (range_with_len a) more
-    ∙ ap (λ ks. a ∷ ks) (range_split (a + 1) m n ∙ ap (λ b. range_with_len (a + 1) m ++ range_with_len b n) from)
-
-append_nothing : (xs : List ℕ) → xs ++ [] ≡ xs
-append_nothing [] = refl
-append_nothing (x ∷ xs) = ap (λ ys. x ∷ ys) (append_nothing xs)
+use Rattle.eql_model.proofs.Walk.{none_among, range_split}
 
 -- no place behind the m-th has a flag
 none_behind : (q : ℕ → Bool) (m k : ℕ) → m ≤ k → ((i : ℕ) → m ≤ i → q i ≡ false) →
@@ -36,7 +19,7 @@ none_behind q m k h none =
     ap (λ j. filter q (range_with_len 0 j)) e ∙ ap (filter q) (range_split 0 m (k - m))
     ∙ filter-append q (range_with_len 0 m) (range_with_len (0 + m) (k - m))
     ∙ ap (λ ks. filter q (range_with_len 0 m) ++ ks) (none_among q (0 + m) (k - m) (λ i from to. none i (omega arith)))
-    ∙ append_nothing (filter q (range_with_len 0 m))
+    ∙ append-nil (filter q (range_with_len 0 m))
 
 unset : (bits : List Bool) (i : ℕ) → slice_get bits i ≡ Some false → flag_at i bits ≡ false
 unset bits i is = ap (λ o. unwrap_or o false) is

@@ -1,9 +1,15 @@
 pub mod Aside
 pub mod Bare
 pub mod Bits
+pub mod ByRows
 mod Ends
+pub mod FoundBy
+pub mod FoundWhere
+pub mod ItemsShown
 pub mod Near
 pub mod Order
 pub mod Passes
+pub mod RowsBetween
 pub mod Standing
+pub mod Steps
 pub mod Tests

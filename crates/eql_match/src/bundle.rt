@@ -3,16 +3,20 @@ ghost use Rattle.std.specs.Prelude.{◌≡◌, false};
 ghost use Rattle.std.specs.List.{flat_map, list_all};
 ghost use Rattle.std.specs.List.Sorted.{IsStrictlySortedBy};
 ghost use Rattle.bundle_state.specs.Built.{FitsConfig};
-ghost use Rattle.eql_resolve.specs.Sound.{IsResolvedBy};
+ghost use Rattle.eql_resolve.specs.Sound.{IsQueryOf, IsResolvedBy};
+ghost use Rattle.eql_resolve.specs.View.{query_in};
 ghost use Rattle.eql_model.specs.Results.{Matches, shown};
 ghost use Rattle.eql_model.specs.Sets.{GivesSet, each_once, is_over, tuple_cmp};
+ghost use Rattle.eql_match.specs.Found.{AreFoundFor};
 ghost use Rattle.eql_match.specs.Shown.{is_bare};
 
 use crate::evaluate::evaluate;
+use crate::found::Found;
 use bundle_index::Indexed;
 use db_config::Config;
 use eql_model::{MatchFault, Spans, Tuple, Tuples};
-use eql_resolve::Asked;
+use eql_resolve::{Asked, AskedQuery};
+use lane_bits::BitRow;
 use std::alloc::Global;
 
 /// Whether none of some tuples has a mark.
@@ -40,6 +44,66 @@ fn shown_of(alloc: Global, marked: bool, found: Tuples) -> Result<Tuples, MatchF
     eql_model::shown_once(alloc, marked, found.as_slice())
 }
 
+/// The results of a query of which these are the tuples.
+fn spans_of_tuples(
+    alloc: Global,
+    config: &Config,
+    indexed: &Indexed,
+    query: &AskedQuery,
+    found: Tuples,
+) -> Result<Spans, MatchFault>
+    requires within { IsQueryOf config.now (query_in query.now) }
+    requires found { AreFoundFor (Found.Tuples found) config.now indexed.now.bundle (query_in query.now) }
+    ensures { Matches result config.now indexed.now.bundle (query_in query.now) }
+{
+    let marked = query.is_marked();
+    let stretches = match shown_of(alloc, marked, found) {
+        Ok(stretches) => stretches,
+        Err(fault) => return Err(fault),
+    };
+    match eql_model::spans_of(alloc, config, query.shown_place(), stretches.as_slice()) {
+        Ok(spans) => Ok(spans),
+        Err(_) => Err(MatchFault::Memory),
+    }
+}
+
+/// The results of a query of which these are the items.
+fn spans_of_items(
+    alloc: Global,
+    config: &Config,
+    indexed: &Indexed,
+    query: &AskedQuery,
+    found: &BitRow,
+) -> Result<Spans, MatchFault>
+    requires within { IsQueryOf config.now (query_in query.now) }
+    requires found { AreFoundFor (Found.Items found.now) config.now indexed.now.bundle (query_in query.now) }
+    ensures { Matches result config.now indexed.now.bundle (query_in query.now) }
+{
+    let _items = indexed.bundle().item_count();
+    match eql_model::spans_of_row(alloc, config, query.shown_place(), found) {
+        Ok(spans) => Ok(spans),
+        Err(_) => Err(MatchFault::Memory),
+    }
+}
+
+/// The results of a query that finds this.
+fn spans_of_found(
+    alloc: Global,
+    config: &Config,
+    indexed: &Indexed,
+    query: &AskedQuery,
+    found: Found,
+) -> Result<Spans, MatchFault>
+    requires within { IsQueryOf config.now (query_in query.now) }
+    requires found { AreFoundFor found config.now indexed.now.bundle (query_in query.now) }
+    ensures { Matches result config.now indexed.now.bundle (query_in query.now) }
+{
+    match found {
+        Found::Items(row) => spans_of_items(alloc, config, indexed, query, &row),
+        Found::Tuples(tuples) => spans_of_tuples(alloc, config, indexed, query, tuples),
+    }
+}
+
 /// The results of a query in a bundle, in order of first and last position, each once.
 ///
 /// The query was resolved by the configuration, whose levels and link definitions the bundle has.
@@ -56,17 +120,8 @@ pub fn match_bundle(
     ensures { Matches result config.now indexed.now.bundle asked.now.query }
 {
     let query = asked.query();
-    let marked = query.is_marked();
-    let found = match evaluate(alloc, config, indexed, query) {
-        Ok(found) => found,
-        Err(fault) => return Err(fault),
-    };
-    let stretches = match shown_of(alloc, marked, found) {
-        Ok(stretches) => stretches,
-        Err(fault) => return Err(fault),
-    };
-    match eql_model::spans_of(alloc, config, query.shown_place(), stretches.as_slice()) {
-        Ok(spans) => Ok(spans),
-        Err(_) => Err(MatchFault::Memory),
+    match evaluate(alloc, config, indexed, query) {
+        Ok(found) => spans_of_found(alloc, config, indexed, query, found),
+        Err(fault) => Err(fault),
     }
 }

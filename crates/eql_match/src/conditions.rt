@@ -12,8 +12,10 @@ ghost use Rattle.eql_resolve.specs.View.{labels_in, op_in, term_in};
 ghost use Rattle.eql_model.specs.Flags.{flag_at};
 ghost use Rattle.eql_model.specs.Labels.{is_as, is_matched, is_wanted, label_of, passes};
 ghost use Rattle.eql_model.specs.Meaning.{items_at, meets, met_row, IsTermOn, single, singles};
+ghost use Rattle.eql_match.specs.Found.{tuples_in, IsRowOf};
 ghost use Rattle.eql_match.specs.Rows.{all_bits};
 
+use crate::found::{Found, found_where};
 use crate::labels::label_bits;
 use crate::patterns::pattern_bits;
 use crate::positions::{number_bits, position_bits};
@@ -221,7 +223,7 @@ fn put_single(made: &mut Tuples, row: &BitRow, marked: bool, at: usize) -> Resul
 }
 
 /// The tuples of the positions of which a row has the bit. The only refusal is want of memory.
-fn singles_where(alloc: Global, row: &BitRow, marked: bool) -> Result<Tuples, Memory>
+pub(crate) fn singles_where(alloc: Global, row: &BitRow, marked: bool) -> Result<Tuples, Memory>
     requires { length row.now ≤ BUNDLE_ITEMS }
     ensures { IfOk result (λ made. made ≡ map (single marked)
         (filter (λ k. flag_at k row.now) (range_with_len 0 (length row.now)))) }
@@ -239,7 +241,8 @@ fn singles_where(alloc: Global, row: &BitRow, marked: bool) -> Result<Tuples, Me
     Ok(made)
 }
 
-/// The tuples of the items of a level that meet all conditions. The only refusal is want of memory.
+/// The items of a level that meet all conditions, or their tuples, where a condition is marked. The only
+/// refusal is want of memory.
 pub(crate) fn conjunction(
     alloc: Global,
     config: &Config,
@@ -247,15 +250,17 @@ pub(crate) fn conjunction(
     level: usize,
     marked: bool,
     terms: &[AskedTerm],
-) -> Result<Tuples, Memory>
+) -> Result<Found, Memory>
     requires fits { FitsConfig config.now indexed.now.bundle }
     requires level { level < length indexed.now.bundle.levels }
     requires terms { All (λ t. IsTermOn config.now level (term_in t)) terms.now }
     requires marked { marked ≡ list_any is_marked_term (map term_in terms.now) }
-    ensures { IfOk result (λ made. made ≡ singles config.now indexed.now.bundle (map term_in terms.now) 0
-        (items_at indexed.now.bundle.levels level)) }
+    ensures tuples { IfOk result (λ made. tuples_in made ≡ singles config.now indexed.now.bundle
+        (map term_in terms.now) 0 (items_at indexed.now.bundle.levels level)) }
+    ensures row { IfOk result (λ made.
+        IsRowOf (length (items_at indexed.now.bundle.levels level)) marked made) }
 {
     let _items = indexed.bundle().item_count();
     let met = all_met(alloc, config, indexed, level, terms)?;
-    singles_where(alloc, &met, marked)
+    found_where(alloc, met, marked)
 }

@@ -5,6 +5,7 @@
 mod bundle;
 mod conditions;
 mod evaluate;
+mod found;
 mod labels;
 mod patterns;
 mod positions;

@@ -1,0 +1,42 @@
+-- What the items of a row show.
+use Rattle.std.proofs.Common.{◌≡◌, ℕ, Bool, true, false, List, [], ◌∷◌, length, map, refl, sym, ap, ◌∙◌}
+use Rattle.std.specs.List.{filter, flat_map, list_all, range_with_len}
+use Rattle.db_config.specs.declared.parts.AttributePlace.{AttributePlace}
+use Rattle.db_config.specs.declared.parts.ConfigParts.{ConfigParts}
+use Rattle.bundle_state.specs.Bundle.{BundleParts}
+use Rattle.eql_resolve.specs.Asked.{AskedQuery, is_marked, shown_place}
+use Rattle.eql_model.specs.declared.tuple.Span.{Span}
+use Rattle.eql_model.specs.Flags.{flag_at}
+use Rattle.eql_model.specs.Meaning.{has_too_many, single}
+use Rattle.eql_model.specs.Results.{bare, results, row_spans, shown, span_at}
+use Rattle.eql_model.specs.Sets.{each_once}
+use Rattle.eql_match.specs.Found.{items_of, AreFoundFor}
+use Rattle.eql_match.specs.Shown.{is_bare}
+use Rattle.eql_match.specs.declared.found.Found.TheVariants.{Items}
+use Rattle.eql_match.proofs.Bare.{show_themselves}
+use Rattle.eql_match.proofs.ByRows.{places_sorted}
+
+all_bare : (ks : List ℕ) → list_all is_bare (map (single false) ks) ≡ true
+all_bare [] = refl
+all_bare (k ∷ ks) = all_bare ks
+
+items_shown : (row : List Bool) → items_of row ≡ each_once (flat_map (shown false) (items_of row))
+items_shown row =
+    show_themselves false (items_of row) (places_sorted (single false) (λ k. refl) (λ k. flag_at k row) 0 (length row)) refl
+    (all_bare (filter (λ k. flag_at k row) (range_with_len 0 (length row))))
+
+spans_each : (place : AttributePlace) (ks : List ℕ) → map (λ k. span_at place (bare k k)) ks ≡ map (span_at place) (map (single false) ks)
+spans_each place [] = refl
+spans_each place (k ∷ ks) = ap (λ spans. span_at place (bare k k) ∷ spans) (spans_each place ks)
+
+pub items_match : (c : ConfigParts) (b : BundleParts) (q : AskedQuery) (place : AttributePlace) (row : List Bool) (spans : List Span) →
+    place ≡ shown_place q → AreFoundFor (Items row) c b q → spans ≡ row_spans place row →
+    (spans ≡ results c b q) × (has_too_many c b q ≡ false)
+items_match c b q place row spans at found is =
+    let mark : false ≡ is_marked q = sym found.2.1 in (
+      is ∙ ap (λ p. row_spans p row) at
+          ∙ spans_each (shown_place q) (filter (λ k. flag_at k row) (range_with_len 0 (length row)))
+          ∙ ap (map (span_at (shown_place q))) (items_shown row)
+          ∙ (λ i. map (span_at (shown_place q)) (each_once (flat_map (shown (mark i)) (found.0 i)))),
+      found.1,
+    )

@@ -1,0 +1,29 @@
+use Rattle.std.proofs.Common.{length, sym, ap, subst, ◌∙◌}
+use Rattle.db_config.specs.Above.{is_above}
+use Rattle.bundle_state.specs.Valid.{KeepsBundleRules}
+use Rattle.eql_match.proofs.RowsBetween.{none_below, below_exit, rows_are, all_wide, row_few}
+use Rattle.eql_match.proofs.found.below_right.Goals as goal
+
+pub returns-then-not-is_above : goal.returns-then-not-is_above
+returns-then-not-is_above c =
+    none_below c.args.indexed.now.bundle c.args.levels.1 c.args.levels.0 c.args.lefts.now c.args.rights.now c.len.result c.none_set.result
+    (subst KeepsBundleRules c.bundle.ensures c.item_count-items.ensures.rules)
+    (ap (λ defs. is_above defs c.args.levels.1 c.args.levels.0) c.requires.fits.definitions
+    ∙ (sym c.is_above.ensures ∙ c.if-not-is_above.true))
+    c.len.ensures c.none_set.ensures
+
+pub below_some-requires-clause-few : goal.below_some-requires-clause-few
+below_some-requires-clause-few c = row_few c.args.indexed.now.bundle c.args.levels.1 (length c.args.rights.now) (subst KeepsBundleRules c.bundle.ensures c.item_count-items.ensures.rules) c.requires.rights
+
+pub below_some-requires-clause-rows : goal.below_some-requires-clause-rows
+below_some-requires-clause-rows c =
+    rows_are c.args.indexed.now.bundle c.args.levels.1 c.args.levels.0 (length c.args.rights.now) c.in_ok-rows.rows c.in_ok-rows.ensures c.requires.rights
+
+pub below_some-requires-clause-wide : goal.below_some-requires-clause-wide
+below_some-requires-clause-wide c =
+    all_wide c.args.indexed.now.bundle c.args.levels.1 c.args.levels.0 (length c.args.lefts.now) c.in_ok-rows.rows c.in_ok-rows.ensures c.requires.lefts
+
+pub returns : goal.returns
+returns c =
+    below_exit c.args.indexed.now.bundle c.args.levels.1 c.args.levels.0 c.in_ok-rows.rows c.args.lefts.now c.args.rights.now c.below_some.result
+    c.in_ok-rows.ensures c.below_some.ensures

@@ -1,0 +1,253 @@
+//! What a part of a query finds: single items by their bits, or tuples.
+ghost use Rattle.std.specs.Prelude.{◌≡◌, ◌<◌, ◌≤◌, ◌++◌, ◌∷◌, [], ◌+◌, All, length, map, IfOk, OnOk};
+ghost use Rattle.std.specs.List.{filter, range_with_len};
+ghost use Rattle.emu_names.specs.declared.limits.TheConstants.{BUNDLE_ITEMS};
+ghost use Rattle.bundle_state.specs.Built.{FitsConfig};
+ghost use Rattle.hier_closure.specs.Dominance.{closure_of};
+ghost use Rattle.eql_model.specs.Flags.{flag_at};
+ghost use Rattle.eql_model.specs.Meaning.{items_at, single};
+ghost use Rattle.eql_match.specs.Found.{above_some, below_some, followed, neighbours, tuples_in, AreDominant, AreSides, IsRowOf, IsShort};
+
+use crate::conditions::singles_where;
+use crate::rows::none_set;
+use bundle_index::Indexed;
+use db_config::Config;
+use emu_lists::Series;
+use emu_names::Memory;
+use eql_model::{Tuple, Tuples};
+use hier_closure::Closure;
+use lane_bits::{BitRow, and_into, meet, or_into};
+use std::alloc::Global;
+
+/// What a part of a query finds.
+#[derive(Drop)]
+pub(crate) enum Found {
+    /// Single items without a mark, by their bits.
+    Items(BitRow),
+    /// Tuples in order.
+    Tuples(Tuples),
+}
+
+/// What the set places of a row stand for: single items, or, where the condition is marked, tuples with
+/// marks. The only refusal is want of memory.
+pub(crate) fn found_where(alloc: Global, met: BitRow, marked: bool) -> Result<Found, Memory>
+    requires { length met ≤ BUNDLE_ITEMS }
+    ensures tuples { IfOk result (λ made. tuples_in made ≡ map (single marked)
+        (filter (λ k. flag_at k met) (range_with_len 0 (length met)))) }
+    ensures row { IfOk result (λ made. IsRowOf (length met) marked made) }
+{
+    if !marked {
+        return Ok(Found::Items(met));
+    }
+    let made = singles_where(alloc, &met, marked)?;
+    Ok(Found::Tuples(made))
+}
+
+/// What two parts of a query find: the rows of both, or the tuples of both.
+#[derive(Drop)]
+pub(crate) enum Sides {
+    /// Single items without a mark, by their bits.
+    Rows(BitRow, BitRow),
+    /// Tuples in order.
+    Lists(Tuples, Tuples),
+}
+
+/// A row beside what another part finds. The only refusal is want of memory.
+fn beside_row(alloc: Global, lefts: BitRow, rights: Found) -> Result<Sides, Memory>
+    requires { length lefts ≤ BUNDLE_ITEMS }
+    ensures { IfOk result (AreSides (Found.Items lefts) rights) }
+{
+    match rights {
+        Found::Items(rights) => Ok(Sides::Rows(lefts, rights)),
+        Found::Tuples(rights) => {
+            let lefts = singles_where(alloc, &lefts, false)?;
+            Ok(Sides::Lists(lefts, rights))
+        }
+    }
+}
+
+/// Tuples beside what another part finds. The only refusal is want of memory.
+fn beside_list(alloc: Global, lefts: Tuples, rights: Found) -> Result<Sides, Memory>
+    requires { IsShort rights }
+    ensures { IfOk result (AreSides (Found.Tuples lefts) rights) }
+{
+    match rights {
+        Found::Items(rights) => {
+            let rights = singles_where(alloc, &rights, false)?;
+            Ok(Sides::Lists(lefts, rights))
+        }
+        Found::Tuples(rights) => Ok(Sides::Lists(lefts, rights)),
+    }
+}
+
+/// What two parts find, side by side: where one of them is a list of tuples, a list is made of the other.
+/// The only refusal is want of memory.
+pub(crate) fn side_by_side(alloc: Global, lefts: Found, rights: Found) -> Result<Sides, Memory>
+    requires lefts { IsShort lefts }
+    requires rights { IsShort rights }
+    ensures { IfOk result (AreSides lefts rights) }
+{
+    match lefts {
+        Found::Items(lefts) => beside_row(alloc, lefts, rights),
+        Found::Tuples(lefts) => beside_list(alloc, lefts, rights),
+    }
+}
+
+/// The stretch of an item and the one behind it.
+fn neighbours(at: usize) -> Tuple
+    requires { at < BUNDLE_ITEMS }
+    ensures { result ≡ neighbours at }
+{
+    Tuple {
+        first: at as u32,
+        last: at as u32 + 1,
+        mark: None,
+    }
+}
+
+/// Puts the stretch of an item and the one behind it last, where a row has the bit of that one. The only
+/// refusal is want of memory.
+fn put_followed(made: &mut Tuples, rights: &BitRow, at: usize) -> Result<(), Memory>
+    requires { at < BUNDLE_ITEMS }
+    ensures { OnOk result (made.new ≡ made.old
+        ++ map neighbours (filter (λ k. flag_at (k + 1) rights.now) (at ∷ []))) }
+{
+    if at + 1 >= rights.len() || !rights.get(at + 1) {
+        return Ok(());
+    }
+    made.push(neighbours(at))
+}
+
+/// The stretches of each two items that follow each other. The only refusal is want of memory.
+pub(crate) fn follow(alloc: Global, lefts: &BitRow, rights: &BitRow) -> Result<Tuples, Memory>
+    requires { length lefts.now ≤ BUNDLE_ITEMS }
+    ensures { IfOk result (λ made. made ≡ followed lefts.now rights.now) }
+{
+    let mut made = Series::new(alloc);
+    let mut from = 0;
+    while let Some(at) = lefts.next(from) {
+        from = at + 1;
+        put_followed(&mut made, rights, at)?;
+    }
+    Ok(made)
+}
+
+/// The left items that dominate some right one. The only refusal is want of memory.
+fn above_some(
+    alloc: Global,
+    rows: &Closure,
+    lefts: &BitRow,
+    rights: &BitRow,
+) -> Result<BitRow, Memory>
+    requires few { length lefts.now ≤ BUNDLE_ITEMS }
+    requires rows { length rows.now ≡ length lefts.now }
+    requires wide { All (λ row. length row ≡ length rights.now) rows.now }
+    ensures { IfOk result (λ made. made ≡ above_some rows.now lefts.now rights.now) }
+{
+    let mut made = none_set(alloc, lefts.len())?;
+    let mut from = 0;
+    while let Some(at) = lefts.next(from) {
+        from = at + 1;
+        let bit = meet(rows.row(at), rights);
+        made.set(at, bit);
+    }
+    Ok(made)
+}
+
+/// The left items that some right one dominates. The only refusal is want of memory.
+fn below_some(
+    alloc: Global,
+    rows: &Closure,
+    lefts: &BitRow,
+    rights: &BitRow,
+) -> Result<BitRow, Memory>
+    requires few { length rights.now ≤ BUNDLE_ITEMS }
+    requires rows { length rows.now ≡ length rights.now }
+    requires wide { All (λ row. length row ≡ length lefts.now) rows.now }
+    ensures { IfOk result (λ made. made ≡ below_some rows.now lefts.now rights.now) }
+{
+    let mut made = none_set(alloc, lefts.len())?;
+    let mut from = 0;
+    while let Some(at) = rights.next(from) {
+        from = at + 1;
+        or_into(&mut made, rows.row(at));
+    }
+    and_into(&mut made, lefts);
+    Ok(made)
+}
+
+/// The left items that dominate some right one. None does where no path of definitions leads down to the
+/// right level. The only refusal is want of memory.
+fn above_right(
+    alloc: Global,
+    config: &Config,
+    indexed: &Indexed,
+    levels: (usize, usize),
+    lefts: &BitRow,
+    rights: &BitRow,
+) -> Result<BitRow, Memory>
+    requires fits { FitsConfig config.now indexed.now.bundle }
+    requires left { levels.0 < length indexed.now.bundle.levels }
+    requires right { levels.1 < length indexed.now.bundle.levels }
+    requires lefts { length lefts.now ≡ length (items_at indexed.now.bundle.levels levels.0) }
+    requires rights { length rights.now ≡ length (items_at indexed.now.bundle.levels levels.1) }
+    ensures { IfOk result (λ made. made
+        ≡ above_some (closure_of indexed.now.bundle levels.1 levels.0) lefts.now rights.now) }
+{
+    let _items = indexed.bundle().item_count();
+    if !config.is_above(levels.0, levels.1) {
+        return none_set(alloc, lefts.len());
+    }
+    let rows = indexed.closure(alloc, config, levels.0, levels.1)?;
+    above_some(alloc, &rows, lefts, rights)
+}
+
+/// The left items that some right one dominates. None is where no path of definitions leads down to the
+/// left level. The only refusal is want of memory.
+fn below_right(
+    alloc: Global,
+    config: &Config,
+    indexed: &Indexed,
+    levels: (usize, usize),
+    lefts: &BitRow,
+    rights: &BitRow,
+) -> Result<BitRow, Memory>
+    requires fits { FitsConfig config.now indexed.now.bundle }
+    requires left { levels.0 < length indexed.now.bundle.levels }
+    requires right { levels.1 < length indexed.now.bundle.levels }
+    requires lefts { length lefts.now ≡ length (items_at indexed.now.bundle.levels levels.0) }
+    requires rights { length rights.now ≡ length (items_at indexed.now.bundle.levels levels.1) }
+    ensures { IfOk result (λ made. made
+        ≡ below_some (closure_of indexed.now.bundle levels.0 levels.1) lefts.now rights.now) }
+{
+    let _items = indexed.bundle().item_count();
+    if !config.is_above(levels.1, levels.0) {
+        return none_set(alloc, lefts.len());
+    }
+    let rows = indexed.closure(alloc, config, levels.1, levels.0)?;
+    below_some(alloc, &rows, lefts, rights)
+}
+
+/// The left items of which one dominates some right item, or some right item dominates it. The only
+/// refusal is want of memory.
+pub(crate) fn dominating(
+    alloc: Global,
+    config: &Config,
+    indexed: &Indexed,
+    levels: (usize, usize),
+    lefts: &BitRow,
+    rights: &BitRow,
+) -> Result<BitRow, Memory>
+    requires fits { FitsConfig config.now indexed.now.bundle }
+    requires left { levels.0 < length indexed.now.bundle.levels }
+    requires right { levels.1 < length indexed.now.bundle.levels }
+    requires lefts { length lefts.now ≡ length (items_at indexed.now.bundle.levels levels.0) }
+    requires rights { length rights.now ≡ length (items_at indexed.now.bundle.levels levels.1) }
+    ensures { IfOk result (λ made. AreDominant (closure_of indexed.now.bundle levels.1 levels.0)
+        (closure_of indexed.now.bundle levels.0 levels.1) lefts.now rights.now made) }
+{
+    let mut made = above_right(alloc, config, indexed, levels, lefts, rights)?;
+    let below = below_right(alloc, config, indexed, levels, lefts, rights)?;
+    or_into(&mut made, &below);
+    Ok(made)
+}
