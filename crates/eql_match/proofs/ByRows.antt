@@ -1,5 +1,5 @@
 -- What is joined by rows of bits are the tuples that a sequence and a dominance make.
-use Rattle.std.proofs.Common.{◌≡◌, ℕ, zero, suc, ◌+◌, ◌-◌, ◌<◌, ◌≤◌, Bool, true, false, cond, ◌||◌, ◌&&◌, ◌==◌, inl, inr, List, [], ◌∷◌, ◌++◌, length, map, get_or, Ok, refl, sym, ap, subst, ◌∙◌, arith}
+use Rattle.std.proofs.Common.{◌≡◌, ℕ, zero, suc, ◌+◌, ◌-◌, ◌<◌, ◌≤◌, Bool, true, false, cond, ◌||◌, ◌&&◌, ◌==◌, inl, inr, List, [], ◌∷◌, ◌++◌, length, map, Ok, refl, sym, ap, ◌∙◌, arith}
 use Rattle.std.specs.Prelude.{All, unwrap_or}
 use Rattle.std.specs.List.{filter, flat_map, list_all, list_any, range_with_len}
 use Rattle.std.specs.List.Sorted.{IsStrictlySortedBy}
@@ -20,7 +20,7 @@ use Rattle.eql_model.specs.declared.tuple.Tuple.{Tuple}
 use Rattle.eql_model.specs.Flags.{flag_at}
 use Rattle.eql_model.specs.Joins.{bit_at, bits_cover, is_under, positions}
 use Rattle.eql_model.specs.Meaning.{single}
-use Rattle.eql_model.specs.Sets.{tuple_cmp, has, each_once, is_over, GivesSet}
+use Rattle.eql_model.specs.Sets.{tuple_cmp, each_once, is_over, GivesSet}
 use Rattle.eql_model.specs.Tuples.{fits_in, follows, both, left_with, one_covers, pairs_with, joined}
 use Rattle.eql_model.proofs.Covers.{dominance_is}
 use Rattle.eql_model.proofs.MadeRows.{flag_of_map}

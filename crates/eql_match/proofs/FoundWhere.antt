@@ -1,5 +1,5 @@
 -- What a conjunction finds, by the places at which all of its conditions are met.
-use Rattle.std.proofs.Common.{◌≡◌, ℕ, Bool, List, length, map, Result, Ok, Err, refl, ap, subst, ◌∙◌}
+use Rattle.std.proofs.Common.{◌≡◌, ℕ, Bool, List, length, map, Result, Ok, Err, subst}
 use Rattle.std.specs.Prelude.{IfOk}
 use Rattle.std.specs.List.{filter, list_any, list_all, range_with_len}
 use Rattle.emu_names.specs.declared.shortage.Memory.{Memory}

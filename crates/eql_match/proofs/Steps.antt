@@ -1,11 +1,11 @@
 -- A walk over the set places of a row, from one to the next.
 use Rattle.std.proofs.Common.{inl, inr, ◌≡◌, ℕ, zero, suc, ◌+◌, ◌-◌, ◌<◌, ◌≤◌, Bool, true, false, cond, ◌||◌, ◌&&◌, List, [], ◌∷◌, ◌++◌, length, map, get_or, Some, refl, sym, ap, ◌∙◌, arith}
-use Rattle.std.specs.Prelude.{All, Option, None, replicate, slice_set, unwrap_or}
+use Rattle.std.specs.Prelude.{All, None, replicate, slice_set, unwrap_or}
 use Rattle.std.specs.List.{filter, list_any, range_with_len, slice_get}
 use Rattle.std.specs.Simd.Lanes.{zip2}
 use Rattle.std.proofs.lemmas.Bool.{cases_eq, cases_lt}
-use Rattle.std.proofs.lemmas.List.{append-nil, ext_get_or, get_or-replicate, get_or-set_same, get_or-set_other, length-replicate, length-set}
-use Rattle.std.proofs.lemmas.List.Elements.{All-get_or, filter-append}
+use Rattle.std.proofs.lemmas.List.{append-nil, get_or-replicate, get_or-set_same, get_or-set_other, length-replicate, length-set}
+use Rattle.std.proofs.lemmas.List.Elements.{All-get_or}
 use Rattle.std.proofs.lemmas.List.Folds.{list_any-append}
 use Rattle.std.proofs.lemmas.List.FromFn.{fill_by_all, length-map-range_with_len}
 use Rattle.std.proofs.lemmas.Option.{get_or_from_slice_get, slice_get_past, slice_get_within, unwrap_or-slice_get}
@@ -15,7 +15,7 @@ use Rattle.eql_model.specs.Flags.{flag_at}
 use Rattle.eql_model.specs.Joins.{bit_at}
 use Rattle.eql_model.specs.declared.tuple.Tuple.{Tuple}
 use Rattle.eql_model.proofs.Walk.{range_split, same_places, one_place_more, no_flag, NextFlag, NoneFrom}
-use Rattle.eql_match.specs.Found.{above_some, below_some, followed, is_above_some, is_below_some, neighbours}
+use Rattle.eql_match.specs.Found.{below_some, followed, is_above_some, neighbours}
 use Rattle.eql_match.proofs.Bits.{flags_are, or_false}
 
 -- ---- what a test finds among the first places

@@ -1,4 +1,4 @@
-use Rattle.std.proofs.Common.{true, ◌&&◌, length, ap, sym, ◌∙◌, arith}
+use Rattle.std.proofs.Common.{◌&&◌, length, ap, sym, ◌∙◌, arith}
 use Rattle.eql_model.specs.Flags.{flag_at}
 use Rattle.eql_match.specs.Found.{is_above_some}
 use Rattle.eql_model.proofs.Walk.{next_flag, no_flag}

@@ -1,8 +1,6 @@
-use Rattle.std.proofs.Common.{◌≡◌, ◌+◌, ◌++◌, ◌∷◌, [], true, false, cond, map, Some, Bool, List, refl, ap, sym, ◌∙◌, arith}
-use Rattle.std.specs.Prelude.{not}
-use Rattle.eql_model.specs.Flags.{flag_at}
+use Rattle.std.proofs.Common.{◌+◌, false, Some, ap, ◌∙◌, arith}
 use Rattle.eql_model.proofs.Walk.{flag_is}
-use Rattle.eql_match.proofs.Steps.{put_nothing, put_one, past_flag}
+use Rattle.eql_match.proofs.Steps.{put_nothing, past_flag}
 use Rattle.eql_match.proofs.found.put_followed.Goals.{then-at-len-via-then-at-len, then-at-len-via-else-at-len+then-not-get}
 use Rattle.eql_match.proofs.found.put_followed.Goals as goal
 
