@@ -2,6 +2,7 @@ pub mod Aside
 pub mod Bare
 pub mod Bits
 pub mod ByRows
+pub mod Clear
 mod Ends
 pub mod FoundBy
 pub mod FoundWhere

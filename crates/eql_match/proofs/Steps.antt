@@ -201,10 +201,6 @@ pub put_nothing : (made : List Tuple) (at : ℕ) (rights : List Bool) → flag_a
 put_nothing made at rights none =
     sym (ap (λ b. made ++ map neighbours (cond b (at ∷ []) [])) none ∙ append-nil made)
 
-pub put_one : (made more : List Tuple) (at : ℕ) (rights : List Bool) → flag_at (at + 1) rights ≡ true → more ≡ made ++ neighbours at ∷ [] →
-    more ≡ made ++ map neighbours (filter (λ k. flag_at (k + 1) rights) (at ∷ []))
-put_one made more at rights some put = put ∙ sym (ap (λ b. made ++ map neighbours (cond b (at ∷ []) [])) some)
-
 -- a row of rows of one length
 pub row_long : (rows : List (List Bool)) (at : ℕ) (row : List Bool) (n : ℕ) → All (λ r. length r ≡ n) rows → slice_get rows at ≡ Some row →
     length row ≡ n

@@ -87,3 +87,11 @@ IsShort (Tuples ts) = Unit {0}
 abbrev pub AreSides : Found → Found → Sides → Type 0
 AreSides lefts rights (Rows l r) = (lefts ≡ Items l) × (rights ≡ Items r)
 AreSides lefts rights (Lists ls rs) = (ls ≡ tuples_in lefts) × (rs ≡ tuples_in rights)
+
+-- no bit of a row is set
+abbrev pub IsClear : List Bool → Type 0
+IsClear row = (k : ℕ) → flag_at k row ≡ false
+
+-- where an answer is yes, no bit of a row is set
+abbrev pub IsClearWhere : Bool → List Bool → Type 0
+IsClearWhere answer row = answer ≡ true → IsClear row

@@ -6,7 +6,7 @@ ghost use Rattle.bundle_state.specs.Built.{FitsConfig};
 ghost use Rattle.hier_closure.specs.Dominance.{closure_of};
 ghost use Rattle.eql_model.specs.Flags.{flag_at};
 ghost use Rattle.eql_model.specs.Meaning.{items_at, single};
-ghost use Rattle.eql_match.specs.Found.{above_some, below_some, followed, neighbours, tuples_in, AreDominant, AreSides, IsRowOf, IsShort};
+ghost use Rattle.eql_match.specs.Found.{above_some, below_some, followed, neighbours, tuples_in, AreDominant, AreSides, IsClearWhere, IsRowOf, IsShort};
 
 use crate::conditions::singles_where;
 use crate::rows::none_set;
@@ -228,9 +228,9 @@ fn below_right(
     below_some(alloc, &rows, lefts, rights)
 }
 
-/// The left items of which one dominates some right item, or some right item dominates it. The only
-/// refusal is want of memory.
-pub(crate) fn dominating(
+/// The left items that dominate some right one, or that some right one dominates. The only refusal is
+/// want of memory.
+fn either_way(
     alloc: Global,
     config: &Config,
     indexed: &Indexed,
@@ -250,4 +250,35 @@ pub(crate) fn dominating(
     let below = below_right(alloc, config, indexed, levels, lefts, rights)?;
     or_into(&mut made, &below);
     Ok(made)
+}
+
+/// Whether a row has no bit.
+fn is_clear(row: &BitRow) -> bool
+    ensures { IsClearWhere result row.now }
+{
+    row.first().is_none()
+}
+
+/// The left items of which one dominates some right item, or some right item dominates it. None is asked
+/// for where one of the two rows has no bit. The only refusal is want of memory.
+pub(crate) fn dominating(
+    alloc: Global,
+    config: &Config,
+    indexed: &Indexed,
+    levels: (usize, usize),
+    lefts: &BitRow,
+    rights: &BitRow,
+) -> Result<BitRow, Memory>
+    requires fits { FitsConfig config.now indexed.now.bundle }
+    requires left { levels.0 < length indexed.now.bundle.levels }
+    requires right { levels.1 < length indexed.now.bundle.levels }
+    requires lefts { length lefts.now ≡ length (items_at indexed.now.bundle.levels levels.0) }
+    requires rights { length rights.now ≡ length (items_at indexed.now.bundle.levels levels.1) }
+    ensures { IfOk result (λ made. AreDominant (closure_of indexed.now.bundle levels.1 levels.0)
+        (closure_of indexed.now.bundle levels.0 levels.1) lefts.now rights.now made) }
+{
+    if is_clear(lefts) || is_clear(rights) {
+        return none_set(alloc, lefts.len());
+    }
+    either_way(alloc, config, indexed, levels, lefts, rights)
 }

@@ -1,16 +1,18 @@
-use Rattle.std.proofs.Common.{length, ◌||◌, ap, sym, ◌∙◌}
-use Rattle.std.specs.Simd.Lanes.{zip2}
 use Rattle.hier_closure.specs.Dominance.{closure_of}
-use Rattle.eql_match.proofs.ByRows.{above_long, below_long, put_together}
+use Rattle.eql_match.proofs.Clear.{none_left, none_right}
+use Rattle.eql_match.proofs.found.dominating.Goals.{then-is_clear-via-then-is_clear, then-is_clear-via-else-is_clear+then-is_clear-2}
 use Rattle.eql_match.proofs.found.dominating.Goals as goal
 
-pub or_into-requires : goal.or_into-requires
-or_into-requires c =
-    ap length c.in_ok-made.ensures ∙ above_long (closure_of c.args.indexed.now.bundle c.args.levels.1 c.args.levels.0) c.args.lefts.now c.args.rights.now
-    ∙ sym (ap length c.in_ok-below.ensures ∙ below_long (closure_of c.args.indexed.now.bundle c.args.levels.0 c.args.levels.1) c.args.lefts.now c.args.rights.now)
-
-pub returns : goal.returns
-returns c =
-    put_together (closure_of c.args.indexed.now.bundle c.args.levels.1 c.args.levels.0) (closure_of c.args.indexed.now.bundle c.args.levels.0 c.args.levels.1)
-    c.args.lefts.now c.args.rights.now c.or_into.new.into
-    (c.or_into.ensures ∙ (λ i. zip2 (λ a b. a || b) (c.in_ok-made.ensures i) (c.in_ok-below.ensures i)))
+pub returns-then-is_clear : goal.returns-then-is_clear
+returns-then-is_clear c =
+    let b = c.args.indexed.now.bundle in
+    let down = closure_of b c.args.levels.1 c.args.levels.0 in
+    let up = closure_of b c.args.levels.0 c.args.levels.1 in
+    elim c.then-is_clear.branch [
+      | then-is_clear-via-then-is_clear w ↦
+          none_left down up c.args.lefts.now c.args.rights.now c.len.result c.none_set.result c.len.ensures
+          (c.is_clear.ensures w.if-is_clear.true) c.none_set.ensures
+      | then-is_clear-via-else-is_clear+then-is_clear-2 w ↦
+          none_right down up c.args.lefts.now c.args.rights.now c.len.result c.none_set.result c.len.ensures
+          (w.is_clear-else-is_clear.ensures w.if-is_clear-2.true) c.none_set.ensures
+    ]
