@@ -43,6 +43,11 @@ room_for counts made =
     if nat_le BUNDLES counts.bundles then Err (faults.Broken (rules.TooMany counted.Bundles))
     else fitting counts made
 
+-- what was made, unless a rule refuses it
+abbrev pub unless_broken : Option Broken → Result IndexParts Fault → Result IndexParts Fault
+unless_broken None made = made
+unless_broken (Some rule) made = Err (faults.Broken rule)
+
 -- what is made of the annotation of an edit that adds a bundle, under a configuration: the bundle that is
 -- built of it, or the rule that it breaks first. Of another edit nothing is made
 abbrev pub IsAddedBy : ConfigParts → Edit → Option (Result IndexParts Fault) → Type 0

@@ -9,7 +9,7 @@ ghost use Rattle.edit_rules.specs.Changes.{changed};
 ghost use Rattle.edit_rules.specs.Edits.{key_of};
 ghost use Rattle.edit_rules.specs.Effects.{effect, IsFirstFault};
 ghost use Rattle.version_tree.specs.Version.{state_of, state_put, next_number};
-ghost use Rattle.version_steps.specs.Drafts.{GivesAdded, IsAddedBy, fitting, room_for};
+ghost use Rattle.version_steps.specs.Drafts.{GivesAdded, IsAddedBy, fitting, room_for, unless_broken};
 ghost use Rattle.version_steps.specs.Steps.{changed_in, level_called, level_with, touched};
 
 use bundle_index::Indexed;
@@ -125,16 +125,25 @@ fn is_crowded(indexed: &Indexed, edit: &Edit) -> bool {
     }
 }
 
+/// The same bundle with columns, and a list of labels, that are made of its items anew. The only refusal is
+/// want of memory.
+fn made_anew(alloc: Global, indexed: &Indexed) -> Result<Indexed, Memory>
+    ensures { IfOk result (λ made. made.bundle ≡ indexed.now.bundle) }
+{
+    let bundle = indexed.bundle().copy(alloc)?;
+    Indexed::new(alloc, bundle)
+}
+
 /// The same bundle with its columns, whose list of labels is made anew where it is crowded by labels that no
 /// item has any longer. The only refusal is want of memory.
 fn thinned(alloc: Global, indexed: Indexed, edit: &Edit) -> Result<Indexed, Memory>
     ensures { IfOk result (λ made. made.bundle ≡ indexed.bundle) }
 {
     if is_crowded(&indexed, edit) {
-        let bundle = indexed.bundle().copy(alloc)?;
-        return Indexed::new(alloc, bundle);
+        made_anew(alloc, &indexed)
+    } else {
+        Ok(indexed)
     }
-    Ok(indexed)
 }
 
 /// What an edit made of an indexed bundle, with its columns: those of the level that the edit touched are made
@@ -220,38 +229,51 @@ fn without_bundle(alloc: Global, version: &Version, edit: &Edit) -> Result<Versi
     Ok(next)
 }
 
-/// A new bundle with its columns, unless all bundles would have too many items with it.
-fn if_fitting(counts: Counts, new: Indexed) -> Result<Indexed, Fault>
-    ensures { result ≡ fitting counts (Ok new) }
+/// The rule that refuses a new bundle by the items that all bundles would have with it, if it does.
+fn too_many_items(counts: Counts, new: &Indexed) -> Option<Broken>
+    ensures { unless_broken result (Ok new.now) ≡ fitting counts (Ok new.now) }
 {
     if counts.items as usize + new.bundle().item_count() > ALL_ITEMS {
-        return Err(Fault::Broken(Broken::TooMany(What::AllItems)));
+        return Some(Broken::TooMany(What::AllItems));
     }
-    Ok(new)
+    None
 }
 
-/// What was made of an annotation, unless there are too many bundles or items with it.
-fn if_room(counts: Counts, made: Result<Indexed, Fault>) -> Result<Indexed, Fault>
-    ensures { result ≡ room_for counts made }
+/// The rule that refuses what was made of an annotation by the number of bundles or items with it, if one
+/// does.
+fn too_many(counts: Counts, made: &Result<Indexed, Fault>) -> Option<Broken>
+    ensures { unless_broken result made.now ≡ room_for counts made.now }
 {
     if counts.bundles as usize >= BUNDLES {
-        return Err(Fault::Broken(Broken::TooMany(What::Bundles)));
+        return Some(Broken::TooMany(What::Bundles));
     }
     match made {
-        Ok(new) => if_fitting(counts, new),
-        Err(fault) => Err(fault),
+        Ok(new) => too_many_items(counts, new),
+        Err(_fault) => None,
+    }
+}
+
+/// The rule that refuses what was made of the annotation of an edit, by what stands in a version, if one
+/// does.
+#[tactic(auto, using(crate::proofs::Drafting::taken, crate::proofs::Drafting::added))]
+fn refused_in(version: &Version, edit: &Edit, made: &Result<Indexed, Fault>) -> Option<Broken>
+    requires { IsAddedBy version.now.config edit.now (Some made.now) }
+    ensures { GivesAdded (unless_broken result made.now) (changed_in (state_of version.now) edit.now) }
+{
+    match version.get(edit.key()) {
+        Some(_old) => Some(Broken::BundleTaken),
+        None => too_many(version.counts(), made),
     }
 }
 
 /// The bundle that an edit adds to a version, of what was made of its annotation.
-#[tactic(auto, using(crate::proofs::Drafting::taken, crate::proofs::Drafting::added))]
 fn added_in(version: &Version, edit: &Edit, made: Result<Indexed, Fault>) -> Result<Indexed, Fault>
     requires { IsAddedBy version.now.config edit.now (Some made) }
     ensures { GivesAdded result (changed_in (state_of version.now) edit.now) }
 {
-    match version.get(edit.key()) {
-        Some(_old) => Err(Fault::Broken(Broken::BundleTaken)),
-        None => if_room(version.counts(), made),
+    match refused_in(version, edit, &made) {
+        Some(rule) => Err(Fault::Broken(rule)),
+        None => made,
     }
 }
 
