@@ -6,7 +6,8 @@ ghost use Rattle.bundle_state.specs.Built.{FitsConfig};
 ghost use Rattle.hier_closure.specs.Dominance.{closure_of};
 ghost use Rattle.bundle_index.specs.Numbered.{AreNumbered, IsColumnOf};
 ghost use Rattle.bundle_index.specs.Index.{IsTimed, attributes_on, has_label, items_on, label_at, starts_within};
-ghost use Rattle.bundle_index.specs.Columns.{AreColumnsBut, AreColumnsFor, AreOtherwiseSame, ends_of, starts_of};
+ghost use Rattle.bundle_index.specs.Columns.{AreColumnsBut, AreColumnsFor, AreKeptOf, AreOtherwiseSame, ends_of, starts_of};
+ghost use Rattle.bundle_index.specs.Keys.{AreKeysOf};
 
 use crate::labels::Labels;
 use crate::shared::SharedColumns;
@@ -58,17 +59,10 @@ impl Indexed {
     pub fn new(alloc: Global, bundle: Bundle) -> Result<Indexed, Memory>
         ensures { IfOk result (λ made. made.bundle ≡ bundle) }
     {
-        let mut labels = Labels::new(alloc)?;
-        let columns = all_columns(alloc, &bundle, &mut labels)?;
-        let linked = linked_levels(alloc, &bundle)?;
-        let keys = ShortKeys::of(alloc, &labels)?;
-        Ok(Indexed {
-            bundle,
-            labels,
-            keys,
-            columns,
-            linked,
-        })
+        match kept_beside(alloc, &bundle) {
+            Ok(kept) => Ok(Indexed::of(bundle, kept)),
+            Err(fault) => Err(fault),
+        }
     }
 
     /// The bundle, whose levels are those of this one but for one level, with its columns. The columns of
@@ -81,20 +75,46 @@ impl Indexed {
         requires { AreOtherwiseSame self.now.bundle.levels bundle.levels level }
         ensures { IfOk result (λ made. made.bundle ≡ bundle) }
     {
-        let mut labels = self.labels.copy()?;
-        let columns = changed_columns(alloc, &self.columns, &bundle, level, &mut labels)?;
-        if labels.len() > KEPT_LABELS {
-            return Indexed::new(alloc, bundle);
+        match self.changed_beside(alloc, &bundle, level) {
+            Ok(kept) => Ok(Indexed::of(bundle, kept)),
+            Err(fault) => Err(fault),
         }
-        let linked = linked_levels(alloc, &bundle)?;
-        let keys = ShortKeys::of(alloc, &labels)?;
-        Ok(Indexed {
+    }
+
+    /// A bundle with what is kept beside it.
+    fn of(bundle: Bundle, kept: Kept) -> Indexed
+        requires { AreKeptOf bundle kept.labels kept.keys kept.columns kept.linked }
+        ensures { result.bundle ≡ bundle }
+    {
+        let Kept {
+            labels,
+            keys,
+            columns,
+            linked,
+        } = kept;
+        Indexed {
             bundle,
             labels,
             keys,
             columns,
             linked,
-        })
+        }
+    }
+
+    /// What is kept beside a bundle whose levels are those of this one but for one level. The only refusal
+    /// is want of memory, or of a number for a label.
+    fn changed_beside(&self, alloc: Global, bundle: &Bundle, level: usize) -> Result<Kept, Memory>
+        requires { AreOtherwiseSame self.now.bundle.levels bundle.now.levels level }
+        ensures { IfOk result (λ kept.
+            AreKeptOf bundle.now kept.labels kept.keys kept.columns kept.linked) }
+    {
+        let mut labels = self.labels.copy()?;
+        let columns = changed_columns(alloc, &self.columns, bundle, level, &mut labels)?;
+        if labels.len() > KEPT_LABELS {
+            return kept_beside(alloc, bundle);
+        }
+        let linked = linked_levels(alloc, bundle)?;
+        keyed(alloc, labels, columns, linked)
     }
 
     /// The bundle.
@@ -201,6 +221,49 @@ impl Indexed {
     {
         row_of_range(alloc, self.starts(level), low, high)
     }
+}
+
+/// What is kept beside a bundle: its labels and their keys, the columns of its levels, the rows of its links.
+#[derive(Drop)]
+struct Kept {
+    labels: Labels,
+    keys: ShortKeys,
+    columns: Series<SharedColumns>,
+    linked: Series<LinkedLevels>,
+}
+
+/// The labels, columns and rows of links, with the keys of the labels. The only refusal is want of memory.
+fn keyed(
+    alloc: Global,
+    labels: Labels,
+    columns: Series<SharedColumns>,
+    linked: Series<LinkedLevels>,
+) -> Result<Kept, Memory>
+    ensures labels { IfOk result (λ kept. kept.labels ≡ labels) }
+    ensures columns { IfOk result (λ kept. kept.columns ≡ columns) }
+    ensures linked { IfOk result (λ kept. kept.linked ≡ linked) }
+    ensures keys { IfOk result (λ kept. AreKeysOf labels kept.keys) }
+{
+    match ShortKeys::of(alloc, &labels) {
+        Ok(keys) => Ok(Kept {
+            labels,
+            keys,
+            columns,
+            linked,
+        }),
+        Err(fault) => Err(fault),
+    }
+}
+
+/// What is kept beside a bundle. The only refusal is want of memory, or of a number for a label.
+fn kept_beside(alloc: Global, bundle: &Bundle) -> Result<Kept, Memory>
+    ensures { IfOk result (λ kept.
+        AreKeptOf bundle.now kept.labels kept.keys kept.columns kept.linked) }
+{
+    let linked = linked_levels(alloc, bundle)?;
+    let mut labels = Labels::new(alloc)?;
+    let columns = all_columns(alloc, bundle, &mut labels)?;
+    keyed(alloc, labels, columns, linked)
 }
 
 /// The columns of all levels. The only refusal is want of memory, or of a number for a label.
