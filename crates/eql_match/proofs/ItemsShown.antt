@@ -1,10 +1,13 @@
 -- What the items of a row show.
-use Rattle.std.proofs.Common.{◌≡◌, ℕ, Bool, true, false, List, [], ◌∷◌, length, map, refl, sym, ap, ◌∙◌}
+use Rattle.std.proofs.Common.{◌≡◌, ℕ, Bool, true, false, List, [], ◌∷◌, length, map, Option, Some, None, refl, sym, ap, ◌∙◌}
+use Rattle.std.specs.Prelude.{unwrap_or}
 use Rattle.std.specs.List.{filter, flat_map, list_all, range_with_len}
+use Rattle.std.specs.Option.{is_some}
 use Rattle.db_config.specs.declared.parts.AttributePlace.{AttributePlace}
 use Rattle.db_config.specs.declared.parts.ConfigParts.{ConfigParts}
 use Rattle.bundle_state.specs.Bundle.{BundleParts}
-use Rattle.eql_resolve.specs.Asked.{AskedQuery, is_marked, shown_place}
+use Rattle.eql_resolve.specs.Asked.{AskedQuery, first_place, is_marked, mark_place, shown_place}
+use Rattle.eql_resolve.proofs.Marks.{mark_some}
 use Rattle.eql_model.specs.declared.tuple.Span.{Span}
 use Rattle.eql_model.specs.Flags.{flag_at}
 use Rattle.eql_model.specs.Meaning.{has_too_many, single}
@@ -40,3 +43,11 @@ items_match c b q place row spans at found is =
           ∙ (λ i. map (span_at (shown_place q)) (each_once (flat_map (shown (mark i)) (found.0 i)))),
       found.1,
     )
+
+none_shown : (mark : Option AttributePlace) (first : AttributePlace) → is_some mark ≡ false → first ≡ unwrap_or mark first
+none_shown None first unmarked = refl
+none_shown (Some place) first unmarked = cc
+
+-- a query without a mark shows the attribute of its first condition
+pub first_shown : (q : AskedQuery) → is_marked q ≡ false → first_place q ≡ shown_place q
+first_shown q unmarked = none_shown (mark_place q) (first_place q) (mark_some q ∙ unmarked)

@@ -67,7 +67,7 @@ fn spans_of_tuples(
     }
 }
 
-/// The results of a query of which these are the items.
+/// The results of a query without a mark, of which these are the items: they show its first attribute.
 fn spans_of_items(
     alloc: Global,
     config: &Config,
@@ -80,7 +80,7 @@ fn spans_of_items(
     ensures { Matches result config.now indexed.now.bundle (query_in query.now) }
 {
     let _items = indexed.bundle().item_count();
-    match eql_model::spans_of_row(alloc, config, query.shown_place(), found) {
+    match eql_model::spans_of_row(alloc, config, query.first_place(), found) {
         Ok(spans) => Ok(spans),
         Err(_) => Err(MatchFault::Memory),
     }

@@ -241,6 +241,18 @@ pub(crate) fn singles_where(alloc: Global, row: &BitRow, marked: bool) -> Result
     Ok(made)
 }
 
+/// Whether one of some conditions is marked.
+pub(crate) fn are_marked(terms: &[AskedTerm]) -> bool
+    ensures { result ≡ list_any is_marked_term (map term_in terms.now) }
+{
+    for term in terms {
+        if term.is_marked() {
+            return true;
+        }
+    }
+    false
+}
+
 /// The items of a level that meet all conditions, or their tuples, where a condition is marked. The only
 /// refusal is want of memory.
 pub(crate) fn conjunction(

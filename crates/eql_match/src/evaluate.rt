@@ -6,7 +6,7 @@ ghost use Rattle.eql_resolve.specs.Sound.{IsQueryOf};
 ghost use Rattle.eql_resolve.specs.View.{query_in, term_in};
 ghost use Rattle.eql_match.specs.Found.{AreFoundFor, FindsAll};
 
-use crate::conditions::conjunction;
+use crate::conditions::{are_marked, conjunction};
 use crate::found::{Found, Sides, dominating, follow, side_by_side};
 use crate::ways::{dominance, sequence};
 use bundle_index::Indexed;
@@ -231,7 +231,7 @@ pub(crate) fn evaluate(
             config,
             indexed,
             query.level(),
-            query.is_marked(),
+            are_marked(conditions.as_slice()),
             conditions.as_slice(),
         ),
         AskedQuery::Sequence(left, right) => {
