@@ -33,11 +33,33 @@ fn inner_bits(alloc: Global, row: &BitRow, first: usize, last: usize) -> Result<
     Ok(inner)
 }
 
-/// Sets the bits of the items that stand at a place among those with a bit of the row. The only refusal
-/// is want of memory.
-fn add_placed(alloc: Global, placed: &mut BitRow, row: &BitRow, place: Place) -> Result<(), Memory>
+/// Sets the bit of the first item with a bit of the row.
+fn add_first(placed: &mut BitRow, row: &BitRow)
     requires { length placed.old ≡ length row.now }
-    ensures { OnOk result (AddsPlaced place row.now placed.old placed.new) }
+    ensures { AddsPlaced Place.Start row.now placed.old placed.new }
+{
+    let Some(first) = row.first() else {
+        return;
+    };
+    placed.set(first, true);
+}
+
+/// Sets the bit of the last item with a bit of the row.
+fn add_last(placed: &mut BitRow, row: &BitRow)
+    requires { length placed.old ≡ length row.now }
+    ensures { AddsPlaced Place.End row.now placed.old placed.new }
+{
+    let Some(last) = row.last() else {
+        return;
+    };
+    placed.set(last, true);
+}
+
+/// Sets the bits of the items with a bit of the row that are neither the first nor the last one. The only
+/// refusal is want of memory.
+fn add_inner(alloc: Global, placed: &mut BitRow, row: &BitRow) -> Result<(), Memory>
+    requires { length placed.old ≡ length row.now }
+    ensures { OnOk result (AddsPlaced Place.Medial row.now placed.old placed.new) }
 {
     let Some(first) = row.first() else {
         return Ok(());
@@ -45,10 +67,21 @@ fn add_placed(alloc: Global, placed: &mut BitRow, row: &BitRow, place: Place) ->
     let Some(last) = row.last() else {
         return Ok(());
     };
+    let inner = inner_bits(alloc, row, first, last)?;
+    or_into(placed, &inner);
+    Ok(())
+}
+
+/// Sets the bits of the items that stand at a place among those with a bit of the row. Only the end that is
+/// asked for is looked for. The only refusal is want of memory.
+fn add_placed(alloc: Global, placed: &mut BitRow, row: &BitRow, place: Place) -> Result<(), Memory>
+    requires { length placed.old ≡ length row.now }
+    ensures { OnOk result (AddsPlaced place row.now placed.old placed.new) }
+{
     match place {
-        Place::Start => placed.set(first, true),
-        Place::End => placed.set(last, true),
-        Place::Medial => or_into(placed, &inner_bits(alloc, row, first, last)?),
+        Place::Start => add_first(placed, row),
+        Place::Medial => add_inner(alloc, placed, row)?,
+        Place::End => add_last(placed, row),
     }
     Ok(())
 }
