@@ -4,15 +4,13 @@ use Rattle.std.specs.Prelude.{All, unwrap_or}
 use Rattle.std.specs.List.{filter, flat_map, list_all, list_any, range_with_len}
 use Rattle.std.specs.List.Sorted.{IsStrictlySortedBy}
 use Rattle.std.specs.BTreeMap.{is_at}
-use Rattle.std.specs.Simd.Lanes.{zip2}
 use Rattle.std.specs.declared.cmp.Ordering.TheVariants.{Less}
 use Rattle.std.proofs.lemmas.Bool.{cases_lt}
 use Rattle.std.proofs.lemmas.Bool.Decides.{nat_tests}
 use Rattle.std.proofs.lemmas.List.Concat.{flat_map-cons}
 use Rattle.std.proofs.lemmas.List.Elements.{All-nil, All-cons, All-weaker, filter-append, recursion_from_All}
-use Rattle.std.proofs.lemmas.List.FromFn.{get_or-range_with_len, length-map-range_with_len, length-range_with_len}
+use Rattle.std.proofs.lemmas.List.FromFn.{length-map-range_with_len}
 use Rattle.std.proofs.lemmas.Option.{slice_get_past}
-use Rattle.std.proofs.lemmas.Simd.{zip2-map}
 use Rattle.emu_names.specs.declared.limits.TheConstants.{BUNDLE_ITEMS}
 use Rattle.bundle_state.specs.Bundle.{BundleParts}
 use Rattle.hier_closure.specs.Dominance.{ids_at, closure_of}
@@ -23,11 +21,11 @@ use Rattle.eql_model.specs.Meaning.{single}
 use Rattle.eql_model.specs.Sets.{tuple_cmp, each_once, is_over, GivesSet}
 use Rattle.eql_model.specs.Tuples.{fits_in, follows, both, left_with, one_covers, pairs_with, joined}
 use Rattle.eql_model.proofs.Covers.{dominance_is}
-use Rattle.eql_model.proofs.MadeRows.{flag_of_map}
 use Rattle.eql_model.proofs.Members.{once_is, once_sorted, joined_has, same_sorted}
 use Rattle.eql_model.proofs.Walk.{none_among, range_split}
-use Rattle.eql_match.specs.Found.{above_some, below_some, followed, is_above_some, is_below_some, items_of, neighbours, AreDominant}
+use Rattle.eql_match.specs.Found.{above_some, followed, is_above_some, is_below_some, items_of, neighbours, with_below, AreDominant}
 use Rattle.eql_match.proofs.Bare.{less_by_first}
+use Rattle.eql_match.proofs.Standing.{flag_in}
 use Rattle.eql_match.proofs.Order.{From}
 
 -- ---- tuples of places, in order
@@ -272,34 +270,30 @@ any_split q f g (x ∷ xs) =
     four false b c r s = refl
 
 -- both ways at one place
-pub both_at : (l a u : Bool) → ((l && a) || (u && l)) ≡ (l && (a || u))
+both_at : (l a u : Bool) → (((l && a) || u) && l) ≡ (l && (a || u))
 both_at true true u = refl
 both_at true false true = refl
 both_at true false false = refl
 both_at false a true = refl
 both_at false a false = refl
 
--- the two rows put together
-pub put_together : (down up : List (List Bool)) (lefts rights made : List Bool) →
-    made ≡ zip2 (λ a b. a || b) (above_some down lefts rights) (below_some up lefts rights) → AreDominant down up lefts rights made
-put_together down up lefts rights made is = record {
-  count = ap length whole ∙ length-map-range_with_len f 0 (length lefts);
+-- the left items of one row that dominate, and those that are dominated
+pub put_together : (down up : List (List Bool)) (lefts rights before made : List Bool) → before ≡ above_some down lefts rights →
+    made ≡ with_below up lefts rights before → AreDominant down up lefts rights made
+put_together down up lefts rights before made above is = record {
+  count = ap length is ∙ length-map-range_with_len f 0 (length lefts);
   each = λ k within.
-      ap (flag_at k) whole ∙ flag_of_map f (range_with_len 0 (length lefts)) k 0 (omega (arith, length-range_with_len 0 (length lefts)))
-      ∙ ap f (get_or-range_with_len 0 (length lefts) k 0 within ∙ zero_more k)
+      flag_in f made (length lefts) k is within
+      ∙ ap (λ b. (b || is_below_some up rights k) && flag_at k lefts)
+      (flag_in (λ j. flag_at j lefts && is_above_some down rights j) before (length lefts) k above within)
       ∙ both_at (flag_at k lefts) (is_above_some down rights k) (is_below_some up rights k);
 }
   where
     f : ℕ → Bool
-    f = λ k. (flag_at k lefts && is_above_some down rights k) || (is_below_some up rights k && flag_at k lefts)
+    f = λ k. (flag_at k before || is_below_some up rights k) && flag_at k lefts
 
-    whole : made ≡ map f (range_with_len 0 (length lefts))
-    whole =
-        is ∙ zip2-map (λ a b. a || b) (λ k. flag_at k lefts && is_above_some down rights k) (λ k. is_below_some up rights k && flag_at k lefts)
-        (range_with_len 0 (length lefts))
-
-    zero_more : (k : ℕ) → 0 + k ≡ k
-    zero_more k = omega arith
+pub above_long : (rows : List (List Bool)) (lefts rights : List Bool) → length (above_some rows lefts rights) ≡ length lefts
+above_long rows lefts rights = length-map-range_with_len (λ k. flag_at k lefts && is_above_some rows rights k) 0 (length lefts)
 
 -- single items in range
 single_fits : (n k : ℕ) → k < n → fits_in n (single false k) ≡ true
@@ -357,9 +351,3 @@ dominating_gives b left right lefts rights made on_left on_right few dominant =
     let is = dominating_is b left right lefts rights made on_left on_right dominant in
     let long = dominant.count in
     (is, ap is_over (sym is) ∙ items_few made (omega arith))
-
-pub above_long : (rows : List (List Bool)) (lefts rights : List Bool) → length (above_some rows lefts rights) ≡ length lefts
-above_long rows lefts rights = length-map-range_with_len (λ k. flag_at k lefts && is_above_some rows rights k) 0 (length lefts)
-
-pub below_long : (rows : List (List Bool)) (lefts rights : List Bool) → length (below_some rows lefts rights) ≡ length lefts
-below_long rows lefts rights = length-map-range_with_len (λ k. is_below_some rows rights k && flag_at k lefts) 0 (length lefts)

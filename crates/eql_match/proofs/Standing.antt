@@ -237,7 +237,7 @@ same_range f g n same =
     fill_by_all g (map f (range_with_len 0 n)) n false (length-map-range_with_len f 0 n)
     (λ k h. get_or-map-range_with_len f 0 n k k false h (omega arith) ∙ same k h)
 
-flag_in : (f : ℕ → Bool) (row : List Bool) (n k : ℕ) → row ≡ map f (range_with_len 0 n) → k < n → flag_at k row ≡ f k
+pub flag_in : (f : ℕ → Bool) (row : List Bool) (n k : ℕ) → row ≡ map f (range_with_len 0 n) → k < n → flag_at k row ≡ f k
 flag_in f row n k is h = sym (flag_is row k) ∙ ap (λ r. get_or r k false) is ∙ get_or-map-range_with_len f 0 n k k false h (omega arith)
 
 any_push : (p : List Bool → Bool) (rows : List (List Bool)) (i : ℕ) (row : List Bool) → slice_get rows i ≡ Some row →

@@ -15,7 +15,7 @@ use Rattle.eql_model.specs.Flags.{flag_at}
 use Rattle.eql_model.specs.Joins.{bit_at}
 use Rattle.eql_model.specs.declared.tuple.Tuple.{Tuple}
 use Rattle.eql_model.proofs.Walk.{range_split, same_places, one_place_more, no_flag, NextFlag, NoneFrom}
-use Rattle.eql_match.specs.Found.{below_some, followed, is_above_some, neighbours}
+use Rattle.eql_match.specs.Found.{followed, is_above_some, neighbours, with_below}
 use Rattle.eql_match.proofs.Bits.{flags_are, or_false}
 
 -- ---- what a test finds among the first places
@@ -83,11 +83,11 @@ pub record AskedTo (f : ℕ → Bool) (n : ℕ) (made : List Bool) (at : ℕ) : 
   pub before : (k : ℕ) → k < at → get_or made k false ≡ f k
   pub behind : (k : ℕ) → at ≤ k → k < n → get_or made k false ≡ false
 
-pub asked_none : (f : ℕ → Bool) (n m : ℕ) (made : List Bool) → made ≡ replicate m false → m ≡ n → AskedTo f n made 0
-asked_none f n m made is same = record {
-  count = ap length is ∙ length-replicate m false ∙ same;
+pub asked_none : (f : ℕ → Bool) (n : ℕ) (made : List Bool) → made ≡ replicate n false → AskedTo f n made 0
+asked_none f n made is = record {
+  count = ap length is ∙ length-replicate n false;
   before = λ k below. absurd (omega arith);
-  behind = λ k from below. ap (λ row. get_or row k false) is ∙ get_or-replicate m k false false (omega arith);
+  behind = λ k from below. ap (λ row. get_or row k false) is ∙ get_or-replicate n k false false below;
 }
 
 asked_early : (f : ℕ → Bool) (n from at : ℕ) (made : List Bool) → AskedTo f n made from → NoneFrom f from at → at < n → (k : ℕ) → k < at →
@@ -148,22 +148,25 @@ meets_some rows row rights k there long =
         ∙ swap (get_or row j false) (get_or rights j false)
         ∙ (λ i. sym (unwrap_or-slice_get rights j false) i && get_or (sym (get_or_from_slice_get rows k row [] there) i) j false))
 
--- ---- the items below some
+-- ---- the items below some, beside those that were set before
 
-pub below_none : (h : ℕ → ℕ → Bool) (n m : ℕ) (made : List Bool) → made ≡ replicate m false → m ≡ n →
-    made ≡ map (λ k. list_any (h k) (range_with_len 0 0)) (range_with_len 0 n)
-below_none h n m made is same =
-    fill_by_all (λ k. false) made n false (ap length is ∙ length-replicate m false ∙ same)
-    (λ k below. ap (λ row. get_or row k false) is ∙ get_or-replicate m k false false (omega arith))
+pub below_none : (h : ℕ → ℕ → Bool) (n : ℕ) (before : List Bool) → length before ≡ n →
+    before ≡ map (λ k. flag_at k before || list_any (h k) (range_with_len 0 0)) (range_with_len 0 n)
+below_none h n before long =
+    flags_are before n long ∙ (λ i. map (λ k. sym (or_false (flag_at k before)) i) (range_with_len 0 n))
 
-pub below_step : (rows : List (List Bool)) (rights row made more : List Bool) (n from at : ℕ) → NextFlag rights from at →
+or_both : (a b c : Bool) → ((a || b) || c) ≡ (a || (b || c))
+or_both true b c = refl
+or_both false b c = refl
+
+pub below_step : (rows : List (List Bool)) (rights row before made more : List Bool) (n from at : ℕ) → NextFlag rights from at →
     slice_get rows at ≡ Some row → length row ≡ n →
-    made ≡ map (λ k. list_any (λ j. flag_at j rights && bit_at rows j k) (range_with_len 0 from)) (range_with_len 0 n) →
+    made ≡ map (λ k. flag_at k before || list_any (λ j. flag_at j rights && bit_at rows j k) (range_with_len 0 from)) (range_with_len 0 n) →
     more ≡ zip2 (λ a b. a || b) made row →
-    more ≡ map (λ k. list_any (λ j. flag_at j rights && bit_at rows j k) (range_with_len 0 (at + 1))) (range_with_len 0 n)
-below_step rows rights row made more n from at next there long so_far put =
+    more ≡ map (λ k. flag_at k before || list_any (λ j. flag_at j rights && bit_at rows j k) (range_with_len 0 (at + 1))) (range_with_len 0 n)
+below_step rows rights row before made more n from at next there long so_far put =
     put ∙ (λ i. zip2 (λ a b. a || b) (so_far i) (flags_are row n long i))
-    ∙ zip2-map (λ a b. a || b) (λ k. list_any (h k) (range_with_len 0 from)) (λ k. flag_at k row) (range_with_len 0 n)
+    ∙ zip2-map (λ a b. a || b) (λ k. flag_at k before || list_any (h k) (range_with_len 0 from)) (λ k. flag_at k row) (range_with_len 0 n)
     ∙ (λ i. map (λ k. here k i) (range_with_len 0 n))
   where
     h : ℕ → ℕ → Bool
@@ -174,19 +177,24 @@ below_step rows rights row made more n from at next there long so_far put =
         unwrap_or-slice_get row k false ∙ ap (λ r. get_or r k false) (sym (get_or_from_slice_get rows at row [] there))
         ∙ ap (λ b. b && bit_at rows at k) (sym next.set)
 
-    here : (k : ℕ) → (list_any (h k) (range_with_len 0 from) || flag_at k row) ≡ list_any (h k) (range_with_len 0 (at + 1))
-    here k =
+    one : (k : ℕ) → (list_any (h k) (range_with_len 0 from) || flag_at k row) ≡ list_any (h k) (range_with_len 0 (at + 1))
+    one k =
         ap (λ b. list_any (h k) (range_with_len 0 from) || b) (bit k)
         ∙ sym (one_any_more (h k) from at next.order (λ i low high. and_clear (flag_at i rights) (bit_at rows i k) (next.clear i low high)))
 
-pub below_end : (rows : List (List Bool)) (lefts rights made more : List Bool) (from : ℕ) → IsNext from rights None → from ≤ length rights →
-    made ≡ map (λ k. list_any (λ j. flag_at j rights && bit_at rows j k) (range_with_len 0 from)) (range_with_len 0 (length lefts)) →
-    more ≡ zip2 (λ a b. a && b) made lefts → more ≡ below_some rows lefts rights
-below_end rows lefts rights made more from none order so_far put =
+    here : (k : ℕ) → ((flag_at k before || list_any (h k) (range_with_len 0 from)) || flag_at k row)
+        ≡ (flag_at k before || list_any (h k) (range_with_len 0 (at + 1)))
+    here k =
+        or_both (flag_at k before) (list_any (h k) (range_with_len 0 from)) (flag_at k row) ∙ ap (λ b. flag_at k before || b) (one k)
+
+pub below_end : (rows : List (List Bool)) (lefts rights before made more : List Bool) (from : ℕ) → IsNext from rights None → from ≤ length rights →
+    made ≡ map (λ k. flag_at k before || list_any (λ j. flag_at j rights && bit_at rows j k) (range_with_len 0 from)) (range_with_len 0 (length lefts)) →
+    more ≡ zip2 (λ a b. a && b) made lefts → more ≡ with_below rows lefts rights before
+below_end rows lefts rights before made more from none order so_far put =
     put ∙ (λ i. zip2 (λ a b. a && b) (so_far i) (flags_are lefts (length lefts) refl i))
-    ∙ zip2-map (λ a b. a && b) (λ k. list_any (h k) (range_with_len 0 from)) (λ k. flag_at k lefts) (range_with_len 0 (length lefts))
-    ∙ (λ i. map (λ k. sym (same_any (h k) from (length rights) order
-    (λ j low high. and_clear (flag_at j rights) (bit_at rows j k) (no_flag rights from none j low high))) i && flag_at k lefts) (range_with_len 0 (length lefts)))
+    ∙ zip2-map (λ a b. a && b) (λ k. flag_at k before || list_any (h k) (range_with_len 0 from)) (λ k. flag_at k lefts) (range_with_len 0 (length lefts))
+    ∙ (λ i. map (λ k. (flag_at k before || sym (same_any (h k) from (length rights) order
+    (λ j low high. and_clear (flag_at j rights) (bit_at rows j k) (no_flag rights from none j low high))) i) && flag_at k lefts) (range_with_len 0 (length lefts)))
   where
     h : ℕ → ℕ → Bool
     h k = λ j. flag_at j rights && bit_at rows j k
@@ -209,7 +217,7 @@ row_long rows at row n wide there =
     ∙ All-get_or (λ r. length r ≡ n) rows at [] (slice_get_within rows at row there) wide
 
 -- so many bits are put together
-pub made_long : (rows : List (List Bool)) (rights : List Bool) (from n : ℕ) →
-    length (map (λ k. list_any (λ j. flag_at j rights && bit_at rows j k) (range_with_len 0 from)) (range_with_len 0 n)) ≡ n
-made_long rows rights from n =
-    length-map-range_with_len (λ k. list_any (λ j. flag_at j rights && bit_at rows j k) (range_with_len 0 from)) 0 n
+pub made_long : (rows : List (List Bool)) (rights before : List Bool) (from n : ℕ) →
+    length (map (λ k. flag_at k before || list_any (λ j. flag_at j rights && bit_at rows j k) (range_with_len 0 from)) (range_with_len 0 n)) ≡ n
+made_long rows rights before from n =
+    length-map-range_with_len (λ k. flag_at k before || list_any (λ j. flag_at j rights && bit_at rows j k) (range_with_len 0 from)) 0 n

@@ -67,10 +67,10 @@ abbrev pub above_some : List (List Bool) → List Bool → List Bool → List Bo
 above_some rows lefts rights =
     map (λ k. flag_at k lefts && is_above_some rows rights k) (range_with_len 0 (length lefts))
 
--- the left items that some right one dominates
-abbrev pub below_some : List (List Bool) → List Bool → List Bool → List Bool
-below_some rows lefts rights =
-    map (λ k. is_below_some rows rights k && flag_at k lefts) (range_with_len 0 (length lefts))
+-- the left items that had their bits before, and those that some right one dominates
+abbrev pub with_below : List (List Bool) → List Bool → List Bool → List Bool → List Bool
+with_below rows lefts rights before =
+    map (λ k. (flag_at k before || is_below_some rows rights k) && flag_at k lefts) (range_with_len 0 (length lefts))
 
 -- the left items of which one dominates some right item, or some right item dominates it
 pub record AreDominant (down up : List (List Bool)) (lefts rights made : List Bool) : Type 0 where

@@ -1,12 +1,12 @@
 //! What a part of a query finds: single items by their bits, or tuples.
-ghost use Rattle.std.specs.Prelude.{◌≡◌, ◌<◌, ◌≤◌, ◌++◌, ◌∷◌, [], ◌+◌, All, length, map, IfOk, OnOk};
+ghost use Rattle.std.specs.Prelude.{◌≡◌, ◌<◌, ◌≤◌, ◌++◌, ◌∷◌, [], ◌+◌, All, false, length, map, replicate, IfOk, OnOk};
 ghost use Rattle.std.specs.List.{filter, range_with_len};
 ghost use Rattle.emu_names.specs.declared.limits.TheConstants.{BUNDLE_ITEMS};
 ghost use Rattle.bundle_state.specs.Built.{FitsConfig};
 ghost use Rattle.hier_closure.specs.Dominance.{closure_of};
 ghost use Rattle.eql_model.specs.Flags.{flag_at};
 ghost use Rattle.eql_model.specs.Meaning.{items_at, single};
-ghost use Rattle.eql_match.specs.Found.{above_some, below_some, followed, neighbours, tuples_in, AreDominant, AreSides, IsClearWhere, IsRowOf, IsShort};
+ghost use Rattle.eql_match.specs.Found.{above_some, followed, neighbours, tuples_in, with_below, AreDominant, AreSides, IsClearWhere, IsRowOf, IsShort};
 
 use crate::conditions::singles_where;
 use crate::rows::none_set;
@@ -132,104 +132,101 @@ pub(crate) fn follow(alloc: Global, lefts: &BitRow, rights: &BitRow) -> Result<T
     Ok(made)
 }
 
-/// The left items that dominate some right one. The only refusal is want of memory.
-fn above_some(
-    alloc: Global,
-    rows: &Closure,
-    lefts: &BitRow,
-    rights: &BitRow,
-) -> Result<BitRow, Memory>
+/// Sets the bits of the left items that dominate some right one, in a row of which no bit is set.
+fn set_above(rows: &Closure, lefts: &BitRow, rights: &BitRow, made: &mut BitRow)
     requires few { length lefts.now ≤ BUNDLE_ITEMS }
     requires rows { length rows.now ≡ length lefts.now }
     requires wide { All (λ row. length row ≡ length rights.now) rows.now }
-    ensures { IfOk result (λ made. made ≡ above_some rows.now lefts.now rights.now) }
+    requires unset { made.old ≡ replicate (length lefts.now) false }
+    ensures { made.new ≡ above_some rows.now lefts.now rights.now }
 {
-    let mut made = none_set(alloc, lefts.len())?;
     let mut from = 0;
     while let Some(at) = lefts.next(from) {
         from = at + 1;
         let bit = meet(rows.row(at), rights);
         made.set(at, bit);
     }
-    Ok(made)
 }
 
-/// The left items that some right one dominates. The only refusal is want of memory.
-fn below_some(
-    alloc: Global,
-    rows: &Closure,
-    lefts: &BitRow,
-    rights: &BitRow,
-) -> Result<BitRow, Memory>
+/// Sets the bits of the items that some right one dominates beside those that are set, and clears what is no
+/// left item.
+fn add_below(rows: &Closure, lefts: &BitRow, rights: &BitRow, made: &mut BitRow)
     requires few { length rights.now ≤ BUNDLE_ITEMS }
     requires rows { length rows.now ≡ length rights.now }
     requires wide { All (λ row. length row ≡ length lefts.now) rows.now }
-    ensures { IfOk result (λ made. made ≡ below_some rows.now lefts.now rights.now) }
+    requires long { length made.old ≡ length lefts.now }
+    ensures { made.new ≡ with_below rows.now lefts.now rights.now made.old }
 {
-    let mut made = none_set(alloc, lefts.len())?;
     let mut from = 0;
     while let Some(at) = rights.next(from) {
         from = at + 1;
-        or_into(&mut made, rows.row(at));
+        or_into(made, rows.row(at));
     }
-    and_into(&mut made, lefts);
-    Ok(made)
+    and_into(made, lefts);
 }
 
-/// The left items that dominate some right one. None does where no path of definitions leads down to the
-/// right level. The only refusal is want of memory.
-fn above_right(
+/// Sets the bits of the left items that dominate some right one, in a row of which no bit is set. None does
+/// where no path of definitions leads down to the right level. The only refusal is want of memory.
+fn set_above_right(
     alloc: Global,
     config: &Config,
     indexed: &Indexed,
     levels: (usize, usize),
     lefts: &BitRow,
     rights: &BitRow,
-) -> Result<BitRow, Memory>
+    made: &mut BitRow,
+) -> Result<(), Memory>
     requires fits { FitsConfig config.now indexed.now.bundle }
     requires left { levels.0 < length indexed.now.bundle.levels }
     requires right { levels.1 < length indexed.now.bundle.levels }
     requires lefts { length lefts.now ≡ length (items_at indexed.now.bundle.levels levels.0) }
     requires rights { length rights.now ≡ length (items_at indexed.now.bundle.levels levels.1) }
-    ensures { IfOk result (λ made. made
+    requires unset { made.old ≡ replicate (length lefts.now) false }
+    ensures { OnOk result (made.new
         ≡ above_some (closure_of indexed.now.bundle levels.1 levels.0) lefts.now rights.now) }
 {
     let _items = indexed.bundle().item_count();
     if !config.is_above(levels.0, levels.1) {
-        return none_set(alloc, lefts.len());
+        return Ok(());
     }
     let rows = indexed.closure(alloc, config, levels.0, levels.1)?;
-    above_some(alloc, &rows, lefts, rights)
+    set_above(&rows, lefts, rights, made);
+    Ok(())
 }
 
-/// The left items that some right one dominates. None is where no path of definitions leads down to the
-/// left level. The only refusal is want of memory.
-fn below_right(
+/// Sets the bits of the left items that some right one dominates, beside those of the left items that
+/// dominate some right one. None is where no path of definitions leads down to the left level. The only
+/// refusal is want of memory.
+fn add_below_right(
     alloc: Global,
     config: &Config,
     indexed: &Indexed,
     levels: (usize, usize),
     lefts: &BitRow,
     rights: &BitRow,
-) -> Result<BitRow, Memory>
+    made: &mut BitRow,
+) -> Result<(), Memory>
     requires fits { FitsConfig config.now indexed.now.bundle }
     requires left { levels.0 < length indexed.now.bundle.levels }
     requires right { levels.1 < length indexed.now.bundle.levels }
     requires lefts { length lefts.now ≡ length (items_at indexed.now.bundle.levels levels.0) }
     requires rights { length rights.now ≡ length (items_at indexed.now.bundle.levels levels.1) }
-    ensures { IfOk result (λ made. made
-        ≡ below_some (closure_of indexed.now.bundle levels.0 levels.1) lefts.now rights.now) }
+    requires above { made.old
+        ≡ above_some (closure_of indexed.now.bundle levels.1 levels.0) lefts.now rights.now }
+    ensures { OnOk result (AreDominant (closure_of indexed.now.bundle levels.1 levels.0)
+        (closure_of indexed.now.bundle levels.0 levels.1) lefts.now rights.now made.new) }
 {
     let _items = indexed.bundle().item_count();
     if !config.is_above(levels.1, levels.0) {
-        return none_set(alloc, lefts.len());
+        return Ok(());
     }
     let rows = indexed.closure(alloc, config, levels.1, levels.0)?;
-    below_some(alloc, &rows, lefts, rights)
+    add_below(&rows, lefts, rights, made);
+    Ok(())
 }
 
-/// The left items that dominate some right one, or that some right one dominates. The only refusal is
-/// want of memory.
+/// The left items that dominate some right one, or that some right one dominates, by one row in which both
+/// are set. The only refusal is want of memory.
 fn either_way(
     alloc: Global,
     config: &Config,
@@ -246,9 +243,9 @@ fn either_way(
     ensures { IfOk result (λ made. AreDominant (closure_of indexed.now.bundle levels.1 levels.0)
         (closure_of indexed.now.bundle levels.0 levels.1) lefts.now rights.now made) }
 {
-    let mut made = above_right(alloc, config, indexed, levels, lefts, rights)?;
-    let below = below_right(alloc, config, indexed, levels, lefts, rights)?;
-    or_into(&mut made, &below);
+    let mut made = none_set(alloc, lefts.len())?;
+    set_above_right(alloc, config, indexed, levels, lefts, rights, &mut made)?;
+    add_below_right(alloc, config, indexed, levels, lefts, rights, &mut made)?;
     Ok(made)
 }
 

@@ -3,13 +3,13 @@ use Rattle.eql_model.specs.Flags.{flag_at}
 use Rattle.eql_model.specs.Joins.{bit_at}
 use Rattle.eql_model.proofs.Walk.{next_flag}
 use Rattle.eql_match.proofs.Steps.{below_none, below_step, below_end, made_long, row_long}
-use Rattle.eql_match.proofs.found.below_some.Goals as goal
+use Rattle.eql_match.proofs.found.add_below.Goals as goal
 
 pub loop-at-init : goal.loop-at-init
 loop-at-init c = record {
   within = omega arith;
-  made = below_none (λ k j. flag_at j c.args.rights.now && bit_at c.args.rows.now j k) (length c.args.lefts.now) c.len.result c.in_ok-made.made
-      c.in_ok-made.ensures c.len.ensures;
+  made = below_none (λ k j. flag_at j c.args.rights.now && bit_at c.args.rows.now j k) (length c.args.lefts.now) c.args.made.now
+      c.requires.long;
 }
 
 pub loop-at-preserved : goal.loop-at-preserved
@@ -18,8 +18,8 @@ loop-at-preserved c =
     let here = next.within in
     record {
       within = omega arith;
-      made = below_step c.args.rows.now c.args.rights.now c.row.result.now c.loop-at.made c.or_into.new.into (length c.args.lefts.now)
-          c.loop-at.from c.in-Some.at next c.row.ensures
+      made = below_step c.args.rows.now c.args.rights.now c.row.result.now c.args.made.now c.loop-at.made c.or_into.new.into
+          (length c.args.lefts.now) c.loop-at.from c.in-Some.at next c.row.ensures
           (row_long c.args.rows.now c.in-Some.at c.row.result.now (length c.args.lefts.now) c.requires.wide c.row.ensures)
           c.loop-at.invariant.made c.or_into.ensures;
     }
@@ -48,14 +48,14 @@ loop-at-smaller c =
 pub or_into-requires : goal.or_into-requires
 or_into-requires c =
     ap length c.loop-at.invariant.made
-    ∙ made_long c.args.rows.now c.args.rights.now c.loop-at.from (length c.args.lefts.now)
+    ∙ made_long c.args.rows.now c.args.rights.now c.args.made.now c.loop-at.from (length c.args.lefts.now)
     ∙ sym (row_long c.args.rows.now c.in-Some.at c.row.result.now (length c.args.lefts.now) c.requires.wide c.row.ensures)
 
 pub and_into-requires : goal.and_into-requires
 and_into-requires c =
-    ap length c.loop-at.invariant.made ∙ made_long c.args.rows.now c.args.rights.now c.loop-at.from (length c.args.lefts.now)
+    ap length c.loop-at.invariant.made ∙ made_long c.args.rows.now c.args.rights.now c.args.made.now c.loop-at.from (length c.args.lefts.now)
 
 pub returns : goal.returns
 returns c =
-    below_end c.args.rows.now c.args.lefts.now c.args.rights.now c.loop-at.made c.and_into.new.into c.loop-at.from c.in_default.ensures
+    below_end c.args.rows.now c.args.lefts.now c.args.rights.now c.args.made.now c.loop-at.made c.and_into.new.into c.loop-at.from c.in_default.ensures
     c.loop-at.invariant.within c.loop-at.invariant.made c.and_into.ensures

@@ -3,13 +3,13 @@ use Rattle.eql_model.specs.Flags.{flag_at}
 use Rattle.eql_match.specs.Found.{is_above_some}
 use Rattle.eql_model.proofs.Walk.{next_flag, no_flag}
 use Rattle.eql_match.proofs.Steps.{and_clear, asked_none, asked_more, asked_all, meets_some, row_long}
-use Rattle.eql_match.proofs.found.above_some.Goals as goal
+use Rattle.eql_match.proofs.found.set_above.Goals as goal
 
 pub loop-at-init : goal.loop-at-init
 loop-at-init c = record {
   within = omega arith;
-  asked = asked_none (λ k. flag_at k c.args.lefts.now && is_above_some c.args.rows.now c.args.rights.now k) (length c.args.lefts.now) c.len.result
-      c.in_ok-made.made c.in_ok-made.ensures c.len.ensures;
+  asked = asked_none (λ k. flag_at k c.args.lefts.now && is_above_some c.args.rows.now c.args.rights.now k) (length c.args.lefts.now)
+      c.args.made.now c.requires.unset;
 }
 
 pub meet-bit-requires : goal.meet-bit-requires

@@ -2,7 +2,7 @@ use Rattle.std.proofs.Common.{◌-◌, ◌≤◌, ◌&&◌, length}
 use Rattle.eql_model.specs.Flags.{flag_at}
 use Rattle.eql_match.specs.Found.{is_above_some}
 use Rattle.eql_match.proofs.Steps.{AskedTo}
-use Rattle.eql_match.proofs.found.above_some.Given as goal
+use Rattle.eql_match.proofs.found.set_above.Given as goal
 
 -- the left items before have been asked
 abbrev pub invariant-loop-at : goal.invariant-loop-at

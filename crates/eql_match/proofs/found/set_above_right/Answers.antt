@@ -1,0 +1,30 @@
+use Rattle.std.proofs.Common.{length, sym, ap, subst, ◌∙◌}
+use Rattle.db_config.specs.Above.{is_above}
+use Rattle.bundle_state.specs.Valid.{KeepsBundleRules}
+use Rattle.eql_match.specs.Found.{above_some}
+use Rattle.eql_match.proofs.RowsBetween.{none_above, rows_are, all_wide, row_few}
+use Rattle.eql_match.proofs.found.set_above_right.Goals as goal
+
+pub returns-then-not-is_above : goal.returns-then-not-is_above
+returns-then-not-is_above c =
+    none_above c.args.indexed.now.bundle c.args.levels.0 c.args.levels.1 c.args.lefts.now c.args.rights.now c.args.made.now
+    (subst KeepsBundleRules c.bundle.ensures c.item_count-items.ensures.rules)
+    (ap (λ defs. is_above defs c.args.levels.0 c.args.levels.1) c.requires.fits.definitions
+    ∙ (sym c.is_above.ensures ∙ c.if-not-is_above.true))
+    c.requires.unset
+
+pub set_above-requires-clause-few : goal.set_above-requires-clause-few
+set_above-requires-clause-few c =
+    row_few c.args.indexed.now.bundle c.args.levels.0 (length c.args.lefts.now)
+    (subst KeepsBundleRules c.bundle.ensures c.item_count-items.ensures.rules) c.requires.lefts
+
+pub set_above-requires-clause-rows : goal.set_above-requires-clause-rows
+set_above-requires-clause-rows c =
+    rows_are c.args.indexed.now.bundle c.args.levels.0 c.args.levels.1 (length c.args.lefts.now) c.in_ok-rows.rows c.in_ok-rows.ensures c.requires.lefts
+
+pub set_above-requires-clause-wide : goal.set_above-requires-clause-wide
+set_above-requires-clause-wide c =
+    all_wide c.args.indexed.now.bundle c.args.levels.0 c.args.levels.1 (length c.args.rights.now) c.in_ok-rows.rows c.in_ok-rows.ensures c.requires.rights
+
+pub returns : goal.returns
+returns c = c.set_above.ensures ∙ ap (λ rows. above_some rows c.args.lefts.now c.args.rights.now) c.in_ok-rows.ensures
