@@ -1,16 +1,16 @@
 -- Rows of bits that are turned and joined.
-use Rattle.std.proofs.Common.{◌≡◌, ℕ, ◌+◌, ◌<◌, Bool, true, false, ◌||◌, ◌&&◌, List, [], ◌∷◌, ◌++◌, length, map, take, get_or, Result, Ok, Err, Some, refl, sym, ap, ◌∙◌, arith}
-use Rattle.std.specs.Prelude.{All, IfOk, not, replicate, slice_set}
+use Rattle.std.proofs.Common.{◌≡◌, ℕ, ◌+◌, ◌<◌, ◌≤◌, Bool, true, false, ◌||◌, ◌&&◌, List, [], ◌∷◌, ◌++◌, length, map, take, get_or, Some, inl, inr, refl, sym, ap, ◌∙◌, arith}
+use Rattle.std.specs.Prelude.{All, not, replicate, slice_set}
 use Rattle.std.specs.List.{slice_get, list_all, list_any, range_with_len}
 use Rattle.std.specs.Simd.Lanes.{zip2}
-use Rattle.std.proofs.lemmas.List.{ext_get_or, get_or-map, get_or-replicate, length-map, length-replicate, length-set, map-id, take_more}
+use Rattle.std.proofs.lemmas.Bool.{cases_eq}
+use Rattle.std.proofs.lemmas.List.{ext_get_or, get_or-map, get_or-replicate, get_or-set_other, get_or-set_same, length-map, length-replicate, length-set, map-id, take_more}
 use Rattle.std.proofs.lemmas.List.Edits.{fill_by_more}
 use Rattle.std.proofs.lemmas.List.Elements.{All-get_or, All-nil, All-cons}
 use Rattle.std.proofs.lemmas.List.Folds.{list_any-append, list_all-append}
 use Rattle.std.proofs.lemmas.List.FromFn.{fill_by_all, length-map-range_with_len}
 use Rattle.std.proofs.lemmas.Option.{get_or_from_slice_get, slice_get_within, unwrap_or-slice_get}
 use Rattle.std.proofs.lemmas.Simd.{zip2-map}
-use Rattle.emu_names.specs.declared.shortage.Memory.{Memory}
 use Rattle.eql_model.specs.Flags.{flag_at}
 use Rattle.eql_model.specs.Labels.{is_as}
 use Rattle.eql_model.proofs.MadeRows.{any_of_maps}
@@ -42,6 +42,14 @@ pub filled_all : (f : ℕ → Bool) (made : List Bool) (n at : ℕ) → IsFilled
 filled_all f made n at so_far end =
     fill_by_all f made n false so_far.count (λ k below. so_far.each k (omega arith))
 
+-- ---- no bit is set
+
+pub unset_wide : (n m : ℕ) (row : List Bool) → row ≡ replicate n false → n ≡ m → length row ≡ m
+unset_wide n m row is same = ap length is ∙ length-replicate n false ∙ same
+
+pub unset_own : (n : ℕ) (row : List Bool) → row ≡ replicate n false → row ≡ replicate (length row) false
+unset_own n row is = is ∙ ap (λ m. replicate m false) (sym (unset_wide n n row is refl))
+
 -- ---- turned
 
 by_turn : (row made : List Bool) → made ≡ map (λ k. not (get_or row k false)) (range_with_len 0 (length row)) → made ≡ map not row
@@ -49,18 +57,42 @@ by_turn row made is =
     is ∙ sym (fill_by_all (λ k. not (get_or row k false)) (map not row) (length row) true (length-map row not)
     (λ k below. get_or-map not row k false true below))
 
-pub turned_all : (row made : List Bool) (n at : ℕ) → IsFilled (λ k. not (get_or row k false)) made n at → n ≡ length row → n ≡ at →
-    made ≡ map not row
-turned_all row made n at so_far long end =
-    by_turn row made (filled_all (λ k. not (get_or row k false)) made n at so_far end
-    ∙ ap (λ m. map (λ k. not (get_or row k false)) (range_with_len 0 m)) long)
+-- the bits before a place are turned, all others are as they were
+pub record TurnedTo (row made : List Bool) (at : ℕ) : Type 0 where
+  pub count : length made ≡ length row
+  pub before : (k : ℕ) → k < at → get_or made k false ≡ not (get_or row k false)
+  pub behind : (k : ℕ) → at ≤ k → get_or made k false ≡ get_or row k false
 
-pub turned_more : (row made more : List Bool) (n at : ℕ) (bit : Bool) → IsFilled (λ k. not (get_or row k false)) made n at → n ≡ length row →
-    slice_get row at ≡ Some bit → more ≡ slice_set made at (not bit) → IsFilled (λ k. not (get_or row k false)) more n (at + 1)
-turned_more row made more n at bit so_far long here put =
-    filled_more (λ k. not (get_or row k false)) made more n at (not bit) so_far
-    (let within = slice_get_within row at bit here in omega arith)
-    (ap not (sym (get_or_from_slice_get row at bit false here))) put
+pub turned_first : (row : List Bool) → TurnedTo row row 0
+turned_first row = record {
+  count = refl;
+  before = λ k below. absurd (omega arith);
+  behind = λ k from. refl;
+}
+
+turned_at : (row made : List Bool) (at : ℕ) (bit : Bool) → TurnedTo row made at → slice_get made at ≡ Some bit → (k : ℕ) → k < at + 1 →
+    get_or (slice_set made at (not bit)) k false ≡ not (get_or row k false)
+turned_at row made at bit so_far here k below = elim (cases_eq k at) [
+  | inl same ↦
+      ap (λ i. get_or (slice_set made at (not bit)) i false) same
+      ∙ get_or-set_same made at (not bit) false (slice_get_within made at bit here)
+      ∙ ap not (sym (get_or_from_slice_get made at bit false here) ∙ so_far.behind at (omega arith) ∙ ap (λ i. get_or row i false) (sym same))
+  | inr other ↦ get_or-set_other made at k (not bit) false other ∙ so_far.before k (omega arith)
+]
+
+pub turned_more : (row made more : List Bool) (at : ℕ) (bit : Bool) → TurnedTo row made at → slice_get made at ≡ Some bit →
+    more ≡ slice_set made at (not bit) → TurnedTo row more (at + 1)
+turned_more row made more at bit so_far here put = record {
+  count = ap length put ∙ length-set made at (not bit) ∙ so_far.count;
+  before = λ k below. ap (λ r. get_or r k false) put ∙ turned_at row made at bit so_far here k below;
+  behind = λ k past.
+      ap (λ r. get_or r k false) put ∙ get_or-set_other made at k (not bit) false (λ e. omega arith)
+      ∙ so_far.behind k (omega arith);
+}
+
+pub turned_all : (row made : List Bool) (at : ℕ) → TurnedTo row made at → length row ≡ at → made ≡ map not row
+turned_all row made at so_far end =
+    by_turn row made (fill_by_all (λ k. not (get_or row k false)) made (length row) false so_far.count (λ k below. so_far.before k (omega arith)))
 
 pub turned_none : (n : ℕ) → map not (replicate n false) ≡ replicate n true
 turned_none n =
@@ -77,10 +109,8 @@ turned_none n =
 pub found_exit : (found : Bool) (row : List Bool) → found ≡ true → row ≡ map (is_as found) row
 found_exit found row is = sym (ap (λ b. map (is_as b) row) is ∙ map-id row)
 
-pub turned_exit : (found : Bool) (row : List Bool) (r : Result (List Bool) Memory) → found ≡ false →
-    IfOk r (λ made. made ≡ map not row) → IfOk r (λ made. made ≡ map (is_as found) row)
-turned_exit found row (Err e) is told = tt
-turned_exit found row (Ok made) is told = told ∙ sym (ap (λ b. map (is_as b) row) is)
+pub turned_exit : (found : Bool) (row made : List Bool) → found ≡ false → made ≡ map not row → made ≡ map (is_as found) row
+turned_exit found row made is told = told ∙ sym (ap (λ b. map (is_as b) row) is)
 
 -- ---- the bits of several rows
 
@@ -176,8 +206,3 @@ any_rows_are p xs d n ys long =
     (λ k below.
     get_or-map (λ x. list_any (λ y. p y x) ys) xs k d false (omega arith)
     ∙ sym (any_of_maps p xs k d ys (omega arith))))
-
-pub set_exit : (n : ℕ) (none : List Bool) (r : Result (List Bool) Memory) → none ≡ replicate n false →
-    IfOk r (λ made. made ≡ map not none) → IfOk r (λ row. row ≡ replicate n true)
-set_exit n none (Err e) is told = tt
-set_exit n none (Ok made) is told = told ∙ ap (map not) is ∙ turned_none n

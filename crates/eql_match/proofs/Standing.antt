@@ -1,6 +1,6 @@
 -- Positions and numbers by the first bit, the last bit and the bits of rows.
-use Rattle.std.proofs.Common.{◌≡◌, ◌⊎◌, inl, inr, ℕ, zero, suc, ◌+◌, ◌<◌, Bool, true, false, not, ◌||◌, ◌&&◌, List, [], ◌∷◌, ◌++◌, length, map, take, get_or, nat_eq, Some, Result, Ok, Err, refl, sym, ap, subst, ◌∙◌, arith}
-use Rattle.std.specs.Prelude.{All, IfOk, replicate, slice_set}
+use Rattle.std.proofs.Common.{◌≡◌, ◌⊎◌, inl, inr, ℕ, zero, suc, ◌+◌, ◌<◌, Bool, true, false, not, ◌||◌, ◌&&◌, List, [], ◌∷◌, ◌++◌, length, map, take, get_or, nat_eq, Some, Ok, refl, sym, ap, subst, ◌∙◌, arith}
+use Rattle.std.specs.Prelude.{All, replicate, slice_set}
 use Rattle.std.specs.List.{items_where_true, list_any, range_with_len, slice_get}
 use Rattle.std.specs.Simd.Lanes.{zip2}
 use Rattle.std.proofs.lemmas.Bool.{and_parts, cases_Bool, cases_eq, eqb-true, not-true}
@@ -12,24 +12,23 @@ use Rattle.std.proofs.lemmas.List.FromFn.{fill_by_all, get_or-map-range_with_len
 use Rattle.std.proofs.lemmas.Option.{get_or_from_slice_get, slice_get_within, unwrap_or-slice_get}
 use Rattle.std.proofs.lemmas.Simd.{get_or-zip2, length-zip2, zip2-map}
 use Rattle.lane_bits.specs.Row.{NoneWhere, IsFirst, IsLast}
-use Rattle.emu_names.specs.declared.shortage.Memory.{Memory}
 use Rattle.level_items.specs.declared.items.Item.{Item}
 use Rattle.level_items.specs.Levels.{are_different, ids_of}
 use Rattle.bundle_state.specs.Bundle.{BundleParts, all_ids}
-use Rattle.hier_closure.specs.Dominance.{closure_of}
+use Rattle.hier_closure.specs.Dominance.{closure_of, ids_at}
 use Rattle.hier_closure.proofs.Ids.{ids_different}
 use Rattle.eql_syntax.specs.declared.query.Compare.{Compare}
 use Rattle.eql_syntax.specs.declared.query.Place.{Place}
 use Rattle.eql_syntax.specs.declared.query.Place.TheVariants.{Start, Medial, End}
 use Rattle.eql_model.specs.Flags.{flag_at}
-use Rattle.eql_model.specs.Positions.{is_first, is_last, stands}
+use Rattle.eql_model.specs.Positions.{has_place, is_first, is_last, stands}
 use Rattle.eql_model.specs.Bits.{row_counts, row_stands, rows_place}
 use Rattle.eql_model.specs.Meaning.{items_at}
-use Rattle.eql_model.proofs.Between.{ids_are, rows_wide}
+use Rattle.eql_model.proofs.Between.{ids_are, position_exit, rows_wide}
 use Rattle.eql_model.proofs.Places.{first_is, last_is}
 use Rattle.eql_match.specs.Rows.{any_bits}
 use Rattle.eql_match.specs.Places.{AddsPlaced, ArePlaced, PassPlace}
-use Rattle.eql_match.proofs.Bits.{IsFilled, filled_all, filled_more}
+use Rattle.eql_match.proofs.Bits.{IsFilled, any_long, filled_all, filled_more, unset_wide}
 
 -- ---- ids that differ
 
@@ -278,26 +277,30 @@ map_not : (f : ℕ → Bool) (ks : List ℕ) → map not (map f ks) ≡ map (λ 
 map_not f [] = refl
 map_not f (k ∷ ks) = ap (λ rest. not (f k) ∷ rest) (map_not f ks)
 
+and_swap : (a b : Bool) → (a && b) ≡ (b && a)
+and_swap true true = refl
+and_swap true false = refl
+and_swap false true = refl
+and_swap false false = refl
+
+pub others_long : (place : Place) (rows : List (List Bool)) (n : ℕ) (placed others : List Bool) → ArePlaced place rows n placed →
+    others ≡ map not placed → length others ≡ n
+others_long place rows n placed others are turn = ap length turn ∙ length-map placed not ∙ are.long
+
 pub place_false : (place : Place) (rows : List (List Bool)) (n : ℕ) (placed others below new : List Bool) → ArePlaced place rows n placed →
-    others ≡ map not placed → below ≡ any_bits n rows → new ≡ zip2 (λ a b. a && b) below others → PassPlace place false rows n new
+    others ≡ map not placed → below ≡ any_bits n rows → new ≡ zip2 (λ a b. a && b) others below → PassPlace place false rows n new
 place_false place rows n placed others below new are turn any put = record {
   long =
-      ap length put ∙ length-zip2 (λ a b. a && b) below others (below_long ∙ sym (ap length turn ∙ length-map placed not ∙ are.long))
-      ∙ below_long;
+      ap length put ∙ length-zip2 (λ a b. a && b) others below (long ∙ sym (ap length any ∙ any_long n rows)) ∙ long;
   is = λ ids apart many.
-      put ∙ (λ i. zip2 (λ a b. a && b) (any i)
-      ((turn ∙ ap (map not) (are.is ids apart many) ∙ map_not (λ k. list_any (row_stands ids place k) rows) (range_with_len 0 n)) i))
-      ∙ zip2-map (λ a b. a && b) (λ k. list_any (flag_at k) rows) (λ k. not (list_any (row_stands ids place k) rows)) (range_with_len 0 n);
+      put ∙ (λ i. zip2 (λ a b. a && b)
+      ((turn ∙ ap (map not) (are.is ids apart many) ∙ map_not (λ k. list_any (row_stands ids place k) rows) (range_with_len 0 n)) i) (any i))
+      ∙ zip2-map (λ a b. a && b) (λ k. not (list_any (row_stands ids place k) rows)) (λ k. list_any (flag_at k) rows) (range_with_len 0 n)
+      ∙ (λ i. map (λ k. and_swap (not (list_any (row_stands ids place k) rows)) (list_any (flag_at k) rows) i) (range_with_len 0 n));
 }
   where
-    below_long : length below ≡ n
-    below_long = ap length any ∙ length-map-range_with_len (λ k. list_any (flag_at k) rows) 0 n
-
-pub place_wide : (n : ℕ) (rows : List (List Bool)) (placed others below : List Bool) (place : Place) → ArePlaced place rows n placed →
-    others ≡ map not placed → below ≡ any_bits n rows → length below ≡ length others
-place_wide n rows placed others below place are turn any =
-    ap length any ∙ length-map-range_with_len (λ k. list_any (flag_at k) rows) 0 n
-    ∙ sym (ap length turn ∙ length-map placed not ∙ are.long)
+    long : length others ≡ n
+    long = others_long place rows n placed others are turn
 
 -- ---- the items of a level
 
@@ -305,14 +308,21 @@ level_ids : (b : BundleParts) (level : ℕ) → are_different (all_ids b.levels)
 level_ids b level apart = ap are_different (sym (ids_are b.levels level)) ∙ ids_different b.levels level apart
 
 pub by_items : (b : BundleParts) (level : ℕ) (items : List Item) (n : ℕ) (rows : List (List Bool)) (place : Place) (wanted : Bool)
-    (r : Result (List Bool) Memory) → are_different (all_ids b.levels) ≡ true → items ≡ items_at b.levels level → n ≡ length items →
-    IfOk r (PassPlace place wanted rows n) →
-    IfOk r (λ row. row ≡ map (rows_place rows (ids_of items) place wanted) (range_with_len 0 (length items)))
-by_items b level items n rows place wanted (Err e) apart are long told = tt
-by_items b level items n rows place wanted (Ok row) apart are long told =
+    (row : List Bool) → are_different (all_ids b.levels) ≡ true → items ≡ items_at b.levels level → n ≡ length items →
+    PassPlace place wanted rows n row → row ≡ map (rows_place rows (ids_of items) place wanted) (range_with_len 0 (length items))
+by_items b level items n rows place wanted row apart are long told =
     told.is (ids_of items) (ap (λ is. are_different (ids_of is)) are ∙ level_ids b level apart)
     (length-map items (λ (i : Item). i.id.0) ∙ sym long)
     ∙ ap (λ m. map (rows_place rows (ids_of items) place wanted) (range_with_len 0 m)) long
+
+pub passed_row : (b : BundleParts) (upper lower n : ℕ) (rows : List (List Bool)) (place : Place) (wanted : Bool) (old new : List Bool) →
+    are_different (all_ids b.levels) ≡ true → rows ≡ closure_of b lower upper → old ≡ replicate n false → n ≡ length (items_at b.levels lower) →
+    PassPlace place wanted rows (length old) new →
+    new ≡ map (λ item. has_place b.links (ids_at b.levels upper) (ids_at b.levels lower) place wanted item.id.0) (items_at b.levels lower)
+passed_row b upper lower n rows place wanted old new apart made unset long told =
+    position_exit b upper lower rows (items_at b.levels lower) place wanted (Ok new) made refl
+    (by_items b lower (items_at b.levels lower) (length old) rows place wanted new apart refl
+    (unset_wide n (length (items_at b.levels lower)) old unset long) told)
 
 -- ---- numbers
 

@@ -355,7 +355,6 @@ map_map : {X Y Z : Type 0} (f : Y → Z) (g : X → Y) (xs : List X) → map f (
 map_map f g [] = refl
 map_map f g (x ∷ xs) = ap (λ ys. f (g x) ∷ ys) (map_map f g xs)
 
-pub found_map : (found : Bool) (p : Item → Bool) (items : List Item) (row : List Bool) (r : Result (List Bool) Memory) → row ≡ map p items →
-    IfOk r (λ made. made ≡ map (is_as found) row) → IfOk r (λ made. made ≡ map (λ item. is_as found (p item)) items)
-found_map found p items row (Err e) is told = tt
-found_map found p items row (Ok made) is told = told ∙ ap (map (is_as found)) is ∙ map_map (is_as found) p items
+pub found_map : (found : Bool) (p : Item → Bool) (items : List Item) (row made : List Bool) → row ≡ map p items →
+    made ≡ map (is_as found) row → made ≡ map (λ item. is_as found (p item)) items
+found_map found p items row made is told = told ∙ ap (map (is_as found)) is ∙ map_map (is_as found) p items

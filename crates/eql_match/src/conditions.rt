@@ -19,7 +19,7 @@ use crate::found::{Found, found_where};
 use crate::labels::label_bits;
 use crate::patterns::pattern_bits;
 use crate::positions::{number_bits, position_bits};
-use crate::rows::{all_set, as_found};
+use crate::rows::{all_set, turn_unless};
 use bundle_index::Indexed;
 use db_config::{AttributePlace, Config};
 use emu_lists::Series;
@@ -45,8 +45,9 @@ fn labels_pass(
     ensures { IfOk result (λ row. row ≡ map (λ item. is_as found (is_wanted config.now place labels.now
         (label_of place.attribute item))) (items_at indexed.now.bundle.levels place.level)) }
 {
-    let row = label_bits(alloc, config, indexed, place, labels)?;
-    as_found(alloc, found, row)
+    let mut row = label_bits(alloc, config, indexed, place, labels)?;
+    turn_unless(found, &mut row);
+    Ok(row)
 }
 
 /// For each item of a level whether its label passes a test of patterns. The only refusal is want of
@@ -65,8 +66,9 @@ fn patterns_pass(
         (label_of place.attribute item))) (items_at indexed.now.bundle.levels place.level)) }
 {
     let _levels = config.level_count();
-    let row = pattern_bits(alloc, indexed, place, patterns)?;
-    as_found(alloc, found, row)
+    let mut row = pattern_bits(alloc, indexed, place, patterns)?;
+    turn_unless(found, &mut row);
+    Ok(row)
 }
 
 /// For each item of a level whether its label passes a test. The only refusal is want of memory.

@@ -1,6 +1,6 @@
 //! Tests of where items stand below items of an upper level, and of how many items an item dominates:
 //! each row of bits, one for each upper item, is asked for its first bit, its last bit or its count.
-ghost use Rattle.std.specs.Prelude.{◌≡◌, ◌<◌, All, false, length, map, slice_set, IfOk, OnOk};
+ghost use Rattle.std.specs.Prelude.{◌≡◌, ◌<◌, All, false, length, map, replicate, slice_set, IfOk, OnOk};
 ghost use Rattle.bundle_state.specs.Built.{FitsConfig};
 ghost use Rattle.hier_closure.specs.Dominance.{ids_at};
 ghost use Rattle.eql_model.specs.Positions.{has_number, has_place};
@@ -9,7 +9,7 @@ ghost use Rattle.eql_model.specs.Meaning.{items_at};
 ghost use Rattle.eql_match.specs.Rows.{any_bits};
 ghost use Rattle.eql_match.specs.Places.{AddsPlaced, ArePlaced, PassPlace};
 
-use crate::rows::{none_set, turned};
+use crate::rows::{none_set, turn};
 use bundle_index::Indexed;
 use db_config::Config;
 use emu_names::Memory;
@@ -86,24 +86,24 @@ fn add_placed(alloc: Global, placed: &mut BitRow, row: &BitRow, place: Place) ->
     Ok(())
 }
 
-/// For each lower item whether it stands at a place among those with a bit of some row. The only refusal
-/// is want of memory.
-fn placed_bits(
+/// Sets the bits of the lower items that stand at a place among those with a bit of some row, in a row of
+/// which no bit is set. The only refusal is want of memory.
+fn set_placed(
     alloc: Global,
     rows: &Closure,
     count: usize,
-    width: usize,
     place: Place,
-) -> Result<BitRow, Memory>
+    placed: &mut BitRow,
+) -> Result<(), Memory>
     requires count { count ≡ length rows.now }
-    requires wide { All (λ row. length row ≡ width) rows.now }
-    ensures { IfOk result (ArePlaced place rows.now width) }
+    requires wide { All (λ row. length row ≡ length placed.old) rows.now }
+    requires unset { placed.old ≡ replicate (length placed.old) false }
+    ensures { OnOk result (ArePlaced place rows.now (length placed.old) placed.new) }
 {
-    let mut placed = none_set(alloc, width)?;
     for upper in 0..count {
-        add_placed(alloc, &mut placed, rows.row(upper), place)?;
+        add_placed(alloc, placed, rows.row(upper), place)?;
     }
-    Ok(placed)
+    Ok(())
 }
 
 /// For each lower item whether some row has its bit. The only refusal is want of memory.
@@ -119,27 +119,29 @@ fn bits_below(alloc: Global, rows: &Closure, count: usize, width: usize) -> Resu
     Ok(any)
 }
 
-/// For each lower item whether it passes a test of its place. The only refusal is want of memory.
-fn place_bits(
+/// Sets the bits of the lower items that pass a test of their place, in a row of which no bit is set. The
+/// only refusal is want of memory.
+fn set_place_bits(
     alloc: Global,
     rows: &Closure,
     count: usize,
-    width: usize,
     place: Place,
     wanted: bool,
-) -> Result<BitRow, Memory>
+    passed: &mut BitRow,
+) -> Result<(), Memory>
     requires count { count ≡ length rows.now }
-    requires wide { All (λ row. length row ≡ width) rows.now }
-    ensures { IfOk result (PassPlace place wanted rows.now width) }
+    requires wide { All (λ row. length row ≡ length passed.old) rows.now }
+    requires unset { passed.old ≡ replicate (length passed.old) false }
+    ensures { OnOk result (PassPlace place wanted rows.now (length passed.old) passed.new) }
 {
-    let placed = placed_bits(alloc, rows, count, width, place)?;
+    set_placed(alloc, rows, count, place, passed)?;
     if wanted {
-        return Ok(placed);
+        return Ok(());
     }
-    let others = turned(alloc, &placed)?;
-    let mut below = bits_below(alloc, rows, count, width)?;
-    and_into(&mut below, &others);
-    Ok(below)
+    turn(passed);
+    let below = bits_below(alloc, rows, count, passed.len())?;
+    and_into(passed, &below);
+    Ok(())
 }
 
 /// For each item of the lower level whether it passes a test of its place. The only refusal is want of
@@ -165,7 +167,9 @@ pub(crate) fn position_bits(
     let rows = indexed.closure(alloc, config, upper, lower)?;
     let count = eql_model::items_at(bundle, upper).len();
     let width = eql_model::items_at(bundle, lower).len();
-    place_bits(alloc, &rows, count, width, place, wanted)
+    let mut row = none_set(alloc, width)?;
+    set_place_bits(alloc, &rows, count, place, wanted, &mut row)?;
+    Ok(row)
 }
 
 /// For each row how the number of its bits compares with a number. The only refusal is want of memory.

@@ -17,35 +17,33 @@ pub(crate) fn none_set(alloc: Global, count: usize) -> Result<BitRow, Memory>
     }
 }
 
-/// The row with each bit turned. The only refusal is want of memory.
-pub(crate) fn turned(alloc: Global, row: &BitRow) -> Result<BitRow, Memory>
-    ensures { IfOk result (λ made. made ≡ map not row.now) }
+/// Turns each bit of a row.
+pub(crate) fn turn(row: &mut BitRow)
+    ensures { row.new ≡ map not row.old }
 {
-    let mut made = none_set(alloc, row.len())?;
     for at in 0..row.len() {
         let bit = row.get(at);
-        made.set(at, !bit);
+        row.set(at, !bit);
     }
-    Ok(made)
 }
 
 /// A row of bits, all of which are set. The only refusal is want of memory.
 pub(crate) fn all_set(alloc: Global, count: usize) -> Result<BitRow, Memory>
     ensures { IfOk result (λ row. row ≡ replicate count true) }
 {
-    let none = none_set(alloc, count)?;
-    turned(alloc, &none)
+    let mut row = none_set(alloc, count)?;
+    turn(&mut row);
+    Ok(row)
 }
 
-/// The row itself where a test is to find, else the row with each bit turned. The only refusal is want
-/// of memory.
-pub(crate) fn as_found(alloc: Global, found: bool, row: BitRow) -> Result<BitRow, Memory>
-    ensures { IfOk result (λ made. made ≡ map (is_as found) row) }
+/// Turns each bit of a row, unless a test is to find.
+pub(crate) fn turn_unless(found: bool, row: &mut BitRow)
+    ensures { row.new ≡ map (is_as found) row.old }
 {
     if found {
-        return Ok(row);
+        return;
     }
-    turned(alloc, &row)
+    turn(row);
 }
 
 /// For each place whether some of these rows has its bit. The only refusal is want of memory.

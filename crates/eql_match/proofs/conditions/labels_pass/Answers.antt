@@ -9,4 +9,4 @@ label_bits-requires-clause-column c = has_column c.args.config.now c.args.indexe
 pub returns : goal.returns
 returns c =
     found_map c.args.found (λ item. is_wanted c.args.config.now c.args.place c.args.labels.now (label_of c.args.place.attribute item))
-    (items_at c.args.indexed.now.bundle.levels c.args.place.level) c.in_ok-row.row c.as_found.result c.in_ok-row.ensures c.as_found.ensures
+    (items_at c.args.indexed.now.bundle.levels c.args.place.level) c.in_ok-row.row c.turn_unless.new.row c.in_ok-row.ensures c.turn_unless.ensures

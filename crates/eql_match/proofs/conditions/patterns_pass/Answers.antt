@@ -9,4 +9,4 @@ pattern_bits-requires c = has_column c.args.config.now c.args.indexed.now.bundle
 pub returns : goal.returns
 returns c =
     found_map c.args.found (λ item. is_matched c.args.patterns.now (label_of c.args.place.attribute item))
-    (items_at c.args.indexed.now.bundle.levels c.args.place.level) c.in_ok-row.row c.as_found.result c.in_ok-row.ensures c.as_found.ensures
+    (items_at c.args.indexed.now.bundle.levels c.args.place.level) c.in_ok-row.row c.turn_unless.new.row c.in_ok-row.ensures c.turn_unless.ensures

@@ -1,5 +1,7 @@
-use Rattle.eql_match.proofs.Bits.{set_exit}
+use Rattle.std.proofs.Common.{map, ap, ◌∙◌}
+use Rattle.std.specs.Prelude.{not}
+use Rattle.eql_match.proofs.Bits.{turned_none}
 use Rattle.eql_match.proofs.rows.all_set.Goals as goal
 
 pub returns : goal.returns
-returns c = set_exit c.args.count _ c.turned.result c.in_ok-none.ensures c.turned.ensures
+returns c = c.turn.ensures ∙ ap (map not) c.in_ok-row.ensures ∙ turned_none c.args.count

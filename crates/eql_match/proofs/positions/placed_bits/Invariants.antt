@@ -1,7 +1,0 @@
-use Rattle.std.proofs.Common.{take}
-use Rattle.eql_match.specs.Places.{ArePlaced}
-use Rattle.eql_match.proofs.positions.placed_bits.Given as goal
-
--- the bits by the rows so far
-abbrev pub invariant-loop-upper : goal.invariant-loop-upper
-invariant-loop-upper l = ArePlaced l.place (take l.upper l.rows) l.width l.placed
