@@ -23,6 +23,12 @@ pub record IsFilled (f : ℕ → Bool) (made : List Bool) (n at : ℕ) : Type 0 
   pub count : length made ≡ n
   pub each : (k : ℕ) → k < at → get_or made k false ≡ f k
 
+pub filled_first : (f : ℕ → Bool) (made : List Bool) (n : ℕ) → length made ≡ n → IsFilled f made n 0
+filled_first f made n long = record {
+  count = long;
+  each = λ k below. absurd (omega arith);
+}
+
 pub filled_none : (f : ℕ → Bool) (made : List Bool) (n m : ℕ) → made ≡ replicate n false → n ≡ m → IsFilled f made m 0
 filled_none f made n m is same = record {
   count = ap length is ∙ length-replicate n false ∙ same;
@@ -166,6 +172,12 @@ pub all_first : (n : ℕ) (rows : List (List Bool)) (row : List Bool) → 0 < le
     row ≡ all_bits n (take 1 rows)
 all_first n rows row h here wide =
     flags_are row n wide ∙ (λ j. map (λ k. sym (all_more rows 0 row k h here) j) (range_with_len 0 n))
+
+-- a row that is put into one of which no bit is set
+pub or_unset : (n : ℕ) (old made new : List Bool) → old ≡ replicate n false → length made ≡ n → new ≡ zip2 (λ a b. a || b) old made → new ≡ made
+or_unset n old made new unset long put =
+    put ∙ (λ i. zip2 (λ a b. a || b) ((unset ∙ replicated n false) i) (flags_are made n long i))
+    ∙ zip2-map (λ a b. a || b) (λ k. false) (λ k. flag_at k made) (range_with_len 0 n) ∙ sym (flags_are made n long)
 
 pub any_none : (n : ℕ) (any : List Bool) (rows : List (List Bool)) → any ≡ replicate n false → any ≡ any_bits n (take 0 rows)
 any_none n any rows is = is ∙ replicated n false

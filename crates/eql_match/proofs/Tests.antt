@@ -1,6 +1,6 @@
 -- Tests of labels by rows of bits and by numbers.
 use Rattle.std.proofs.Common.{◌≡◌, ◌⊎◌, inl, inr, ℕ, zero, suc, ◌+◌, ◌<◌, ◌≤◌, Bool, false, cond, ◌&&◌, List, [], ◌∷◌, ◌++◌, length, map, take, drop, get_or, nat_eq, Option, None, Some, Result, Ok, Err, refl, sym, ap, subst, ◌∙◌, arith}
-use Rattle.std.specs.Prelude.{All, IfOk, IsSome, is_some, replicate, slice_set, true}
+use Rattle.std.specs.Prelude.{All, IfOk, IsSome, OnOk, is_some, replicate, slice_set, true}
 use Rattle.std.specs.List.{filter, flat_map, list_any, list_all, range_with_len, slice_get}
 use Rattle.std.specs.Option.{option_and_then}
 use Rattle.std.specs.Simd.Lanes.{zip2}
@@ -13,6 +13,7 @@ use Rattle.std.proofs.lemmas.List.Concat.{flat_map-cons}
 use Rattle.std.proofs.lemmas.List.Folds.{list_all-append}
 use Rattle.std.proofs.lemmas.List.FromFn.{fill_by_all, get_or-range_with_len, length-range_with_len}
 use Rattle.std.proofs.lemmas.Option.{get_or_from_slice_get, same_Some, slice_get-get_or, slice_get_within, unwrap_or-slice_get}
+use Rattle.std.proofs.lemmas.Result.{on_ok_weaker}
 use Rattle.emu_names.specs.declared.shortage.Memory.{Memory}
 use Rattle.level_items.specs.declared.items.Item.{Item}
 use Rattle.db_config.specs.declared.parts.AttributePlace.{AttributePlace}
@@ -27,11 +28,12 @@ use Rattle.bundle_index.specs.Index.{attributes_on, has_label, items_on, label_a
 use Rattle.bundle_index.specs.Numbered.{IsColumnOf}
 use Rattle.bundle_index.proofs.Callers.{attributes_asked}
 use Rattle.label_match.specs.Pattern.{matches_label}
+use Rattle.eql_resolve.specs.Asked.{AskedTerm, term_level}
 use Rattle.lane_bits.specs.Row.{IsFirst}
 use Rattle.eql_model.specs.declared.tuple.Tuple.{Tuple}
 use Rattle.eql_model.specs.Flags.{flag_at}
 use Rattle.eql_model.specs.Labels.{is_as, is_wanted, label_of, matched_row, stands_for, wanted_labels}
-use Rattle.eql_model.specs.Meaning.{items_at, single}
+use Rattle.eql_model.specs.Meaning.{items_at, meets, met_row, single}
 use Rattle.eql_model.proofs.MadeRows.{flag_of_map, no_item}
 use Rattle.eql_match.specs.Labels.{label_row, label_at, HasColumn, IsAlone, AreNumbersOf, AreAnswers}
 use Rattle.eql_match.specs.Rows.{any_bits, all_bits}
@@ -97,11 +99,9 @@ flat_step f g xs i x rows more so_far h here put =
     one : flat_map g (x ∷ []) ≡ g x
     one = flat_map-cons g x [] ∙ append-nil (g x)
 
-pub any_exit : {X Y : Type 0} (p : Y → X → Bool) (xs : List X) (d : X) (n : ℕ) (ys : List Y) (rows : List (List Bool))
-    (r : Result (List Bool) Memory) → rows ≡ map (λ y. map (p y) xs) ys → n ≡ length xs → IfOk r (λ any. any ≡ any_bits n rows) →
-    IfOk r (λ any. any ≡ map (λ x. list_any (λ y. p y x) ys) xs)
-any_exit p xs d n ys rows (Err e) are long told = tt
-any_exit p xs d n ys rows (Ok any) are long told = told ∙ ap (any_bits n) are ∙ any_rows_are p xs d n ys long
+pub any_exit : {X Y : Type 0} (p : Y → X → Bool) (xs : List X) (d : X) (n : ℕ) (ys : List Y) (rows : List (List Bool)) (any : List Bool) →
+    rows ≡ map (λ y. map (p y) xs) ys → n ≡ length xs → any ≡ any_bits n rows → any ≡ map (λ x. list_any (λ y. p y x) ys) xs
+any_exit p xs d n ys rows any are long told = told ∙ ap (any_bits n) are ∙ any_rows_are p xs d n ys long
 
 pub wide_rows : {X Y : Type 0} (p : Y → X → Bool) (xs : List X) (n : ℕ) (ys : List Y) (rows : List (List Bool)) →
     rows ≡ map (λ y. map (p y) xs) ys → n ≡ length xs → All (λ row. length row ≡ n) rows
@@ -137,13 +137,13 @@ wanted_one : (config : ConfigParts) (place : AttributePlace) (written : List (Li
 wanted_one config place written w label only is =
     sym (ap (list_any (same_text label)) (only.wanted ∙ one_text written w only.one is) ∙ or_false (same_text label w))
 
-pub alone_exit : (config : ConfigParts) (place : AttributePlace) (b : BundleParts) (written : List (List ℕ)) (w : List ℕ)
-    (r : Result (List Bool) Memory) → IsAlone config place written → w ≡ get_or written 0 w →
-    IfOk r (λ row. row ≡ label_row b place w) →
-    IfOk r (λ row. row ≡ map (λ item. is_wanted config place written (label_of place.attribute item)) (items_at b.levels place.level))
-alone_exit config place b written w (Err e) only is told = tt
-alone_exit config place b written w (Ok row) only is told =
-    told ∙ (λ i. map (λ item. wanted_one config place written w (label_of place.attribute item) only is i) (items_at b.levels place.level))
+pub alone_exit : {T : Type 0} (config : ConfigParts) (place : AttributePlace) (b : BundleParts) (written : List (List ℕ)) (w : List ℕ)
+    (row : List Bool) (r : Result T Memory) → IsAlone config place written → w ≡ get_or written 0 w → OnOk r (row ≡ label_row b place w) →
+    OnOk r (row ≡ map (λ item. is_wanted config place written (label_of place.attribute item)) (items_at b.levels place.level))
+alone_exit config place b written w row r only is told =
+    on_ok_weaker r
+    (λ made. made ∙ (λ i. map (λ item. wanted_one config place written w (label_of place.attribute item) only is i) (items_at b.levels place.level)))
+    told
 
 -- ---- numbers of labels
 
@@ -177,6 +177,12 @@ pub numbers_of : (numbered : List (List ℕ)) (column : List ℕ) (attribute : �
 numbers_of numbered column attribute items is =
     subst (AreNumbersOf column) (labels_are attribute items)
     (numbers_by numbered column (map (index_label attribute) items) is)
+
+-- a column has a number for each item
+pub column_long : (numbered : List (List ℕ)) (column : List ℕ) (attribute : ℕ) (items : List Item) →
+    IsColumnOf numbered column (map (index_label attribute) items) → length column ≡ length items
+column_long numbered column attribute items is =
+    (numbers_by numbered column (map (index_label attribute) items) is).count ∙ length-map items (index_label attribute)
 
 -- ---- answers at numbers
 
@@ -358,3 +364,14 @@ map_map f g (x ∷ xs) = ap (λ ys. f (g x) ∷ ys) (map_map f g xs)
 pub found_map : (found : Bool) (p : Item → Bool) (items : List Item) (row made : List Bool) → row ≡ map p items →
     made ≡ map (is_as found) row → made ≡ map (λ item. is_as found (p item)) items
 found_map found p items row made is told = told ∙ ap (map (is_as found)) is ∙ map_map (is_as found) p items
+
+-- ---- the level of a condition
+
+pub met_at : (c : ConfigParts) (b : BundleParts) (level : ℕ) (t : AskedTerm) (row : List Bool) → term_level t ≡ level →
+    row ≡ map (meets c b t) (items_at b.levels (term_level t)) → row ≡ met_row c b level t
+met_at c b level t row same told = told ∙ ap (λ n. map (meets c b t) (items_at b.levels n)) same
+
+pub unset_at : (b : BundleParts) (level : ℕ) (t : AskedTerm) (n : ℕ) (row : List Bool) → term_level t ≡ level → row ≡ replicate n false →
+    n ≡ length (items_at b.levels level) → row ≡ replicate (length (items_at b.levels (term_level t))) false
+unset_at b level t n row same is long =
+    is ∙ ap (λ m. replicate m false) (long ∙ ap (λ m. length (items_at b.levels m)) (sym same))

@@ -13,13 +13,13 @@ ghost use Rattle.eql_model.specs.Flags.{flag_at};
 ghost use Rattle.eql_model.specs.Labels.{is_as, is_matched, is_wanted, label_of, passes};
 ghost use Rattle.eql_model.specs.Meaning.{items_at, meets, met_row, IsTermOn, single, singles};
 ghost use Rattle.eql_match.specs.Found.{tuples_in, IsRowOf};
-ghost use Rattle.eql_match.specs.Rows.{all_bits};
+ghost use Rattle.eql_match.specs.Rows.{all_bits, IsUnsetFor};
 
 use crate::found::{Found, found_where};
-use crate::labels::label_bits;
-use crate::patterns::pattern_bits;
-use crate::positions::{number_bits, position_bits};
-use crate::rows::{all_set, turn_unless};
+use crate::labels::set_label_bits;
+use crate::patterns::set_pattern_bits;
+use crate::positions::{set_number_bits, set_position_bits};
+use crate::rows::{all_set, none_set, turn_unless};
 use bundle_index::Indexed;
 use db_config::{AttributePlace, Config};
 use emu_lists::Series;
@@ -30,79 +30,92 @@ use label_match::Pattern;
 use lane_bits::{BitRow, and_into};
 use std::alloc::Global;
 
-/// For each item of a level whether its label passes a test of labels. The only refusal is want of
-/// memory.
-fn labels_pass(
+/// Sets the bits of the items of a level whose label passes a test of labels, in a row of which no bit is
+/// set. The only refusal is want of memory.
+fn set_labels_pass(
     alloc: Global,
     config: &Config,
     indexed: &Indexed,
     place: AttributePlace,
     found: bool,
     labels: &[Text],
-) -> Result<BitRow, Memory>
+    row: &mut BitRow,
+) -> Result<(), Memory>
     requires fits { FitsConfig config.now indexed.now.bundle }
     requires place { IsSome (attribute_at place config.now.levels) }
-    ensures { IfOk result (λ row. row ≡ map (λ item. is_as found (is_wanted config.now place labels.now
+    requires unset { IsUnsetFor indexed.now.bundle place.level row.old }
+    ensures { OnOk result (row.new ≡ map (λ item. is_as found (is_wanted config.now place labels.now
         (label_of place.attribute item))) (items_at indexed.now.bundle.levels place.level)) }
 {
-    let mut row = label_bits(alloc, config, indexed, place, labels)?;
-    turn_unless(found, &mut row);
-    Ok(row)
+    set_label_bits(alloc, config, indexed, place, labels, row)?;
+    turn_unless(found, row);
+    Ok(())
 }
 
-/// For each item of a level whether its label passes a test of patterns. The only refusal is want of
-/// memory.
-fn patterns_pass(
+/// Sets the bits of the items of a level whose label passes a test of patterns, in a row of which no bit is
+/// set. The only refusal is want of memory.
+fn set_patterns_pass(
     alloc: Global,
     config: &Config,
     indexed: &Indexed,
     place: AttributePlace,
     found: bool,
     patterns: &[Pattern],
-) -> Result<BitRow, Memory>
+    row: &mut BitRow,
+) -> Result<(), Memory>
     requires fits { FitsConfig config.now indexed.now.bundle }
     requires place { IsSome (attribute_at place config.now.levels) }
-    ensures { IfOk result (λ row. row ≡ map (λ item. is_as found (is_matched patterns.now
+    requires unset { IsUnsetFor indexed.now.bundle place.level row.old }
+    ensures { OnOk result (row.new ≡ map (λ item. is_as found (is_matched patterns.now
         (label_of place.attribute item))) (items_at indexed.now.bundle.levels place.level)) }
 {
     let _levels = config.level_count();
-    let mut row = pattern_bits(alloc, indexed, place, patterns)?;
-    turn_unless(found, &mut row);
-    Ok(row)
+    set_pattern_bits(alloc, indexed, place, patterns, row)?;
+    turn_unless(found, row);
+    Ok(())
 }
 
-/// For each item of a level whether its label passes a test. The only refusal is want of memory.
-fn test_bits(
+/// Sets the bits of the items of a level whose label passes a test, in a row of which no bit is set. The
+/// only refusal is want of memory.
+fn set_test_bits(
     alloc: Global,
     config: &Config,
     indexed: &Indexed,
     place: AttributePlace,
     found: bool,
     wanted: Wanted,
-) -> Result<BitRow, Memory>
+    row: &mut BitRow,
+) -> Result<(), Memory>
     requires fits { FitsConfig config.now indexed.now.bundle }
     requires place { IsSome (attribute_at place config.now.levels) }
-    ensures { IfOk result (λ row. row ≡ map (λ item. passes config.now place
+    requires unset { IsUnsetFor indexed.now.bundle place.level row.old }
+    ensures { OnOk result (row.new ≡ map (λ item. passes config.now place
         (op_in found wanted.entry) (labels_in wanted.entry) (label_of place.attribute item))
         (items_at indexed.now.bundle.levels place.level)) }
 {
     match wanted {
-        Wanted::Labels(labels) => labels_pass(alloc, config, indexed, place, found, labels),
-        Wanted::Patterns(patterns) => patterns_pass(alloc, config, indexed, place, found, patterns),
+        Wanted::Labels(labels) => {
+            set_labels_pass(alloc, config, indexed, place, found, labels, row)
+        }
+        Wanted::Patterns(patterns) => {
+            set_patterns_pass(alloc, config, indexed, place, found, patterns, row)
+        }
     }
 }
 
-/// For each item of a condition's level whether the item meets the condition. The only refusal is want
-/// of memory.
-fn term_bits(
+/// Sets the bits of the items of a condition's level that meet the condition, in a row of which no bit is
+/// set. The only refusal is want of memory.
+fn set_term_bits(
     alloc: Global,
     config: &Config,
     indexed: &Indexed,
     term: &AskedTerm,
-) -> Result<BitRow, Memory>
+    row: &mut BitRow,
+) -> Result<(), Memory>
     requires fits { FitsConfig config.now indexed.now.bundle }
     requires term { IsTermOf config.now (term_in term.now) }
-    ensures { IfOk result (λ row. row ≡ map (meets config.now indexed.now.bundle (term_in term.now))
+    requires unset { IsUnsetFor indexed.now.bundle (term_level (term_in term.now)) row.old }
+    ensures { OnOk result (row.new ≡ map (meets config.now indexed.now.bundle (term_in term.now))
         (items_at indexed.now.bundle.levels (term_level (term_in term.now)))) }
 {
     match term {
@@ -111,20 +124,21 @@ fn term_bits(
             found,
             wanted,
             ..
-        } => test_bits(alloc, config, indexed, *place, *found, *wanted),
+        } => set_test_bits(alloc, config, indexed, *place, *found, *wanted, row),
         AskedTerm::Position {
             place,
             upper,
             lower,
             wanted,
             ..
-        } => position_bits(
+        } => set_position_bits(
             alloc,
             config,
             indexed,
             (*upper, lower.level),
             *place,
             *wanted,
+            row,
         ),
         AskedTerm::Number {
             upper,
@@ -132,33 +146,16 @@ fn term_bits(
             compare,
             number,
             ..
-        } => number_bits(
+        } => set_number_bits(
             alloc,
             config,
             indexed,
             (upper.level, *lower),
             *compare,
             *number,
+            row,
         ),
     }
-}
-
-/// For each item of a level whether it meets a condition on that level. The only refusal is want of
-/// memory.
-fn met_row(
-    alloc: Global,
-    config: &Config,
-    indexed: &Indexed,
-    level: usize,
-    term: &AskedTerm,
-) -> Result<BitRow, Memory>
-    requires fits { FitsConfig config.now indexed.now.bundle }
-    requires term { IsTermOn config.now level (term_in term.now) }
-    ensures { IfOk result (λ row. row
-        ≡ met_row config.now indexed.now.bundle level (term_in term.now)) }
-{
-    let row = term_bits(alloc, config, indexed, term)?;
-    Ok(row)
 }
 
 /// Clears the bits of the items of a level that do not meet a condition on it. The only refusal is want
@@ -177,9 +174,61 @@ fn clear_others(
     ensures { OnOk result (met.new ≡ zip2 (λ a b. a && b) met.old
         (met_row config.now indexed.now.bundle level (term_in term.now))) }
 {
-    let row = met_row(alloc, config, indexed, level, term)?;
+    let mut row = none_set(alloc, met.len())?;
+    set_term_bits(alloc, config, indexed, term, &mut row)?;
     and_into(met, &row);
     Ok(())
+}
+
+/// How many items a level has.
+fn level_count(indexed: &Indexed, level: usize) -> usize
+    requires { level < length indexed.now.bundle.levels }
+    ensures { result ≡ length (items_at indexed.now.bundle.levels level) }
+{
+    eql_model::items_at(indexed.bundle(), level).len()
+}
+
+/// How many items the level of an attribute has, by the column of its labels.
+fn column_count(config: &Config, indexed: &Indexed, place: AttributePlace) -> usize
+    requires fits { FitsConfig config.now indexed.now.bundle }
+    requires place { IsSome (attribute_at place config.now.levels) }
+    ensures { result ≡ length (items_at indexed.now.bundle.levels place.level) }
+{
+    let _levels = config.level_count();
+    indexed.column(place.level, place.attribute).len()
+}
+
+/// How many items the level of a condition has. For a test of labels the column is asked, which the test
+/// reads, and not the level.
+fn item_count(config: &Config, indexed: &Indexed, term: &AskedTerm) -> usize
+    requires fits { FitsConfig config.now indexed.now.bundle }
+    requires term { IsTermOf config.now (term_in term.now) }
+    ensures { result ≡ length (items_at indexed.now.bundle.levels (term_level (term_in term.now))) }
+{
+    match term {
+        AskedTerm::Test { place, .. } => column_count(config, indexed, *place),
+        AskedTerm::Position { lower, .. } => level_count(indexed, lower.level),
+        AskedTerm::Number { upper, .. } => level_count(indexed, upper.level),
+    }
+}
+
+/// For each item of a level whether it meets a condition on that level. The only refusal is want of
+/// memory.
+fn met_row(
+    alloc: Global,
+    config: &Config,
+    indexed: &Indexed,
+    level: usize,
+    term: &AskedTerm,
+) -> Result<BitRow, Memory>
+    requires fits { FitsConfig config.now indexed.now.bundle }
+    requires term { IsTermOn config.now level (term_in term.now) }
+    ensures { IfOk result (λ row. row
+        ≡ met_row config.now indexed.now.bundle level (term_in term.now)) }
+{
+    let mut row = none_set(alloc, item_count(config, indexed, term))?;
+    set_term_bits(alloc, config, indexed, term, &mut row)?;
+    Ok(row)
 }
 
 /// For each item of a level whether it meets all conditions. Where no item meets the first ones, the

@@ -4,13 +4,14 @@ ghost use Rattle.db_config.specs.Lookups.{attribute_at};
 ghost use Rattle.eql_model.specs.Labels.{is_wanted, label_of, stands_for, wanted_labels};
 ghost use Rattle.eql_model.specs.Meaning.{items_at};
 ghost use Rattle.eql_match.specs.Labels.{label_row, HasColumn, IsAlone};
+ghost use Rattle.eql_match.specs.Rows.{IsUnsetFor};
 
-use crate::rows::any_bits;
+use crate::rows::set_any;
 use bundle_index::Indexed;
 use db_config::{AttributePlace, Config};
 use emu_lists::Series;
 use emu_names::{Memory, Text};
-use lane_bits::BitRow;
+use lane_bits::{BitRow, or_into};
 use std::alloc::Global;
 
 /// For each item of a level whether its label is this one. The only refusal is want of memory.
@@ -103,23 +104,44 @@ fn is_alone(config: &Config, place: AttributePlace, written: &[Text]) -> bool
     written.len() == 1 && is_no_group(config, place, &written[0])
 }
 
-/// For each item of a level whether its label is wanted. The only refusal is want of memory.
-pub(crate) fn label_bits(
+/// Sets the bits of the items of a level whose label this is, in a row of which no bit is set. The only
+/// refusal is want of memory.
+fn set_label_row(
+    alloc: Global,
+    indexed: &Indexed,
+    place: AttributePlace,
+    label: &str,
+    row: &mut BitRow,
+) -> Result<(), Memory>
+    requires column { HasColumn indexed.now.bundle place }
+    requires unset { IsUnsetFor indexed.now.bundle place.level row.old }
+    ensures { OnOk result (row.new ≡ label_row indexed.now.bundle place label.now) }
+{
+    let made = label_row(alloc, indexed, place, label)?;
+    or_into(row, &made);
+    Ok(())
+}
+
+/// Sets the bits of the items of a level whose label is wanted, in a row of which no bit is set. The only
+/// refusal is want of memory.
+pub(crate) fn set_label_bits(
     alloc: Global,
     config: &Config,
     indexed: &Indexed,
     place: AttributePlace,
     written: &[Text],
-) -> Result<BitRow, Memory>
+    row: &mut BitRow,
+) -> Result<(), Memory>
     requires place { IsSome (attribute_at place config.now.levels) }
     requires column { HasColumn indexed.now.bundle place }
-    ensures { IfOk result (λ row. row ≡ map (λ item. is_wanted config.now place written.now
+    requires unset { IsUnsetFor indexed.now.bundle place.level row.old }
+    ensures { OnOk result (row.new ≡ map (λ item. is_wanted config.now place written.now
         (label_of place.attribute item)) (items_at indexed.now.bundle.levels place.level)) }
 {
     if is_alone(config, place, written) {
-        return label_row(alloc, indexed, place, written[0].as_str());
+        return set_label_row(alloc, indexed, place, written[0].as_str(), row);
     }
     let rows = wanted_rows(alloc, config, indexed, place, written)?;
-    let count = eql_model::items_at(indexed.bundle(), place.level).len();
-    any_bits(alloc, count, rows.as_slice())
+    set_any(rows.as_slice(), row);
+    Ok(())
 }

@@ -1,12 +1,13 @@
 //! Tests by patterns: each pattern is tried once on each label of a column, and the items read the
 //! answers by the numbers of their labels.
-ghost use Rattle.std.specs.Prelude.{◌≡◌, ◌<◌, All, length, map, IfOk};
+ghost use Rattle.std.specs.Prelude.{◌≡◌, ◌<◌, All, length, map, IfOk, OnOk};
 ghost use Rattle.eql_model.specs.Labels.{is_matched, label_of, matched_row};
 ghost use Rattle.eql_model.specs.Meaning.{items_at};
 ghost use Rattle.label_match.specs.Pattern.{matches_label};
 ghost use Rattle.eql_match.specs.Labels.{AreAnswers, AreNumbersOf, HasColumn, label_at};
+ghost use Rattle.eql_match.specs.Rows.{IsUnsetFor};
 
-use crate::rows::{any_bits, none_set};
+use crate::rows::{none_set, set_any};
 use bundle_index::Indexed;
 use db_config::AttributePlace;
 use emu_lists::Series;
@@ -113,18 +114,21 @@ fn pattern_rows(
     Ok(rows)
 }
 
-/// For each item of a level whether some pattern matches its label. The only refusal is want of memory.
-pub(crate) fn pattern_bits(
+/// Sets the bits of the items of a level whose label some pattern matches, in a row of which no bit is set.
+/// The only refusal is want of memory.
+pub(crate) fn set_pattern_bits(
     alloc: Global,
     indexed: &Indexed,
     place: AttributePlace,
     patterns: &[Pattern],
-) -> Result<BitRow, Memory>
-    requires { HasColumn indexed.now.bundle place }
-    ensures { IfOk result (λ row. row ≡ map (λ item. is_matched patterns.now
+    row: &mut BitRow,
+) -> Result<(), Memory>
+    requires column { HasColumn indexed.now.bundle place }
+    requires unset { IsUnsetFor indexed.now.bundle place.level row.old }
+    ensures { OnOk result (row.new ≡ map (λ item. is_matched patterns.now
         (label_of place.attribute item)) (items_at indexed.now.bundle.levels place.level)) }
 {
     let rows = pattern_rows(alloc, indexed, place, patterns)?;
-    let count = eql_model::items_at(indexed.bundle(), place.level).len();
-    any_bits(alloc, count, rows.as_slice())
+    set_any(rows.as_slice(), row);
+    Ok(())
 }

@@ -6,7 +6,7 @@ ghost use Rattle.hier_closure.specs.Dominance.{ids_at};
 ghost use Rattle.eql_model.specs.Positions.{has_number, has_place};
 ghost use Rattle.eql_model.specs.Bits.{row_counts};
 ghost use Rattle.eql_model.specs.Meaning.{items_at};
-ghost use Rattle.eql_match.specs.Rows.{any_bits};
+ghost use Rattle.eql_match.specs.Rows.{any_bits, IsUnsetFor};
 ghost use Rattle.eql_match.specs.Places.{AddsPlaced, ArePlaced, PassPlace};
 
 use crate::rows::{none_set, turn};
@@ -144,20 +144,22 @@ fn set_place_bits(
     Ok(())
 }
 
-/// For each item of the lower level whether it passes a test of its place. The only refusal is want of
-/// memory.
-pub(crate) fn position_bits(
+/// Sets the bits of the items of the lower level that pass a test of their place, in a row of which no bit is
+/// set. The only refusal is want of memory.
+pub(crate) fn set_position_bits(
     alloc: Global,
     config: &Config,
     indexed: &Indexed,
     levels: (usize, usize),
     place: Place,
     wanted: bool,
-) -> Result<BitRow, Memory>
+    row: &mut BitRow,
+) -> Result<(), Memory>
     requires fits { FitsConfig config.now indexed.now.bundle }
     requires upper { levels.0 < length indexed.now.bundle.levels }
     requires lower { levels.1 < length indexed.now.bundle.levels }
-    ensures { IfOk result (λ row. row ≡ map (λ item. has_place indexed.now.bundle.links
+    requires unset { IsUnsetFor indexed.now.bundle levels.1 row.old }
+    ensures { OnOk result (row.new ≡ map (λ item. has_place indexed.now.bundle.links
         (ids_at indexed.now.bundle.levels levels.0) (ids_at indexed.now.bundle.levels levels.1) place wanted item.id.0)
         (items_at indexed.now.bundle.levels levels.1)) }
 {
@@ -166,51 +168,41 @@ pub(crate) fn position_bits(
     let _items = bundle.item_count();
     let rows = indexed.closure(alloc, config, upper, lower)?;
     let count = eql_model::items_at(bundle, upper).len();
-    let width = eql_model::items_at(bundle, lower).len();
-    let mut row = none_set(alloc, width)?;
-    set_place_bits(alloc, &rows, count, place, wanted, &mut row)?;
-    Ok(row)
+    set_place_bits(alloc, &rows, count, place, wanted, row)
 }
 
-/// For each row how the number of its bits compares with a number. The only refusal is want of memory.
-fn count_bits(
-    alloc: Global,
-    rows: &Closure,
-    count: usize,
-    compare: Compare,
-    number: u32,
-) -> Result<BitRow, Memory>
-    requires { count ≡ length rows.now }
-    ensures { IfOk result (λ made. made ≡ map (row_counts compare number) rows.now) }
+/// Sets the bit of each row of which the number of bits compares so with a number. There is a bit for each.
+fn set_count_bits(rows: &Closure, compare: Compare, number: u32, made: &mut BitRow)
+    requires { length made.old ≡ length rows.now }
+    ensures { made.new ≡ map (row_counts compare number) rows.now }
 {
-    let mut made = none_set(alloc, count)?;
-    for upper in 0..count {
+    for upper in 0..made.len() {
         let is = eql_model::row_counts(rows.row(upper), compare, number);
         made.set(upper, is);
     }
-    Ok(made)
 }
 
-/// For each item of the upper level whether it passes a test of the number of items that it dominates.
-/// The only refusal is want of memory.
-pub(crate) fn number_bits(
+/// Sets the bits of the items of the upper level that pass a test of the number of items that they dominate,
+/// in a row of which no bit is set. The only refusal is want of memory.
+pub(crate) fn set_number_bits(
     alloc: Global,
     config: &Config,
     indexed: &Indexed,
     levels: (usize, usize),
     compare: Compare,
     number: u32,
-) -> Result<BitRow, Memory>
+    row: &mut BitRow,
+) -> Result<(), Memory>
     requires fits { FitsConfig config.now indexed.now.bundle }
     requires upper { levels.0 < length indexed.now.bundle.levels }
     requires lower { levels.1 < length indexed.now.bundle.levels }
-    ensures { IfOk result (λ row. row ≡ map (λ item. has_number indexed.now.bundle.links
+    requires unset { IsUnsetFor indexed.now.bundle levels.0 row.old }
+    ensures { OnOk result (row.new ≡ map (λ item. has_number indexed.now.bundle.links
         (ids_at indexed.now.bundle.levels levels.1) compare number item.id.0)
         (items_at indexed.now.bundle.levels levels.0)) }
 {
     let (upper, lower) = levels;
-    let bundle = indexed.bundle();
     let rows = indexed.closure(alloc, config, upper, lower)?;
-    let count = eql_model::items_at(bundle, upper).len();
-    count_bits(alloc, &rows, count, compare, number)
+    set_count_bits(&rows, compare, number, row);
+    Ok(())
 }

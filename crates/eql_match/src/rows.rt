@@ -46,14 +46,13 @@ pub(crate) fn turn_unless(found: bool, row: &mut BitRow)
     turn(row);
 }
 
-/// For each place whether some of these rows has its bit. The only refusal is want of memory.
-pub(crate) fn any_bits(alloc: Global, count: usize, rows: &[BitRow]) -> Result<BitRow, Memory>
-    requires { All (λ row. length row ≡ count) rows.now }
-    ensures { IfOk result (λ any. any ≡ any_bits count rows.now) }
+/// Sets the bits that some of these rows have, in a row of which no bit is set.
+pub(crate) fn set_any(rows: &[BitRow], any: &mut BitRow)
+    requires wide { All (λ row. length row ≡ length any.old) rows.now }
+    requires unset { any.old ≡ replicate (length any.old) false }
+    ensures { any.new ≡ any_bits (length any.old) rows.now }
 {
-    let mut any = none_set(alloc, count)?;
     for row in rows {
-        or_into(&mut any, row);
+        or_into(any, row);
     }
-    Ok(any)
 }
