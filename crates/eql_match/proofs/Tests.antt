@@ -1,6 +1,6 @@
 -- Tests of labels by rows of bits and by numbers.
 use Rattle.std.proofs.Common.{◌≡◌, ◌⊎◌, inl, inr, ℕ, zero, suc, ◌+◌, ◌<◌, ◌≤◌, Bool, false, cond, ◌&&◌, List, [], ◌∷◌, ◌++◌, length, map, take, drop, get_or, nat_eq, Option, None, Some, Result, Ok, Err, refl, sym, ap, subst, ◌∙◌, arith}
-use Rattle.std.specs.Prelude.{All, IfOk, IsSome, OnOk, is_some, replicate, slice_set, true}
+use Rattle.std.specs.Prelude.{All, IfOk, IsSome, is_some, replicate, slice_set, true}
 use Rattle.std.specs.List.{filter, flat_map, list_any, list_all, range_with_len, slice_get}
 use Rattle.std.specs.Option.{option_and_then}
 use Rattle.std.specs.Simd.Lanes.{zip2}
@@ -13,7 +13,6 @@ use Rattle.std.proofs.lemmas.List.Concat.{flat_map-cons}
 use Rattle.std.proofs.lemmas.List.Folds.{list_all-append}
 use Rattle.std.proofs.lemmas.List.FromFn.{fill_by_all, get_or-range_with_len, length-range_with_len}
 use Rattle.std.proofs.lemmas.Option.{get_or_from_slice_get, same_Some, slice_get-get_or, slice_get_within, unwrap_or-slice_get}
-use Rattle.std.proofs.lemmas.Result.{on_ok_weaker}
 use Rattle.emu_names.specs.declared.shortage.Memory.{Memory}
 use Rattle.level_items.specs.declared.items.Item.{Item}
 use Rattle.db_config.specs.declared.parts.AttributePlace.{AttributePlace}
@@ -137,13 +136,11 @@ wanted_one : (config : ConfigParts) (place : AttributePlace) (written : List (Li
 wanted_one config place written w label only is =
     sym (ap (list_any (same_text label)) (only.wanted ∙ one_text written w only.one is) ∙ or_false (same_text label w))
 
-pub alone_exit : {T : Type 0} (config : ConfigParts) (place : AttributePlace) (b : BundleParts) (written : List (List ℕ)) (w : List ℕ)
-    (row : List Bool) (r : Result T Memory) → IsAlone config place written → w ≡ get_or written 0 w → OnOk r (row ≡ label_row b place w) →
-    OnOk r (row ≡ map (λ item. is_wanted config place written (label_of place.attribute item)) (items_at b.levels place.level))
-alone_exit config place b written w row r only is told =
-    on_ok_weaker r
-    (λ made. made ∙ (λ i. map (λ item. wanted_one config place written w (label_of place.attribute item) only is i) (items_at b.levels place.level)))
-    told
+pub alone_exit : (config : ConfigParts) (place : AttributePlace) (b : BundleParts) (written : List (List ℕ)) (w : List ℕ) (row : List Bool) →
+    IsAlone config place written → w ≡ get_or written 0 w → row ≡ label_row b place w →
+    row ≡ map (λ item. is_wanted config place written (label_of place.attribute item)) (items_at b.levels place.level)
+alone_exit config place b written w row only is told =
+    told ∙ (λ i. map (λ item. wanted_one config place written w (label_of place.attribute item) only is i) (items_at b.levels place.level))
 
 -- ---- numbers of labels
 

@@ -11,7 +11,7 @@ use bundle_index::Indexed;
 use db_config::{AttributePlace, Config};
 use emu_lists::Series;
 use emu_names::{Memory, Text};
-use lane_bits::{BitRow, or_into};
+use lane_bits::{BitRow, eq_lanes};
 use std::alloc::Global;
 
 /// For each item of a level whether its label is this one. The only refusal is want of memory.
@@ -104,22 +104,17 @@ fn is_alone(config: &Config, place: AttributePlace, written: &[Text]) -> bool
     written.len() == 1 && is_no_group(config, place, &written[0])
 }
 
-/// Sets the bits of the items of a level whose label this is, in a row of which no bit is set. The only
-/// refusal is want of memory.
-fn set_label_row(
-    alloc: Global,
-    indexed: &Indexed,
-    place: AttributePlace,
-    label: &str,
-    row: &mut BitRow,
-) -> Result<(), Memory>
+/// Sets the bits of the items of a level whose label this is, in a row of which no bit is set.
+fn set_label_row(indexed: &Indexed, place: AttributePlace, label: &str, row: &mut BitRow)
     requires column { HasColumn indexed.now.bundle place }
     requires unset { IsUnsetFor indexed.now.bundle place.level row.old }
-    ensures { OnOk result (row.new ≡ label_row indexed.now.bundle place label.now) }
+    ensures { row.new ≡ label_row indexed.now.bundle place label.now }
 {
-    let made = label_row(alloc, indexed, place, label)?;
-    or_into(row, &made);
-    Ok(())
+    let column = indexed.column(place.level, place.attribute);
+    let Some(number) = indexed.label_number(label) else {
+        return;
+    };
+    eq_lanes(column, number, row);
 }
 
 /// Sets the bits of the items of a level whose label is wanted, in a row of which no bit is set. The only
@@ -139,7 +134,8 @@ pub(crate) fn set_label_bits(
         (label_of place.attribute item)) (items_at indexed.now.bundle.levels place.level)) }
 {
     if is_alone(config, place, written) {
-        return set_label_row(alloc, indexed, place, written[0].as_str(), row);
+        set_label_row(indexed, place, written[0].as_str(), row);
+        return Ok(());
     }
     let rows = wanted_rows(alloc, config, indexed, place, written)?;
     set_any(rows.as_slice(), row);
