@@ -12,7 +12,9 @@ use Rattle.std.specs.Str.{bytes_eq}
 use Rattle.lane_bits.specs.Row.{is_between}
 use Rattle.emu_names.specs.declared.kinds.LevelKind.TheVariants as kinds
 use Rattle.level_items.specs.declared.items.Item.{Item}
-use Rattle.level_items.specs.Levels.{Level}
+use Rattle.level_items.specs.Levels.{Level, ids_of}
+use Rattle.hier_closure.specs.Dominance.{ids_at}
+use Rattle.hier_closure.specs.Linked.{HaveSameIdsBut}
 use Rattle.bundle_index.specs.declared.columns.LevelColumns.{LevelColumns}
 use Rattle.bundle_index.specs.Numbered.{AreNumbered, HasGrown, IsColumnOf}
 use Rattle.bundle_index.specs.Index.{IndexParts, IsTimed, attributes_on, has_label, items_on, label_at, starts_within}
@@ -225,3 +227,10 @@ pub others_count : (x y : IndexParts) (all : List LevelColumns) (levels : List L
     length all ≡ length levels
 others_count x y all levels changed shown are others =
     are.count ∙ ap (λ (i : IndexParts). length i.bundle.levels) shown ∙ sym others.count
+
+-- the ids of the levels that have not changed
+pub ids_stay : (x y : IndexParts) (levels : List Level) (changed : ℕ) → x ≡ y → AreOtherwiseSame y.bundle.levels levels changed →
+    HaveSameIdsBut changed x.bundle.levels levels
+ids_stay x y levels changed shown others k other =
+    ap (λ (o : Option Level). option_map_or (λ (l : Level). ids_of l.items) o []) (others.same k other)
+    ∙ ap (λ (i : IndexParts). ids_at i.bundle.levels k) (sym shown)

@@ -16,7 +16,7 @@ use bundle_state::Bundle;
 use db_config::Config;
 use emu_lists::Series;
 use emu_names::Memory;
-use hier_closure::{Closure, LinkedLevels, linked_levels};
+use hier_closure::{Closure, LinkedLevels, linked_levels, relinked_levels};
 use lane_bits::{BitRow, eq_lanes, range_lanes};
 use std::alloc::Global;
 use std::marker::Model;
@@ -66,8 +66,8 @@ impl Indexed {
     }
 
     /// The bundle, whose levels are those of this one but for one level, with its columns. The columns of
-    /// that level are made anew, and all others are shared. The rows of links are made anew. The only
-    /// refusal is want of memory, or of a number for a label.
+    /// that level are made anew, and all others are shared; so are the rows of links, where neither the links
+    /// nor the ids of that level have changed. The only refusal is want of memory, or of a number for a label.
     ///
     /// The labels of this one keep their numbers, unless there are more than 4,194,304 labels then, many
     /// of which no item may have any longer: all columns are made anew in that case.
@@ -113,7 +113,7 @@ impl Indexed {
         if labels.len() > KEPT_LABELS {
             return kept_beside(alloc, bundle);
         }
-        let linked = linked_levels(alloc, bundle)?;
+        let linked = relinked_levels(alloc, &self.bundle, &self.linked, bundle, level)?;
         keyed(alloc, labels, columns, linked)
     }
 

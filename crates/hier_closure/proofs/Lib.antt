@@ -5,5 +5,6 @@ pub mod Ids
 pub mod Joins
 pub mod Passes
 pub mod Near
+pub mod Stay
 pub mod Tables
 pub mod Ways

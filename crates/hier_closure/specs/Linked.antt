@@ -1,5 +1,6 @@
 -- Which items of a level link to which of another.
-use Rattle.std.specs.Prelude.{◌≡◌, ℕ, Bool, List, All, map}
+use Rattle.std.specs.Prelude.{◌≡◌, ◌≢◌, ℕ, Bool, List, All, map}
+use Rattle.level_items.specs.Levels.{Level}
 use Rattle.link_graph.specs.declared.link.Link.{Link}
 use Rattle.bundle_state.specs.Bundle.{BundleParts}
 use Rattle.bundle_state.specs.Valid.{KeepsBundleRules}
@@ -19,3 +20,7 @@ linked_of bundle upper lower links =
 pub record AreLinkedIn (bundle : BundleParts) (all : List LinkedLevels) : Type 0 where
   pub rules : KeepsBundleRules bundle
   pub each : All (λ one. one.rows ≡ linked_of bundle one.upper one.lower bundle.links) all
+
+-- on each level but one the items have the same ids, in the same order
+abbrev pub HaveSameIdsBut : ℕ → List Level → List Level → Type 0
+HaveSameIdsBut level old new = (k : ℕ) → k ≢ level → ids_at new k ≡ ids_at old k

@@ -9,7 +9,9 @@ mod laws;
 mod levels;
 mod linked;
 mod ranks;
+mod relinked;
 
 pub use closure::Closure;
 pub use laws::{bits_are_dominance, dominance_is_by_chains, dominance_is_by_first_links};
 pub use linked::{LinkedLevels, linked_levels};
+pub use relinked::relinked_levels;

@@ -8,7 +8,7 @@ ghost use Rattle.hier_closure.specs.Linked.{AreLinkedIn, linked_of};
 
 use crate::levels::Rows;
 use bundle_state::Bundle;
-use emu_lists::{Series, Shared};
+use emu_lists::{PlainData, Series, Shared};
 use emu_names::{ItemId, Memory};
 use lane_bits::BitRow;
 use link_graph::Link;
@@ -27,6 +27,17 @@ pub struct LinkedLevels {
     pub lower: usize,
     /// A row for each item of the upper level, which closures share.
     pub rows: Shared<Series<BitRow>>,
+}
+
+impl PlainData for LinkedLevels {
+    fn copy(&self, alloc: Global) -> Result<LinkedLevels, Memory> {
+        let rows = self.rows.copy(alloc)?;
+        Ok(LinkedLevels {
+            upper: self.upper,
+            lower: self.lower,
+            rows,
+        })
+    }
 }
 
 /// A row of which no bit is set. The only refusal is want of memory.
