@@ -1,5 +1,5 @@
 -- The columns of all levels, and rows that are asked of them.
-use Rattle.std.proofs.Common.{◌≡◌, ◌<◌, ◌≤◌, ◌+◌, ◌==◌, ◌⊎◌, inl, inr, ℕ, zero, suc, Bool, true, false, cond, nat_lt, List, [], ◌∷◌, ◌++◌, length, map, replicate, get_or, slice_get, Option, Some, None, Result, Ok, Err, IfOk, refl, sym, ap, subst, ◌∙◌, arith, true≢false}
+use Rattle.std.proofs.Common.{◌≡◌, ◌<◌, ◌≤◌, ◌+◌, ◌==◌, ◌⊎◌, inl, inr, ℕ, zero, suc, Bool, true, false, cond, nat_lt, List, [], ◌∷◌, ◌++◌, length, map, replicate, get_or, slice_get, Option, Some, None, Result, Ok, Err, IfOk, IfSome, Bor, refl, sym, ap, subst, ◌∙◌, arith, true≢false}
 use Rattle.std.proofs.lemmas.Bool.{cases_lt}
 use Rattle.std.proofs.lemmas.Bool.Decides.{nat_tests, Decides-eqb, same_from_decides}
 use Rattle.std.proofs.lemmas.List.{length-append, get_or_at, get_or_append_left}
@@ -13,8 +13,13 @@ use Rattle.lane_bits.specs.Row.{is_between}
 use Rattle.emu_names.specs.declared.kinds.LevelKind.TheVariants as kinds
 use Rattle.level_items.specs.declared.items.Item.{Item}
 use Rattle.level_items.specs.Levels.{Level, ids_of}
-use Rattle.hier_closure.specs.Dominance.{ids_at}
-use Rattle.hier_closure.specs.Linked.{HaveSameIdsBut}
+use Rattle.db_config.specs.declared.parts.ConfigParts.{ConfigParts}
+use Rattle.bundle_state.specs.Bundle.{BundleParts}
+use Rattle.bundle_state.specs.Built.{FitsConfig}
+use Rattle.hier_closure.specs.Dominance.{closure_of, ids_at}
+use Rattle.hier_closure.specs.Linked.{AreLinkedIn, HaveSameIdsBut}
+use Rattle.hier_closure.specs.declared.linked.LinkedLevels.{LinkedLevels}
+use Rattle.hier_closure.proofs.Heights.{same_count}
 use Rattle.bundle_index.specs.declared.columns.LevelColumns.{LevelColumns}
 use Rattle.bundle_index.specs.Numbered.{AreNumbered, HasGrown, IsColumnOf}
 use Rattle.bundle_index.specs.Index.{IndexParts, IsTimed, attributes_on, has_label, items_on, label_at, starts_within}
@@ -234,3 +239,18 @@ pub ids_stay : (x y : IndexParts) (levels : List Level) (changed : ℕ) → x �
 ids_stay x y levels changed shown others k other =
     ap (λ (o : Option Level). option_map_or (λ (l : Level). ids_of l.items) o []) (others.same k other)
     ∙ ap (λ (i : IndexParts). ids_at i.bundle.levels k) (sym shown)
+
+-- ---- rows of dominance that are kept
+
+pub within_config : (config : ConfigParts) (bundle : BundleParts) (level : ℕ) → FitsConfig config bundle →
+    level < length bundle.levels → level < length config.levels
+within_config config bundle level fits within = omega (arith, same_count config bundle fits)
+
+pub kept_rows : (config : ConfigParts) (x y : IndexParts) (all rows : List LinkedLevels) (upper lower : ℕ)
+    (r : Option (Bor (List (List Bool)))) → x ≡ y → FitsConfig config y.bundle → rows ≡ all → AreLinkedIn x.bundle all →
+    IfSome r (λ made. (bundle : BundleParts) → FitsConfig config bundle → AreLinkedIn bundle rows → made.now ≡ closure_of bundle lower upper) →
+    IfSome r (λ made. made.now ≡ closure_of y.bundle lower upper)
+kept_rows config x y all rows upper lower None shown fits same linked is = tt
+kept_rows config x y all rows upper lower (Some made) shown fits same linked is =
+    is y.bundle fits
+    (subst (AreLinkedIn y.bundle) (sym same) (subst (λ (i : IndexParts). AreLinkedIn i.bundle all) shown linked))

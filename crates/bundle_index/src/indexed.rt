@@ -1,5 +1,5 @@
 //! A bundle with its columns.
-ghost use Rattle.std.specs.Prelude.{◌≡◌, ◌<◌, ◌==◌, false, length, map, replicate, IfOk, position};
+ghost use Rattle.std.specs.Prelude.{◌≡◌, ◌<◌, ◌==◌, false, length, map, replicate, IfOk, IfSome, position};
 ghost use Rattle.std.specs.Str.{bytes_eq};
 ghost use Rattle.lane_bits.specs.Row.{is_between};
 ghost use Rattle.bundle_state.specs.Built.{FitsConfig};
@@ -188,6 +188,17 @@ impl Indexed {
     {
         let linked = self.linked.as_slice();
         Closure::kept(alloc, config, &self.bundle, linked, upper, lower)
+    }
+
+    /// The same rows of dominance where the bundle keeps them, that is where no level lies between the two and a
+    /// link leads from the upper one to the lower one; none in a bundle of over 128 links.
+    pub fn kept_closure(&self, config: &Config, upper: usize, lower: usize) -> Option<&Closure>
+        requires fits { FitsConfig config.now self.now.bundle }
+        requires upper { upper < length self.now.bundle.levels }
+        requires lower { lower < length self.now.bundle.levels }
+        ensures { IfSome result (λ rows. rows.now ≡ closure_of self.now.bundle lower upper) }
+    {
+        Closure::kept_at(config, self.linked.as_slice(), upper, lower)
     }
 
     /// For each item of a level, in order, whether this is its label for an attribute. The only refusal is

@@ -1,5 +1,5 @@
 -- The rows of links between two levels: a pass over the links of a bundle, which sets their bits.
-use Rattle.std.proofs.Common.{◌≡◌, ◌≢◌, ℕ, zero, suc, ◌+◌, ◌<◌, Bool, true, false, not, ◌&&◌, ◌||◌, ◌==◌, List, [], ◌∷◌, length, map, get_or, take, replicate, refl, sym, ap, ◌∙◌, subst, Option, Some, None, arith, ⊎_elim, slice_set, option_map}
+use Rattle.std.proofs.Common.{◌≡◌, ◌≢◌, ℕ, zero, suc, ◌+◌, ◌<◌, Bool, true, false, not, ◌&&◌, ◌||◌, ◌==◌, List, [], ◌∷◌, length, map, get_or, take, replicate, refl, sym, ap, ◌∙◌, subst, Option, Some, None, arith, ⊎_elim, slice_set, option_map, Result, Ok, Err, IfOk, IfSome, Bor}
 use Rattle.std.specs.Prelude.{IsSome}
 use Rattle.std.specs.List.{slice_get, All}
 use Rattle.std.proofs.lemmas.Bool.{and_parts, not-true, cases_Bool, eqb-true, eq-eqb}
@@ -20,7 +20,8 @@ use Rattle.bundle_state.specs.Valid.{KeepsBundleRules}
 use Rattle.bundle_state.proofs.IdLevels.{number_within}
 use Rattle.hier_closure.specs.Dominance.{links_to, dominates, ids_at, closure_row, closure_of}
 use Rattle.hier_closure.specs.Ranks.{any_between}
-use Rattle.hier_closure.specs.Linked.{linked_row, linked_of}
+use Rattle.hier_closure.specs.Linked.{AreLinkedIn, linked_row, linked_of}
+use Rattle.hier_closure.specs.declared.linked.LinkedLevels.{LinkedLevels}
 use Rattle.hier_closure.proofs.Ways.{Way, pair_from, pair_to, same_truth}
 use Rattle.hier_closure.proofs.Ways as ways
 use Rattle.hier_closure.proofs.Ids.{is_in, level_is, ids_different, Stands, some_place, stands, missing}
@@ -255,3 +256,15 @@ all_links config bundle upper lower fits rules none =
     (λ a above. same_row (links_to bundle.links a) (dominates bundle.links a) lowers
     (λ b below. same_bit bundle upper lower a b rules aside (level_is bundle.levels upper a rules.apart above)
     (level_is bundle.levels lower b rules.apart below)))
+
+pub kept_rows : (config : ConfigParts) (all : List LinkedLevels) (upper lower : ℕ) (r : Option (Bor (List (List Bool)))) →
+    any_between config.links (length config.levels) upper lower ≡ false →
+    IfSome r (λ rows. (bundle : BundleParts) → AreLinkedIn bundle all → rows.now ≡ linked_of bundle upper lower bundle.links) →
+    IfSome r (λ rows. (bundle : BundleParts) → FitsConfig config bundle → AreLinkedIn bundle all → rows.now ≡ closure_of bundle lower upper)
+kept_rows config all upper lower None none is = tt
+kept_rows config all upper lower (Some rows) none is =
+    λ bundle fits linked. is bundle linked ∙ all_links config bundle upper lower fits linked.rules none
+
+pub made_as : {T E : Type 0} (r : Result T E) (x y : T) → IfOk r (λ made. made ≡ x) → x ≡ y → IfOk r (λ made. made ≡ y)
+made_as (Ok made) x y is same = is ∙ same
+made_as (Err e) x y is same = tt

@@ -19,7 +19,7 @@ linked_of bundle upper lower links =
 -- the bundle keeps its rules, and these rows are those of its links
 pub record AreLinkedIn (bundle : BundleParts) (all : List LinkedLevels) : Type 0 where
   pub rules : KeepsBundleRules bundle
-  pub each : All (λ one. one.rows ≡ linked_of bundle one.upper one.lower bundle.links) all
+  pub each : All (λ one. one.closure ≡ linked_of bundle one.upper one.lower bundle.links) all
 
 -- on each level but one the items have the same ids, in the same order
 abbrev pub HaveSameIdsBut : ℕ → List Level → List Level → Type 0

@@ -1,23 +1,25 @@
 //! Which items of a level dominate which items of a lower one.
-ghost use Rattle.std.specs.Prelude.{◌≡◌, ◌<◌, length, slice_get, IfOk, Some};
+ghost use Rattle.std.specs.Prelude.{◌≡◌, ◌<◌, length, slice_get, IfOk, IfSome, Some};
+ghost use Rattle.bundle_state.specs.Bundle.{BundleParts};
 ghost use Rattle.bundle_state.specs.Built.{FitsConfig};
 ghost use Rattle.hier_closure.specs.Dominance.{closure_of};
 ghost use Rattle.hier_closure.specs.Linked.{AreLinkedIn};
 
 use crate::held::Held;
-use crate::levels::{level_rows, rows_between};
+use crate::levels::{Rows, level_rows, rows_between};
 use crate::linked::{LinkedLevels, rows_at};
 use crate::ranks::any_between;
 use bundle_state::Bundle;
 use db_config::Config;
-use emu_lists::PlainData;
+use emu_lists::{PlainData, Shared};
 use emu_names::Memory;
 use lane_bits::BitRow;
 use std::alloc::Global;
 use std::marker::Model;
 
 /// Which items of an upper level of a bundle dominate which items of a lower one (EMU-SDMS Manual, "The
-/// EMU Query Language (EQL)"), which contracts see as one row of bits for each upper item.
+/// EMU Query Language (EQL)"), which contracts see as one row of bits for each upper item. Copies share the
+/// rows.
 #[derive(Drop)]
 pub struct Closure {
     held: Held,
@@ -56,14 +58,40 @@ impl Closure {
         }
         let table = rows_between(alloc, config, bundle, upper, lower)?;
         let rows = level_rows(alloc, config, bundle, lower, table.as_slice(), upper)?;
+        Closure::of(alloc, rows)
+    }
+
+    /// These rows. The only refusal is want of memory.
+    pub(crate) fn of(alloc: Global, rows: Rows) -> Result<Closure, Memory>
+        ensures { IfOk result (λ made. made ≡ rows) }
+    {
+        let rows = Shared::new(alloc, rows)?;
         Ok(Closure {
             held: Held::Each(rows),
         })
     }
 
-    /// The same rows of dominance. They are taken from the rows of the bundle's links, where no level lies
-    /// between the two and those of the two are among them, and made else. The only refusal is want of
-    /// memory.
+    /// The rows of dominance between two levels of a bundle, which has the levels and the link definitions of
+    /// the configuration, where no level lies between the two and theirs are among the rows of its links.
+    pub fn kept_at<'a>(
+        config: &Config,
+        all: &'a [LinkedLevels],
+        upper: usize,
+        lower: usize,
+    ) -> Option<&'a Closure>
+        requires upper { upper < length config.now.levels }
+        requires lower { lower < length config.now.levels }
+        ensures { IfSome result (λ made. (bundle : BundleParts) → FitsConfig config.now bundle
+            → AreLinkedIn bundle all.now → made.now ≡ closure_of bundle lower upper) }
+    {
+        if any_between(config, upper, lower) {
+            return None;
+        }
+        rows_at(all, upper, lower)
+    }
+
+    /// The same rows of dominance. They are shared with the rows of the bundle's links, where no level lies
+    /// between the two and theirs are among them, and made else. The only refusal is want of memory.
     pub fn kept(
         alloc: Global,
         config: &Config,
@@ -78,17 +106,8 @@ impl Closure {
         requires kept { AreLinkedIn bundle.now all.now }
         ensures { IfOk result (λ made. made ≡ closure_of bundle.now lower upper) }
     {
-        let _parts = config.parts();
-        if any_between(config, upper, lower) {
-            return Closure::between(alloc, config, bundle, upper, lower);
-        }
-        match rows_at(all, upper, lower) {
-            Some(rows) => {
-                let rows = rows.copy(alloc)?;
-                Ok(Closure {
-                    held: Held::Common(rows),
-                })
-            }
+        match Closure::kept_at(config, all, upper, lower) {
+            Some(closure) => closure.copy(alloc),
             None => Closure::between(alloc, config, bundle, upper, lower),
         }
     }
@@ -99,5 +118,12 @@ impl Closure {
         ensures { slice_get self.now position ≡ Some result.now }
     {
         self.held.row(position)
+    }
+}
+
+impl PlainData for Closure {
+    fn copy(&self, alloc: Global) -> Result<Closure, Memory> {
+        let held = self.held.copy(alloc)?;
+        Ok(Closure { held })
     }
 }

@@ -1,4 +1,4 @@
-//! The rows of a level, as they are kept: one for each item, or one that all items share.
+//! The rows of a level, as they are kept: one for each item, or one that all items share. Copies share them.
 ghost use Rattle.std.specs.Prelude.{◌≡◌, ◌<◌, false, length, slice_get, IfOk, Some};
 ghost use Rattle.db_config.specs.Above.{is_above};
 ghost use Rattle.hier_closure.specs.Dominance.{closure_of};
@@ -6,7 +6,7 @@ ghost use Rattle.hier_closure.specs.Held.{rows_in};
 
 use crate::levels::Rows;
 use bundle_state::Bundle;
-use emu_lists::Shared;
+use emu_lists::{PlainData, Shared};
 use emu_names::Memory;
 use lane_bits::BitRow;
 use std::alloc::Global;
@@ -15,9 +15,7 @@ use std::alloc::Global;
 #[derive(Drop)]
 pub(crate) enum Held {
     /// A row for each item.
-    Each(Rows),
-    /// The same, which others share.
-    Common(Shared<Rows>),
+    Each(Shared<Rows>),
     /// How many items there are, and the row that each of them has.
     Alike(usize, BitRow),
 }
@@ -51,9 +49,20 @@ impl Held {
         ensures { slice_get (rows_in self.now) position ≡ Some result.now }
     {
         match self {
-            Held::Each(rows) => rows.get(position),
-            Held::Common(rows) => rows.as_ref().get(position),
+            Held::Each(rows) => rows.as_ref().get(position),
             Held::Alike(_, row) => row,
+        }
+    }
+    /// The same rows again, of which each item's own get one owner more. The only refusal is want of memory.
+    pub(crate) fn copy(&self, alloc: Global) -> Result<Held, Memory>
+        ensures { IfOk result (λ held. rows_in held ≡ rows_in self.now) }
+    {
+        match self {
+            Held::Each(rows) => Ok(Held::Each(rows.copy(alloc)?)),
+            Held::Alike(count, row) => match row.copy(alloc) {
+                Ok(row) => Ok(Held::Alike(*count, row)),
+                Err(_) => Err(Memory),
+            },
         }
     }
 }

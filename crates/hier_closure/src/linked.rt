@@ -6,9 +6,10 @@ ghost use Rattle.bundle_state.specs.Valid.{KeepsBundleRules};
 ghost use Rattle.hier_closure.specs.Dominance.{ids_at};
 ghost use Rattle.hier_closure.specs.Linked.{AreLinkedIn, linked_of};
 
+use crate::closure::Closure;
 use crate::levels::Rows;
 use bundle_state::Bundle;
-use emu_lists::{PlainData, Series, Shared};
+use emu_lists::{PlainData, Series};
 use emu_names::{ItemId, Memory};
 use lane_bits::BitRow;
 use link_graph::Link;
@@ -25,17 +26,17 @@ pub struct LinkedLevels {
     pub upper: usize,
     /// The number of the lower level.
     pub lower: usize,
-    /// A row for each item of the upper level, which closures share.
-    pub rows: Shared<Series<BitRow>>,
+    /// A row for each item of the upper level, which copies share.
+    pub closure: Closure,
 }
 
 impl PlainData for LinkedLevels {
     fn copy(&self, alloc: Global) -> Result<LinkedLevels, Memory> {
-        let rows = self.rows.copy(alloc)?;
+        let closure = self.closure.copy(alloc)?;
         Ok(LinkedLevels {
             upper: self.upper,
             lower: self.lower,
-            rows,
+            closure,
         })
     }
 }
@@ -135,8 +136,12 @@ fn put_levels(
         return Ok(());
     }
     let rows = rows_of(alloc, bundle, upper, lower)?;
-    let rows = Shared::new(alloc, rows)?;
-    all.push(LinkedLevels { upper, lower, rows })
+    let closure = Closure::of(alloc, rows)?;
+    all.push(LinkedLevels {
+        upper,
+        lower,
+        closure,
+    })
 }
 
 /// Puts the rows of links between the levels of the two items of a link last, unless they are there. The
@@ -178,13 +183,13 @@ pub fn linked_levels(alloc: Global, bundle: &Bundle) -> Result<Series<LinkedLeve
 }
 
 /// The rows of two levels, where they are there.
-pub(crate) fn rows_at(all: &[LinkedLevels], upper: usize, lower: usize) -> Option<&Shared<Rows>>
+pub(crate) fn rows_at(all: &[LinkedLevels], upper: usize, lower: usize) -> Option<&Closure>
     ensures { IfSome result (λ rows. (bundle : BundleParts) → AreLinkedIn bundle all.now
         → rows.now ≡ linked_of bundle upper lower bundle.links) }
 {
     for one in all {
         if one.upper == upper && one.lower == lower {
-            return Some(&one.rows);
+            return Some(&one.closure);
         }
     }
     None
