@@ -2,7 +2,7 @@
 use Rattle.std.proofs.Common.{◌≡◌, ◌<◌, ◌≤◌, ◌+◌, ◌==◌, ◌⊎◌, inl, inr, ℕ, zero, suc, Bool, true, false, cond, nat_lt, List, [], ◌∷◌, ◌++◌, length, map, replicate, get_or, slice_get, Option, Some, None, Result, Ok, Err, IfOk, IfSome, Bor, refl, sym, ap, subst, ◌∙◌, arith, true≢false}
 use Rattle.std.proofs.lemmas.Bool.{cases_lt}
 use Rattle.std.proofs.lemmas.Bool.Decides.{nat_tests, Decides-eqb, same_from_decides}
-use Rattle.std.proofs.lemmas.List.{length-append, get_or_at, get_or_append_left}
+use Rattle.std.proofs.lemmas.List.{length-append, length-map, length-replicate, get_or_at, get_or_append_left}
 use Rattle.std.proofs.lemmas.List.Sums.{fails_before_first}
 use Rattle.std.proofs.lemmas.Option.{slice_get_within, slice_get-get_or, get_or_from_slice_get, same_Some}
 use Rattle.std.proofs.lemmas.Slice.Eq.{bytes_eq-Decides}
@@ -182,6 +182,42 @@ no_bits numbered label attribute (n ∷ column) (i ∷ items) none is =
     let bits : replicate (length column) false ≡ map (has_label attribute label) items =
     no_bits numbered label attribute column items none rest in
     cc
+
+-- there is one number for each item
+pub column_length : (numbered : List (List ℕ)) (attribute : ℕ) (column : List ℕ) (items : List Item) →
+    IsColumnOf numbered column (map (label_at attribute) items) → length column ≡ length items
+column_length numbered attribute column items is =
+    sym (length-map column (slice_get numbered)) ∙ ap length is
+    ∙ length-map (map (label_at attribute) items) (λ (l : List ℕ). Some l) ∙ length-map items (label_at attribute)
+
+-- a row that is made for a column has a bit for each item
+pub unset_for : (numbered : List (List ℕ)) (attribute : ℕ) (column : List ℕ) (items : List Item) (row : List Bool) →
+    IsColumnOf numbered column (map (label_at attribute) items) → row ≡ replicate (length column) false →
+    row ≡ replicate (length items) false
+unset_for numbered attribute column items row is unset =
+    unset ∙ ap (λ (k : ℕ). replicate k false) (column_length numbered attribute column items is)
+
+pub as_long : (numbered : List (List ℕ)) (attribute : ℕ) (column : List ℕ) (items : List Item) (row : List Bool) →
+    IsColumnOf numbered column (map (label_at attribute) items) → row ≡ replicate (length items) false → length column ≡ length row
+as_long numbered attribute column items row is unset =
+    column_length numbered attribute column items is ∙ sym (length-replicate (length items) false) ∙ ap length (sym unset)
+
+-- no item of a level has a label that is not in the list
+pub none_labelled : (x : IndexParts) (all : List LevelColumns) (level attribute : ℕ) (label : List ℕ) →
+    AreColumnsFor x.labels x.bundle.levels all → level < length x.bundle.levels → attribute < attributes_on x.bundle level →
+    None ≡ position (bytes_eq label) x.labels →
+    replicate (length (items_on x.bundle level)) false ≡ map (has_label attribute label) (items_on x.bundle level)
+none_labelled x all level attribute label are within below none = by (slice_get all level) refl
+  where
+    by : (o : Option LevelColumns) → slice_get all level ≡ o →
+        replicate (length (items_on x.bundle level)) false ≡ map (has_label attribute label) (items_on x.bundle level)
+    by None missing = absurd (is_there all level (omega (arith, are.count)) missing)
+    by (Some columns) at =
+        let is : IsColumnOf x.labels (get_or columns.labels attribute []) (map (label_at attribute) (items_on x.bundle level)) =
+        column_is x all level attribute columns (get_or columns.labels attribute []) are below at refl in
+        ap (λ (k : ℕ). replicate k false)
+        (sym (column_length x.labels attribute (get_or columns.labels attribute []) (items_on x.bundle level) is))
+        ∙ no_bits x.labels label attribute (get_or columns.labels attribute []) (items_on x.bundle level) none is
 
 pub range_is : (low high : ℕ) (items : List Item) →
     map (is_between low high) (starts_of items) ≡ map (starts_within low high) items

@@ -1,5 +1,5 @@
 //! A bundle with its columns.
-ghost use Rattle.std.specs.Prelude.{◌≡◌, ◌<◌, ◌==◌, false, length, map, replicate, IfOk, IfSome, position};
+ghost use Rattle.std.specs.Prelude.{◌≡◌, ◌<◌, false, length, map, replicate, IfOk, IfSome, position};
 ghost use Rattle.std.specs.Str.{bytes_eq};
 ghost use Rattle.lane_bits.specs.Row.{is_between};
 ghost use Rattle.bundle_state.specs.Built.{FitsConfig};
@@ -215,10 +215,23 @@ impl Indexed {
         ensures { IfOk result (λ row.
             row ≡ map (has_label attribute label.now) (items_on self.now.bundle level)) }
     {
-        let column = self.column(level, attribute);
+        let mut row = row_of(alloc, self.column(level, attribute).len())?;
+        self.set_label_bits(level, attribute, label, &mut row);
+        Ok(row)
+    }
+
+    /// Sets the bits of the items of a level whose label for an attribute this is, in a row with one bit for each
+    /// item, of which none is set.
+    pub fn set_label_bits(&self, level: usize, attribute: usize, label: &str, row: &mut BitRow)
+        requires level { level < length self.now.bundle.levels }
+        requires attribute { attribute < attributes_on self.now.bundle level }
+        requires unset { row.old ≡ replicate (length (items_on self.now.bundle level)) false }
+        ensures { row.new ≡ map (has_label attribute label.now) (items_on self.now.bundle level) }
+    {
+        let _levels = self.columns.len();
         match self.label_number(label) {
-            Some(number) => row_of_number(alloc, column, number),
-            None => row_of(alloc, column.len()),
+            Some(number) => eq_lanes(self.column(level, attribute), number, row),
+            None => {}
         }
     }
 
@@ -325,15 +338,6 @@ fn row_of(alloc: Global, len: usize) -> Result<BitRow, Memory>
         Ok(row) => Ok(row),
         Err(_) => Err(Memory),
     }
-}
-
-/// Which numbers of the column are this one. The only refusal is want of memory.
-fn row_of_number(alloc: Global, column: &[u32], number: u32) -> Result<BitRow, Memory>
-    ensures { IfOk result (λ row. row ≡ map (λ x. x == number) column.now) }
-{
-    let mut row = row_of(alloc, column.len())?;
-    eq_lanes(column, number, &mut row);
-    Ok(row)
 }
 
 /// Which numbers of the column are from `low` to `high`. The only refusal is want of memory.
