@@ -22,7 +22,11 @@ fn kept_row(table: &[Rows], level: usize, position: usize) -> &BitRow
 }
 
 /// The level and the position of an item, which is looked for at a position of a level first.
-fn place_near(bundle: &Bundle, near: (usize, usize), id: ItemId) -> Option<(usize, usize)>
+pub(crate) fn place_near(
+    bundle: &Bundle,
+    near: (usize, usize),
+    id: ItemId,
+) -> Option<(usize, usize)>
     requires rules { KeepsBundleRules bundle.now }
     requires level { near.0 < length bundle.now.levels }
     ensures { result ≡ place_of bundle.now.levels id.0 }

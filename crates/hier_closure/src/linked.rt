@@ -1,11 +1,12 @@
 //! The rows of links between two levels, as a bundle with few links keeps them: between levels of which
 //! one is right above the other they are its rows of dominance.
 ghost use Rattle.std.specs.Prelude.{◌≡◌, ◌≢◌, ◌<◌, ◌+◌, true, false, [], take, replicate, length, get_or, slice_get, slice_set, IfOk, IfNone, IfSome, IsSome, OnOk, Some};
-ghost use Rattle.bundle_state.specs.Bundle.{BundleParts, level_of_id};
+ghost use Rattle.bundle_state.specs.Bundle.{BundleParts, level_of_id, place_of};
 ghost use Rattle.bundle_state.specs.Valid.{KeepsBundleRules};
 ghost use Rattle.hier_closure.specs.Dominance.{ids_at};
 ghost use Rattle.hier_closure.specs.Linked.{AreLinkedIn, linked_of};
 
+use crate::children::place_near;
 use crate::closure::Closure;
 use crate::levels::Rows;
 use bundle_state::Bundle;
@@ -41,6 +42,15 @@ impl PlainData for LinkedLevels {
     }
 }
 
+/// The places at which the items of a link are looked for first: a level and a position on it for each.
+#[derive(Clone, Copy)]
+struct Ends {
+    /// That of the upper item.
+    from: (usize, usize),
+    /// That of the lower item.
+    to: (usize, usize),
+}
+
 /// A row of which no bit is set. The only refusal is want of memory.
 fn unset_row(alloc: Global, width: usize) -> Result<BitRow, Memory>
     ensures { IfOk result (λ row. row ≡ replicate width false) }
@@ -71,32 +81,57 @@ fn set_bit(rows: &mut [BitRow], row: usize, at: usize)
     rows[row].set(at, true);
 }
 
-/// The position of an item of the bundle, where it is one of this level.
-fn position_on(bundle: &Bundle, level: usize, id: ItemId) -> Option<usize>
-    requires { IsSome (level_of_id bundle.now.levels id.0) }
+/// The level and the position of an item, which is looked for at this place first, if there is such a level.
+fn place_from(bundle: &Bundle, near: (usize, usize), id: ItemId) -> Option<(usize, usize)>
+    requires { KeepsBundleRules bundle.now }
+    ensures { result ≡ place_of bundle.now.levels id.0 }
+{
+    if near.0 < bundle.level_count() {
+        place_near(bundle, near, id)
+    } else {
+        bundle.place(id)
+    }
+}
+
+/// The position of an item of the bundle, where it is one of this level. It is looked for at a position of
+/// the level first.
+fn position_on(bundle: &Bundle, level: usize, near: usize, id: ItemId) -> Option<usize>
+    requires rules { KeepsBundleRules bundle.now }
+    requires there { IsSome (level_of_id bundle.now.levels id.0) }
     ensures there { IfSome result
         (λ position. slice_get (ids_at bundle.now.levels level) position ≡ Some id.0) }
     ensures none { IfNone result (level_of_id bundle.now.levels id.0 ≢ Some level) }
 {
-    match bundle.place(id) {
+    match place_from(bundle, (level, near), id) {
         Some((on, position)) => { if on == level { Some(position) } else { None } }
         None => None,
     }
 }
 
-/// Sets the bit of the link at a place of the bundle's list, if it leads from the one level to the other.
-fn add_link(rows: &mut [BitRow], bundle: &Bundle, upper: usize, lower: usize, place: usize)
+/// Sets the bit of the link at a place of the bundle's list, if it leads from the one level to the other. Its
+/// items are looked for at two positions first; answers at which ones those of the next link are.
+fn add_link(
+    rows: &mut [BitRow],
+    bundle: &Bundle,
+    upper: usize,
+    lower: usize,
+    near: (usize, usize),
+    place: usize,
+) -> (usize, usize)
     requires rules { KeepsBundleRules bundle.now }
     requires place { place < length bundle.now.links }
     requires made { rows.old ≡ linked_of bundle.now upper lower (take place bundle.now.links) }
     ensures { rows.new ≡ linked_of bundle.now upper lower (take (place + 1) bundle.now.links) }
 {
     let link = bundle.links().get(place);
-    match position_on(bundle, upper, link.from) {
-        None => {}
-        Some(row) => match position_on(bundle, lower, link.to) {
-            None => {}
-            Some(at) => set_bit(rows, row, at),
+    match position_on(bundle, upper, near.0, link.from) {
+        None => near,
+        Some(row) => match position_on(bundle, lower, near.1, link.to) {
+            None => near,
+            Some(at) => {
+                set_bit(rows, row, at);
+                (row, at.saturating_add(1))
+            }
         },
     }
 }
@@ -111,8 +146,9 @@ fn rows_of(alloc: Global, bundle: &Bundle, upper: usize, lower: usize) -> Result
     let count = bundle.level(upper).len();
     let width = bundle.level(lower).len();
     let mut rows = unset_rows(alloc, count, width)?;
+    let mut near = (0, 0);
     for place in 0..bundle.links().len() {
-        add_link(&mut rows, bundle, upper, lower, place);
+        near = add_link(&mut rows, bundle, upper, lower, near, place);
     }
     Ok(Series::from_vec(rows))
 }
@@ -145,23 +181,29 @@ fn put_levels(
 }
 
 /// Puts the rows of links between the levels of the two items of a link last, unless they are there. The
+/// items are looked for at the two places first. Answers where the next link's items are to be looked for. The
 /// only refusal is want of memory.
 fn put_levels_of(
     alloc: Global,
     bundle: &Bundle,
     all: &mut Series<LinkedLevels>,
+    near: Ends,
     link: Link,
-) -> Result<(), Memory>
+) -> Result<Ends, Memory>
     requires { AreLinkedIn bundle.now all.old }
     ensures { OnOk result (AreLinkedIn bundle.now all.new) }
 {
-    let Some((upper, _)) = bundle.place(link.from) else {
-        return Ok(());
+    let Some(from) = place_from(bundle, near.from, link.from) else {
+        return Ok(near);
     };
-    let Some((lower, _)) = bundle.place(link.to) else {
-        return Ok(());
+    let Some(to) = place_from(bundle, near.to, link.to) else {
+        return Ok(near);
     };
-    put_levels(alloc, bundle, all, upper, lower)
+    put_levels(alloc, bundle, all, from.0, to.0)?;
+    Ok(Ends {
+        from,
+        to: (to.0, to.1.saturating_add(1)),
+    })
 }
 
 /// The rows of links of a bundle, for each two levels between which a link leads; none where there are over
@@ -175,9 +217,13 @@ pub fn linked_levels(alloc: Global, bundle: &Bundle) -> Result<Series<LinkedLeve
     if count > KEPT_LINKS {
         return Ok(all);
     }
+    let mut near = Ends {
+        from: (0, 0),
+        to: (0, 0),
+    };
     for place in 0..count {
         let link = *bundle.links().get(place);
-        put_levels_of(alloc, bundle, &mut all, link)?;
+        near = put_levels_of(alloc, bundle, &mut all, near, link)?;
     }
     Ok(all)
 }

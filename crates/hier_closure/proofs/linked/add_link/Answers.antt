@@ -2,13 +2,13 @@ use Rattle.std.proofs.Common.{ap, ◌∙◌}
 use Rattle.hier_closure.proofs.Passes.{ends_there, pass_by, pass_one, with_bit, row_within, bit_within, at_place}
 use Rattle.hier_closure.proofs.linked.add_link.Goals as goal
 
-pub position_on-requires : goal.position_on-requires
-position_on-requires c =
+pub position_on-requires-clause-there : goal.position_on-requires-clause-there
+position_on-requires-clause-there c =
     (ends_there c.args.bundle.now c.args.place c.get-link.result.now c.requires.rules
     (at_place c.args.bundle.now.links c.links.result.now c.args.place c.get-link.result.now c.links.ensures c.get-link.ensures)).0
 
-pub position_on-requires-in-Some : goal.position_on-requires-in-Some
-position_on-requires-in-Some c =
+pub position_on-requires-in-Some-clause-there : goal.position_on-requires-in-Some-clause-there
+position_on-requires-in-Some-clause-there c =
     (ends_there c.args.bundle.now c.args.place c.get-link.result.now c.requires.rules
     (at_place c.args.bundle.now.links c.links.result.now c.args.place c.get-link.result.now c.links.ensures c.get-link.ensures)).1
 
