@@ -1,4 +1,6 @@
 pub mod Members
+pub mod Typed
+pub mod Heads
 pub mod Filled
 pub mod Doubles
 pub mod Lists

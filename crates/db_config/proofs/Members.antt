@@ -1,14 +1,12 @@
 -- Texts of members that were read by their names alone, and what they are read as.
 use Rattle.std.proofs.Common.{◌≡◌, List, [], ℕ, refl}
-use Rattle.std.specs.Prelude.{true, false, Option, Some, None, Result, Ok, Err, codes, ok_or}
-use Rattle.serde_json.specs.Data.{Data}
-use Rattle.serde_json.specs.Find.{as_str}
+use Rattle.std.specs.Prelude.{true, false, Option, Some, None, Result, Ok, Err}
 use Rattle.json_view.specs.declared.wants.Wanted.TheVariants as wanted
 use Rattle.json_view.specs.declared.faults.Shape.{Shape}
 use Rattle.json_view.specs.Parts as parts
-use Rattle.json_view.specs.Parts.{optional_of, shape, text_as, text_at, text_member_as, text_there}
+use Rattle.json_view.specs.Parts.{optional_of, shape, text_at, text_member_as, text_there}
 use Rattle.json_view.specs.Paths.{member_path}
-use Rattle.json_view.specs.Seen.{Seen, seen}
+use Rattle.json_view.specs.Seen.{Seen}
 use Rattle.json_view.specs.Steps.{◌>>=◌}
 use Rattle.json_view.proofs.Members.{text_was_read, no_text_was_read}
 use Rattle.emu_names.specs.Name.{is_name}

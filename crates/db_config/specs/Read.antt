@@ -20,6 +20,8 @@ use Rattle.db_config.specs.declared.parts.LevelDef.{LevelDef}
 use Rattle.db_config.specs.declared.parts.LinkDef.{LinkDef}
 use Rattle.db_config.specs.declared.parts.ConfigParts.{ConfigParts}
 use Rattle.db_config.specs.declared.named.NamedLink.{NamedLink}
+use Rattle.db_config.specs.declared.named.NamedHead.{NamedHead}
+use Rattle.db_config.specs.declared.named.NamedLists.{NamedLists}
 use Rattle.db_config.specs.declared.named.NamedParts.{NamedParts}
 use Rattle.db_config.specs.Names.{all_names, first_double}
 use Rattle.db_config.specs.Above.{leads_round}
@@ -193,6 +195,24 @@ named_parts s = do
     links = links;
     groups = groups;
   })
+
+-- the members that come before the levels
+unfoldable pub named_head : Seen → Result NamedHead ConfigFault
+named_head s = do
+  _ ← form (object_of s)
+  name ← form (name_at (codes "name") s)
+  uuid ← form (optional_text (codes "UUID") s)
+  extension ← form (optional_text (codes "mediafileExtension") s)
+  tracks ← tracks_member s
+  Ok (record { name = name; uuid = uuid; extension = extension; tracks = tracks })
+
+-- the levels, and the members that come behind them
+unfoldable pub named_lists : Seen → Result NamedLists ConfigFault
+named_lists s = do
+  levels ← levels_member s
+  links ← links_member s
+  groups ← groups_member s
+  Ok (record { levels = levels; links = links; groups = groups })
 
 -- the lists are within the limits that their readers test
 pub record AreBounded (n : NamedParts) : Type 0 where

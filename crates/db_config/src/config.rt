@@ -1,8 +1,9 @@
 //! The configuration of a database, valid by its type.
-ghost use Rattle.std.specs.Prelude.{◌≡◌, ◌<◌, ℕ, IsTrue, IsSome, IfOk, IfSome, length, true, false, Some, None, if◌then◌else◌, option_map, option_and_then};
+ghost use Rattle.std.specs.Prelude.{◌≡◌, ◌<◌, ℕ, IsTrue, IsSome, IfOk, IfSome, length, true, false, Some, option_map, option_and_then};
 ghost use Rattle.std.specs.List.{slice_get, position};
 ghost use Rattle.db_config.specs.Valid.{is_valid, keeps_rules};
 ghost use Rattle.db_config.specs.Above.{is_above, leads_round};
+ghost use Rattle.db_config.specs.Kept.{IsKept};
 ghost use Rattle.db_config.specs.Lookups.{level_named, attribute_named, name_place, attribute_at, is_legal_for, group_values, leads};
 
 use crate::faults::PartsFault;
@@ -51,28 +52,24 @@ impl Config {
         ensures valid { IfOk result (λ c. IsTrue (is_valid parts)) }
         ensures not_valid { result ≡ Err PartsFault.NotValid → is_valid parts ≡ false }
     {
-        if !keeps_rules(alloc, &parts)? {
-            return Err(PartsFault::NotValid);
-        }
-        match Config::from_kept(alloc, parts)? {
-            Some(config) => Ok(config),
-            None => Err(PartsFault::NotValid),
+        match valid_rows(alloc, &parts) {
+            Ok(above) => Ok(Config { parts, above }),
+            Err(fault) => Err(fault),
         }
     }
 
-    /// The configuration of parts that keep all other rules, unless a path of link definitions leads
-    /// from a level to itself. The only refusal is want of memory.
-    pub(crate) fn from_kept(alloc: Global, parts: ConfigParts) -> Result<Option<Config>, Memory>
+    /// The configuration of parts that keep all other rules. `NotValid` comes exactly where a path of
+    /// link definitions leads from a level to itself.
+    pub(crate) fn from_kept(alloc: Global, parts: ConfigParts) -> Result<Config, PartsFault>
         requires { keeps_rules parts ≡ true }
-        ensures { IfOk result
-            (λ found. found ≡ (if leads_round parts.links then None else Some parts)) }
+        ensures config { IfOk result (λ c. c ≡ parts) }
+        ensures valid { IfOk result (λ c. leads_round parts.links ≡ false) }
+        ensures not_valid { result ≡ Err PartsFault.NotValid → leads_round parts.links ≡ true }
     {
-        let count = parts.levels.len();
-        let above = rows_of(alloc, parts.links.as_slice(), count)?;
-        if leads_round(&above, parts.links.as_slice(), count) {
-            return Ok(None);
+        match kept_rows(alloc, &parts) {
+            Ok(above) => Ok(Config { parts, above }),
+            Err(fault) => Err(fault),
         }
-        Ok(Some(Config { parts, above }))
     }
 
     /// The parts. Whoever asks may rely on the rules of configurations.
@@ -204,9 +201,39 @@ impl Config {
     pub fn copy(&self, alloc: Global) -> Result<Config, Memory>
         ensures { IfOk result (λ made. made ≡ self.now) }
     {
+        let count = self.parts.levels.len();
+        let above = rows_of(alloc, self.parts.links.as_slice(), count)?;
         let parts = self.parts.copy(alloc)?;
-        let above = rows_of(alloc, parts.links.as_slice(), parts.levels.len())?;
         Ok(Config { parts, above })
+    }
+}
+
+/// Which level is above which in parts that keep all other rules. `NotValid` comes exactly where a path
+/// of link definitions leads from a level to itself.
+fn kept_rows(alloc: Global, parts: &ConfigParts) -> Result<Rows, PartsFault>
+    requires { keeps_rules parts.now ≡ true }
+    ensures rows { IfOk result (λ rows. IsKept parts.now rows) }
+    ensures valid { IfOk result (λ _. leads_round parts.now.links ≡ false) }
+    ensures not_valid { result ≡ Err PartsFault.NotValid → leads_round parts.now.links ≡ true }
+{
+    let count = parts.levels.len();
+    let above = rows_of(alloc, parts.links.as_slice(), count)?;
+    if leads_round(&above, parts.links.as_slice(), count) {
+        return Err(PartsFault::NotValid);
+    }
+    Ok(above)
+}
+
+/// Which level is above which in these parts. `NotValid` comes exactly where they break a rule of
+/// configurations.
+fn valid_rows(alloc: Global, parts: &ConfigParts) -> Result<Rows, PartsFault>
+    ensures rows { IfOk result (λ rows. IsKept parts.now rows) }
+    ensures not_valid { result ≡ Err PartsFault.NotValid → is_valid parts.now ≡ false }
+{
+    if keeps_rules(alloc, parts)? {
+        kept_rows(alloc, parts)
+    } else {
+        Err(PartsFault::NotValid)
     }
 }
 

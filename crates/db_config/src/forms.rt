@@ -3,7 +3,7 @@ ghost use Rattle.std.specs.Prelude.{◌≡◌, true, IfOk, IfErr, length, ◌≤
 ghost use Rattle.json_view.specs.Gives.{Gives};
 ghost use Rattle.json_view.specs.Parts.{list_in};
 ghost use Rattle.json_view.specs.Seen.{seen_at};
-ghost use Rattle.db_config.specs.Forms.{object_of, name_at, text_member, optional_text, filled_at, level_kind_in, level_kind_at, link_kind_in, link_kind_at, string_in, string_type};
+ghost use Rattle.db_config.specs.Forms.{object_of, name_at, text_member, optional_text, filled_at, level_kind_named, level_kind_at, link_kind_named, link_kind_at, string_in, string_type};
 
 use emu_names::{LevelKind, LinkKind, Name, NameFault, Text};
 use json_view::{View, ViewFault, Wanted};
@@ -77,51 +77,51 @@ pub(crate) fn filled_len(view: &View) -> Result<usize, ViewFault>
 }
 
 // The type of a level by its word.
-#[tactic(auto, unfolding(crate::specs::Forms::level_kind_in, json_view::specs::Parts::text_at))]
-fn level_kind_in(view: &View) -> Result<LevelKind, ViewFault>
-    ensures { Gives (λ k. k) result (level_kind_in (seen_at view.now)) }
+fn level_kind_named(word: &str) -> Option<LevelKind>
+    ensures { result ≡ level_kind_named word.now }
 {
-    match view.text() {
-        Ok("ITEM") => Ok(LevelKind::Item),
-        Ok("SEGMENT") => Ok(LevelKind::Segment),
-        Ok("EVENT") => Ok(LevelKind::Event),
-        Ok(_) => Err(view.refuse(Wanted::Kind)),
-        Err(ViewFault::Shape(_)) => Err(view.refuse(Wanted::Kind)),
-        Err(ViewFault::Memory) => Err(ViewFault::Memory),
+    match word {
+        "ITEM" => Some(LevelKind::Item),
+        "SEGMENT" => Some(LevelKind::Segment),
+        "EVENT" => Some(LevelKind::Event),
+        _ => None,
     }
 }
 
 /// The member `type` of a level.
-#[tactic(auto, unfolding(crate::specs::Forms::level_kind_at))]
+#[tactic(auto, using(crate::proofs::Typed::level_kinds_read))]
 pub(crate) fn level_kind_at(view: &View) -> Result<LevelKind, ViewFault>
     ensures { Gives (λ k. k) result (level_kind_at (seen_at view.now)) }
 {
-    let part = view.member("type", Wanted::Kind)?;
-    level_kind_in(&part)
+    let word = view.text_member_as("type", Wanted::Kind)?;
+    match level_kind_named(word) {
+        Some(kind) => Ok(kind),
+        None => Err(view.refuse_member("type", Wanted::Kind)),
+    }
 }
 
 // The type of a link definition by its word.
-#[tactic(auto, unfolding(crate::specs::Forms::link_kind_in, json_view::specs::Parts::text_at))]
-fn link_kind_in(view: &View) -> Result<LinkKind, ViewFault>
-    ensures { Gives (λ k. k) result (link_kind_in (seen_at view.now)) }
+fn link_kind_named(word: &str) -> Option<LinkKind>
+    ensures { result ≡ link_kind_named word.now }
 {
-    match view.text() {
-        Ok("ONE_TO_ONE") => Ok(LinkKind::OneToOne),
-        Ok("ONE_TO_MANY") => Ok(LinkKind::OneToMany),
-        Ok("MANY_TO_MANY") => Ok(LinkKind::ManyToMany),
-        Ok(_) => Err(view.refuse(Wanted::Kind)),
-        Err(ViewFault::Shape(_)) => Err(view.refuse(Wanted::Kind)),
-        Err(ViewFault::Memory) => Err(ViewFault::Memory),
+    match word {
+        "ONE_TO_ONE" => Some(LinkKind::OneToOne),
+        "ONE_TO_MANY" => Some(LinkKind::OneToMany),
+        "MANY_TO_MANY" => Some(LinkKind::ManyToMany),
+        _ => None,
     }
 }
 
 /// The member `type` of a link definition.
-#[tactic(auto, unfolding(crate::specs::Forms::link_kind_at))]
+#[tactic(auto, using(crate::proofs::Typed::link_kinds_read))]
 pub(crate) fn link_kind_at(view: &View) -> Result<LinkKind, ViewFault>
     ensures { Gives (λ k. k) result (link_kind_at (seen_at view.now)) }
 {
-    let part = view.member("type", Wanted::Kind)?;
-    link_kind_in(&part)
+    let word = view.text_member_as("type", Wanted::Kind)?;
+    match link_kind_named(word) {
+        Some(kind) => Ok(kind),
+        None => Err(view.refuse_member("type", Wanted::Kind)),
+    }
 }
 
 // Refuses all but the text STRING.
@@ -130,7 +130,7 @@ fn string_in(view: &View) -> Result<(), ViewFault>
     ensures { Gives (λ _. true) result (string_in (seen_at view.now)) }
 {
     match view.text() {
-        Ok(text) if text == "STRING" => Ok(()),
+        Ok("STRING") => Ok(()),
         Ok(_) => Err(view.refuse(Wanted::Kind)),
         Err(ViewFault::Shape(_)) => Err(view.refuse(Wanted::Kind)),
         Err(ViewFault::Memory) => Err(ViewFault::Memory),

@@ -15,6 +15,23 @@ pub(crate) struct NamedLink {
 /// Link definitions by the names of their levels, in order.
 pub(crate) type NamedLinks = Series<NamedLink>;
 
+/// The parts of a configuration that are read before its levels.
+#[derive(Drop)]
+pub(crate) struct NamedHead {
+    pub(crate) name: Name,
+    pub(crate) uuid: Text,
+    pub(crate) extension: Text,
+    pub(crate) tracks: TrackNames,
+}
+
+/// The levels of a configuration, and the parts that are read behind them.
+#[derive(Drop)]
+pub(crate) struct NamedLists {
+    pub(crate) levels: LevelDefs,
+    pub(crate) links: NamedLinks,
+    pub(crate) groups: GroupDefs,
+}
+
 /// The parts of a configuration, before its rules are tested.
 #[derive(Drop)]
 pub(crate) struct NamedParts {

@@ -1,5 +1,5 @@
 //! The names that the levels of a configuration take.
-ghost use Rattle.std.specs.Prelude.{◌≡◌, ◌++◌, ℕ, [], IfOk, OnOk, option_map, is_none};
+ghost use Rattle.std.specs.Prelude.{◌≡◌, ◌++◌, ◌∷◌, ℕ, [], IfOk, OnOk, option_map, is_none};
 ghost use Rattle.std.specs.List.{list_any, flat_map};
 ghost use Rattle.db_config.specs.Names.{same_text, names_of, all_names, first_double, are_distinct};
 
@@ -8,17 +8,24 @@ use emu_lists::Series;
 use emu_names::{Memory, Text};
 use std::alloc::Global;
 
+/// Puts a name last. The only refusal is want of memory.
+fn put_name(alloc: Global, names: &mut Series<Text>, name: &str) -> Result<(), Memory>
+    ensures { OnOk result (names.new ≡ names.old ++ name.now ∷ []) }
+{
+    names.push(Text::new(alloc, name)?)
+}
+
 /// Puts the names that a level takes last. The only refusal is want of memory.
 fn put_names(alloc: Global, names: &mut Series<Text>, def: &LevelDef) -> Result<(), Memory>
     ensures { OnOk result (names.new ≡ names.old ++ names_of def.now) }
 {
-    names.push(Text::new(alloc, def.name.as_str())?)?;
+    put_name(alloc, names, def.name.as_str())?;
     let mut own = false;
     for attribute in def.attributes.as_slice() {
         if !own && attribute.name == def.name {
             own = true;
         } else {
-            names.push(Text::new(alloc, attribute.name.as_str())?)?;
+            put_name(alloc, names, attribute.name.as_str())?;
         }
     }
     Ok(())

@@ -108,9 +108,9 @@ impl ConfigParts {
         let uuid = self.uuid.copy(alloc)?;
         let extension = self.extension.copy(alloc)?;
         let tracks = self.tracks.copy(alloc)?;
-        let levels = self.levels.copy(alloc)?;
-        let groups = self.groups.copy(alloc)?;
         let links = self.links.copy(alloc)?;
+        let groups = self.groups.copy(alloc)?;
+        let levels = self.levels.copy(alloc)?;
         Ok(ConfigParts {
             name,
             uuid,
