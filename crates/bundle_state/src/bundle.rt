@@ -17,9 +17,9 @@ ghost use Rattle.bundle_state.specs.Valid.{KeepsBundleRules};
 
 use crate::changes::{put_item, take_out};
 use crate::given_levels::levels_for;
-use crate::given_links::{definition_for, made_links};
+use crate::given_links::{definition_for, shared_links};
 use crate::handle::Handle;
-use crate::places::{Places, places_of};
+use crate::places::{Places, shared_places};
 use crate::shared_levels::SharedLevels;
 use db_config::{Config, LinkDefs};
 use emu_lists::PlainData;
@@ -100,8 +100,8 @@ impl Bundle {
     {
         let _parts = config.parts();
         let levels = levels_for(alloc, config, annot)?;
-        let places = places_of(alloc, levels.as_slice())?;
-        let links = made_links(alloc, config, &places, annot.links.as_slice())?;
+        let places = shared_places(alloc, levels.as_slice())?;
+        let links = shared_links(alloc, config, &places, annot.links.as_slice())?;
         let bundle = Bundle::of(alloc, config, key, annot, levels, places, links)?;
         Ok(bundle)
     }
@@ -113,26 +113,25 @@ impl Bundle {
         key: BundleKey,
         annot: &Annot,
         levels: SharedLevels,
-        places: Places,
-        links: Links,
+        places: Handle<Places>,
+        links: Handle<Links>,
     ) -> Result<Bundle, Memory>
         requires rules { KeepsBundleRules (bundle_of config.now key annot.now levels links) }
         requires placed { ArePlacesOf levels places }
         ensures { IfOk result (λ made. made ≡ bundle_of config.now key annot.now levels links) }
     {
-        let annotates = annot.annotates.copy(alloc)?;
-        let definitions = Handle::new(alloc, config.parts().links.copy(alloc)?)?;
-        let links = Handle::new(alloc, links)?;
-        let places = Handle::new(alloc, places)?;
-        Ok(Bundle {
-            key,
-            annotates,
-            rate: annot.rate as u32,
-            levels,
-            definitions,
-            links,
-            places,
-        })
+        match copied_parts(alloc, config, annot) {
+            Ok((annotates, definitions)) => Ok(Bundle {
+                key,
+                annotates,
+                rate: annot.rate as u32,
+                levels,
+                definitions,
+                links,
+                places,
+            }),
+            Err(fault) => Err(fault),
+        }
     }
 
     /// The session and the name of the bundle.
@@ -346,6 +345,22 @@ impl Bundle {
             places: self.places.copy(alloc)?,
         })
     }
+}
+
+/// The name of the sound file of an annotation, and the link definitions of a configuration. The only
+/// refusal is want of memory.
+fn copied_parts(
+    alloc: Global,
+    config: &Config,
+    annot: &Annot,
+) -> Result<(Text, Handle<LinkDefs>), Memory>
+    ensures annotates { IfOk result (λ made. made.0 ≡ annot.now.annotates) }
+    ensures definitions { IfOk result (λ made. made.1 ≡ config.now.links) }
+{
+    let definitions = config.parts().links.copy(alloc)?;
+    let definitions = Handle::new(alloc, definitions)?;
+    let annotates = annot.annotates.copy(alloc)?;
+    Ok((annotates, definitions))
 }
 
 impl PlainData for Bundle {

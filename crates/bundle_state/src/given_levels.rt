@@ -83,12 +83,17 @@ fn items_named<'a>(levels: &'a [AnnotLevel], def: &LevelDef) -> &'a [AnnotItem]
 
 /// A level of the configuration with the items that are given for it. The only refusal is want of
 /// memory.
-fn made_level(alloc: Global, levels: &[AnnotLevel], def: &LevelDef) -> Result<LevelList, Memory>
+fn made_level(
+    alloc: Global,
+    levels: &[AnnotLevel],
+    def: &LevelDef,
+) -> Result<Handle<LevelList>, Memory>
     requires { KeepsLevelRule (made_level levels.now def.now) }
     ensures { IfOk result (λ made. made ≡ made_level levels.now def.now) }
 {
     let items = made_items(alloc, def.attributes.as_slice(), items_named(levels, def))?;
-    LevelList::from_items(alloc, def.kind, def.attributes.len(), items)
+    let list = LevelList::from_items(alloc, def.kind, def.attributes.len(), items)?;
+    Handle::new(alloc, list)
 }
 
 /// The levels of the configuration. The only refusal is want of memory.
@@ -102,8 +107,7 @@ fn made_levels(
 {
     let mut made = SharedLevels::new(alloc);
     for def in defs {
-        let level = made_level(alloc, levels, def)?;
-        made.push(Handle::new(alloc, level)?)?;
+        made.push(made_level(alloc, levels, def)?)?;
     }
     Ok(made)
 }

@@ -5,6 +5,7 @@ ghost use Rattle.emu_names.specs.Gives.{GivesOrBroken};
 ghost use Rattle.bundle_state.specs.Placed.{level_in};
 ghost use Rattle.bundle_state.specs.Linked.{definition_for, put_link, put_links};
 
+use crate::handle::Handle;
 use crate::places::Places;
 use db_config::Config;
 use emu_names::{Broken, Fault};
@@ -54,7 +55,7 @@ fn put_link(
 }
 
 /// The links that are given, one after another.
-pub(crate) fn made_links(
+fn made_links(
     alloc: Global,
     config: &Config,
     places: &Places,
@@ -70,4 +71,18 @@ pub(crate) fn made_links(
         }
     }
     Ok(links)
+}
+
+/// The same links, which copies share.
+pub(crate) fn shared_links(
+    alloc: Global,
+    config: &Config,
+    places: &Handle<Places>,
+    given: &[AnnotLink],
+) -> Result<Handle<Links>, Fault>
+    ensures { GivesOrBroken result (put_links config.now.links (level_in places.now) given.now []) }
+{
+    let links = made_links(alloc, config, places.as_ref(), given)?;
+    let shared = Handle::new(alloc, links)?;
+    Ok(shared)
 }

@@ -84,7 +84,7 @@ impl Clone for Places {
 }
 
 /// The places of the items of these levels. The only refusal is want of memory.
-pub(crate) fn places_of(alloc: Global, levels: &[Handle<LevelList>]) -> Result<Places, Memory>
+fn places_of(alloc: Global, levels: &[Handle<LevelList>]) -> Result<Places, Memory>
     requires { length levels.now ≤ LEVELS }
     ensures { IfOk result (λ made. ArePlacesOf levels.now made) }
 {
@@ -93,4 +93,16 @@ pub(crate) fn places_of(alloc: Global, levels: &[Handle<LevelList>]) -> Result<P
         places.put_all(levels[level].as_ref().as_slice(), level)?;
     }
     Ok(places)
+}
+
+/// The same places, which copies share. The only refusal is want of memory.
+pub(crate) fn shared_places(
+    alloc: Global,
+    levels: &[Handle<LevelList>],
+) -> Result<Handle<Places>, Memory>
+    requires { length levels.now ≤ LEVELS }
+    ensures { IfOk result (λ made. ArePlacesOf levels.now made) }
+{
+    let places = places_of(alloc, levels)?;
+    Handle::new(alloc, places)
 }

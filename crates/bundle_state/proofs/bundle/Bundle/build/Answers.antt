@@ -10,8 +10,8 @@ use Rattle.bundle_state.proofs.BuiltKept.{unbroken, linked_by, build_rules, buil
 use Rattle.bundle_state.proofs.FewLevels.{made_few}
 use Rattle.bundle_state.proofs.bundle.Bundle.build.Goals as goal
 
-pub places_of-requires : goal.places_of-requires
-places_of-requires c =
+pub shared_places-requires : goal.shared_places-requires
+shared_places-requires c =
     subst (λ ls. length ls ≤ LEVELS) (sym c.as_slice.ensures)
     (made_few c.args.config.now c.args.annot.now c.in_ok-levels.levels c.parts-parts.ensures.valid c.in_ok-levels.ensures)
 
