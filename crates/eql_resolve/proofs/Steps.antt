@@ -1,8 +1,9 @@
 -- One turn of a loop.
-use Rattle.std.proofs.Common.{◌≡◌, ℕ, zero, suc, ◌+◌, ◌-◌, ◌<◌, Bool, true, false, cond, not, ◌&&◌, List, [], ◌∷◌, ◌++◌, length, get_or, take, drop, Option, Some, None, Result, Ok, Err, refl, sym, ap, subst, ◌∙◌, arith, append_assoc}
+use Rattle.std.proofs.Common.{◌≡◌, ℕ, zero, suc, ◌+◌, ◌-◌, ◌<◌, ◌≤◌, Bool, true, false, cond, not, ◌&&◌, List, [], ◌∷◌, ◌++◌, length, length-append, get_or, take, drop, Option, Some, None, Result, Ok, Err, refl, sym, ap, subst, ◌∙◌, arith, append_assoc}
 use Rattle.std.specs.List.{list_all, filter, range_with_len, position_or_len}
 use Rattle.std.specs.Option.{option_to_list, is_some}
-use Rattle.std.proofs.lemmas.List.{drop_more}
+use Rattle.std.proofs.lemmas.List.{drop_more, take_all, take_more}
+use Rattle.std.proofs.lemmas.List.Folds.{list_all-append}
 use Rattle.std.proofs.Math.Seq.{drop-append_seam}
 use Rattle.std.specs.Prelude.{nat_lt}
 use Rattle.std.proofs.lemmas.Bool.Decides.{nat_tests}
@@ -49,6 +50,30 @@ refused_at texts made text k before mid now makers.Size done there is syntax siz
     let later = done.later in
     (record { there = there; before = done.read }, omega arith)
 refused_at texts made text k before mid now makers.Memory done there is syntax size = tt
+
+-- ---- texts that are compiled one after another
+
+both_true : (a b : Bool) → a ≡ true → b ≡ true → (a && (b && true)) ≡ true
+both_true a b one two = rw (one, two) refl
+
+-- one text more was compiled
+pub compiled_next : (texts made after : List (List ℕ)) (item text pattern : List ℕ) (k before mid now : ℕ) → AreCompiled texts made k before mid → k < length texts → item ≡ get_or texts k item → text ≡ item →
+    pattern ≡ text → are_patterns text ≡ true → after ≡ made ++ pattern ∷ [] → mid ≤ now → AreCompiled texts after (k + 1) before now
+compiled_next texts made after item text pattern k before mid now done there is same ok read pushed later =
+    let up : before ≤ mid = done.later in
+    let on : take (k + 1) texts ≡ take k texts ++ text ∷ [] = take_more texts k item there ∙ ap (λ (x : List ℕ). take k texts ++ x ∷ []) (sym is ∙ sym same) in
+    record {
+      made = pushed ∙ ap (λ (x : List ℕ). made ++ x ∷ []) ok ∙ ap (λ (xs : List (List ℕ)). xs ++ text ∷ []) done.made ∙ sym on;
+      read = ap (list_all are_patterns) on ∙ list_all-append are_patterns (take k texts) (text ∷ []) ∙ both_true (list_all are_patterns (take k texts)) (are_patterns text) done.read read;
+      counted = ap length pushed ∙ length-append made (pattern ∷ []) ∙ ap (λ (n : ℕ). n + 1) done.counted;
+      later = omega arith;
+    }
+
+-- all texts were compiled
+pub all_compiled : (texts made : List (List ℕ)) (k before now : ℕ) → AreCompiled texts made k before now → length texts ≤ k → (made ≡ texts) × (list_all are_patterns texts ≡ true)
+all_compiled texts made k before now done past =
+    let whole : take k texts ≡ texts = take_all k texts past in
+    (done.made ∙ whole, ap (list_all are_patterns) (sym whole) ∙ done.read)
 
 -- ---- conditions
 
