@@ -1,9 +1,12 @@
 //! Edits of one item or link of a bundle.
-ghost use Rattle.std.specs.Prelude.{◌≡◌, ◌<◌, IfSome, Some};
+ghost use Rattle.std.specs.Prelude.{◌≡◌, ◌<◌, length, IfSome, IsTrue, Some};
 ghost use Rattle.std.specs.List.{slice_get};
 ghost use Rattle.emu_names.specs.Gives.{GivesOrBroken, FindsFault};
+ghost use Rattle.emu_names.specs.declared.limits.TheConstants.{BUNDLE_ITEMS};
+ghost use Rattle.level_items.specs.Levels.{are_labels_for};
+ghost use Rattle.bundle_state.specs.Bundle.{item_count};
 ghost use Rattle.bundle_state.specs.Built.{FitsConfig};
-ghost use Rattle.bundle_state.specs.Changed.{attributes_with, item_removed, item_retimed, link_added, link_removed};
+ghost use Rattle.bundle_state.specs.Changed.{attributes_with, item_added, item_removed, item_retimed, link_added, link_removed};
 ghost use Rattle.edit_rules.specs.Changes.{room_fault, id_fault, given_item_fault, put_on, item_put, labelled, label_given};
 
 use crate::bundle_change::Counts;
@@ -12,7 +15,7 @@ use bundle_state::Bundle;
 use db_config::{AttributeDef, Config, LevelDef};
 use emu_names::limits::{ALL_ITEMS, BUNDLE_ITEMS};
 use emu_names::{Broken, Fault, ItemId, Text, What};
-use level_items::{AnnotItem, Time, time_passes};
+use level_items::{AnnotItem, Item, Time, time_passes};
 use std::alloc::Global;
 
 /// Tests whether there is room for one item more, in the bundle and in the whole database.
@@ -54,6 +57,25 @@ fn given_item_passes(
     new_labels_pass(alloc, def.attributes.as_slice(), item.labels.as_slice())
 }
 
+/// This bundle with an item put on the level of a number.
+pub(crate) fn with_item(
+    config: &Config,
+    mut next: Bundle,
+    number: usize,
+    position: Option<u32>,
+    item: Item,
+) -> Result<Bundle, Fault>
+    requires fits { FitsConfig config.now next }
+    requires level { number < length next.levels }
+    requires labels { IfSome (slice_get next.levels number)
+        (λ l. IsTrue (are_labels_for l.attributes item.labels)) }
+    requires room { item_count next.levels < BUNDLE_ITEMS }
+    ensures { GivesOrBroken result (item_added number position item next) }
+{
+    next.add_item(config, number, position, item)?;
+    Ok(next)
+}
+
 /// The bundle with a new item on the level of this number, which has this definition.
 fn put_on(
     alloc: Global,
@@ -72,9 +94,8 @@ fn put_on(
 {
     given_item_passes(alloc, counts, bundle, def, item)?;
     let made = made_item(alloc, def.attributes.as_slice(), item)?;
-    let mut next = bundle.copy(alloc)?;
-    next.add_item(config, number, position, made)?;
-    Ok(next)
+    let next = bundle.copy(alloc)?;
+    with_item(config, next, number, position, made)
 }
 
 /// The bundle with a new item on the level of this name.
@@ -154,6 +175,14 @@ pub(crate) fn give_label(
     }
 }
 
+/// This bundle with another time of an item, which keeps its place.
+pub(crate) fn with_time(mut next: Bundle, id: ItemId, time: Time) -> Result<Bundle, Fault>
+    ensures { GivesOrBroken result (item_retimed id time next) }
+{
+    next.retime(id, time)?;
+    Ok(next)
+}
+
 /// The bundle with another time of an item, which keeps its place.
 pub(crate) fn retime(
     alloc: Global,
@@ -163,9 +192,8 @@ pub(crate) fn retime(
 ) -> Result<Bundle, Fault>
     ensures { GivesOrBroken result (item_retimed id time bundle.now) }
 {
-    let mut next = bundle.copy(alloc)?;
-    next.retime(id, time)?;
-    Ok(next)
+    let next = bundle.copy(alloc)?;
+    with_time(next, id, time)
 }
 
 /// The bundle with a link more, put last.

@@ -11,7 +11,7 @@ ghost use Rattle.bundle_state.specs.Changed.{item_added, item_removed, item_reti
 ghost use Rattle.edit_rules.specs.Changes.{segment_at, segment_of, next_of, cut_fault, last_of, boundary_moved, segment_split, segments_merged};
 
 use crate::bundle_change::Counts;
-use crate::item_changes::{id_passes, room_passes};
+use crate::item_changes::{id_passes, retime, room_passes, take_item, with_item, with_time};
 use crate::labels::empty_labels;
 use bundle_state::Bundle;
 use db_config::Config;
@@ -131,10 +131,8 @@ fn with_times(
     ensures { GivesOrBroken result (onward (item_retimed first.0 first.1 bundle.now)
         (item_retimed second.0 second.1)) }
 {
-    let mut next = bundle.copy(alloc)?;
-    next.retime(first.0, first.1)?;
-    next.retime(second.0, second.1)?;
-    Ok(next)
+    let next = retime(alloc, bundle, first.0, first.1)?;
+    with_time(next, second.0, second.1)
 }
 
 /// Moves the boundary between a segment and the one that follows it at once: the one that becomes
@@ -183,10 +181,8 @@ fn cut(
     ensures { GivesOrBroken result (onward (item_retimed s.id before bundle.now)
         (item_added s.level None behind)) }
 {
-    let mut next = bundle.copy(alloc)?;
-    next.retime(s.id, before)?;
-    next.add_item(config, s.level, None, behind)?;
-    Ok(next)
+    let next = retime(alloc, bundle, s.id, before)?;
+    with_item(config, next, s.level, None, behind)
 }
 
 /// Cuts a segment in two; the second part is a new item without labels.
@@ -235,10 +231,8 @@ fn taken_and_retimed(
 ) -> Result<Bundle, Fault>
     ensures { GivesOrBroken result (onward (item_removed taken bundle.now) (item_retimed id time)) }
 {
-    let mut next = bundle.copy(alloc)?;
-    next.remove_item(taken)?;
-    next.retime(id, time)?;
-    Ok(next)
+    let next = take_item(alloc, bundle, taken)?;
+    with_time(next, id, time)
 }
 
 /// Joins a segment with the one that follows it at once, which is taken out with its links.

@@ -1,0 +1,13 @@
+use Rattle.std.proofs.Common.{Result, sym, subst}
+use Rattle.emu_names.specs.Gives.{GivesOrBroken}
+use Rattle.emu_names.specs.declared.rules.Broken.{Broken}
+use Rattle.bundle_state.specs.Bundle.{BundleParts}
+use Rattle.bundle_state.specs.Changed.{item_retimed}
+use Rattle.bundle_state.specs.Linked.{onward}
+use Rattle.edit_rules.proofs.segments.taken_and_retimed.Goals as goal
+
+pub returns : goal.returns
+returns c =
+    subst (λ (r : Result BundleParts Broken). GivesOrBroken c.with_time.result (onward r (item_retimed c.args.id c.args.time)))
+    (sym c.in_ok-next.ensures)
+    c.with_time.ensures
