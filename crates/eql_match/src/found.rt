@@ -189,6 +189,10 @@ fn set_above_right(
     if !config.is_above(levels.0, levels.1) {
         return Ok(());
     }
+    if let Some(rows) = indexed.kept_closure(config, levels.0, levels.1) {
+        set_above(rows, lefts, rights, made);
+        return Ok(());
+    }
     let rows = indexed.closure(alloc, config, levels.0, levels.1)?;
     set_above(&rows, lefts, rights, made);
     Ok(())
@@ -218,6 +222,10 @@ fn add_below_right(
 {
     let _items = indexed.bundle().item_count();
     if !config.is_above(levels.1, levels.0) {
+        return Ok(());
+    }
+    if let Some(rows) = indexed.kept_closure(config, levels.1, levels.0) {
+        add_below(rows, lefts, rights, made);
         return Ok(());
     }
     let rows = indexed.closure(alloc, config, levels.1, levels.0)?;

@@ -166,8 +166,11 @@ pub(crate) fn set_position_bits(
     let (upper, lower) = levels;
     let bundle = indexed.bundle();
     let _items = bundle.item_count();
-    let rows = indexed.closure(alloc, config, upper, lower)?;
     let count = eql_model::items_at(bundle, upper).len();
+    if let Some(rows) = indexed.kept_closure(config, upper, lower) {
+        return set_place_bits(alloc, rows, count, place, wanted, row);
+    }
+    let rows = indexed.closure(alloc, config, upper, lower)?;
     set_place_bits(alloc, &rows, count, place, wanted, row)
 }
 
@@ -202,6 +205,10 @@ pub(crate) fn set_number_bits(
         (items_at indexed.now.bundle.levels levels.0)) }
 {
     let (upper, lower) = levels;
+    if let Some(rows) = indexed.kept_closure(config, upper, lower) {
+        set_count_bits(rows, compare, number, row);
+        return Ok(());
+    }
     let rows = indexed.closure(alloc, config, upper, lower)?;
     set_count_bits(&rows, compare, number, row);
     Ok(())

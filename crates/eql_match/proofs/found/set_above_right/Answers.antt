@@ -20,11 +20,27 @@ set_above-requires-clause-few c =
 
 pub set_above-requires-clause-rows : goal.set_above-requires-clause-rows
 set_above-requires-clause-rows c =
-    rows_are c.args.indexed.now.bundle c.args.levels.0 c.args.levels.1 (length c.args.lefts.now) c.in_ok-rows.rows c.in_ok-rows.ensures c.requires.lefts
+    rows_are c.args.indexed.now.bundle c.args.levels.0 c.args.levels.1 (length c.args.lefts.now) c.in-Some.rows.now c.in-Some.ensures c.requires.lefts
 
 pub set_above-requires-clause-wide : goal.set_above-requires-clause-wide
 set_above-requires-clause-wide c =
+    all_wide c.args.indexed.now.bundle c.args.levels.0 c.args.levels.1 (length c.args.rights.now) c.in-Some.rows.now c.in-Some.ensures c.requires.rights
+
+pub returns-in-Some : goal.returns-in-Some
+returns-in-Some c = c.set_above.ensures ∙ ap (λ rows. above_some rows c.args.lefts.now c.args.rights.now) c.in-Some.ensures
+
+pub set_above-requires-2-clause-few : goal.set_above-requires-2-clause-few
+set_above-requires-2-clause-few c =
+    row_few c.args.indexed.now.bundle c.args.levels.0 (length c.args.lefts.now)
+    (subst KeepsBundleRules c.bundle.ensures c.item_count-items.ensures.rules) c.requires.lefts
+
+pub set_above-requires-2-clause-rows : goal.set_above-requires-2-clause-rows
+set_above-requires-2-clause-rows c =
+    rows_are c.args.indexed.now.bundle c.args.levels.0 c.args.levels.1 (length c.args.lefts.now) c.in_ok-rows.rows c.in_ok-rows.ensures c.requires.lefts
+
+pub set_above-requires-2-clause-wide : goal.set_above-requires-2-clause-wide
+set_above-requires-2-clause-wide c =
     all_wide c.args.indexed.now.bundle c.args.levels.0 c.args.levels.1 (length c.args.rights.now) c.in_ok-rows.rows c.in_ok-rows.ensures c.requires.rights
 
 pub returns : goal.returns
-returns c = c.set_above.ensures ∙ ap (λ rows. above_some rows c.args.lefts.now c.args.rights.now) c.in_ok-rows.ensures
+returns c = c.set_above-2.ensures ∙ ap (λ rows. above_some rows c.args.lefts.now c.args.rights.now) c.in_ok-rows.ensures
