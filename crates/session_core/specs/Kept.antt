@@ -14,7 +14,9 @@ use Rattle.session_core.specs.declared.line.Ask.{Ask}
 use Rattle.session_core.specs.declared.line.Answer.{Answer}
 use Rattle.session_core.specs.declared.line.Answer.TheVariants.{Done, Refused}
 use Rattle.session_core.specs.declared.line.Refusal.TheVariants as refusals
+use Rattle.session_core.specs.declared.line.Line.{Line}
 use Rattle.session_core.specs.declared.line.Reply.{Reply}
+use Rattle.session_core.specs.declared.line.Request.{Request}
 use Rattle.session_core.specs.declared.slots.Held.{Held}
 use Rattle.session_core.specs.declared.moves.Head.{Head}
 use Rattle.edit_rules.specs.Effects.{after, effect}
@@ -60,6 +62,10 @@ pub record IsKept (c : ConfigParts) (history : List Entry) (database : DatabaseP
   pub of_queries : AreHeld c history queries
 
 -- What one event does to the parts.
+
+-- the line of this head that asks for this
+abbrev pub head_line : Head → Request → Line
+head_line head request = record { line = head.line; session = head.session; command = head.command; request = request }
 
 -- the reply to a line of this head
 abbrev pub head_reply : Head → Option ℕ → Answer → Reply

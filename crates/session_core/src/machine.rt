@@ -2,12 +2,13 @@
 ghost use Rattle.emu_names.specs.declared.limits.TheConstants.{HISTORY_EDITS};
 ghost use Rattle.emu_names.specs.declared.rules.Fault.{Fault};
 ghost use Rattle.edit_rules.specs.Effects.{after, IsFirstFault, IsLegal};
+ghost use Rattle.session_core.specs.Kept.{head_line};
 ghost use Rattle.session_core.specs.Steps.{core_fails, core_step, edit_event, finish_step, look_event, option_list, place_of, query_fails, query_step, session_places, slot, start, steps};
 ghost use Rattle.session_core.specs.Stops.{StopsAt};
 ghost use Rattle.std.specs.Prelude.{◌≡◌, ◌⊎◌, ◌++◌, ◌<◌, ◌≤◌, All, IfErr, IfOk, OnErr, OnOk, Some, length};
 
 use crate::event::{Event, Events};
-use crate::line::{Answer, Command, Line, Replies, Reply, Request};
+use crate::line::{Answer, Ask, Command, Line, Replies, Reply, Request};
 use crate::moves::{Head, begin_query, close_look, close_query, open_look, replay, try_given};
 use crate::slots::{Held, Slots};
 use db_config::Config;
@@ -118,6 +119,30 @@ impl Core {
         }
     }
 
+    /// Holds the present state for a `look`, unless the session has one open.
+    fn hold_look(&mut self, head: Head, ask: Ask) -> Result<Option<Reply>, Memory>
+        requires { head.session.0 < session_places }
+        ensures ok { IfOk result (λ reply. look_event self.old (head_line head (Request.Look ask))
+            (Request.Look ask) ≡ (reply, self.new)) }
+        ensures err { OnErr result (self.new ≡ self.old) }
+    {
+        let n = self.entries.len() as u64;
+        let reply = open_look(self.alloc, &self.database, n, &mut self.looks, head, ask)?;
+        Ok(Some(reply))
+    }
+
+    /// Holds the present state for a query, which gives no reply yet.
+    fn hold_query(&mut self, head: Head, ask: Ask) -> Result<Option<Reply>, Memory>
+        requires { head.session.0 < session_places }
+        ensures ok { IfOk result (λ reply. look_event self.old (head_line head (Request.Query ask))
+            (Request.Query ask) ≡ (reply, self.new)) }
+        ensures err { OnErr result (self.new ≡ self.old) }
+    {
+        let n = self.entries.len() as u64;
+        begin_query(self.alloc, &self.database, n, &mut self.queries, head, ask)?;
+        Ok(None)
+    }
+
     /// Looks at the present state: for a `look`, for a query or for an `after`.
     fn look(&mut self, line: Line) -> Result<Option<Reply>, Memory>
         requires { line.session.0 < session_places }
@@ -130,18 +155,16 @@ impl Core {
             session: line.session,
             command: line.command,
         };
-        let n = self.entries.len() as u64;
         match line.request {
-            Request::Look(ask) => {
-                let reply = open_look(self.alloc, &self.database, n, &mut self.looks, head, ask)?;
-                Ok(Some(reply))
+            Request::Look(ask) => self.hold_look(head, ask),
+            Request::Query(ask) => self.hold_query(head, ask),
+            Request::After(_) => {
+                Ok(Some(head.reply(Some(self.number()), Answer::Done(head.command))))
             }
-            Request::Query(ask) => {
-                begin_query(self.alloc, &self.database, n, &mut self.queries, head, ask)?;
+            Request::Edit(given) => {
+                drop(given);
                 Ok(None)
             }
-            Request::After(_) => Ok(Some(head.reply(Some(n), Answer::Done(head.command)))),
-            Request::Edit(_) => Ok(None),
             Request::Finish => Ok(None),
         }
     }

@@ -77,6 +77,7 @@ fn try_edit(
     let before = entries.len();
     let n = before as u64;
     if is_full(entries) {
+        drop(edit);
         return Ok(head.reply(Some(n), Answer::Refused(Refusal::HistoryFull)));
     }
     entries.push(Entry {
