@@ -124,6 +124,7 @@ fn tested<D: Disk>(
 {
     let count = parts.entries.len();
     if count >= HISTORY_EDITS {
+        drop(added);
         return Err(EditFault::HistoryFull(count as u64));
     }
     match next_drafted(alloc, &parts.current.version, &entry.edit, added) {
@@ -178,7 +179,10 @@ fn make_ready<D: Disk>(
             next,
             kept,
         }),
-        Err(fault) => Err(fault),
+        Err(fault) => {
+            drop(entry);
+            Err(fault)
+        }
     }
 }
 
@@ -278,7 +282,10 @@ pub(crate) fn commit_in<D: Disk, R: Wait>(
 {
     let Draft { entry, added } = draft;
     match tested(alloc, parts, &entry, added) {
-        Err(fault) => Err(fault),
+        Err(fault) => {
+            drop(entry);
+            Err(fault)
+        }
         Ok(version) => match make_ready(alloc, &parts.journal, version, entry) {
             Err(Memory) => Err(EditFault::Memory),
             Ok(ready) => put(rt, parts, ready),
