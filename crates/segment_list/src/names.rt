@@ -12,44 +12,33 @@ use std::marker::Model;
 
 /// The pieces for the names of a row, which contracts see as these names.
 #[derive(Drop)]
-pub(crate) struct NamePieces {
-    session: Text,
-    bundle: Text,
-    level: Text,
-    attribute: Text,
+pub(crate) struct NamePieces<'a> {
+    row: &'a Row,
     head: Text,
     before_sample: Text,
     before_start: Text,
 }
 
-impl Model for NamePieces {
-    ghost use Rattle.segment_list.specs.Pieces.{ArePieces, Names, names};
+impl<'a> Model for NamePieces<'a> {
+    ghost use Rattle.segment_list.specs.Pieces.{ArePieces, Names, names_of};
 
     ghost Value = { Names };
 
-    ghost view = { λ p. names p.session p.bundle p.level p.attribute };
+    ghost view = { λ p. names_of p.row.now };
 
-    ghost invariant = { λ p. ArePieces (names p.session p.bundle p.level p.attribute) p.head
-        p.before_sample p.before_start };
+    ghost invariant = { λ p. ArePieces (names_of p.row.now) p.head p.before_sample p.before_start };
 }
 
-impl NamePieces {
+impl<'a> NamePieces<'a> {
     /// The pieces for the names of a row. The only refusal is want of memory.
-    pub(crate) fn new(alloc: Global, row: &Row) -> Result<NamePieces, Memory>
+    pub(crate) fn new(alloc: Global, row: &'a Row) -> Result<NamePieces<'a>, Memory>
         ensures { IfOk result (λ made. made ≡ names_of row.now) }
     {
-        let session = row.session.copy(alloc)?;
-        let bundle = row.bundle.copy(alloc)?;
-        let level = row.level.copy(alloc)?;
-        let attribute = row.attribute.copy(alloc)?;
         let head = head_piece(alloc, row.attribute.as_str(), row.bundle.as_str())?;
         let before_sample = piece(alloc, ",\"level\":", row.level.as_str(), ",\"sampleEnd\":")?;
         let before_start = piece(alloc, ",\"session\":", row.session.as_str(), ",\"start\":")?;
         Ok(NamePieces {
-            session,
-            bundle,
-            level,
-            attribute,
+            row,
             head,
             before_sample,
             before_start,
@@ -81,15 +70,15 @@ impl NamePieces {
     fn are_of(&self, row: &Row) -> bool
         ensures { result ≡ are_same_names self.now (names_of row.now) }
     {
-        self.session == row.session
-            && self.bundle == row.bundle
-            && self.level == row.level
-            && self.attribute == row.attribute
+        self.row.session == row.session
+            && self.row.bundle == row.bundle
+            && self.row.level == row.level
+            && self.row.attribute == row.attribute
     }
 
     /// Makes the pieces anew, unless these are the names of the row. The only refusal is want of memory.
     #[tactic(auto, using(crate::proofs::Plain::same_names))]
-    pub(crate) fn turn_to(&mut self, alloc: Global, row: &Row) -> Result<(), Memory>
+    pub(crate) fn turn_to(&mut self, alloc: Global, row: &'a Row) -> Result<(), Memory>
         ensures { OnOk result (self.new ≡ names_of row.now) }
     {
         if !self.are_of(row) {

@@ -62,12 +62,12 @@ fn push_row(out: &mut String, alloc: Global, pieces: &NamePieces, row: &Row) -> 
 }
 
 /// Writes the next row, behind a comma where one stands before. The only refusal is want of memory.
-fn push_next(
+fn push_next<'a>(
     out: &mut String,
     alloc: Global,
-    pieces: &mut NamePieces,
+    pieces: &mut NamePieces<'a>,
     later: bool,
-    row: &Row,
+    row: &'a Row,
 ) -> Result<(), Memory>
     ensures { OnOk result (string_bytes out.new
         ≡ string_bytes out.old ++ (comma_if later ++ row_text row.now)) }
@@ -75,6 +75,23 @@ fn push_next(
     pieces.turn_to(alloc, row)?;
     push_comma(out, later)?;
     push_row(out, alloc, pieces, row)?;
+    Ok(())
+}
+
+/// Writes rows with a comma between each two, with pieces that are made anew where the names change. The only
+/// refusal is want of memory.
+fn push_each<'a>(
+    out: &mut String,
+    alloc: Global,
+    pieces: &mut NamePieces<'a>,
+    rows: &'a [Row],
+) -> Result<(), Memory>
+    ensures { OnOk result (string_bytes out.new
+        ≡ string_bytes out.old ++ row_texts false rows.now) }
+{
+    for (place, row) in rows.iter().enumerate() {
+        push_next(out, alloc, pieces, place > 0, row)?;
+    }
     Ok(())
 }
 
@@ -87,10 +104,7 @@ fn push_rows(out: &mut String, alloc: Global, rows: &[Row]) -> Result<(), Memory
         return Ok(());
     };
     let mut pieces = NamePieces::new(alloc, first)?;
-    for (place, row) in rows.iter().enumerate() {
-        push_next(out, alloc, &mut pieces, place > 0, row)?;
-    }
-    Ok(())
+    push_each(out, alloc, &mut pieces, rows)
 }
 
 /// The text of a segment list: a list of JSON objects (RFC 8259), one for each row, with no white space

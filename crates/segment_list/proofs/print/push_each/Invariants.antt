@@ -1,6 +1,6 @@
 use Rattle.std.proofs.Common.{◌≡◌, ◌++◌, drop, false, nat_lt, string_bytes}
 use Rattle.segment_list.specs.Pieces.{row_texts}
-use Rattle.segment_list.proofs.print.push_rows.Given as goal
+use Rattle.segment_list.proofs.print.push_each.Given as goal
 
 abbrev pub invariant-loop-place : goal.invariant-loop-place
 invariant-loop-place l =

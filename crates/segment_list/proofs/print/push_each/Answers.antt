@@ -1,7 +1,7 @@
 use Rattle.std.proofs.Common.{◌<◌, ◌++◌, length, arith, string_bytes, false}
 use Rattle.segment_list.specs.Pieces.{row_texts}
 use Rattle.segment_list.proofs.Listed.{next_row}
-use Rattle.segment_list.proofs.print.push_rows.Goals as goal
+use Rattle.segment_list.proofs.print.push_each.Goals as goal
 
 pub loop-place-preserved : goal.loop-place-preserved
 loop-place-preserved c =
