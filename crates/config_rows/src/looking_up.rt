@@ -3,7 +3,7 @@ ghost use Rattle.std.specs.Prelude.{◌≡◌, ◌<◌, length, IsSome};
 ghost use Rattle.db_config.specs.Lookups.{attribute_at};
 
 use db_config::{AttributePlace, Config, PartsFault, read_config};
-use emu_names::{LevelKind, LinkKind, Memory};
+use emu_names::{LevelKind, LinkKind};
 use json_view::View;
 use serde_json::Value;
 use std::alloc::Global;
@@ -71,7 +71,12 @@ fn crosses_threads<T: Send + Sync>(_value: &T) {}
 
 /// Whether the table says that the one level is above the other.
 fn is_listed(upper: &str, lower: &str) -> bool {
-    ABOVE.iter().any(|pair| pair.0 == upper && pair.1 == lower)
+    for &(above, below) in &ABOVE {
+        if above == upper && below == lower {
+            return true;
+        }
+    }
+    false
 }
 
 /// The first two levels for which the table says something else.
@@ -88,19 +93,27 @@ fn first_odd(config: &Config) -> Option<(usize, usize)> {
     None
 }
 
-/// The same in a copy of the configuration.
-fn first_odd_of_copy(alloc: Global, config: &Config) -> Result<Option<(usize, usize)>, Memory> {
+/// Compares each two levels with the table.
+fn expect_listed(rt: &impl Abort, config: &Config) {
+    assert_eq!(rt; first_odd(config), None);
+}
+
+/// Compares the levels of a copy of the configuration.
+fn expect_listed_in_copy(rt: &impl Abort, alloc: Global, config: &Config) -> Result<(), Fail> {
     let copied = config.copy(alloc)?;
-    Ok(first_odd(&copied))
+    expect_listed(rt, &copied);
+    drop(copied);
+    Ok(())
 }
 
 #[test]
 fn levels_are_above_levels(rt: HostRuntime) -> Result<(), Fail> {
     let config = config_of(rt.alloc(), NINE)?;
     crosses_threads(&config);
-    let copied = first_odd_of_copy(rt.alloc(), &config);
-    assert_eq!(rt; (first_odd(&config), copied), (None, Ok(None)));
-    Ok(())
+    expect_listed(&rt, &config);
+    let copied = expect_listed_in_copy(&rt, rt.alloc(), &config);
+    drop(config);
+    copied
 }
 
 /// A link definition by the numbers of its levels, its place, and its type where it is there.
@@ -112,19 +125,8 @@ static DEFINITIONS: [(usize, usize, Option<u32>); 5] = [
     (7, 5, None),
 ];
 
-/// Compares the numbers of levels, link definitions and tracks, and some of them.
-fn expect_counts(rt: &impl Abort, config: &Config) {
-    let parts = config.parts();
-    let counts = (config.level_count(), parts.links.len(), parts.tracks.len());
-    assert_eq!(rt; counts, (9, 9, 2));
-    assert!(rt; config.link_kind(5) == LinkKind::ManyToMany);
-    assert!(rt; config.kind(8) == LevelKind::Event);
-    assert_eq!(rt; config.parts().tracks.get(1).as_str(), "fm");
-}
-
-#[test]
-fn definitions_are_found(rt: HostRuntime) -> Result<(), Fail> {
-    let config = config_of(rt.alloc(), NINE)?;
+/// Compares the link definitions of the table.
+fn expect_definitions(rt: &impl Abort, config: &Config) {
     for &(upper, lower, wanted) in &DEFINITIONS {
         assert_eq!(rt;
             config.link_definition(upper, lower),
@@ -132,7 +134,27 @@ fn definitions_are_found(rt: HostRuntime) -> Result<(), Fail> {
             "{upper} {lower}"
         );
     }
+}
+
+/// Compares the numbers of levels, link definitions and tracks, and some of them.
+fn expect_counts(rt: &impl Abort, config: &Config) {
+    let parts = config.parts();
+    let counts = (config.level_count(), parts.links.len(), parts.tracks.len());
+    assert_eq!(rt; counts, (9, 9, 2));
+    let some = (
+        config.link_kind(5),
+        config.kind(8),
+        parts.tracks.get(1).as_str(),
+    );
+    assert_eq!(rt; some, (LinkKind::ManyToMany, LevelKind::Event, "fm"));
+}
+
+#[test]
+fn definitions_are_found(rt: HostRuntime) -> Result<(), Fail> {
+    let config = config_of(rt.alloc(), NINE)?;
+    expect_definitions(&rt, &config);
     expect_counts(&rt, &config);
+    drop(config);
     Ok(())
 }
 
@@ -148,9 +170,8 @@ static NAMES: [Named; 6] = [
     ("word", None, None),
 ];
 
-#[test]
-fn names_stand_for_places(rt: HostRuntime) -> Result<(), Fail> {
-    let config = config_of(rt.alloc(), GROUPS)?;
+/// Compares what the names of the table stand for.
+fn expect_names(rt: &impl Abort, config: &Config) {
     for &(name, level, place) in &NAMES {
         let found = config.name_place(name).map(|p| (p.level, p.attribute));
         assert!(rt;
@@ -158,5 +179,12 @@ fn names_stand_for_places(rt: HostRuntime) -> Result<(), Fail> {
             "{name}"
         );
     }
+}
+
+#[test]
+fn names_stand_for_places(rt: HostRuntime) -> Result<(), Fail> {
+    let config = config_of(rt.alloc(), GROUPS)?;
+    expect_names(&rt, &config);
+    drop(config);
     Ok(())
 }
