@@ -1,7 +1,9 @@
 //! Command lines from the program's manual, the ends of its ranges, and words that are no command line.
 
 use cli_words::{Words, WordsFault, read_words};
+use emu_names::Text;
 use std::alloc::{AllocError, Global};
+use std::process::Abort;
 use std::test::Fail;
 
 /// Words with a `|` between each two, and what they ask for. The empty line has none.
@@ -121,41 +123,93 @@ fn words_in(alloc: Global, line: &str) -> Result<Vec<String>, AllocError> {
     Ok(words)
 }
 
+/// The text of words that ask a query.
+fn ask_text(alloc: Global, eql: &Text, time: &Option<Text>) -> Result<String, AllocError> {
+    match time {
+        None => format!(in alloc; "ask <{eql}>"),
+        Some(level) => format!(in alloc; "ask <{eql}> by <{level}>"),
+    }
+}
+
+/// The text of words that import a bundle.
+fn import_text(
+    alloc: Global,
+    session: &Text,
+    bundle: &Text,
+    rate: u32,
+    file: &Text,
+) -> Result<String, AllocError> {
+    format!(in alloc; "import <{session}> <{bundle}> {rate} <{file}>")
+}
+
+/// The text of words that export a bundle.
+fn export_text(alloc: Global, session: &Text, bundle: &Text) -> Result<String, AllocError> {
+    format!(in alloc; "export <{session}> <{bundle}>")
+}
+
+/// The text of words that run sessions at once.
+fn live_text(alloc: Global, store: bool, workers: u32) -> Result<String, AllocError> {
+    format!(in alloc; "live {store} {workers}")
+}
+
+/// The text of words that ask for a script.
+fn work_text(alloc: Global, number: u64, bundles: u32) -> Result<String, AllocError> {
+    format!(in alloc; "work {number} {bundles}")
+}
+
+/// The text of words of any kind.
+fn words_text(alloc: Global, words: &Words) -> Result<String, AllocError> {
+    match words {
+        Words::Run { store } => format!(in alloc; "run {store}"),
+        Words::Live { store, workers } => live_text(alloc, *store, *workers),
+        Words::Ask { eql, time } => ask_text(alloc, eql, time),
+        Words::Load { name } => format!(in alloc; "load <{name}>"),
+        Words::Import {
+            session,
+            bundle,
+            rate,
+            file,
+        } => import_text(alloc, session, bundle, *rate, file),
+        Words::Export { session, bundle } => export_text(alloc, session, bundle),
+        Words::History => String::from_str(alloc, "history"),
+        Words::Work { number, bundles } => work_text(alloc, *number, *bundles),
+    }
+}
+
 /// What was read, as a text.
 fn shown(alloc: Global, read: &Result<Words, WordsFault>) -> Result<String, AllocError> {
     match read {
+        Ok(words) => words_text(alloc, words),
         Err(WordsFault::Usage) => String::from_str(alloc, "usage"),
         Err(WordsFault::Memory) => String::from_str(alloc, "memory"),
-        Ok(Words::Run { store }) => format!(in alloc; "run {store}"),
-        Ok(Words::Live { store, workers }) => format!(in alloc; "live {store} {workers}"),
-        Ok(Words::Ask { eql, time: None }) => format!(in alloc; "ask <{eql}>"),
-        Ok(
-            Words::Ask {
-                eql,
-                time: Some(level),
-            },
-        ) => format!(in alloc; "ask <{eql}> by <{level}>"),
-        Ok(Words::Load { name }) => format!(in alloc; "load <{name}>"),
-        Ok(
-            Words::Import {
-                session,
-                bundle,
-                rate,
-                file,
-            },
-        ) => { format!(in alloc; "import <{session}> <{bundle}> {rate} <{file}>") }
-        Ok(Words::Export { session, bundle }) => format!(in alloc; "export <{session}> <{bundle}>"),
-        Ok(Words::History) => String::from_str(alloc, "history"),
-        Ok(Words::Work { number, bundles }) => format!(in alloc; "work {number} {bundles}"),
     }
+}
+
+/// What these words ask for, as a text.
+fn answer(alloc: Global, words: &[String]) -> Result<String, AllocError> {
+    let read = read_words(alloc, words);
+    let text = shown(alloc, &read);
+    drop(read);
+    text
+}
+
+/// What a line asks for, as a text.
+fn answer_to(alloc: Global, line: &str) -> Result<String, AllocError> {
+    let words = words_in(alloc, line)?;
+    answer(alloc, words.as_slice())
+}
+
+/// Reads a line, and compares.
+fn check(rt: &impl Abort, alloc: Global, line: &str, wanted: &str) -> Result<(), AllocError> {
+    let text = answer_to(alloc, line)?;
+    assert_eq!(rt; text.as_str(), wanted, "{line}");
+    Ok(())
 }
 
 #[test]
 fn lines_and_what_they_ask_for(rt: HostRuntime) -> Result<(), Fail> {
-    for (line, wanted) in &LINES {
-        let words = words_in(rt.alloc(), line)?;
-        let text = shown(rt.alloc(), &read_words(rt.alloc(), words.as_slice()))?;
-        assert_eq!(rt; text.as_str(), *wanted, "{line}");
+    for &(line, wanted) in &LINES {
+        check(&rt, rt.alloc(), line, wanted)?;
     }
     Ok(())
 }
