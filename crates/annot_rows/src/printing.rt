@@ -5,11 +5,12 @@ ghost use Rattle.bundle_state.specs.Built.{FitsConfig};
 use annot_json::{print_annot, read_annot};
 use bundle_state::Bundle;
 use db_config::{Config, read_config};
-use emu_names::{BundleKey, Fault, Name, NameFault, Text};
+use emu_names::{BundleKey, Fault, Name, NameFault};
 use json_view::View;
 use level_items::Annot;
 use serde_json::Value;
 use std::alloc::Global;
+use std::process::Abort;
 use std::test::Fail;
 
 /// A configuration, an annotation of it, and the text of the bundle b1 that it makes.
@@ -83,29 +84,56 @@ fn bundle_of(alloc: Global, config: &Config, annot: &Annot) -> Result<Bundle, Fa
     Ok(built(alloc, config, key, annot)?)
 }
 
-/// The text of the bundle b1 of an annotation.
-fn printed(alloc: Global, config: &Config, annot: &Annot) -> Result<Text, Fail> {
+/// Prints a bundle, and compares.
+fn expect_text(
+    rt: &impl Abort,
+    alloc: Global,
+    config: &Config,
+    bundle: &Bundle,
+    wanted: &str,
+) -> Result<(), Fail>
+    requires { FitsConfig config.now bundle.now }
+{
+    let text = print_annot(alloc, config, bundle)?;
+    assert_eq!(rt; text.as_str(), wanted);
+    Ok(())
+}
+
+/// Prints the bundle b1 of an annotation, and compares.
+fn expect_bundle(
+    rt: &impl Abort,
+    alloc: Global,
+    config: &Config,
+    annot: &Annot,
+    wanted: &str,
+) -> Result<(), Fail> {
     let bundle = bundle_of(alloc, config, annot)?;
-    Ok(print_annot(alloc, config, &bundle)?)
+    expect_text(rt, alloc, config, &bundle, wanted)
 }
 
-/// The text of the bundle b1 of the annotation of a text.
-fn printed_of(alloc: Global, config: &Config, annot: &str) -> Result<Text, Fail> {
+/// Prints the bundle b1 of the annotation of a text, and compares.
+fn expect_annot(
+    rt: &impl Abort,
+    alloc: Global,
+    config: &Config,
+    annot: &str,
+    wanted: &str,
+) -> Result<(), Fail> {
     let annot = annot_of(alloc, annot)?;
-    printed(alloc, config, &annot)
+    expect_bundle(rt, alloc, config, &annot, wanted)
 }
 
-/// The text of a row.
-fn answer(alloc: Global, config: &str, annot: &str) -> Result<Text, Fail> {
+/// Prints the bundle of a row, and compares.
+fn expect_row(rt: &impl Abort, alloc: Global, row: &Row) -> Result<(), Fail> {
+    let &(config, annot, wanted) = row;
     let config = config_of(alloc, config)?;
-    printed_of(alloc, &config, annot)
+    expect_annot(rt, alloc, &config, annot, wanted)
 }
 
 #[test]
 fn bundles_are_printed(rt: HostRuntime) -> Result<(), Fail> {
-    for &(config, annot, wanted) in &ROWS {
-        let text = answer(rt.alloc(), config, annot)?;
-        assert_eq!(rt; text.as_str(), wanted);
+    for row in &ROWS {
+        expect_row(&rt, rt.alloc(), row)?;
     }
     Ok(())
 }

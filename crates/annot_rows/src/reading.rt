@@ -3,6 +3,7 @@ use annot_json::read_annot;
 use json_view::{View, Wanted};
 use serde_json::Value;
 use std::alloc::{AllocError, Global};
+use std::process::Abort;
 use std::test::Fail;
 
 /// The member `annot` of a line, and what reading it answers: `ok`, or the fault.
@@ -156,11 +157,18 @@ fn answer(alloc: Global, annot: &str) -> Result<String, Fail> {
     answer_of(alloc, line.as_str())
 }
 
+/// Reads the annotation of a row, and compares.
+fn expect_row(rt: &impl Abort, alloc: Global, row: &Row) -> Result<(), Fail> {
+    let &(annot, wanted) = row;
+    let found = answer(alloc, annot)?;
+    assert_eq!(rt; found.as_str(), wanted, "{annot}");
+    Ok(())
+}
+
 #[test]
 fn annotations_are_read(rt: HostRuntime) -> Result<(), Fail> {
-    for &(annot, wanted) in &ROWS {
-        let found = answer(rt.alloc(), annot)?;
-        assert_eq!(rt; found.as_str(), wanted, "{annot}");
+    for row in &ROWS {
+        expect_row(&rt, rt.alloc(), row)?;
     }
     Ok(())
 }
