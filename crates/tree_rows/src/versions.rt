@@ -74,13 +74,20 @@ fn built(alloc: Global, config: &Config, key: BundleKey, annot: &Annot) -> Resul
     Bundle::build(alloc, config, key, annot)
 }
 
+/// The bundle of a number, with an annotation.
+fn bundle_with(alloc: Global, config: &Config, number: u32, annot: &Annot) -> Result<Bundle, Fail>
+    ensures { IfOk result (λ bundle. FitsConfig config.now bundle) }
+{
+    let key = key_of(alloc, number)?;
+    Ok(built(alloc, config, key, annot)?)
+}
+
 /// The bundle of a number.
 fn bundle_numbered(alloc: Global, config: &Config, number: u32) -> Result<Bundle, Fail>
     ensures { IfOk result (λ bundle. FitsConfig config.now bundle) }
 {
-    let key = key_of(alloc, number)?;
     let annot = annot_of(alloc)?;
-    Ok(built(alloc, config, key, &annot)?)
+    bundle_with(alloc, config, number, &annot)
 }
 
 /// The bundle of a number, with its columns.
@@ -91,16 +98,6 @@ fn indexed(alloc: Global, config: &Config, number: u32) -> Result<Indexed, Fail>
     Ok(Indexed::new(alloc, bundle)?)
 }
 
-/// The version with a bundle, where there is room.
-fn with(alloc: Global, version: &Version, indexed: Indexed) -> Result<Version, Memory>
-    requires { FitsConfig version.now.config indexed.bundle }
-{
-    if version.len() >= COUNT as usize {
-        return version.copy(alloc);
-    }
-    version.with(alloc, indexed)
-}
-
 /// The version without a bundle, where it is there.
 fn without(alloc: Global, version: &Version, key: &BundleKey) -> Result<Version, Memory> {
     match version.get(key) {
@@ -109,14 +106,32 @@ fn without(alloc: Global, version: &Version, key: &BundleKey) -> Result<Version,
     }
 }
 
+/// The name of the bundle at a place.
+fn name_at(version: &Version, place: usize) -> Option<&str> {
+    if place < version.len() {
+        Some(version.at(place).bundle().key().bundle.as_str())
+    } else {
+        None
+    }
+}
+
 /// Checks that a bundle stands at a place, and is found.
 fn check_at(rt: &impl Abort, version: &Version, place: usize, key: &BundleKey) {
-    assert!(rt; place < version.len());
-    let found = version.at(place).bundle().key();
-    assert_eq!(rt;
-        (found.bundle.as_str(), version.get(key).is_some()),
-        (key.bundle.as_str(), true)
-    );
+    let found = (name_at(version, place), version.get(key).is_some());
+    assert_eq!(rt; found, (Some(key.bundle.as_str()), true));
+}
+
+/// Checks that the bundle of a number stands at a place, and is found.
+fn check_number(
+    rt: &impl Abort,
+    alloc: Global,
+    version: &Version,
+    place: usize,
+    number: u32,
+) -> Result<(), NameFault> {
+    let key = key_of(alloc, number)?;
+    check_at(rt, version, place, &key);
+    Ok(())
 }
 
 /// Checks that just the bundles from a number on stand in order.
@@ -124,17 +139,19 @@ fn check(rt: &impl Abort, alloc: Global, version: &Version, first: u32) -> Resul
     assert_eq!(rt; version.len(), (COUNT - first.min(COUNT)) as usize);
     let mut number = first;
     for place in 0..version.len() {
-        let key = key_of(alloc, number)?;
-        check_at(rt, version, place, &key);
+        check_number(rt, alloc, version, place, number)?;
         number = number.saturating_add(1);
     }
     Ok(())
 }
 
-/// The version with the bundle of a number.
+/// The version with the bundle of a number, where there is room.
 fn with_number(alloc: Global, version: &Version, number: u32) -> Result<Version, Fail> {
+    if version.len() >= COUNT as usize {
+        return Ok(version.copy(alloc)?);
+    }
     let next = indexed(alloc, version.config(), number)?;
-    Ok(with(alloc, version, next)?)
+    Ok(version.with(alloc, next)?)
 }
 
 /// A version with all bundles, put in by steps.
@@ -172,13 +189,24 @@ fn emptied(alloc: Global, version: &Version, step: u32, limit: u32) -> Result<Ve
     Ok(left)
 }
 
+/// How many bundles are left when all are taken out of a version.
+fn left_of(alloc: Global, version: &Version, step: u32) -> Result<usize, Fail> {
+    let left = emptied(alloc, version, step, COUNT)?;
+    Ok(left.len())
+}
+
+/// Checks the half of the bundles that is left, and takes it out too.
+fn expect_half(rt: &impl Abort, alloc: Global, half: &Version, step: u32) -> Result<(), Fail> {
+    check(rt, alloc, half, 5_000)?;
+    let left = left_of(alloc, half, step)?;
+    assert_eq!(rt; left, 0);
+    Ok(())
+}
+
 /// Takes the bundles out of a version, first one half, and checks what is left.
 fn expect_emptied(rt: &impl Abort, alloc: Global, full: &Version, step: u32) -> Result<(), Fail> {
     let half = emptied(alloc, full, step, 5_000)?;
-    check(rt, alloc, &half, 5_000)?;
-    let empty = emptied(alloc, &half, step, COUNT)?;
-    assert_eq!(rt; empty.len(), 0);
-    Ok(())
+    expect_half(rt, alloc, &half, step)
 }
 
 /// Fills a version, and checks it.
