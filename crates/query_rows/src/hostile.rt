@@ -1,10 +1,11 @@
 //! Texts that are made to hurt a reader, long ones, deep ones and names of signs, worked by hand from the
 //! grammar and the limits: 4,096 bytes and 32 open brackets.
 
-use crate::queries::print_of;
+use crate::queries::{check_fault, check_prints};
 use eql_syntax::QueryFault::{Syntax, TextTooLong, TooDeep, TwoMarks};
 use eql_syntax::{Query, QueryFault, Term, read_query};
 use std::alloc::{AllocError, Global};
+use std::process::Abort;
 use std::test::Fail;
 
 /// What is repeated before the middle, how often, the middle, and what is repeated as often behind it;
@@ -60,6 +61,27 @@ static ROWS: [Row; 32] = [
     ("->", 2048, "", "", Some(Syntax(0))),
 ];
 
+/// Puts a piece behind a text so many times.
+fn push_times(text: &mut String, piece: &str, count: usize) -> Result<(), AllocError> {
+    for _ in 0..count {
+        text.push_str(piece)?;
+    }
+    Ok(())
+}
+
+/// Puts the three parts of a row's text behind a text.
+fn push_parts(
+    text: &mut String,
+    before: &str,
+    count: usize,
+    middle: &str,
+    behind: &str,
+) -> Result<(), AllocError> {
+    push_times(text, before, count)?;
+    text.push_str(middle)?;
+    push_times(text, behind, count)
+}
+
 /// The text of a row.
 fn text_of(
     alloc: Global,
@@ -69,22 +91,21 @@ fn text_of(
     behind: &str,
 ) -> Result<String, AllocError> {
     let mut text = String::new(alloc);
-    for _ in 0..count {
-        text.push_str(before)?;
-    }
-    text.push_str(middle)?;
-    for _ in 0..count {
-        text.push_str(behind)?;
-    }
+    push_parts(&mut text, before, count, middle, behind)?;
     Ok(text)
+}
+
+/// Makes the text of a row, and compares its fault.
+fn check(rt: &impl Abort, alloc: Global, row: &Row) -> Result<(), AllocError> {
+    let text = text_of(alloc, row.0, row.1, row.2, row.3)?;
+    check_fault(rt, alloc, text.as_str(), row.4);
+    Ok(())
 }
 
 #[test]
 fn hostile_texts_are_read_or_refused(rt: HostRuntime) -> Result<(), Fail> {
-    for (before, count, middle, behind, wanted) in &ROWS {
-        let text = text_of(rt.alloc(), before, *count, middle, behind)?;
-        let found = read_query(rt.alloc(), text.as_str()).err();
-        assert!(rt; found == *wanted, "{count} times {before} and {behind}");
+    for row in &ROWS {
+        check(&rt, rt.alloc(), row)?;
     }
     Ok(())
 }
@@ -142,12 +163,16 @@ fn test_of(alloc: Global, name: &str) -> Result<String, AllocError> {
     format!(in alloc; "'{name}' == '{name}'")
 }
 
+/// Makes the text of a test of this name for this label, and compares its prints.
+fn check_name(rt: &impl Abort, alloc: Global, name: &str) -> Result<(), Fail> {
+    let text = test_of(alloc, name)?;
+    check_prints(rt, alloc, text.as_str(), text.as_str())
+}
+
 #[test]
 fn names_of_signs_stand_in_quotes(rt: HostRuntime) -> Result<(), Fail> {
     for &name in &NAMES {
-        let text = test_of(rt.alloc(), name)?;
-        let printed = print_of(rt.alloc(), text.as_str())?;
-        assert_eq!(rt; printed.as_str(), text.as_str(), "{name}");
+        check_name(&rt, rt.alloc(), name)?;
     }
     Ok(())
 }
@@ -169,29 +194,56 @@ fn label_count_of(alloc: Global, text: &str) -> Result<usize, QueryFault> {
     Ok(label_count(&query))
 }
 
-/// How many labels are put behind the first one, and how many there are then.
-static LABELS: [(usize, usize); 3] = [(0, 1), (99, 100), (2045, 2046)];
+/// Compares the length of a text in bytes, and how many labels the first test of its query has.
+fn check_labels(rt: &impl Abort, alloc: Global, text: &str, bytes: usize, labels: usize) {
+    let found = label_count_of(alloc, text);
+    assert_eq!(rt; (text.len(), found), (bytes, Ok(labels)));
+}
+
+/// How many labels are put behind the first one, how many bytes the text has then, and how many labels.
+static LABELS: [(usize, usize, usize); 3] = [(0, 6, 1), (99, 204, 100), (2045, 4096, 2046)];
+
+/// Makes the text of a test with so many labels more, and compares.
+fn check_more(
+    rt: &impl Abort,
+    alloc: Global,
+    more: usize,
+    bytes: usize,
+    labels: usize,
+) -> Result<(), AllocError> {
+    let text = text_of(alloc, "", more, "A == a", "|a")?;
+    check_labels(rt, alloc, text.as_str(), bytes, labels);
+    Ok(())
+}
 
 #[test]
 fn a_test_has_many_labels(rt: HostRuntime) -> Result<(), Fail> {
-    for &(more, wanted) in &LABELS {
-        let text = text_of(rt.alloc(), "", more, "A == a", "|a")?;
-        let found = label_count_of(rt.alloc(), text.as_str());
-        assert_eq!(rt; found, Ok(wanted));
+    for &(more, bytes, labels) in &LABELS {
+        check_more(&rt, rt.alloc(), more, bytes, labels)?;
     }
     Ok(())
 }
 
-/// A test for one pattern of so many groups in one another, in quotes.
-fn grouped(alloc: Global, count: usize) -> Result<String, AllocError> {
-    let groups = text_of(alloc, "(", count, "a", ")")?;
-    format!(in alloc; "A =~ '{groups}'")
+/// A test for one pattern, in quotes.
+fn like(alloc: Global, pattern: &str) -> Result<String, AllocError> {
+    format!(in alloc; "A =~ '{pattern}'")
+}
+
+/// Makes the text of a test for a pattern, and compares.
+fn check_like(
+    rt: &impl Abort,
+    alloc: Global,
+    pattern: &str,
+    bytes: usize,
+) -> Result<(), AllocError> {
+    let text = like(alloc, pattern)?;
+    check_labels(rt, alloc, text.as_str(), bytes, 1);
+    Ok(())
 }
 
 #[test]
 fn a_pattern_fills_the_text(rt: HostRuntime) -> Result<(), Fail> {
-    let text = grouped(rt.alloc(), 2044)?;
-    let found = label_count_of(rt.alloc(), text.as_str());
-    assert_eq!(rt; (text.len(), found), (4096, Ok(1)));
+    let groups = text_of(rt.alloc(), "(", 2044, "a", ")")?;
+    check_like(&rt, rt.alloc(), groups.as_str(), 4096)?;
     Ok(())
 }

@@ -4,6 +4,7 @@ use emu_names::{Memory, Text};
 use eql_syntax::QueryFault::{Syntax, TwoMarks};
 use eql_syntax::{Op, Query, QueryFault, Term, Terms, Words, print_query, read_query};
 use std::alloc::Global;
+use std::process::Abort;
 use std::test::Fail;
 
 static FAULTS: [(&str, QueryFault); 81] = [
@@ -168,48 +169,88 @@ static PRINTS: [(&str, &str); 44] = [
     ),
 ];
 
+/// Compares the fault of a text, or that it has none.
+pub(crate) fn check_fault(rt: &impl Abort, alloc: Global, text: &str, wanted: Option<QueryFault>) {
+    let found = read_query(alloc, text).err();
+    assert!(rt; found == wanted, "{found:?} in {text}");
+}
+
 #[test]
 fn faults_and_places(rt: HostRuntime) {
     for &(text, fault) in &FAULTS {
-        let found = read_query(rt.alloc(), text).err();
-        assert_eq!(rt; found, Some(fault), "{text}");
+        check_fault(&rt, rt.alloc(), text, Some(fault));
     }
 }
 
-/// The print of a text's query.
-pub(crate) fn print_of(alloc: Global, text: &str) -> Result<Text, QueryFault> {
-    let query = read_query(alloc, text)?;
-    Ok(print_query(alloc, &query)?)
+/// Compares the print of a query.
+fn expect_print(rt: &impl Abort, alloc: Global, query: &Query, wanted: &str) -> Result<(), Memory> {
+    let printed = print_query(alloc, query)?;
+    assert_eq!(rt; printed.as_str(), wanted);
+    Ok(())
 }
 
-/// The print of a copy of a text's query.
-fn print_of_copy(alloc: Global, text: &str) -> Result<Text, QueryFault> {
-    let query = read_query(alloc, text)?.copy(alloc)?;
-    Ok(print_query(alloc, &query)?)
+/// Compares the print of a copy of a query.
+fn expect_print_of_copy(
+    rt: &impl Abort,
+    alloc: Global,
+    query: &Query,
+    wanted: &str,
+) -> Result<(), Memory> {
+    let copied = query.copy(alloc)?;
+    expect_print(rt, alloc, &copied, wanted)
+}
+
+/// Compares the prints of a query and of a copy of it.
+fn expect_prints(
+    rt: &impl Abort,
+    alloc: Global,
+    query: &Query,
+    wanted: &str,
+) -> Result<(), Memory> {
+    expect_print(rt, alloc, query, wanted)?;
+    expect_print_of_copy(rt, alloc, query, wanted)
+}
+
+/// Compares the prints of a text's query and of a copy of it.
+pub(crate) fn check_prints(
+    rt: &impl Abort,
+    alloc: Global,
+    text: &str,
+    wanted: &str,
+) -> Result<(), Fail> {
+    let query = read_query(alloc, text)?;
+    Ok(expect_prints(rt, alloc, &query, wanted)?)
 }
 
 #[test]
 fn texts_and_their_prints(rt: HostRuntime) -> Result<(), Fail> {
     for &(text, print) in &PRINTS {
-        let printed = print_of_copy(rt.alloc(), text)?;
-        let again = print_of(rt.alloc(), print)?;
-        assert_eq!(rt;
-            (printed.as_str(), again.as_str()),
-            (print, print),
-            "{text}"
-        );
+        check_prints(&rt, rt.alloc(), text, print)?;
+        check_prints(&rt, rt.alloc(), print, print)?;
     }
     Ok(())
 }
 
+/// Puts the label `a` behind the labels.
+fn push_label(alloc: Global, labels: &mut Words) -> Result<(), Memory> {
+    labels.push(Text::new(alloc, "a")?)
+}
+
+/// The one label.
 fn labels(alloc: Global) -> Result<Words, Memory> {
     let mut labels = Words::new(alloc);
-    labels.push(Text::new(alloc, "a")?)?;
+    push_label(alloc, &mut labels)?;
     Ok(labels)
 }
 
-fn test(alloc: Global) -> Result<Term, Memory> {
-    let labels = labels(alloc)?.copy(alloc)?;
+/// A copy of the one label.
+fn copied_labels(alloc: Global) -> Result<Words, Memory> {
+    let labels = labels(alloc)?;
+    labels.copy(alloc)
+}
+
+/// The test of the name `B` for labels.
+fn test(alloc: Global, labels: Words) -> Result<Term, Memory> {
     let name = Text::new(alloc, "B")?;
     Ok(Term::Test {
         marked: true,
@@ -219,23 +260,41 @@ fn test(alloc: Global) -> Result<Term, Memory> {
     })
 }
 
+/// Puts the one test behind the terms.
+fn push_test(alloc: Global, terms: &mut Terms) -> Result<(), Memory> {
+    let labels = copied_labels(alloc)?;
+    terms.push(test(alloc, labels)?)
+}
+
+/// The one test.
 fn terms(alloc: Global) -> Result<Terms, Memory> {
     let mut terms = Terms::new(alloc);
-    terms.push(test(alloc)?)?;
+    push_test(alloc, &mut terms)?;
     Ok(terms)
 }
 
-/// The print of a copy of the query of that test.
-fn print_of_made(alloc: Global) -> Result<Text, Memory> {
-    let query = Query::Terms(terms(alloc)?.copy(alloc)?);
-    print_query(alloc, &query)
+/// The query of a copy of the one test.
+fn made(alloc: Global) -> Result<Query, Memory> {
+    let terms = terms(alloc)?;
+    Ok(Query::Terms(terms.copy(alloc)?))
 }
 
 #[test]
 fn a_query_made_by_hand(rt: HostRuntime) -> Result<(), Fail> {
-    let text = print_of_made(rt.alloc())?;
-    assert_eq!(rt; text.as_str(), "#'B' != 'a'");
+    let query = made(rt.alloc())?;
+    expect_print(&rt, rt.alloc(), &query, "#'B' != 'a'")?;
     Ok(())
+}
+
+/// Whether the label `a` stands alone in the list.
+fn is_the_label(labels: &Words) -> bool {
+    labels.len() == 1 && labels.get(0).as_str() == "a"
+}
+
+/// Whether the one label stands alone in its list.
+fn label_stands_alone(alloc: Global) -> Result<bool, Memory> {
+    let labels = labels(alloc)?;
+    Ok(is_the_label(&labels))
 }
 
 /// How many terms there are.
@@ -245,9 +304,8 @@ fn count_of_terms(alloc: Global) -> Result<usize, Memory> {
 
 #[test]
 fn lists_count(rt: HostRuntime) -> Result<(), Fail> {
-    let labels = labels(rt.alloc())?;
-    assert_eq!(rt; labels.len(), 1);
-    let count = count_of_terms(rt.alloc());
-    assert_eq!(rt; (labels.get(0).as_str(), count), ("a", Ok(1)));
+    let alone = label_stands_alone(rt.alloc())?;
+    let count = count_of_terms(rt.alloc())?;
+    assert_eq!(rt; (alone, count), (true, 1));
     Ok(())
 }

@@ -13,11 +13,24 @@ struct Question {
     patterns: Vec<Pattern>,
 }
 
-fn make_question(alloc: Global, text: &str, pattern: &str) -> Result<Question, Fail> {
-    let query = read_query(alloc, text)?;
+/// The pattern of a text.
+fn pattern_of(alloc: Global, text: &str) -> Result<Pattern, PatternFault> {
     let mut maker = RegexMaker::new();
+    maker.compile(alloc, text)
+}
+
+/// The list of the one pattern of a text.
+fn patterns_of(alloc: Global, text: &str) -> Result<Vec<Pattern>, Fail> {
+    let pattern = pattern_of(alloc, text)?;
     let mut patterns = Vec::new(alloc);
-    patterns.push(maker.compile(alloc, pattern)?)?;
+    patterns.push(pattern)?;
+    Ok(patterns)
+}
+
+/// The question of a text of a query and of one of a pattern.
+fn make_question(alloc: Global, text: &str, pattern: &str) -> Result<Question, Fail> {
+    let patterns = patterns_of(alloc, pattern)?;
+    let query = read_query(alloc, text)?;
     Ok(Question { query, patterns })
 }
 
@@ -39,7 +52,7 @@ fn questions_go_to_a_thread(rt: HostRuntime) -> Result<(), Fail> {
     let alloc = rt.alloc();
     let sent = make_question(alloc, "[Phonetic =~ '[Vm]']", "[Vm]")?;
     let child = thread::spawn(&rt, move || all_match(alloc, &sent, "V"))?;
-    assert_eq!(rt; child.join(&rt), Some(true));
+    assert!(rt; child.join(&rt) == Some(true));
     Ok(())
 }
 
@@ -52,6 +65,6 @@ fn threads_share_a_question(rt: HostRuntime) -> Result<(), Fail> {
         || all_match(alloc, &shared, "m"),
         || all_match(alloc, &shared, "Vm"),
     );
-    assert_eq!(rt; (here, there), (Some(true), Some(false)));
+    assert!(rt; (here, there) == (Some(true), Some(false)));
     Ok(())
 }
