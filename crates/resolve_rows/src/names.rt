@@ -17,7 +17,9 @@ static DATABASE: &str =
 
 /// A query, the name for the times or nothing, and what is asked: the level of the query, the level and
 /// attribute that its results show, and the level of their times; or why it cannot be asked.
-static ROWS: [(&str, &str, &str); 30] = [
+type Row = (&'static str, &'static str, &'static str);
+
+static ROWS: [Row; 30] = [
     ("[Word == w]", "", "two levels could give the times"),
     ("[Word == w]", "Phonetic", "0 0/2 1"),
     ("[Word == w]", "Gesture", "0 0/2 2"),
@@ -137,37 +139,53 @@ fn answer(
     }
 }
 
+/// Asks a prepared query of the database, and compares.
+fn expect_answer(
+    rt: &impl Abort,
+    alloc: Global,
+    config: &Config,
+    prepared: &Prepared,
+    time: Option<&Text>,
+    row: &Row,
+) -> Result<(), AllocError> {
+    let found = answer(alloc, config, prepared, time)?;
+    assert_eq!(rt; found.as_str(), row.2, "{}", row.0);
+    Ok(())
+}
+
+/// Asks a prepared query with the row's name for the times, and compares.
+fn expect_row(
+    rt: &impl Abort,
+    alloc: Global,
+    config: &Config,
+    prepared: &Prepared,
+    row: &Row,
+) -> Result<(), Memory> {
+    if row.1.is_empty() {
+        return Ok(expect_answer(rt, alloc, config, prepared, None, row)?);
+    }
+    let name = Text::new(alloc, row.1)?;
+    Ok(expect_answer(rt, alloc, config, prepared, Some(&name), row)?)
+}
+
 /// The prepared query of a text.
 fn prepared_of(alloc: Global, text: &str) -> Result<Prepared, PrepareFault> {
     let mut maker = RegexMaker::new();
     prepare(alloc, &mut maker, text)
 }
 
-/// What a prepared query asks of the database with a name for the times; the empty name stands for none.
-fn answer_with(
-    alloc: Global,
-    config: &Config,
-    prepared: &Prepared,
-    time: &str,
-) -> Result<String, Memory> {
-    if time.is_empty() {
-        return Ok(answer(alloc, config, prepared, None)?);
-    }
-    let name = Text::new(alloc, time)?;
-    Ok(answer(alloc, config, prepared, Some(&name))?)
+/// Prepares the query of a row, asks the database, and compares.
+fn check(rt: &impl Abort, alloc: Global, config: &Config, row: &Row) -> Result<(), Fail> {
+    let prepared = prepared_of(alloc, row.0)?;
+    let expected = expect_row(rt, alloc, config, &prepared, row);
+    drop(prepared);
+    Ok(expected?)
 }
 
-/// Prepares a query and asks the database.
-fn tried(alloc: Global, config: &Config, text: &str, time: &str) -> Result<String, Fail> {
-    let prepared = prepared_of(alloc, text)?;
-    Ok(answer_with(alloc, config, &prepared, time)?)
-}
-
-/// Asks the queries of the table, and compares.
-fn expect_answers(rt: &impl Abort, alloc: Global, config: &Config) -> Result<(), Fail> {
-    for &(text, time, wanted) in &ROWS {
-        let found = tried(alloc, config, text, time)?;
-        assert_eq!(rt; found.as_str(), wanted, "{text}");
+/// Checks the rows of the table.
+fn check_all(rt: &impl Abort, alloc: Global, config: &Config) -> Result<(), Fail> {
+    for row in &ROWS {
+        check(rt, alloc, config, row)?;
     }
     Ok(())
 }
@@ -175,5 +193,7 @@ fn expect_answers(rt: &impl Abort, alloc: Global, config: &Config) -> Result<(),
 #[test]
 fn names_are_resolved(rt: HostRuntime) -> Result<(), Fail> {
     let config = config_of(rt.alloc())?;
-    expect_answers(&rt, rt.alloc(), &config)
+    let checked = check_all(&rt, rt.alloc(), &config);
+    drop(config);
+    checked
 }

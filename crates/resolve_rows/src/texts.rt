@@ -1,13 +1,16 @@
 //! Texts of queries with the patterns that are compiled of them, or with why they are refused.
 
-use eql_resolve::{PrepareFault, Prepared, prepare};
+use eql_resolve::{PrepareFault, prepare};
 use eql_syntax::QueryFault;
-use label_match::{ListMaker, PatternMaker, RegexMaker};
+use label_match::{ListMaker, Pattern, PatternMaker, RegexMaker};
 use std::alloc::{AllocError, Global};
+use std::process::Abort;
 use std::test::Fail;
 
 /// A text, the one call of the maker that is refused, counted from 1, and the number of patterns.
-static ROWS: [(&str, u64, Result<usize, PrepareFault>); 15] = [
+type Row = (&'static str, u64, Result<usize, PrepareFault>);
+
+static ROWS: [Row; 15] = [
     ("[Phonetic =~ '[Vm]']", 9, Ok(1)),
     ("[Phonetic == a|b -> X !~ c]", 9, Ok(1)),
     ("[Phonetic == a|b -> X != c]", 1, Ok(0)),
@@ -64,43 +67,58 @@ fn pattern_count<P: PatternMaker>(
     text: &str,
 ) -> Result<usize, PrepareFault> {
     let prepared = prepare(alloc, maker, text)?;
-    Ok(prepared.patterns().len())
+    let count = prepared.patterns().len();
+    drop(prepared);
+    Ok(count)
 }
 
-/// How many patterns the text is prepared to, where the maker refuses one call.
-fn listed(
+/// Prepares a text, and compares the number of patterns.
+fn expect_count<P: PatternMaker>(
+    rt: &impl Abort,
     alloc: Global,
+    maker: &mut P,
     text: &str,
-    refused: u64,
-) -> Result<Result<usize, PrepareFault>, AllocError> {
-    let mut maker = ListMaker::new(Vec::from_slice(alloc, &[refused])?);
-    Ok(pattern_count(alloc, &mut maker, text))
+    wanted: Result<usize, PrepareFault>,
+) {
+    let found = pattern_count(alloc, maker, text);
+    assert_eq!(rt; found, wanted, "{text}");
+}
+
+/// Prepares the text of a row by a maker that refuses one call, and compares the number of patterns.
+fn check(rt: &impl Abort, alloc: Global, row: &Row) -> Result<(), AllocError> {
+    let mut maker = ListMaker::new(Vec::from_slice(alloc, &[row.1])?);
+    expect_count(rt, alloc, &mut maker, row.0, row.2);
+    Ok(())
 }
 
 #[test]
 fn texts_are_prepared_or_refused(rt: HostRuntime) -> Result<(), Fail> {
-    for &(text, refused, wanted) in &ROWS {
-        let found = listed(rt.alloc(), text, refused)?;
-        assert_eq!(rt; found, wanted, "{text}");
+    for row in &ROWS {
+        check(&rt, rt.alloc(), row)?;
     }
     Ok(())
 }
 
-/// Whether these are the texts of the patterns of a query.
-fn has_patterns(prepared: &Prepared, wanted: &[&str]) -> bool {
-    let patterns = prepared.patterns();
-    patterns.len() == wanted.len()
-        && patterns
-            .iter()
-            .zip(wanted)
-            .all(|(pattern, text)| pattern.as_str() == *text)
+/// Whether these are the texts of the patterns.
+fn has_texts(patterns: &[Pattern], wanted: &[&str]) -> bool {
+    if patterns.len() != wanted.len() {
+        return false;
+    }
+    for (pattern, text) in patterns.iter().zip(wanted) {
+        if pattern.as_str() != *text {
+            return false;
+        }
+    }
+    true
 }
 
 /// Whether these are the texts of the patterns of a text's query.
 fn are_patterns_of(alloc: Global, text: &str, wanted: &[&str]) -> Result<bool, PrepareFault> {
     let mut maker = RegexMaker::new();
     let prepared = prepare(alloc, &mut maker, text)?;
-    Ok(has_patterns(&prepared, wanted))
+    let has = has_texts(prepared.patterns(), wanted);
+    drop(prepared);
+    Ok(has)
 }
 
 #[test]
@@ -125,25 +143,28 @@ fn grouped(alloc: Global, count: usize) -> Result<String, AllocError> {
     Ok(text)
 }
 
-/// How many patterns a test of so many groups is prepared to.
-fn grouped_count(alloc: Global, count: usize) -> Result<Result<usize, PrepareFault>, AllocError> {
-    let text = grouped(alloc, count)?;
-    let mut maker = RegexMaker::new();
-    Ok(pattern_count(alloc, &mut maker, text.as_str()))
-}
+/// How many groups a test has, and the number of patterns. 2,044 groups fill the 4,096 bytes of a text;
+/// patterns are nested 250 deep at most.
+type Groups = (usize, Result<usize, PrepareFault>);
 
-/// 2,044 groups fill the 4,096 bytes of a text; patterns are nested 250 deep at most.
-static GROUPS: [(usize, Result<usize, PrepareFault>); 3] = [
+static GROUPS: [Groups; 3] = [
     (0, Ok(1)),
     (100, Ok(1)),
     (2044, Err(PrepareFault::BadPattern(0))),
 ];
 
+/// Prepares a test of so many groups, and compares the number of patterns.
+fn check_groups(rt: &impl Abort, alloc: Global, row: &Groups) -> Result<(), AllocError> {
+    let text = grouped(alloc, row.0)?;
+    let mut maker = RegexMaker::new();
+    expect_count(rt, alloc, &mut maker, text.as_str(), row.1);
+    Ok(())
+}
+
 #[test]
 fn groups_in_one_another_have_a_limit(rt: HostRuntime) -> Result<(), Fail> {
-    for &(count, wanted) in &GROUPS {
-        let found = grouped_count(rt.alloc(), count)?;
-        assert_eq!(rt; found, wanted, "{count}");
+    for row in &GROUPS {
+        check_groups(&rt, rt.alloc(), row)?;
     }
     Ok(())
 }
