@@ -25,6 +25,8 @@ emu ask 'Phonetic == m'
 emu ask 'Word == w'
 emu export s1 b1
 emu export s1 b2
+emu textgrid s1 b1
+emu textgrid s1 b2
 emu history
 # A bundle of a TextGrid: into the store, again under the same names, and of a file that is not there.
 emu import s1 b9 20000 a.TextGrid

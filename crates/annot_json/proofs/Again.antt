@@ -4,7 +4,7 @@ use Rattle.level_items.specs.declared.items.Item.{Item}
 use Rattle.level_items.specs.Levels.{Level, level_of}
 use Rattle.db_config.specs.declared.attributes.AttributeDef.{AttributeDef}
 use Rattle.db_config.specs.declared.parts.LevelDef.{LevelDef}
-use Rattle.db_config.specs.Names.{same_text}
+use Rattle.emu_names.specs.Texts.{same_text}
 use Rattle.bundle_state.specs.Made.{label_named, made_labels, made_item, items_named, made_level, made_levels}
 use Rattle.bundle_state.proofs.LevelsKept.{Apart}
 use Rattle.bundle_state.proofs.Tests.{Each, each_map, text_same}

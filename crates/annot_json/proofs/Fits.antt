@@ -10,7 +10,8 @@ use Rattle.level_items.specs.Times.{fits_kind, ends_in_time}
 use Rattle.db_config.specs.declared.attributes.AttributeDef.{AttributeDef}
 use Rattle.db_config.specs.declared.parts.LevelDef.{LevelDef}
 use Rattle.db_config.specs.declared.parts.ConfigParts.{ConfigParts}
-use Rattle.db_config.specs.Names.{same_text, attribute_names, without_first, names_of, all_names, are_distinct}
+use Rattle.db_config.specs.Names.{attribute_names, without_first, names_of, all_names, are_distinct}
+use Rattle.emu_names.specs.Texts.{same_text}
 use Rattle.db_config.specs.Above.{leads_round}
 use Rattle.db_config.specs.Valid.{is_valid, keeps_rules, are_within_limits, is_in_range, are_apart}
 use Rattle.bundle_state.specs.Built.{form_of, form_asked}

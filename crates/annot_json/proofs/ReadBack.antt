@@ -21,8 +21,8 @@ use Rattle.level_items.specs.declared.annot.AnnotItem.{AnnotItem}
 use Rattle.level_items.specs.declared.annot.AnnotLevel.{AnnotLevel}
 use Rattle.level_items.specs.declared.annot.AnnotLink.{AnnotLink}
 use Rattle.level_items.specs.declared.annot.Annot.{Annot}
-use Rattle.db_config.specs.Forms.{text_member, optional_text, level_kind_at, level_kind_in}
-use Rattle.annot_json.specs.declared.limits.TheConstants.{TOP_ID, TOP_WHOLE}
+use Rattle.config_json.specs.Forms.{text_member, optional_text, level_kind_at, level_kind_in}
+use Rattle.emu_names.specs.declared.limits.TheConstants.{TOP_ID, TOP_WHOLE}
 use Rattle.annot_json.specs.Forms.{whole_member}
 use Rattle.annot_json.specs.Read.{label_in, labels_in, span_in, point_in, time_in, item_in, items_in, level_in, levels_in, link_in, links_in, annot_of}
 use Rattle.annot_json.specs.Texts.{whole, list_data, label_data, item_data, level_data, link_data, annot_data}

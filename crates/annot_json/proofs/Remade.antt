@@ -7,7 +7,7 @@ use Rattle.serde_json.specs.Read.{read}
 use Rattle.json_view.specs.Paths.{root_path}
 use Rattle.emu_names.specs.declared.kinds.LevelKind.{LevelKind}
 use Rattle.emu_names.specs.declared.kinds.LevelKind.TheVariants as kinds
-use Rattle.emu_names.specs.declared.limits.TheConstants.{SAMPLES, TOP_RATE}
+use Rattle.emu_names.specs.declared.limits.TheConstants.{SAMPLES, TOP_ID, TOP_RATE, TOP_WHOLE}
 use Rattle.level_items.specs.declared.times.Time.{Time}
 use Rattle.level_items.specs.declared.times.Time.TheVariants.{NoTime, Span, Point}
 use Rattle.level_items.specs.declared.items.Item.{Item}
@@ -23,10 +23,10 @@ use Rattle.bundle_state.specs.Built.{FitsConfig}
 use Rattle.bundle_state.specs.Faults.{is_rate}
 use Rattle.bundle_state.specs.Linked.{IsBetween, pair_of}
 use Rattle.bundle_state.specs.Valid.{KeepsBundleRules}
-use Rattle.annot_json.specs.declared.limits.TheConstants.{TOP_ID, TOP_WHOLE}
 use Rattle.annot_json.specs.Given.{given, given_item, given_level, given_levels}
 use Rattle.annot_json.specs.Texts.{bundle_data}
-use Rattle.annot_json.specs.Laws.{is_read_time, is_read_item, is_read_level, is_read_link, is_read_annot, has_read_id, has_read_ids, remade}
+use Rattle.annot_json.specs.Laws.{is_read_time, is_read_item, is_read_level, is_read_link, is_read_annot}
+use Rattle.annot_json.specs.Inner.Laws.{has_read_id, has_read_ids, remade}
 use Rattle.annot_json.proofs.Fits.{sound, levels_named, levels_as, AreAs}
 use Rattle.annot_json.proofs.ReadBack.{annot_back}
 use Rattle.annot_json.proofs.Built.{given_builds}

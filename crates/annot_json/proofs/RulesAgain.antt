@@ -12,7 +12,8 @@ use Rattle.level_items.specs.Levels.{Level, fits_level, are_labels_for, is_short
 use Rattle.level_items.specs.Times.{fits_kind, ends_in_time}
 use Rattle.db_config.specs.declared.attributes.AttributeDef.{AttributeDef}
 use Rattle.db_config.specs.declared.parts.LevelDef.{LevelDef}
-use Rattle.db_config.specs.Names.{same_text, are_distinct}
+use Rattle.db_config.specs.Names.{are_distinct}
+use Rattle.emu_names.specs.Texts.{same_text}
 use Rattle.bundle_state.specs.Bundle.{all_ids, item_count}
 use Rattle.bundle_state.specs.Lookups.{level_for, has_attribute}
 use Rattle.bundle_state.specs.Faults.{same_kind, given_ids, given_count}

@@ -3,8 +3,8 @@ use Rattle.std.proofs.Common.{◌≡◌, ◌≤◌, ◌<◌, ℕ, zero, suc, ◌
 use Rattle.std.specs.Prelude.{Some, Bool, true, nat_le}
 use Rattle.std.specs.List.{slice_get, list_all}
 use Rattle.std.proofs.lemmas.Bool.{and_parts, and_from, le-leb}
-use Rattle.annot_json.specs.declared.limits.TheConstants.{TOP_ID}
-use Rattle.annot_json.specs.Laws.{has_read_id, has_read_ids}
+use Rattle.emu_names.specs.declared.limits.TheConstants.{TOP_ID}
+use Rattle.annot_json.specs.Inner.Laws.{has_read_id, has_read_ids}
 use Rattle.std.proofs.lemmas.List.{map-append, length-map, take_all}
 use Rattle.std.proofs.lemmas.Option.{slice_get_read}
 use Rattle.std.proofs.lemmas.Simd.{map-map}
@@ -23,7 +23,8 @@ use Rattle.bundle_state.specs.Bundle.{BundleParts}
 use Rattle.bundle_state.specs.Built.{FitsConfig, form_of, form_asked}
 use Rattle.bundle_state.specs.Linked.{pair_of}
 use Rattle.annot_json.specs.Given.{given_item, given_level, given_levels}
-use Rattle.annot_json.specs.Texts.{whole, with_time, time_members, list_data, item_data, level_data, link_data}
+use Rattle.annot_json.specs.Texts.{whole, time_members, list_data, item_data, level_data, link_data}
+use Rattle.annot_json.specs.Inner.Texts.{with_time}
 
 -- the time stands behind the id and the labels
 pub timed : (time : Time) (id labels : Data) →

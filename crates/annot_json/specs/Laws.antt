@@ -1,10 +1,6 @@
 -- What printing and reading come to: a printed bundle is read as an annotation that makes it again.
-use Rattle.std.specs.Prelude.{◌≡◌, ℕ, Bool, true, false, ◌&&◌, List, IsTrue, Option, None, Result, Ok, Err, nat_le, option_and_then}
+use Rattle.std.specs.Prelude.{◌≡◌, ℕ, Bool, true, false, ◌&&◌, List, IsTrue, Ok, nat_le}
 use Rattle.std.specs.List.{list_all}
-use Rattle.std.specs.Result.{result_ok}
-use Rattle.serde_json.specs.Read.{read}
-use Rattle.json_view.specs.declared.faults.Shape.{Shape}
-use Rattle.json_view.specs.Paths.{root_path}
 use Rattle.json_view.specs.Seen.{seen}
 use Rattle.emu_names.specs.declared.kinds.LevelKind.{LevelKind}
 use Rattle.emu_names.specs.declared.kinds.LevelKind.TheVariants as kinds
@@ -14,16 +10,14 @@ use Rattle.level_items.specs.declared.annot.AnnotItem.{AnnotItem}
 use Rattle.level_items.specs.declared.annot.AnnotLevel.{AnnotLevel}
 use Rattle.level_items.specs.declared.annot.AnnotLink.{AnnotLink}
 use Rattle.level_items.specs.declared.annot.Annot.{Annot}
-use Rattle.emu_names.specs.declared.names.BundleKey.{BundleKey}
 use Rattle.level_items.specs.declared.items.Item.{Item}
-use Rattle.level_items.specs.Levels.{Level}
 use Rattle.db_config.specs.declared.parts.ConfigParts.{ConfigParts}
 use Rattle.db_config.specs.Valid.{is_valid}
 use Rattle.bundle_state.specs.Bundle.{BundleParts}
 use Rattle.bundle_state.specs.Built.{built, FitsConfig}
 use Rattle.bundle_state.specs.Valid.{KeepsBundleRules}
 use Rattle.annot_json.specs.Given.{given}
-use Rattle.annot_json.specs.declared.limits.TheConstants.{TOP_ID, TOP_WHOLE}
+use Rattle.emu_names.specs.declared.limits.TheConstants.{TOP_ID, TOP_WHOLE}
 use Rattle.annot_json.specs.Read.{annot_of}
 use Rattle.annot_json.specs.Texts.{annot_data}
 
@@ -63,27 +57,9 @@ PrintedIsRead =
     (name path : List ℕ) (annot : Annot) → IsTrue (is_read_annot annot) →
     annot_of (seen (annot_data name annot) path) ≡ Ok annot
 
--- an item whose id may be read
-abbrev pub has_read_id : Item → Bool
-has_read_id item = nat_le item.id.0 TOP_ID
-
--- a level of such items
-abbrev pub has_read_ids : Level → Bool
-has_read_ids level = list_all has_read_id level.items
-
 -- the annotation of a bundle that fits a valid configuration makes the bundle again
 abbrev pub GivenMakesAgain : Type 0
 GivenMakesAgain =
     (config : ConfigParts) (bundle : BundleParts) →
     IsTrue (is_valid config) → FitsConfig config bundle → KeepsBundleRules bundle →
     built config bundle.key (given config bundle) ≡ Ok bundle
-
--- the bundle of a key that an annotation makes which was read, if there is one
-abbrev pub made_of : ConfigParts → BundleKey → Result Annot Shape → Option BundleParts
-made_of config key (Ok annot) = result_ok (built config key annot)
-made_of config key (Err shape) = None
-
--- the bundle of a key that a text makes: the text is JSON, whose value is read as an annotation
-abbrev pub remade : ConfigParts → BundleKey → List ℕ → Option BundleParts
-remade config key text =
-    option_and_then (λ d. made_of config key (annot_of (seen d root_path))) (read text)

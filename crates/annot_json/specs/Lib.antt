@@ -3,3 +3,4 @@ pub mod Read
 pub mod Given
 pub mod Texts
 pub mod Laws
+pub mod Inner

@@ -14,8 +14,8 @@ use Rattle.level_items.specs.declared.annot.AnnotItem.{AnnotItem}
 use Rattle.level_items.specs.declared.annot.AnnotLevel.{AnnotLevel}
 use Rattle.level_items.specs.declared.annot.AnnotLink.{AnnotLink}
 use Rattle.level_items.specs.declared.annot.Annot.{Annot}
-use Rattle.db_config.specs.Forms.{text_member, optional_text, level_kind_at}
-use Rattle.annot_json.specs.declared.limits.TheConstants.{TOP_ID, TOP_WHOLE}
+use Rattle.config_json.specs.Forms.{text_member, optional_text, level_kind_at}
+use Rattle.emu_names.specs.declared.limits.TheConstants.{TOP_ID, TOP_WHOLE}
 use Rattle.annot_json.specs.Forms.{whole_member, each_or_none}
 
 -- a label: the name of its attribute, and its text

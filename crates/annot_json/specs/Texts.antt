@@ -1,7 +1,7 @@
 -- The text of an annotation (EMU-SDMS Manual, "The emuDB format": `_annot.json`): one JSON object
 -- (RFC 8259), printed compact, with the members of each object in the order of their names' bytes.
 use Rattle.std.specs.Prelude.{ℕ, List, map, codes}
-use Rattle.serde_json.specs.Data.{Data, number, string, array, object, unsigned, Members, no_members, member, put}
+use Rattle.serde_json.specs.Data.{Data, number, string, array, object, unsigned, Members, no_members, member}
 use Rattle.serde_json.specs.View.{items_of}
 use Rattle.serde_json.specs.Written.{compact_text}
 use Rattle.emu_names.specs.declared.kinds.LevelKind.{LevelKind}
@@ -42,13 +42,6 @@ time_members NoTime = no_members
 time_members (Span start dur) =
     member (codes "sampleDur") (whole dur) (member (codes "sampleStart") (whole start) no_members)
 time_members (Point at) = member (codes "samplePoint") (whole at) no_members
-
--- the members with those of a time
-abbrev pub with_time : Time → Members → Members
-with_time NoTime ms = ms
-with_time (Span start dur) ms =
-    put (codes "sampleDur") (whole dur) (put (codes "sampleStart") (whole start) ms)
-with_time (Point at) ms = put (codes "samplePoint") (whole at) ms
 
 -- an item
 abbrev pub item_data : AnnotItem → Data

@@ -1,12 +1,11 @@
 //! The members of the objects of an annotation, each read as what it has to be.
 ghost use Rattle.std.specs.Prelude.{◌≡◌, ◌≤◌, ◌++◌, ◌∷◌, [], IfOk, IfErr, OnOk};
-ghost use Rattle.json_view.specs.Gives.{Gives};
-ghost use Rattle.json_view.specs.Seen.{seen_at};
-ghost use Rattle.db_config.specs.Forms.{text_member, optional_text, level_kind_in, level_kind_at};
+ghost use Rattle.json_view.specs.Inner.Gives.{Gives};
+ghost use Rattle.json_view.specs.Inner.Seen.{seen_at};
+ghost use Rattle.config_json.specs.Forms.{text_member, optional_text, level_kind_in, level_kind_at};
 ghost use Rattle.annot_json.specs.Forms.{whole_member};
 
-use emu_lists::Series;
-use emu_names::{LevelKind, Text};
+use emu_names::{LevelKind, Series, Text};
 use json_view::{View, ViewFault, Wanted};
 use std::alloc::Global;
 
@@ -66,7 +65,7 @@ fn copied(alloc: Global, text: &Text) -> Result<Text, ViewFault>
 }
 
 /// The member of this name, which has to be a text; it is shared with `like` where they are the same.
-#[tactic(auto, unfolding(db_config::specs::Forms::text_member))]
+#[tactic(auto, unfolding(config_json::specs::Forms::text_member))]
 pub(crate) fn text_member_like(
     alloc: Global,
     view: &View,
@@ -79,7 +78,7 @@ pub(crate) fn text_member_like(
 }
 
 /// The member of this name, which has to be a text.
-#[tactic(auto, unfolding(db_config::specs::Forms::text_member))]
+#[tactic(auto, unfolding(config_json::specs::Forms::text_member))]
 pub(crate) fn text_member(alloc: Global, view: &View, name: &str) -> Result<Text, ViewFault>
     ensures { Gives (λ t. t) result (text_member name.now (seen_at view.now)) }
 {
@@ -87,7 +86,7 @@ pub(crate) fn text_member(alloc: Global, view: &View, name: &str) -> Result<Text
 }
 
 /// The member of this name, which has to be a text where it is there, else the empty text.
-#[tactic(auto, using(db_config::proofs::Members::texts_read))]
+#[tactic(auto, using(config_json::proofs::Members::texts_read))]
 pub(crate) fn optional_text(alloc: Global, view: &View, name: &str) -> Result<Text, ViewFault>
     ensures { Gives (λ t. t) result (optional_text name.now (seen_at view.now)) }
 {
@@ -107,7 +106,7 @@ pub(crate) fn whole_member(view: &View, name: &str, most: u64) -> Result<u64, Vi
 }
 
 // The type of a level by its word.
-#[tactic(auto, unfolding(db_config::specs::Forms::level_kind_in, json_view::specs::Parts::text_at))]
+#[tactic(auto, unfolding(config_json::specs::Forms::level_kind_in, json_view::specs::Parts::text_at))]
 fn level_kind_in(view: &View) -> Result<LevelKind, ViewFault>
     ensures { Gives (λ k. k) result (level_kind_in (seen_at view.now)) }
 {
@@ -122,7 +121,7 @@ fn level_kind_in(view: &View) -> Result<LevelKind, ViewFault>
 }
 
 /// The member `type` of a level.
-#[tactic(auto, unfolding(db_config::specs::Forms::level_kind_at))]
+#[tactic(auto, unfolding(config_json::specs::Forms::level_kind_at))]
 pub(crate) fn level_kind_at(view: &View) -> Result<LevelKind, ViewFault>
     ensures { Gives (λ k. k) result (level_kind_at (seen_at view.now)) }
 {

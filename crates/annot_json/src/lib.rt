@@ -5,7 +5,6 @@
 mod forms;
 mod known;
 mod laws;
-mod limits;
 mod print;
 mod read;
 mod read_parts;

@@ -6,7 +6,7 @@ ghost use Rattle.serde_json.specs.View.{view};
 ghost use Rattle.serde_json.specs.Written.{compact_text, has_float};
 ghost use Rattle.bundle_state.specs.Built.{FitsConfig};
 ghost use Rattle.std.specs.List.{list_all};
-ghost use Rattle.annot_json.specs.Laws.{has_read_ids, remade};
+ghost use Rattle.annot_json.specs.Inner.Laws.{has_read_ids, remade};
 ghost use Rattle.annot_json.specs.Given.{given_levels};
 ghost use Rattle.annot_json.specs.Texts.{list_data, level_data, bundle_data, printed};
 

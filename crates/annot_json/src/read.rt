@@ -1,11 +1,11 @@
 //! The annotation of a JSON value.
-ghost use Rattle.json_view.specs.Gives.{Gives};
-ghost use Rattle.json_view.specs.Seen.{seen_at};
+ghost use Rattle.json_view.specs.Inner.Gives.{Gives};
+ghost use Rattle.json_view.specs.Inner.Seen.{seen_at};
 ghost use Rattle.annot_json.specs.Read.{annot_of};
 
 use crate::forms::{optional_text, whole_member};
-use crate::limits::TOP_WHOLE;
 use crate::read_parts::{levels_in, links_in};
+use emu_names::limits::TOP_WHOLE;
 use json_view::{View, ViewFault};
 use level_items::Annot;
 use std::alloc::Global;

@@ -1,9 +1,9 @@
 //! The lists of an annotation, read from a JSON value.
 ghost use Rattle.std.specs.Prelude.{◌≡◌, codes};
-ghost use Rattle.json_view.specs.Gives.{Gives};
+ghost use Rattle.json_view.specs.Inner.Gives.{Gives};
 ghost use Rattle.json_view.specs.Lists.{each_of};
-ghost use Rattle.json_view.specs.Seen.{seen_at};
-ghost use Rattle.db_config.specs.Forms.{text_member};
+ghost use Rattle.json_view.specs.Inner.Seen.{seen_at};
+ghost use Rattle.config_json.specs.Forms.{text_member};
 ghost use Rattle.annot_json.specs.Read.{label_in, labels_in, span_in, point_in, time_in, item_in, items_in, level_in, levels_in, link_in, links_in};
 
 use crate::forms::{
@@ -11,7 +11,7 @@ use crate::forms::{
     with_capacity,
 };
 use crate::known::{known_value, last_name};
-use crate::limits::{TOP_ID, TOP_WHOLE};
+use emu_names::limits::{TOP_ID, TOP_WHOLE};
 use emu_names::{ItemId, LevelKind, Text};
 use json_view::{View, ViewFault};
 use level_items::{
@@ -39,7 +39,7 @@ fn label_in(
 
 // The value of a label at this place, which is shared with that of an item before it where they are the
 // same.
-#[tactic(auto, unfolding(db_config::specs::Forms::text_member))]
+#[tactic(auto, unfolding(config_json::specs::Forms::text_member))]
 fn value_member(
     alloc: Global,
     view: &View,

@@ -3,12 +3,13 @@ ghost use Rattle.std.specs.Prelude.{◌≡◌, ◌++◌, IfOk, OnOk, map, nat_le
 ghost use Rattle.serde_json.specs.View.{view, members_view};
 ghost use Rattle.bundle_state.specs.Linked.{pair_of};
 ghost use Rattle.std.specs.List.{list_all};
-ghost use Rattle.annot_json.specs.Laws.{has_read_id, has_read_ids};
+ghost use Rattle.annot_json.specs.Inner.Laws.{has_read_id, has_read_ids};
 ghost use Rattle.annot_json.specs.Given.{given_label, given_labels, given_item, given_level};
-ghost use Rattle.annot_json.specs.Texts.{whole, list_data, kind_word, label_data, with_time, item_data, level_data, link_data};
+ghost use Rattle.annot_json.specs.Texts.{whole, list_data, kind_word, label_data, item_data, level_data, link_data};
+ghost use Rattle.annot_json.specs.Inner.Texts.{with_time};
 
-use crate::limits::TOP_ID;
 use db_config::{AttributeDef, LevelDef};
+use emu_names::limits::TOP_ID;
 use emu_names::{ItemId, LevelKind, Memory, Text};
 use level_items::{Item, LevelList, Time};
 use link_graph::{Link, Links};

@@ -9,21 +9,22 @@ use Rattle.std.proofs.lemmas.Slice.Eq.{bytes_eq-Decides}
 use Rattle.std.specs.List.{position, position_or_len}
 use Rattle.std.specs.Option.{option_map, option_map_or}
 use Rattle.std.specs.Str.{bytes_eq}
-use Rattle.lane_bits.specs.Row.{is_between}
+use Rattle.lane_bits.specs.Inner.Row.{is_between}
 use Rattle.emu_names.specs.declared.kinds.LevelKind.TheVariants as kinds
 use Rattle.level_items.specs.declared.items.Item.{Item}
-use Rattle.level_items.specs.Levels.{Level, ids_of}
+use Rattle.level_items.specs.Levels.{Level, ids_of, items_at, label_of}
 use Rattle.db_config.specs.declared.parts.ConfigParts.{ConfigParts}
 use Rattle.bundle_state.specs.Bundle.{BundleParts}
 use Rattle.bundle_state.specs.Built.{FitsConfig}
 use Rattle.hier_closure.specs.Dominance.{closure_of, ids_at}
-use Rattle.hier_closure.specs.Linked.{AreLinkedIn, HaveSameIdsBut}
+use Rattle.hier_closure.specs.Inner.Linked.{AreLinkedIn, HaveSameIdsBut}
 use Rattle.hier_closure.specs.declared.linked.LinkedLevels.{LinkedLevels}
 use Rattle.hier_closure.proofs.Heights.{same_count}
 use Rattle.bundle_index.specs.declared.columns.LevelColumns.{LevelColumns}
-use Rattle.bundle_index.specs.Numbered.{AreNumbered, HasGrown, IsColumnOf}
-use Rattle.bundle_index.specs.Index.{IndexParts, IsTimed, attributes_on, has_label, items_on, label_at, starts_within}
-use Rattle.bundle_index.specs.Columns.{AreColumnsBut, AreColumnsOf, AreColumnsFor, AreOtherwiseSame, starts_of, ends_of}
+use Rattle.bundle_index.specs.Inner.Numbered.{AreNumbered, HasGrown, IsColumnOf}
+use Rattle.bundle_index.specs.Index.{IndexParts}
+use Rattle.bundle_index.specs.Inner.Index.{IsTimed, attributes_on, has_label, starts_within}
+use Rattle.bundle_index.specs.Inner.Columns.{AreColumnsBut, AreColumnsOf, AreColumnsFor, AreOtherwiseSame, starts_of, ends_of}
 use Rattle.bundle_index.proofs.Steps.{column_stays, grown_twice}
 
 -- ---- the columns of the levels, one level after another
@@ -38,7 +39,7 @@ pub columns_stay : (now new : List (List ℕ)) (level : Level) (columns : LevelC
     AreColumnsOf now level columns → AreColumnsOf new level columns
 columns_stay now new level columns grown are = record {
   labels = λ attribute below.
-      column_stays now new (get_or columns.labels attribute []) (map (label_at attribute) level.items) grown
+      column_stays now new (get_or columns.labels attribute []) (map (label_of attribute) level.items) grown
       (are.labels attribute below);
   starts = are.starts;
   ends = are.ends;
@@ -90,14 +91,14 @@ seen_columns x y all shown are = subst (λ (i : IndexParts). AreColumnsFor i.lab
 pub column_is : (x : IndexParts) (all : List LevelColumns) (level attribute : ℕ) (columns : LevelColumns) (column : List ℕ) →
     AreColumnsFor x.labels x.bundle.levels all → attribute < attributes_on x.bundle level →
     slice_get all level ≡ Some columns → column ≡ get_or columns.labels attribute [] →
-    IsColumnOf x.labels column (map (label_at attribute) (items_on x.bundle level))
+    IsColumnOf x.labels column (map (label_of attribute) (items_at x.bundle.levels level))
 column_is x all level attribute columns column are below at is = by (slice_get x.bundle.levels level) refl below
   where
     by : (o : Option Level) → slice_get x.bundle.levels level ≡ o → attribute < option_map_or (λ (l : Level). l.attributes) o 0 →
-        IsColumnOf x.labels column (map (label_at attribute) (option_map_or (λ (l : Level). l.items) o []))
+        IsColumnOf x.labels column (map (label_of attribute) (option_map_or (λ (l : Level). l.items) o []))
     by None found small = absurd (omega arith)
     by (Some l) found small =
-        subst (λ (c : List ℕ). IsColumnOf x.labels c (map (label_at attribute) l.items)) (sym is)
+        subst (λ (c : List ℕ). IsColumnOf x.labels c (map (label_of attribute) l.items)) (sym is)
         ((are.each level l columns found at).labels attribute small)
 
 is_there : {A : Type 0} (xs : List A) (i : ℕ) → i < length xs → slice_get xs i ≡ None → ⊥
@@ -108,7 +109,7 @@ is_there (x ∷ xs) (suc i) within none = is_there xs i (omega arith) none
 pub times_are : (x : IndexParts) (all : List LevelColumns) (level : ℕ) (columns : LevelColumns) →
     AreColumnsFor x.labels x.bundle.levels all → level < length x.bundle.levels → IsTimed x.bundle level →
     slice_get all level ≡ Some columns →
-    (columns.starts ≡ starts_of (items_on x.bundle level)) × (columns.ends ≡ ends_of (items_on x.bundle level))
+    (columns.starts ≡ starts_of (items_at x.bundle.levels level)) × (columns.ends ≡ ends_of (items_at x.bundle.levels level))
 times_are x all level columns are within timed at = by (slice_get x.bundle.levels level) refl timed
   where
     by : (o : Option Level) → slice_get x.bundle.levels level ≡ o →
@@ -137,16 +138,16 @@ number_is numbered label l number n rule here at =
 
 pub bits_are : (numbered : List (List ℕ)) (label : List ℕ) (number attribute : ℕ) (column : List ℕ) (items : List Item) →
     AreNumbered numbered → slice_get numbered number ≡ Some label →
-    IsColumnOf numbered column (map (label_at attribute) items) →
+    IsColumnOf numbered column (map (label_of attribute) items) →
     map (λ x. x == number) column ≡ map (has_label attribute label) items
 bits_are numbered label number attribute [] [] rule here is = refl
 bits_are numbered label number attribute [] (i ∷ items) rule here is = absurd cc
 bits_are numbered label number attribute (n ∷ column) [] rule here is = absurd cc
 bits_are numbered label number attribute (n ∷ column) (i ∷ items) rule here is =
-    let first : slice_get numbered n ≡ Some (label_at attribute i) = cc in
-    let rest : IsColumnOf numbered column (map (label_at attribute) items) = cc in
+    let first : slice_get numbered n ≡ Some (label_of attribute i) = cc in
+    let rest : IsColumnOf numbered column (map (label_of attribute) items) = cc in
     let bit : (n == number) ≡ has_label attribute label i =
-    number_is numbered label (label_at attribute i) number n rule here first in
+    number_is numbered label (label_of attribute i) number n rule here first in
     let bits : map (λ x. x == number) column ≡ map (has_label attribute label) items =
     bits_are numbered label number attribute column items rule here rest in
     cc
@@ -170,35 +171,35 @@ nowhere numbered label l n none at =
     beyond a b h = grind (arith, nat_tests)
 
 pub no_bits : (numbered : List (List ℕ)) (label : List ℕ) (attribute : ℕ) (column : List ℕ) (items : List Item) →
-    None ≡ position (bytes_eq label) numbered → IsColumnOf numbered column (map (label_at attribute) items) →
+    None ≡ position (bytes_eq label) numbered → IsColumnOf numbered column (map (label_of attribute) items) →
     replicate (length column) false ≡ map (has_label attribute label) items
 no_bits numbered label attribute [] [] none is = refl
 no_bits numbered label attribute [] (i ∷ items) none is = absurd cc
 no_bits numbered label attribute (n ∷ column) [] none is = absurd cc
 no_bits numbered label attribute (n ∷ column) (i ∷ items) none is =
-    let first : slice_get numbered n ≡ Some (label_at attribute i) = cc in
-    let rest : IsColumnOf numbered column (map (label_at attribute) items) = cc in
-    let bit : has_label attribute label i ≡ false = nowhere numbered label (label_at attribute i) n none first in
+    let first : slice_get numbered n ≡ Some (label_of attribute i) = cc in
+    let rest : IsColumnOf numbered column (map (label_of attribute) items) = cc in
+    let bit : has_label attribute label i ≡ false = nowhere numbered label (label_of attribute i) n none first in
     let bits : replicate (length column) false ≡ map (has_label attribute label) items =
     no_bits numbered label attribute column items none rest in
     cc
 
 -- there is one number for each item
 pub column_length : (numbered : List (List ℕ)) (attribute : ℕ) (column : List ℕ) (items : List Item) →
-    IsColumnOf numbered column (map (label_at attribute) items) → length column ≡ length items
+    IsColumnOf numbered column (map (label_of attribute) items) → length column ≡ length items
 column_length numbered attribute column items is =
     sym (length-map column (slice_get numbered)) ∙ ap length is
-    ∙ length-map (map (label_at attribute) items) (λ (l : List ℕ). Some l) ∙ length-map items (label_at attribute)
+    ∙ length-map (map (label_of attribute) items) (λ (l : List ℕ). Some l) ∙ length-map items (label_of attribute)
 
 -- a row that is made for a column has a bit for each item
 pub unset_for : (numbered : List (List ℕ)) (attribute : ℕ) (column : List ℕ) (items : List Item) (row : List Bool) →
-    IsColumnOf numbered column (map (label_at attribute) items) → row ≡ replicate (length column) false →
+    IsColumnOf numbered column (map (label_of attribute) items) → row ≡ replicate (length column) false →
     row ≡ replicate (length items) false
 unset_for numbered attribute column items row is unset =
     unset ∙ ap (λ (k : ℕ). replicate k false) (column_length numbered attribute column items is)
 
 pub as_long : (numbered : List (List ℕ)) (attribute : ℕ) (column : List ℕ) (items : List Item) (row : List Bool) →
-    IsColumnOf numbered column (map (label_at attribute) items) → row ≡ replicate (length items) false → length column ≡ length row
+    IsColumnOf numbered column (map (label_of attribute) items) → row ≡ replicate (length items) false → length column ≡ length row
 as_long numbered attribute column items row is unset =
     column_length numbered attribute column items is ∙ sym (length-replicate (length items) false) ∙ ap length (sym unset)
 
@@ -206,18 +207,18 @@ as_long numbered attribute column items row is unset =
 pub none_labelled : (x : IndexParts) (all : List LevelColumns) (level attribute : ℕ) (label : List ℕ) →
     AreColumnsFor x.labels x.bundle.levels all → level < length x.bundle.levels → attribute < attributes_on x.bundle level →
     None ≡ position (bytes_eq label) x.labels →
-    replicate (length (items_on x.bundle level)) false ≡ map (has_label attribute label) (items_on x.bundle level)
+    replicate (length (items_at x.bundle.levels level)) false ≡ map (has_label attribute label) (items_at x.bundle.levels level)
 none_labelled x all level attribute label are within below none = by (slice_get all level) refl
   where
     by : (o : Option LevelColumns) → slice_get all level ≡ o →
-        replicate (length (items_on x.bundle level)) false ≡ map (has_label attribute label) (items_on x.bundle level)
+        replicate (length (items_at x.bundle.levels level)) false ≡ map (has_label attribute label) (items_at x.bundle.levels level)
     by None missing = absurd (is_there all level (omega (arith, are.count)) missing)
     by (Some columns) at =
-        let is : IsColumnOf x.labels (get_or columns.labels attribute []) (map (label_at attribute) (items_on x.bundle level)) =
+        let is : IsColumnOf x.labels (get_or columns.labels attribute []) (map (label_of attribute) (items_at x.bundle.levels level)) =
         column_is x all level attribute columns (get_or columns.labels attribute []) are below at refl in
         ap (λ (k : ℕ). replicate k false)
-        (sym (column_length x.labels attribute (get_or columns.labels attribute []) (items_on x.bundle level) is))
-        ∙ no_bits x.labels label attribute (get_or columns.labels attribute []) (items_on x.bundle level) none is
+        (sym (column_length x.labels attribute (get_or columns.labels attribute []) (items_at x.bundle.levels level) is))
+        ∙ no_bits x.labels label attribute (get_or columns.labels attribute []) (items_at x.bundle.levels level) none is
 
 pub range_is : (low high : ℕ) (items : List Item) →
     map (is_between low high) (starts_of items) ≡ map (starts_within low high) items

@@ -9,7 +9,7 @@ use Rattle.db_config.specs.declared.parts.ConfigParts.{ConfigParts}
 use Rattle.db_config.specs.declared.parts.LevelDef.{LevelDef}
 use Rattle.bundle_state.specs.Bundle.{BundleParts}
 use Rattle.bundle_state.specs.Built.{FitsConfig, form_of, form_asked}
-use Rattle.bundle_index.specs.Index.{IsTimed, attributes_on}
+use Rattle.bundle_index.specs.Inner.Index.{IsTimed, attributes_on}
 
 form_there : (config : ConfigParts) (bundle : BundleParts) (level : ℕ) (def : LevelDef) → FitsConfig config bundle →
     slice_get config.levels level ≡ Some def → option_map form_of (slice_get bundle.levels level) ≡ Some (form_asked def)

@@ -8,12 +8,12 @@ use Rattle.emu_names.specs.declared.kinds.LevelKind.TheVariants as kinds
 use Rattle.level_items.specs.declared.times.Time.{Time}
 use Rattle.level_items.specs.declared.times.Time.TheVariants.{NoTime, Span, Point}
 use Rattle.level_items.specs.declared.items.Item.{Item}
-use Rattle.level_items.specs.Levels.{Level, KeepsLevelRule}
+use Rattle.level_items.specs.Levels.{Level, KeepsLevelRule, label_of}
 use Rattle.level_items.specs.Times.{fits_kind, ends_in_time}
 use Rattle.bundle_index.specs.declared.columns.LevelColumns.{LevelColumns}
-use Rattle.bundle_index.specs.Numbered.{IsColumnOf}
-use Rattle.bundle_index.specs.Index.{has_time, if_timed, label_at, label_count}
-use Rattle.bundle_index.specs.Columns.{AreColumnsOf, AreLabelColumns, starts_of, ends_of}
+use Rattle.bundle_index.specs.Inner.Numbered.{IsColumnOf}
+use Rattle.bundle_index.specs.Inner.Index.{has_time, if_timed, label_count}
+use Rattle.bundle_index.specs.Inner.Columns.{AreColumnsOf, AreLabelColumns, starts_of, ends_of}
 
 fits_at : (level : Level) → KeepsLevelRule level → (k : ℕ) (d : Item) → k < length level.items →
     IsFit level.kind level.attributes (get_or level.items k d)
@@ -74,13 +74,13 @@ all_timed level f rule none other = by level.items (λ e some. (fits_at level ru
 -- the columns of labels of a level are those of all its attributes
 all_columns : (numbered : List (List ℕ)) (level : Level) (columns : List (List ℕ)) → KeepsLevelRule level →
     AreLabelColumns numbered level.items (label_count level.items) columns → (attribute : ℕ) → attribute < level.attributes →
-    IsColumnOf numbered (get_or columns attribute []) (map (label_at attribute) level.items)
+    IsColumnOf numbered (get_or columns attribute []) (map (label_of attribute) level.items)
 all_columns numbered level columns rule made attribute below =
     by level.items (λ e some. (fits_at level rule 0 e some).count) made
   where
     by : (items : List Item) → ((e : Item) → 0 < length items → length (get_or items 0 e).labels ≡ level.attributes) →
         AreLabelColumns numbered items (label_count items) columns →
-        IsColumnOf numbered (get_or columns attribute []) (map (label_at attribute) items)
+        IsColumnOf numbered (get_or columns attribute []) (map (label_of attribute) items)
     by [] said is =
         subst (λ (c : List ℕ). IsColumnOf numbered c []) (sym (get_or_past columns attribute [] (omega (arith, is.count)))) refl
     by (i ∷ its) said is =
@@ -95,7 +95,7 @@ pub are_columns : {E : Type 0} (numbered : List (List ℕ)) (level : Level) (ite
 are_columns numbered level items n made (Err e) rule is count labels kept starts ends = tt
 are_columns numbered level items n made (Ok c) rule is count labels kept starts ends = record {
   labels = λ attribute below.
-      subst (λ (cs : List (List ℕ)). IsColumnOf numbered (get_or cs attribute []) (map (label_at attribute) level.items))
+      subst (λ (cs : List (List ℕ)). IsColumnOf numbered (get_or cs attribute []) (map (label_of attribute) level.items))
       (sym kept) (all_columns numbered level made rule here attribute below);
   starts = λ other. starts ∙ ap (λ (its : List Item). if_timed its (starts_of its)) is ∙ all_timed level starts_of rule refl other;
   ends = λ other. ends ∙ ap (λ (its : List Item). if_timed its (ends_of its)) is ∙ all_timed level ends_of rule refl other;

@@ -9,7 +9,7 @@ use Rattle.std.specs.List.{AllZip, IsDistinct, list_any, position, position_or_l
 use Rattle.std.specs.Option.{option_map}
 use Rattle.std.specs.Str.{bytes_eq}
 use Rattle.indexmap.specs.IndexSet.{insert_key}
-use Rattle.bundle_index.specs.Numbered.{HasGrown}
+use Rattle.bundle_index.specs.Inner.Numbered.{HasGrown}
 
 module _ {K : Type 0} (v : K → List ℕ) where
   seen_at : (ks : List K) (i : ℕ) (l : List ℕ) (d : K) → slice_get (map v ks) i ≡ Some l → v (get_or ks i d) ≡ l

@@ -7,7 +7,7 @@ use Rattle.std.proofs.lemmas.Option.{slice_get_within, get_or_from_slice_get}
 use Rattle.std.proofs.lemmas.Slice.Eq.{bytes_eq-Decides}
 use Rattle.std.specs.List.{AllZip, position, position_or_len}
 use Rattle.std.specs.Str.{bytes_eq}
-use Rattle.bundle_index.specs.Keys.{AreBytes, AreKeysOf, IsKeyOf, number_of}
+use Rattle.bundle_index.specs.Inner.Keys.{AreBytes, AreKeysOf, IsKeyOf, number_of}
 
 -- ---- the number of some bytes
 

@@ -1,4 +1,2 @@
-pub mod Numbered
 pub mod Index
-pub mod Keys
-pub mod Columns
+pub mod Inner

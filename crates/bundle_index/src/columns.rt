@@ -1,14 +1,13 @@
 //! The columns of one level: the numbers of its labels, and its times.
 ghost use Rattle.std.specs.Prelude.{◌≡◌, ◌<◌, ℕ, All, IfOk, IsTrue, OnOk, get_or, length, map, take};
-ghost use Rattle.level_items.specs.Levels.{KeepsLevelRule};
+ghost use Rattle.level_items.specs.Levels.{KeepsLevelRule, label_of};
 ghost use Rattle.level_items.specs.Times.{ends_in_time, last_sample};
-ghost use Rattle.bundle_index.specs.Numbered.{HasGrown, IsColumnOf};
-ghost use Rattle.bundle_index.specs.Index.{has_time, have_times, if_timed, label_at, label_count};
-ghost use Rattle.bundle_index.specs.Columns.{AreColumnsOf, AreLabelColumns, starts_of, ends_of};
+ghost use Rattle.bundle_index.specs.Inner.Numbered.{HasGrown, IsColumnOf};
+ghost use Rattle.bundle_index.specs.Inner.Index.{has_time, have_times, if_timed, label_count};
+ghost use Rattle.bundle_index.specs.Inner.Columns.{AreColumnsOf, AreLabelColumns, starts_of, ends_of};
 
 use crate::labels::Labels;
-use emu_lists::Series;
-use emu_names::Memory;
+use emu_names::{Memory, Series};
 use level_items::{Item, LevelList, Time};
 use std::alloc::Global;
 
@@ -33,7 +32,7 @@ fn label_column(
 ) -> Result<Series<u32>, Memory>
     requires { All (λ i. attribute < length i.labels) items.now }
     ensures column { IfOk result (λ column.
-        IsColumnOf labels.new column (map (label_at attribute) items.now)) }
+        IsColumnOf labels.new column (map (label_of attribute) items.now)) }
     ensures grown { OnOk result (HasGrown labels.old labels.new) }
 {
     let mut column = Vec::with_capacity(alloc, items.len())?;

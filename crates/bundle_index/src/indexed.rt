@@ -1,21 +1,21 @@
 //! A bundle with its columns.
 ghost use Rattle.std.specs.Prelude.{◌≡◌, ◌<◌, false, length, map, replicate, IfOk, IfSome, position};
 ghost use Rattle.std.specs.Str.{bytes_eq};
-ghost use Rattle.lane_bits.specs.Row.{is_between};
+ghost use Rattle.lane_bits.specs.Inner.Row.{is_between};
 ghost use Rattle.bundle_state.specs.Built.{FitsConfig};
 ghost use Rattle.hier_closure.specs.Dominance.{closure_of};
-ghost use Rattle.bundle_index.specs.Numbered.{AreNumbered, IsColumnOf};
-ghost use Rattle.bundle_index.specs.Index.{IsTimed, attributes_on, has_label, items_on, label_at, starts_within};
-ghost use Rattle.bundle_index.specs.Columns.{AreColumnsBut, AreColumnsFor, AreKeptOf, AreOtherwiseSame, ends_of, starts_of};
-ghost use Rattle.bundle_index.specs.Keys.{AreKeysOf};
+ghost use Rattle.bundle_index.specs.Inner.Numbered.{AreNumbered, IsColumnOf};
+ghost use Rattle.bundle_index.specs.Inner.Index.{IsTimed, attributes_on, has_label, starts_within};
+ghost use Rattle.level_items.specs.Levels.{items_at, label_of};
+ghost use Rattle.bundle_index.specs.Inner.Columns.{AreColumnsBut, AreColumnsFor, AreKeptOf, AreOtherwiseSame, ends_of, starts_of};
+ghost use Rattle.bundle_index.specs.Inner.Keys.{AreKeysOf};
 
 use crate::labels::Labels;
 use crate::shared::SharedColumns;
 use crate::short_keys::ShortKeys;
 use bundle_state::Bundle;
 use db_config::Config;
-use emu_lists::Series;
-use emu_names::Memory;
+use emu_names::{Memory, Series};
 use hier_closure::{Closure, LinkedLevels, linked_levels, relinked_levels};
 use lane_bits::{BitRow, eq_lanes, range_lanes};
 use std::alloc::Global;
@@ -46,7 +46,7 @@ impl Model for Indexed {
 
     ghost Value = { IndexParts };
 
-    ghost use Rattle.bundle_index.specs.Columns.{AreKeptOf};
+    ghost use Rattle.bundle_index.specs.Inner.Columns.{AreKeptOf};
 
     ghost view = { λ x. record { bundle = x.bundle; labels = x.labels } };
 
@@ -143,7 +143,7 @@ impl Indexed {
         requires level { level < length self.now.bundle.levels }
         requires attribute { attribute < attributes_on self.now.bundle level }
         ensures { IsColumnOf self.now.labels result.now
-            (map (label_at attribute) (items_on self.now.bundle level)) }
+            (map (label_of attribute) (items_at self.now.bundle.levels level)) }
     {
         let labels = &self.columns.get(level).as_ref().labels;
         if attribute < labels.len() {
@@ -157,7 +157,7 @@ impl Indexed {
     pub fn starts(&self, level: usize) -> &[u64]
         requires level { level < length self.now.bundle.levels }
         requires timed { IsTimed self.now.bundle level }
-        ensures { result.now ≡ starts_of (items_on self.now.bundle level) }
+        ensures { result.now ≡ starts_of (items_at self.now.bundle.levels level) }
     {
         self.columns.get(level).as_ref().starts.as_slice()
     }
@@ -166,7 +166,7 @@ impl Indexed {
     pub fn ends(&self, level: usize) -> &[u64]
         requires level { level < length self.now.bundle.levels }
         requires timed { IsTimed self.now.bundle level }
-        ensures { result.now ≡ ends_of (items_on self.now.bundle level) }
+        ensures { result.now ≡ ends_of (items_at self.now.bundle.levels level) }
     {
         self.columns.get(level).as_ref().ends.as_slice()
     }
@@ -213,7 +213,7 @@ impl Indexed {
         requires level { level < length self.now.bundle.levels }
         requires attribute { attribute < attributes_on self.now.bundle level }
         ensures { IfOk result (λ row.
-            row ≡ map (has_label attribute label.now) (items_on self.now.bundle level)) }
+            row ≡ map (has_label attribute label.now) (items_at self.now.bundle.levels level)) }
     {
         let mut row = row_of(alloc, self.column(level, attribute).len())?;
         self.set_label_bits(level, attribute, label, &mut row);
@@ -225,8 +225,8 @@ impl Indexed {
     pub fn set_label_bits(&self, level: usize, attribute: usize, label: &str, row: &mut BitRow)
         requires level { level < length self.now.bundle.levels }
         requires attribute { attribute < attributes_on self.now.bundle level }
-        requires unset { row.old ≡ replicate (length (items_on self.now.bundle level)) false }
-        ensures { row.new ≡ map (has_label attribute label.now) (items_on self.now.bundle level) }
+        requires unset { row.old ≡ replicate (length (items_at self.now.bundle.levels level)) false }
+        ensures { row.new ≡ map (has_label attribute label.now) (items_at self.now.bundle.levels level) }
     {
         let _levels = self.columns.len();
         match self.label_number(label) {
@@ -241,7 +241,7 @@ impl Indexed {
         requires level { level < length self.now.bundle.levels }
         requires timed { IsTimed self.now.bundle level }
         ensures { IfOk result (λ row.
-            row ≡ map (starts_within low high) (items_on self.now.bundle level)) }
+            row ≡ map (starts_within low high) (items_at self.now.bundle.levels level)) }
     {
         row_of_range(alloc, self.starts(level), low, high)
     }

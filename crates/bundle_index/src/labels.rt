@@ -1,7 +1,7 @@
 //! The distinct labels of a bundle, each with its number, as indexed bundles share them.
 ghost use Rattle.std.specs.Prelude.{◌≡◌, ◌<◌, [], IfOk, OnOk, length, position, slice_get, Some};
 ghost use Rattle.std.specs.Str.{bytes_eq};
-ghost use Rattle.bundle_index.specs.Numbered.{AreNumbered, HasGrown};
+ghost use Rattle.bundle_index.specs.Inner.Numbered.{AreNumbered, HasGrown};
 
 use emu_names::Memory;
 use indexmap::IndexSet;
@@ -20,7 +20,7 @@ struct LabelSet {
 
 impl Model for LabelSet {
     ghost use Rattle.std.specs.Prelude.{List, ℕ, map, string_bytes};
-    ghost use Rattle.bundle_index.specs.Numbered.{AreNumbered};
+    ghost use Rattle.bundle_index.specs.Inner.Numbered.{AreNumbered};
 
     ghost Value = { List (List ℕ) };
 

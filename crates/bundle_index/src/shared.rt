@@ -1,8 +1,8 @@
 //! The columns of a level as indexed bundles share them, where that level has not changed.
 ghost use Rattle.std.specs.Prelude.{◌≡◌, IfOk, OnOk, false};
 ghost use Rattle.level_items.specs.Levels.{KeepsLevelRule};
-ghost use Rattle.bundle_index.specs.Numbered.{HasGrown};
-ghost use Rattle.bundle_index.specs.Columns.{AreColumnsOf};
+ghost use Rattle.bundle_index.specs.Inner.Numbered.{HasGrown};
+ghost use Rattle.bundle_index.specs.Inner.Columns.{AreColumnsOf};
 
 use crate::columns::{LevelColumns, columns_of};
 use crate::labels::Labels;

@@ -1,11 +1,10 @@
 //! Keys of a few labels, by which a short label is found without a look at the labels.
 ghost use Rattle.std.specs.Prelude.{◌≡◌, ◌<◌, ◌≤◌, ◌==◌, ℕ, List, true, IfOk, IfSome, length, position};
 ghost use Rattle.std.specs.Str.{bytes_eq};
-ghost use Rattle.bundle_index.specs.Keys.{AreBytes, AreKeysOf, IsKeyOf, number_of};
+ghost use Rattle.bundle_index.specs.Inner.Keys.{AreBytes, AreKeysOf, IsKeyOf, number_of};
 
 use crate::labels::Labels;
-use emu_lists::Series;
-use emu_names::Memory;
+use emu_names::{Memory, Series};
 use std::alloc::Global;
 use std::marker::Model;
 

@@ -7,14 +7,14 @@ use Rattle.emu_names.specs.declared.kinds.LevelKind.{LevelKind}
 use Rattle.emu_names.specs.declared.names.BundleKey.{BundleKey}
 use Rattle.emu_names.specs.declared.rules.Broken.{Broken}
 use Rattle.emu_names.specs.declared.rules.Fault.{Fault}
-use Rattle.emu_names.specs.Gives.{GivesOrBroken}
+use Rattle.emu_names.specs.Inner.Gives.{GivesOrBroken}
 use Rattle.level_items.specs.declared.annot.Annot.{Annot}
 use Rattle.level_items.specs.Levels.{Level, are_labels_for}
 use Rattle.db_config.specs.declared.parts.LevelDef.{LevelDef}
 use Rattle.db_config.specs.declared.parts.ConfigParts.{ConfigParts}
 use Rattle.bundle_state.specs.Bundle.{BundleParts, place_of}
 use Rattle.bundle_state.specs.Built.{built, form_of, form_asked, FitsConfig}
-use Rattle.bundle_state.specs.Changed.{attributes_with}
+use Rattle.bundle_state.specs.Inner.Changed.{attributes_with}
 use Rattle.bundle_state.specs.ChangedLaws.{KeepsForm}
 use Rattle.bundle_state.proofs.BuiltKept.{built_fits}
 

@@ -12,7 +12,7 @@ use Rattle.emu_names.specs.declared.limits.TheConstants.{BUNDLE_ITEMS}
 use Rattle.emu_names.specs.declared.rules.Broken.{Broken}
 use Rattle.emu_names.specs.declared.rules.Fault.{Fault}
 use Rattle.emu_names.specs.declared.rules.Fault.TheVariants as faults
-use Rattle.emu_names.specs.Gives.{FindsFault}
+use Rattle.emu_names.specs.Inner.Gives.{FindsFault}
 use Rattle.emu_names.specs.declared.rules.Broken.TheVariants as rules
 use Rattle.level_items.specs.declared.times.Time.{Time}
 use Rattle.level_items.specs.declared.times.Time.TheVariants.{NoTime}
@@ -28,9 +28,9 @@ use Rattle.bundle_state.specs.declared.places.Places.{Places}
 use Rattle.bundle_state.specs.Bundle.{BundleParts, all_ids, item_count, level_of_id, position_on, place_from, place_of}
 use Rattle.bundle_state.specs.Built.{form_of, FitsConfig}
 use Rattle.bundle_state.specs.Linked.{unless_broken, kind_of, definition_for}
-use Rattle.bundle_state.specs.Placed.{level_in}
+use Rattle.bundle_state.specs.Inner.Placed.{level_in}
 use Rattle.bundle_state.specs.Valid.{KeepsBundleRules}
-use Rattle.bundle_state.specs.Kept.{IsKept}
+use Rattle.bundle_state.specs.Inner.Kept.{IsKept}
 use Rattle.bundle_state.specs.Changed.{with_levels, with_links, change_level, with_item, without_item, with_changed, with_change, without, place_for, new_item_fault, new_time_fault, item_added, item_removed, label_set, item_retimed, link_put, link_added, missing_fault, link_removed}
 use Rattle.bundle_state.specs.ChangedLaws.{KeepsForm, KeepsRules, HasRoomFor}
 use Rattle.bundle_state.proofs.Tests.{cond_none}

@@ -9,22 +9,22 @@ use Rattle.emu_names.specs.declared.rules.Broken.{Broken}
 use Rattle.emu_names.specs.declared.rules.Broken.TheVariants as rules
 use Rattle.emu_names.specs.declared.rules.Fault.{Fault}
 use Rattle.emu_names.specs.declared.rules.Fault.TheVariants as faults
-use Rattle.emu_names.specs.Gives.{FindsFault}
+use Rattle.emu_names.specs.Inner.Gives.{FindsFault}
 use Rattle.level_items.specs.declared.annot.AnnotLabel.{AnnotLabel}
 use Rattle.level_items.specs.declared.annot.AnnotItem.{AnnotItem}
 use Rattle.level_items.specs.declared.annot.AnnotLevel.{AnnotLevel}
 use Rattle.db_config.specs.declared.attributes.AttributeDef.{AttributeDef}
 use Rattle.db_config.specs.declared.parts.LevelDef.{LevelDef}
-use Rattle.level_items.specs.Faults.{or_else}
+use Rattle.std.specs.Option.{option_or}
 use Rattle.bundle_state.specs.Faults.{labels_fault, item_fault, items_fault, level_fault, found_level_fault, levels_fault, given_ids}
-use Rattle.db_config.specs.Names.{same_text}
+use Rattle.emu_names.specs.Texts.{same_text}
 use Rattle.bundle_state.specs.Lookups.{level_for, has_attribute}
 
 -- a whole that begins with a part: the part's fault comes first
-pub first_fault : (part later : Option Broken) (r : Broken) → part ≡ Some r → or_else part later ≡ Some r
+pub first_fault : (part later : Option Broken) (r : Broken) → part ≡ Some r → option_or part later ≡ Some r
 first_fault part later r h = rw h refl
 
-pub no_fault : (part later : Option Broken) → part ≡ None → or_else part later ≡ later
+pub no_fault : (part later : Option Broken) → part ≡ None → option_or part later ≡ later
 no_fault part later h = rw h refl
 
 -- a fault of a part is a fault of the whole
@@ -35,13 +35,13 @@ stops A B faults.Memory part whole first h = tt
 -- the labels of an item
 
 pub labels_step : (defs : List AttributeDef) (named : List (List ℕ)) (l : AnnotLabel) (ls : List AnnotLabel) →
-    labels_fault defs named (l ∷ ls) ≡ or_else (labels_fault defs named (l ∷ [])) (labels_fault defs (named ++ l.name ∷ []) ls)
+    labels_fault defs named (l ∷ ls) ≡ option_or (labels_fault defs named (l ∷ [])) (labels_fault defs (named ++ l.name ∷ []) ls)
 labels_step defs named l ls =
     by (has_attribute defs l.name) (list_any (same_text l.name) named) (nat_lt 4096 (length l.value)) (labels_fault defs (named ++ l.name ∷ []) ls)
   where
     by : (has two long : Bool) (later : Option Broken) →
         (if not has then Some (rules.NoAttribute l.name) else if two then Some (rules.TwoLabels l.name) else if long then Some rules.LabelTooLong else later)
-        ≡ or_else (if not has then Some (rules.NoAttribute l.name) else if two then Some (rules.TwoLabels l.name) else if long then Some rules.LabelTooLong else None) later
+        ≡ option_or (if not has then Some (rules.NoAttribute l.name) else if two then Some (rules.TwoLabels l.name) else if long then Some rules.LabelTooLong else None) later
     by false two long later = refl
     by true true long later = refl
     by true false true later = refl

@@ -20,12 +20,14 @@ use Rattle.level_items.specs.declared.annot.AnnotLevel.{AnnotLevel}
 use Rattle.level_items.specs.declared.annot.Annot.{Annot}
 use Rattle.level_items.specs.Times.{fits_kind, ends_in_time, is_before}
 use Rattle.level_items.specs.Levels.{Level, level_of, ids_of, are_different, is_short, are_labels_for, fits_level, are_apart, are_in_order, KeepsLevelRule}
-use Rattle.level_items.specs.Faults.{or_else, time_fault, order_rule, order_fault}
+use Rattle.level_items.specs.Faults.{time_fault, order_rule, order_fault}
+use Rattle.std.specs.Option.{option_or}
 use Rattle.db_config.specs.declared.attributes.AttributeDef.{AttributeDef}
 use Rattle.db_config.specs.declared.parts.LevelDef.{LevelDef}
 use Rattle.db_config.specs.declared.parts.ConfigParts.{ConfigParts}
 use Rattle.db_config.specs.Above.{leads_round}
-use Rattle.db_config.specs.Names.{same_text, names_of, attribute_names, without_first, all_names, are_distinct}
+use Rattle.db_config.specs.Names.{names_of, attribute_names, without_first, all_names, are_distinct}
+use Rattle.emu_names.specs.Texts.{same_text}
 use Rattle.db_config.specs.Valid.{are_within_limits, is_in_range, are_apart as links_apart, keeps_rules, is_valid}
 use Rattle.bundle_state.specs.Bundle.{all_ids, item_count}
 use Rattle.bundle_state.specs.Lookups.{level_for, has_attribute}
@@ -76,9 +78,9 @@ time_parts kind time = by (fits_kind kind time) (ends_in_time time)
 
 fine_item : (def : LevelDef) (taken : List ℕ) (before : Option AnnotItem) (item : AnnotItem) → item_fault def taken before item ≡ None → IsFineItem def taken before item
 fine_item def taken before item fine =
-    let rest : Option Broken = or_else (labels_fault def.attributes [] item.labels) (behind_fault def.kind before item) in
-    let first : (list_any (nat_eq item.id.0) taken ≡ false) × (or_else (time_fault def.kind item.time) rest ≡ None)
-    = cond_none (list_any (nat_eq item.id.0) taken) (rules.IdTaken item.id) (or_else (time_fault def.kind item.time) rest) fine in
+    let rest : Option Broken = option_or (labels_fault def.attributes [] item.labels) (behind_fault def.kind before item) in
+    let first : (list_any (nat_eq item.id.0) taken ≡ false) × (option_or (time_fault def.kind item.time) rest ≡ None)
+    = cond_none (list_any (nat_eq item.id.0) taken) (rules.IdTaken item.id) (option_or (time_fault def.kind item.time) rest) fine in
     let second : (time_fault def.kind item.time ≡ None) × (rest ≡ None) = or_none (time_fault def.kind item.time) rest first.1 in
     let time : (fits_kind def.kind item.time ≡ true) × (ends_in_time item.time ≡ true) = time_parts def.kind item.time second.0 in
     let third : (labels_fault def.attributes [] item.labels ≡ None) × (behind_fault def.kind before item ≡ None) = or_none (labels_fault def.attributes [] item.labels) (behind_fault def.kind before item) second.1 in

@@ -18,7 +18,7 @@ use Rattle.emu_names.specs.declared.limits.TheConstants.{BUNDLE_LINKS}
 use Rattle.emu_names.specs.declared.kinds.LinkKind.TheVariants.{ManyToMany}
 use Rattle.emu_names.specs.declared.rules.Fault.{Fault}
 use Rattle.emu_names.specs.declared.rules.Fault.TheVariants as faults
-use Rattle.emu_names.specs.Gives.{GivesOrBroken}
+use Rattle.emu_names.specs.Inner.Gives.{GivesOrBroken}
 use Rattle.emu_names.specs.declared.rules.Broken.{Broken}
 use Rattle.emu_names.specs.declared.rules.Broken.TheVariants as rules
 use Rattle.emu_names.specs.declared.rules.What.TheVariants as counted
@@ -29,7 +29,8 @@ use Rattle.link_graph.specs.Kind.{KeepKind}
 use Rattle.link_graph.proofs.Kept.{keep_added, keep_other, keep_none}
 use Rattle.db_config.specs.declared.parts.LinkDef.{LinkDef}
 use Rattle.db_config.specs.Lookups.{leads}
-use Rattle.bundle_state.specs.Linked.{unless_broken, onward, kind_of, definition_for, put_by, put_link, put_links, IsBetween, KeepLinkRule, same_pair, first_places, pair_of}
+use Rattle.bundle_state.specs.Linked.{unless_broken, kind_of, definition_for, put_by, put_link, put_links, IsBetween, KeepLinkRule, same_pair, first_places, pair_of}
+use Rattle.emu_names.specs.Steps.{onward}
 
 -- what holds of links while they are put
 pub record AreFineLinks (defs : List LinkDef) (level : ℕ → Option ℕ) (links : List Link) : Type 0 where

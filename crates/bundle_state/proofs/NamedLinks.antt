@@ -3,7 +3,8 @@ use Rattle.std.proofs.Common.{◌≡◌, Bool, true, false, cond, not, ◌||◌,
 use Rattle.std.specs.List.{list_any, filter}
 use Rattle.emu_names.specs.declared.kinds.ItemId.{ItemId}
 use Rattle.link_graph.specs.declared.link.Link.{Link}
-use Rattle.link_graph.specs.Link.{names_item, parents_of, children_of}
+use Rattle.link_graph.specs.Link.{names_item, children_of}
+use Rattle.link_graph.specs.Inner.Link.{parents_of}
 use Rattle.link_graph.proofs.Filters.{filter_all}
 
 -- the first of these is there where the list has one that passes

@@ -2,7 +2,7 @@
 -- all are kept.
 use Rattle.std.proofs.Common.{◌≡◌, ℕ, Bool, true, false, cond, not, ◌&&◌, List, [], ◌∷◌, ◌++◌, length, map, Option, Some, None, nat_eq, nat_lt, nat_le, refl, sym, ◌∙◌, ap}
 use Rattle.std.specs.List.{list_any, list_all}
-use Rattle.std.specs.Option.{is_none}
+use Rattle.std.specs.Option.{is_none, option_or}
 use Rattle.std.proofs.lemmas.Bool.{false≢true, true≢false, not-true, not-false, not_from_true, not_from_false, and_parts, and_from, or_parts, or_from, ltb-false, le-leb, leb-true, le-ltb, false_from_ne_true}
 use Rattle.emu_names.specs.declared.limits.TheConstants.{BUNDLE_ITEMS, LABEL_BYTES}
 use Rattle.emu_names.specs.declared.kinds.ItemId.{ItemId}
@@ -19,9 +19,10 @@ use Rattle.level_items.specs.declared.annot.AnnotLevel.{AnnotLevel}
 use Rattle.level_items.specs.declared.annot.Annot.{Annot}
 use Rattle.level_items.specs.Times.{fits_kind, ends_in_time, is_before}
 use Rattle.level_items.specs.Levels.{are_different, is_short, are_apart, are_in_order}
-use Rattle.level_items.specs.Faults.{or_else, time_fault, order_rule, order_fault}
+use Rattle.level_items.specs.Faults.{time_fault, order_rule, order_fault}
 use Rattle.db_config.specs.declared.parts.LevelDef.{LevelDef}
-use Rattle.db_config.specs.Names.{same_text, are_distinct}
+use Rattle.db_config.specs.Names.{are_distinct}
+use Rattle.emu_names.specs.Texts.{same_text}
 use Rattle.bundle_state.specs.Lookups.{level_for, has_attribute}
 use Rattle.bundle_state.specs.Faults.{is_rate, labels_fault, behind_fault, item_fault, items_fault, same_kind, found_level_fault, level_fault, given_ids, levels_fault, given_count, annot_fault}
 use Rattle.bundle_state.specs.Made.{made_item}
@@ -39,7 +40,7 @@ cond_then : (b : Bool) (r : Broken) → b ≡ true → cond b None (Some r) ≡ 
 cond_then true r is = refl
 cond_then false r is = absurd (false≢true is)
 
-or_nothing : (a b : Option Broken) → a ≡ None → b ≡ None → or_else a b ≡ None
+or_nothing : (a b : Option Broken) → a ≡ None → b ≡ None → option_or a b ≡ None
 or_nothing None b first second = second
 or_nothing (Some r) b first second = absurd (some_none r first)
 
@@ -241,11 +242,11 @@ time_none kind time fits ends = rw (fits, ends) refl
 
 item_none : (def : LevelDef) (taken : List ℕ) (before : Option AnnotItem) (item : AnnotItem) → list_any (nat_eq item.id.0) taken ≡ false → is_item_of def item ≡ true → behind_fault def.kind before item ≡ None → item_fault def taken before item ≡ None
 item_none def taken before item fresh fine order =
-    let last : Option Broken = or_else (labels_fault def.attributes [] item.labels) (behind_fault def.kind before item) in
+    let last : Option Broken = option_or (labels_fault def.attributes [] item.labels) (behind_fault def.kind before item) in
     let parts : (fits_kind def.kind item.time && ends_in_time item.time ≡ true) × (are_labels_of def item.labels ≡ true) = and_parts (fits_kind def.kind item.time && ends_in_time item.time) (are_labels_of def item.labels) fine in
     let time : (fits_kind def.kind item.time ≡ true) × (ends_in_time item.time ≡ true) = and_parts (fits_kind def.kind item.time) (ends_in_time item.time) parts.0 in
     let labels : (list_all (is_label_of def) item.labels ≡ true) × (are_distinct (label_names item.labels) ≡ true) = and_parts (list_all (is_label_of def) item.labels) (are_distinct (label_names item.labels)) parts.1 in
-    cond_else (list_any (nat_eq item.id.0) taken) (rules.IdTaken item.id) (or_else (time_fault def.kind item.time) last) fresh
+    cond_else (list_any (nat_eq item.id.0) taken) (rules.IdTaken item.id) (option_or (time_fault def.kind item.time) last) fresh
     (or_nothing (time_fault def.kind item.time) last (time_none def.kind item.time time.0 time.1)
     (or_nothing (labels_fault def.attributes [] item.labels) (behind_fault def.kind before item)
     (labels_none def [] item.labels (record { each = labels.0; distinct = labels.1; fresh = away_nothing same_text (label_names item.labels) })) order))

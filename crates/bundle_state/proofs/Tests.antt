@@ -4,8 +4,8 @@ use Rattle.std.specs.List.{list_any, list_all}
 use Rattle.std.proofs.lemmas.Bool.{false≢true, not-true, not_from_false, and_parts, and_from, or_parts, or_from, ne_eqb, eqb-false}
 use Rattle.emu_names.specs.declared.rules.Broken.{Broken}
 use Rattle.level_items.specs.Levels.{are_different}
-use Rattle.level_items.specs.Faults.{or_else}
-use Rattle.db_config.specs.Names.{same_text}
+use Rattle.std.specs.Option.{option_or}
+use Rattle.emu_names.specs.Texts.{same_text}
 
 -- P holds of each element
 abbrev pub Each : {A : Type 0} → (A → Type 0) → List A → Type 0
@@ -39,7 +39,7 @@ text_apart a b c same apart = ap (λ (k : List ℕ). same_text k c) same ∙ apa
 pub some_none : {A : Type 0} (x : A) → Some x ≡ None → ⊥
 some_none x e = cc
 
-pub or_none : (a b : Option Broken) → or_else a b ≡ None → (a ≡ None) × (b ≡ None)
+pub or_none : (a b : Option Broken) → option_or a b ≡ None → (a ≡ None) × (b ≡ None)
 or_none None b e = (refl, e)
 or_none (Some r) b e = absurd (some_none r e)
 

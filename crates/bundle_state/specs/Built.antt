@@ -12,7 +12,8 @@ use Rattle.db_config.specs.declared.parts.ConfigParts.{ConfigParts}
 use Rattle.bundle_state.specs.Bundle.{BundleParts, level_of_id}
 use Rattle.bundle_state.specs.Faults.{annot_fault}
 use Rattle.bundle_state.specs.Made.{made_levels}
-use Rattle.bundle_state.specs.Linked.{unless_broken, onward, put_links}
+use Rattle.bundle_state.specs.Linked.{unless_broken, put_links}
+use Rattle.emu_names.specs.Steps.{onward}
 
 -- the bundle of a key with these levels and links
 abbrev pub bundle_of : ConfigParts → BundleKey → Annot → List Level → List Link → BundleParts

@@ -2,19 +2,19 @@
 -- first (EMU-SDMS Manual, "The emuDB format": `_annot.json`).
 use Rattle.std.specs.Prelude.{ℕ, zero, suc, not, List, [], ◌∷◌, ◌++◌, nat_eq, remove, Option, Some, None, Result, Ok, if◌then◌else◌, ok_or}
 use Rattle.std.specs.List.{list_any, filter, slice_get}
-use Rattle.std.specs.Option.{option_and_then, option_map}
+use Rattle.std.specs.Option.{option_and_then}
 use Rattle.emu_names.specs.declared.kinds.ItemId.{ItemId}
 use Rattle.emu_names.specs.declared.rules.Broken.{Broken}
 use Rattle.emu_names.specs.declared.rules.Broken.TheVariants as rules
 use Rattle.level_items.specs.declared.times.Time.{Time}
 use Rattle.level_items.specs.declared.items.Item.{Item}
-use Rattle.level_items.specs.Levels.{Level, with_items, change_at, retimed, relabelled}
+use Rattle.level_items.specs.Levels.{Level, with_items, change_at, retimed, relabelled, put_at_place}
 use Rattle.level_items.specs.Faults.{insert_fault, retime_fault}
-use Rattle.level_items.specs.Laws.{put_at_place}
 use Rattle.link_graph.specs.declared.link.Link.{Link}
 use Rattle.link_graph.specs.Link.{names_item, joins, link_of, add_fault}
 use Rattle.bundle_state.specs.Bundle.{BundleParts, all_ids, level_of_id, place_of}
-use Rattle.bundle_state.specs.Linked.{unless_broken, onward, kind_of, definition_for}
+use Rattle.bundle_state.specs.Linked.{unless_broken, kind_of, definition_for}
+use Rattle.emu_names.specs.Steps.{onward}
 
 -- the bundle with other levels
 abbrev pub with_levels : BundleParts → List Level → BundleParts
@@ -46,14 +46,6 @@ with_changed change position level = with_items level (change_at change position
 -- the level and the position of an item, which has to be there
 abbrev pub place_for : ItemId → List Level → Result (ℕ × ℕ) Broken
 place_for id levels = ok_or (place_of levels id.0) (rules.NoItem id)
-
--- the level of the item with this id
-abbrev pub level_with : ℕ → List Level → Option Level
-level_with id levels = option_and_then (λ place. slice_get levels place.0) (place_of levels id)
-
--- how many labels the item with this id has
-abbrev pub attributes_with : ℕ → List Level → Option ℕ
-attributes_with id levels = option_map (λ level. level.attributes) (level_with id levels)
 
 -- the rule that a new item breaks first on the level of this number
 abbrev pub put_fault : ℕ → Option ℕ → Item → List Level → Option Broken

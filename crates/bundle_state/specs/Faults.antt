@@ -13,10 +13,11 @@ use Rattle.level_items.specs.declared.annot.AnnotLabel.{AnnotLabel}
 use Rattle.level_items.specs.declared.annot.AnnotItem.{AnnotItem}
 use Rattle.level_items.specs.declared.annot.AnnotLevel.{AnnotLevel}
 use Rattle.level_items.specs.declared.annot.Annot.{Annot}
-use Rattle.level_items.specs.Faults.{or_else, time_fault, order_fault}
+use Rattle.level_items.specs.Faults.{time_fault, order_fault}
+use Rattle.std.specs.Option.{option_or}
 use Rattle.db_config.specs.declared.attributes.AttributeDef.{AttributeDef}
 use Rattle.db_config.specs.declared.parts.LevelDef.{LevelDef}
-use Rattle.db_config.specs.Names.{same_text}
+use Rattle.emu_names.specs.Texts.{same_text}
 use Rattle.bundle_state.specs.Lookups.{level_for, has_attribute}
 
 -- sample rates are whole hertz from 1 to 1,000,000
@@ -42,14 +43,14 @@ behind_fault kind (Some before) item = order_fault kind before.id before.time it
 abbrev pub item_fault : LevelDef → List ℕ → Option AnnotItem → AnnotItem → Option Broken
 item_fault def taken before item =
     if list_any (nat_eq item.id.0) taken then Some (rules.IdTaken item.id)
-    else or_else (time_fault def.kind item.time)
-    (or_else (labels_fault def.attributes [] item.labels) (behind_fault def.kind before item))
+    else option_or (time_fault def.kind item.time)
+    (option_or (labels_fault def.attributes [] item.labels) (behind_fault def.kind before item))
 
 -- the items of a level, behind these ids and this item
 abbrev pub items_fault : LevelDef → List ℕ → Option AnnotItem → List AnnotItem → Option Broken
 items_fault def taken before [] = None
 items_fault def taken before (item ∷ items) =
-    or_else (item_fault def taken before item)
+    option_or (item_fault def taken before item)
     (items_fault def (taken ++ item.id.0 ∷ []) (Some item) items)
 
 -- two levels are of one kind
@@ -88,7 +89,7 @@ given_ids items = map (λ i. i.id.0) items
 abbrev pub levels_fault : List LevelDef → List (List ℕ) → List ℕ → List AnnotLevel → Option Broken
 levels_fault defs named taken [] = None
 levels_fault defs named taken (level ∷ levels) =
-    or_else (level_fault defs named taken level)
+    option_or (level_fault defs named taken level)
     (levels_fault defs (named ++ level.name ∷ []) (taken ++ given_ids level.items) levels)
 
 -- how many items the levels have together

@@ -8,6 +8,5 @@ pub mod Changed
 pub mod ChangedLaws
 pub mod Valid
 pub mod Rules
-pub mod Placed
-pub mod Kept
 pub mod Laws
+pub mod Inner

@@ -8,6 +8,7 @@ use Rattle.emu_names.specs.declared.kinds.LinkKind.{LinkKind}
 use Rattle.emu_names.specs.declared.kinds.LinkKind.TheVariants.{ManyToMany}
 use Rattle.emu_names.specs.declared.rules.Broken.{Broken}
 use Rattle.emu_names.specs.declared.rules.Broken.TheVariants as rules
+use Rattle.emu_names.specs.Steps.{onward}
 use Rattle.level_items.specs.declared.annot.AnnotLink.{AnnotLink}
 use Rattle.link_graph.specs.declared.link.Link.{Link}
 use Rattle.link_graph.specs.Link.{link_of, joins, add_fault}
@@ -19,11 +20,6 @@ use Rattle.db_config.specs.Lookups.{leads}
 abbrev pub unless_broken : {A : Type 0} → Option Broken → A → Result A Broken
 unless_broken None value = Ok value
 unless_broken (Some rule) value = Err rule
-
--- what follows from a value, or the rule that was broken before
-abbrev pub onward : {A B : Type 0} → Result A Broken → (A → Result B Broken) → Result B Broken
-onward (Ok value) next = next value
-onward (Err rule) next = Err rule
 
 -- the kind of the definition of a number; one that is not there asks for nothing
 abbrev pub kind_of : List LinkDef → ℕ → LinkKind

@@ -3,7 +3,7 @@ use Rattle.std.specs.Prelude.{ℕ, Bool, List, Option}
 use Rattle.std.specs.List.{list_any, find}
 use Rattle.db_config.specs.declared.attributes.AttributeDef.{AttributeDef}
 use Rattle.db_config.specs.declared.parts.LevelDef.{LevelDef}
-use Rattle.db_config.specs.Names.{same_text}
+use Rattle.emu_names.specs.Texts.{same_text}
 
 -- the level of the configuration that has this name
 abbrev pub level_for : List ℕ → List LevelDef → Option LevelDef

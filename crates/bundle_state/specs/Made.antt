@@ -8,7 +8,7 @@ use Rattle.level_items.specs.declared.items.Item.{Item}
 use Rattle.level_items.specs.Levels.{Level, level_of}
 use Rattle.db_config.specs.declared.attributes.AttributeDef.{AttributeDef}
 use Rattle.db_config.specs.declared.parts.LevelDef.{LevelDef}
-use Rattle.db_config.specs.Names.{same_text}
+use Rattle.emu_names.specs.Texts.{same_text}
 
 -- the first label of a name, or the empty text
 abbrev pub label_named : List ℕ → List AnnotLabel → List ℕ

@@ -2,10 +2,9 @@
 ghost use Rattle.std.specs.Prelude.{◌≡◌, ℕ, [], ◌∷◌, ◌++◌, nat_eq, nat_lt, None, OnOk};
 ghost use Rattle.std.specs.List.{list_any};
 ghost use Rattle.std.specs.Option.{option_copied};
-ghost use Rattle.emu_names.specs.Gives.{FindsFault};
+ghost use Rattle.emu_names.specs.Inner.Gives.{FindsFault};
 ghost use Rattle.emu_names.specs.declared.limits.TheConstants.{BUNDLE_ITEMS};
-ghost use Rattle.level_items.specs.Faults.{order_fault};
-ghost use Rattle.db_config.specs.Names.{same_text};
+ghost use Rattle.emu_names.specs.Texts.{same_text};
 ghost use Rattle.bundle_state.specs.Lookups.{level_for, has_attribute};
 ghost use Rattle.bundle_state.specs.Rules.{label_names, level_names};
 ghost use Rattle.bundle_state.specs.Faults.{is_rate, labels_fault, item_fault, items_fault, same_kind, known_level_fault, level_fault, levels_fault, given_ids, given_count, annot_fault};
@@ -14,7 +13,7 @@ use crate::used_ids::UsedIds;
 use db_config::{AttributeDef, LevelDef};
 use emu_names::limits::{BUNDLE_ITEMS, LABEL_BYTES, TOP_RATE};
 use emu_names::{Broken, Fault, ItemId, LevelKind, Text, What};
-use level_items::{Annot, AnnotItem, AnnotLabel, AnnotLevel, Time, time_passes};
+use level_items::{Annot, AnnotItem, AnnotLabel, AnnotLevel, order_passes, time_passes};
 use std::alloc::Global;
 
 fn has_attribute(defs: &[AttributeDef], name: &Text) -> bool
@@ -72,20 +71,6 @@ fn labels_pass(alloc: Global, defs: &[AttributeDef], labels: &[AnnotLabel]) -> R
         }
     }
     Ok(())
-}
-
-/// Tests a time behind that of an item on a level of this kind, which is named.
-fn order_passes(kind: LevelKind, before: ItemId, earlier: Time, later: Time) -> Result<(), Fault>
-    ensures { FindsFault result (order_fault kind before earlier later) }
-{
-    if earlier.is_before(later) {
-        return Ok(());
-    }
-    match kind {
-        LevelKind::Item => Ok(()),
-        LevelKind::Segment => Err(Fault::Broken(Broken::Overlap(before))),
-        LevelKind::Event => Err(Fault::Broken(Broken::NotRising(before))),
-    }
 }
 
 /// Tests an item whose id is free, behind the item before it.

@@ -7,12 +7,13 @@ ghost use Rattle.std.specs.Prelude.{◌≡◌, ◌<◌, length, IfOk, IfSome, Is
 ghost use Rattle.std.specs.List.{slice_get};
 ghost use Rattle.emu_names.specs.declared.limits.TheConstants.{BUNDLE_ITEMS};
 ghost use Rattle.emu_names.specs.declared.rules.Broken.{Broken as Rule};
-ghost use Rattle.emu_names.specs.Gives.{GivesOrBroken};
+ghost use Rattle.emu_names.specs.Inner.Gives.{GivesOrBroken};
 ghost use Rattle.level_items.specs.Levels.{KeepsLevelRule, are_labels_for, is_short};
 ghost use Rattle.bundle_state.specs.Bundle.{item_count, level_of_id, place_of};
 ghost use Rattle.bundle_state.specs.Built.{built, bundle_of, FitsConfig};
-ghost use Rattle.bundle_state.specs.Changed.{attributes_with, item_added, item_removed, label_set, item_retimed, link_added, link_removed};
-ghost use Rattle.bundle_state.specs.Kept.{ArePlacesOf};
+ghost use Rattle.bundle_state.specs.Changed.{item_added, item_removed, label_set, item_retimed, link_added, link_removed};
+ghost use Rattle.bundle_state.specs.Inner.Changed.{attributes_with};
+ghost use Rattle.bundle_state.specs.Inner.Kept.{ArePlacesOf};
 ghost use Rattle.bundle_state.specs.Valid.{KeepsBundleRules};
 
 use crate::changes::{put_item, take_out};
@@ -22,8 +23,7 @@ use crate::handle::Handle;
 use crate::places::{Places, shared_places};
 use crate::shared_levels::SharedLevels;
 use db_config::{Config, LinkDefs};
-use emu_lists::PlainData;
-use emu_names::{Broken, BundleKey, Fault, ItemId, Memory, Text};
+use emu_names::{Broken, BundleKey, Fault, ItemId, Memory, PlainData, Text};
 use level_items::{Annot, AnnotLink, Item, LevelList, Time};
 use link_graph::Links;
 use std::alloc::Global;
@@ -52,7 +52,7 @@ impl Model for Bundle {
 
     ghost Value = { BundleParts };
 
-    ghost use Rattle.bundle_state.specs.Kept.{IsKept};
+    ghost use Rattle.bundle_state.specs.Inner.Kept.{IsKept};
 
     ghost view = { λ b. record {
       key = b.key;

@@ -1,11 +1,11 @@
 //! Changes of levels, links and places that go together: all of them, or none.
 ghost use Rattle.std.specs.Prelude.{◌≡◌, ◌<◌, ℕ, length, nat_eq, None, Some, IfSome, IsTrue, OnErr, OnOk, if◌then◌else◌};
 ghost use Rattle.std.specs.List.{list_any, slice_get};
-ghost use Rattle.emu_names.specs.Gives.{FindsFault};
+ghost use Rattle.emu_names.specs.Inner.Gives.{FindsFault};
 ghost use Rattle.emu_names.specs.declared.limits.TheConstants.{LEVELS};
 ghost use Rattle.level_items.specs.Levels.{are_labels_for};
 ghost use Rattle.link_graph.specs.Link.{names_item};
-ghost use Rattle.bundle_state.specs.Placed.{level_in};
+ghost use Rattle.bundle_state.specs.Inner.Placed.{level_in};
 ghost use Rattle.bundle_state.specs.Changed.{change_level, links_without, put_fault, with_item, without_item};
 
 use crate::handle::Handle;

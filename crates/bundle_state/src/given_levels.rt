@@ -1,6 +1,6 @@
 //! The levels that an annotation makes, with one label for each attribute of an item.
 ghost use Rattle.std.specs.Prelude.{◌≡◌, map, All, IfOk};
-ghost use Rattle.emu_names.specs.Gives.{GivesOrBroken};
+ghost use Rattle.emu_names.specs.Inner.Gives.{GivesOrBroken};
 ghost use Rattle.level_items.specs.Levels.{KeepsLevelRule};
 ghost use Rattle.bundle_state.specs.Faults.{annot_fault};
 ghost use Rattle.bundle_state.specs.Linked.{unless_broken};

@@ -1,8 +1,8 @@
 //! The links that an annotation makes, or the rule that they break first.
 ghost use Rattle.std.specs.Prelude.{◌≡◌, ◌<◌, [], length, IfOk, OnOk, Ok, Err};
 ghost use Rattle.emu_names.specs.declared.rules.Broken.{Broken as Rule};
-ghost use Rattle.emu_names.specs.Gives.{GivesOrBroken};
-ghost use Rattle.bundle_state.specs.Placed.{level_in};
+ghost use Rattle.emu_names.specs.Inner.Gives.{GivesOrBroken};
+ghost use Rattle.bundle_state.specs.Inner.Placed.{level_in};
 ghost use Rattle.bundle_state.specs.Linked.{definition_for, put_link, put_links};
 
 use crate::handle::Handle;

@@ -1,8 +1,7 @@
 //! A value that copies share until one of them changes it, which contracts see as the value itself.
 ghost use Rattle.std.specs.Prelude.{◌≡◌, IfOk};
 
-use emu_lists::PlainData;
-use emu_names::Memory;
+use emu_names::{Memory, PlainData};
 use std::alloc::Global;
 use std::marker::Model;
 use std::sync::Arc;

@@ -1,6 +1,6 @@
 //! Changes of what handles share: where another owner has the value too, this one takes a copy of it first.
 ghost use Rattle.std.specs.Prelude.{◌≡◌, ◌<◌, ◌++◌, ◌∷◌, [], length, IsTrue, OnErr, OnOk};
-ghost use Rattle.emu_names.specs.Gives.{FindsFault};
+ghost use Rattle.emu_names.specs.Inner.Gives.{FindsFault};
 ghost use Rattle.level_items.specs.Levels.{are_labels_for, is_short, relabelled, retimed};
 ghost use Rattle.level_items.specs.Faults.{insert_fault, retime_fault};
 ghost use Rattle.link_graph.specs.Link.{add_fault, link_of};

@@ -4,8 +4,8 @@ ghost use Rattle.std.specs.Option.{option_or};
 ghost use Rattle.std.specs.List.{list_any};
 ghost use Rattle.emu_names.specs.declared.limits.TheConstants.{LEVELS};
 ghost use Rattle.level_items.specs.Levels.{ids_of};
-ghost use Rattle.bundle_state.specs.Placed.{level_in};
-ghost use Rattle.bundle_state.specs.Kept.{ArePlacesOf};
+ghost use Rattle.bundle_state.specs.Inner.Placed.{level_in};
+ghost use Rattle.bundle_state.specs.Inner.Kept.{ArePlacesOf};
 
 use crate::handle::Handle;
 use emu_names::{ItemId, Memory};
@@ -73,7 +73,7 @@ impl Places {
 
 impl Clone for Places {
     ghost use Rattle.std.specs.Prelude.{◌≡◌, ℕ};
-    ghost use Rattle.bundle_state.specs.Placed.{level_in};
+    ghost use Rattle.bundle_state.specs.Inner.Placed.{level_in};
 
     ghost is_clone = { λ s t. (q : ℕ) → level_in t q ≡ level_in s q };
 

@@ -1,13 +1,12 @@
 //! The level lists of a bundle, which its copies share until one of them changes a list.
 ghost use Rattle.std.specs.Prelude.{◌≡◌, ◌<◌, ◌++◌, ◌∷◌, [], length, IfOk, IfSome, IsTrue, OnErr, OnOk, Some};
 ghost use Rattle.std.specs.List.{slice_get};
-ghost use Rattle.emu_names.specs.Gives.{FindsFault};
+ghost use Rattle.emu_names.specs.Inner.Gives.{FindsFault};
 ghost use Rattle.level_items.specs.Levels.{are_labels_for, is_short, relabelled, retimed};
 ghost use Rattle.bundle_state.specs.Changed.{change_level, new_time_fault, put_fault, with_changed, with_item, without_item};
 
 use crate::handle::Handle;
-use emu_lists::PlainData;
-use emu_names::{Fault, Memory, Text};
+use emu_names::{Fault, Memory, PlainData, Text};
 use level_items::{Item, LevelList, Time};
 use std::alloc::Global;
 use std::marker::Model;

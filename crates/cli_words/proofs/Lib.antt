@@ -1,2 +1,13 @@
+pub mod Shapes
+pub mod Looks
+pub mod Rows
+pub mod Steps
+pub mod Turns
+pub mod Behind
+pub mod Ends
+pub mod Leaves
+pub mod Top
 pub mod Parsed
-pub mod Beginnings
+pub mod Grown
+pub mod Whole
+pub mod Ranges

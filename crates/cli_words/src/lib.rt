@@ -1,10 +1,9 @@
 //! The words behind the program's name: which of them are a command line, and what it asks for.
 #![tactic(auto)]
 
-mod ask;
-mod live;
+mod command;
 mod numbers;
-mod places;
+mod parsing;
 mod read;
 mod words;
 

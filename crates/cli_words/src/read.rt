@@ -1,69 +1,114 @@
 //! The words of a command line, read.
-ghost use Rattle.std.specs.Prelude.{◌≡◌, ◌∷◌, [], Some, codes, false, map, string_bytes};
-ghost use Rattle.cli_words.specs.Forms.{behind_command, export_words, history_words, import_of, import_words, load_words, words_of, work_of, work_words};
-ghost use Rattle.cli_words.specs.Gives.{ReadsWords};
+ghost use Rattle.std.specs.Prelude.{◌≡◌, ◌∷◌, [], IfOk, Some, codes, false, map, option_map, string_bytes};
+ghost use Rattle.std.specs.List.{list_any};
+ghost use Rattle.clap.specs.Words.{first_of, found_of, rows_of, subcommand_rows_of};
+ghost use Rattle.cli_words.specs.Lines.{is_true};
+ghost use Rattle.cli_words.specs.Forms.{ask, export, import, live, load, run, textgrid, words_of, work};
+ghost use Rattle.cli_words.specs.Inner.Gives.{IsInRange, ReadsWords};
+ghost use Rattle.cli_words.specs.Inner.Readings.{IsPair, ends_options, read_by, read_found, read_named};
 ghost use Rattle.cli_words.specs.declared.words.Words.TheVariants.{Run};
 
-use crate::ask::ask_words;
-use crate::live::{live_words, run_words};
 use crate::numbers::{number_in, number_of};
-use crate::places::{first_of, is_dashed};
-use crate::words::{Words, WordsFault};
+use crate::parsing::parsed;
+use crate::words::{WORKERS, WORKERS_UNASKED, Words, WordsFault};
+use clap::ArgMatches;
 use emu_names::Text;
 use emu_names::limits::{BUNDLES, TOP_RATE};
 use std::alloc::Global;
 
-/// The words behind `load`.
-fn load_words(alloc: Global, words: &[String]) -> Result<Words, WordsFault>
-    ensures { ReadsWords result (load_words (map (λ w. string_bytes w) words.now)) }
+/// The value under a name, where there is one.
+fn value<'a>(matches: &ArgMatches<'a>, name: &str) -> Option<&'a str>
+    ensures { option_map (λ s. s.now) result ≡ first_of name.now (rows_of (found_of matches.now)) }
 {
-    let Some((name, rest)) = first_of(words) else {
-        return Err(WordsFault::Usage);
-    };
-    let None = first_of(rest) else {
-        return Err(WordsFault::Usage);
-    };
-    if is_dashed(name) {
-        return Err(WordsFault::Usage);
+    matches.get_str(name)
+}
+
+/// Whether the flag `--store` is set.
+fn has_store(matches: &ArgMatches) -> bool
+    ensures { result ≡ is_true (first_of (codes "store") (rows_of (found_of matches.now))) }
+{
+    match value(matches, "store") {
+        Some(text) => text == "true",
+        None => false,
     }
+}
+
+/// `run`, read.
+fn read_run(matches: &ArgMatches) -> Result<Words, WordsFault>
+    ensures { ReadsWords result (read_by run (rows_of (found_of matches.now))) }
+{
+    Ok(Words::Run {
+        store: has_store(matches),
+    })
+}
+
+/// `live`, read.
+fn read_live(matches: &ArgMatches) -> Result<Words, WordsFault>
+    ensures { ReadsWords result (read_by live (rows_of (found_of matches.now))) }
+{
+    let store = has_store(matches);
+    let Some(text) = value(matches, "workers") else {
+        return Ok(Words::Live {
+            store,
+            workers: WORKERS_UNASKED,
+        });
+    };
+    match number_in(text, 1, WORKERS) {
+        Some(number) => Ok(Words::Live {
+            store,
+            workers: number as u32,
+        }),
+        None => Err(WordsFault::Usage),
+    }
+}
+
+/// `ask`, read.
+fn read_ask(alloc: Global, matches: &ArgMatches) -> Result<Words, WordsFault>
+    ensures { ReadsWords result (read_by ask (rows_of (found_of matches.now))) }
+{
+    let Some(eql) = value(matches, "eql") else {
+        return Err(WordsFault::Usage);
+    };
+    let eql = Text::new(alloc, eql)?;
+    match value(matches, "time") {
+        Some(level) => {
+            let level = Text::new(alloc, level)?;
+            Ok(Words::Ask {
+                eql,
+                time: Some(level),
+            })
+        }
+        None => Ok(Words::Ask { eql, time: None }),
+    }
+}
+
+/// `load`, read.
+fn read_load(alloc: Global, matches: &ArgMatches) -> Result<Words, WordsFault>
+    ensures { ReadsWords result (read_by load (rows_of (found_of matches.now))) }
+{
+    let Some(name) = value(matches, "name") else {
+        return Err(WordsFault::Usage);
+    };
     let name = Text::new(alloc, name)?;
     Ok(Words::Load { name })
 }
 
-/// The words behind `export`.
-fn export_words(alloc: Global, words: &[String]) -> Result<Words, WordsFault>
-    ensures { ReadsWords result (export_words (map (λ w. string_bytes w) words.now)) }
+/// `import`, read.
+fn read_import(alloc: Global, matches: &ArgMatches) -> Result<Words, WordsFault>
+    ensures { ReadsWords result (read_by import (rows_of (found_of matches.now))) }
 {
-    let Some((session, rest)) = first_of(words) else {
+    let Some(session) = value(matches, "session") else {
         return Err(WordsFault::Usage);
     };
-    let Some((bundle, rest)) = first_of(rest) else {
+    let Some(bundle) = value(matches, "bundle") else {
         return Err(WordsFault::Usage);
     };
-    let None = first_of(rest) else {
+    let Some(rate) = value(matches, "rate") else {
         return Err(WordsFault::Usage);
     };
-    if is_dashed(session) || is_dashed(bundle) {
+    let Some(file) = value(matches, "file") else {
         return Err(WordsFault::Usage);
-    }
-    let session = Text::new(alloc, session)?;
-    let bundle = Text::new(alloc, bundle)?;
-    Ok(Words::Export { session, bundle })
-}
-
-/// A bundle to be imported at a rate of 1 to 1,000,000 samples a second.
-fn import_of(
-    alloc: Global,
-    session: &str,
-    bundle: &str,
-    rate: &str,
-    file: &str,
-) -> Result<Words, WordsFault>
-    ensures { ReadsWords result (import_of session.now bundle.now rate.now file.now) }
-{
-    if is_dashed(session) || is_dashed(bundle) || is_dashed(file) {
-        return Err(WordsFault::Usage);
-    }
+    };
     let Some(rate) = number_in(rate, 1, TOP_RATE) else {
         return Err(WordsFault::Usage);
     };
@@ -79,105 +124,113 @@ fn import_of(
     })
 }
 
-/// The words behind `import`.
-fn import_words(alloc: Global, words: &[String]) -> Result<Words, WordsFault>
-    ensures { ReadsWords result (import_words (map (λ w. string_bytes w) words.now)) }
+/// The texts under the names `session` and `bundle`.
+fn bundle_named(alloc: Global, matches: &ArgMatches) -> Result<(Text, Text), WordsFault>
+    ensures { IsPair result (first_of (codes "session") (rows_of (found_of matches.now)))
+        (first_of (codes "bundle") (rows_of (found_of matches.now))) }
 {
-    let Some((session, rest)) = first_of(words) else {
+    let Some(session) = value(matches, "session") else {
         return Err(WordsFault::Usage);
     };
-    let Some((bundle, rest)) = first_of(rest) else {
+    let Some(bundle) = value(matches, "bundle") else {
         return Err(WordsFault::Usage);
     };
-    let Some((rate, rest)) = first_of(rest) else {
-        return Err(WordsFault::Usage);
-    };
-    let Some((file, rest)) = first_of(rest) else {
-        return Err(WordsFault::Usage);
-    };
-    match first_of(rest) {
-        None => import_of(alloc, session, bundle, rate, file),
-        Some(_) => Err(WordsFault::Usage),
-    }
+    Ok((Text::new(alloc, session)?, Text::new(alloc, bundle)?))
 }
 
-/// The words behind `history`.
-fn history_words(words: &[String]) -> Option<Words>
-    ensures { result ≡ history_words (map (λ w. string_bytes w) words.now) }
+/// `export`, read.
+fn read_export(alloc: Global, matches: &ArgMatches) -> Result<Words, WordsFault>
+    ensures { ReadsWords result (read_by export (rows_of (found_of matches.now))) }
 {
-    match first_of(words) {
-        None => Some(Words::History),
-        Some(_) => None,
-    }
+    let (session, bundle) = bundle_named(alloc, matches)?;
+    Ok(Words::Export { session, bundle })
 }
 
-/// The script of a number, with this many bundles.
-fn work_of(number: &str, bundles: &str) -> Option<Words>
-    ensures { result ≡ work_of number.now bundles.now }
+/// `textgrid`, read.
+fn read_textgrid(alloc: Global, matches: &ArgMatches) -> Result<Words, WordsFault>
+    ensures { ReadsWords result (read_by textgrid (rows_of (found_of matches.now))) }
 {
+    let (session, bundle) = bundle_named(alloc, matches)?;
+    Ok(Words::TextGrid { session, bundle })
+}
+
+/// `work`, read.
+fn read_work(matches: &ArgMatches) -> Result<Words, WordsFault>
+    ensures { ReadsWords result (read_by work (rows_of (found_of matches.now))) }
+{
+    let Some(number) = value(matches, "number") else {
+        return Err(WordsFault::Usage);
+    };
+    let Some(bundles) = value(matches, "bundles") else {
+        return Err(WordsFault::Usage);
+    };
     let Some(number) = number_of(number) else {
-        return None;
+        return Err(WordsFault::Usage);
     };
     match number_in(bundles, 1, BUNDLES as u64) {
-        Some(bundles) => Some(Words::Work {
+        Some(bundles) => Ok(Words::Work {
             number,
             bundles: bundles as u32,
         }),
-        None => None,
-    }
-}
-
-/// The words behind `work`.
-fn work_words(words: &[String]) -> Option<Words>
-    ensures { result ≡ work_words (map (λ w. string_bytes w) words.now) }
-{
-    let Some((number, rest)) = first_of(words) else {
-        return None;
-    };
-    let Some((bundles, rest)) = first_of(rest) else {
-        return None;
-    };
-    match first_of(rest) {
-        None => work_of(number, bundles),
-        Some(_) => None,
-    }
-}
-
-/// What is there, or that the words are no command line.
-fn or_usage(read: Option<Words>) -> Result<Words, WordsFault>
-    ensures { ReadsWords result read }
-{
-    match read {
-        Some(words) => Ok(words),
         None => Err(WordsFault::Usage),
     }
 }
 
-/// The words behind a command's.
-fn behind_command(alloc: Global, command: &str, words: &[String]) -> Result<Words, WordsFault>
-    ensures { ReadsWords result (behind_command command.now (map (λ w. string_bytes w) words.now)) }
+/// The subcommand of a name, read.
+fn read_named(alloc: Global, name: &str, matches: &ArgMatches) -> Result<Words, WordsFault>
+    ensures { ReadsWords result (read_named name.now (rows_of (found_of matches.now))) }
 {
-    match command {
-        "run" => or_usage(run_words(words)),
-        "live" => or_usage(live_words(words)),
-        "ask" => ask_words(alloc, words),
-        "load" => load_words(alloc, words),
-        "import" => import_words(alloc, words),
-        "export" => export_words(alloc, words),
-        "history" => or_usage(history_words(words)),
-        "work" => or_usage(work_words(words)),
+    match name {
+        "run" => read_run(matches),
+        "live" => read_live(matches),
+        "ask" => read_ask(alloc, matches),
+        "load" => read_load(alloc, matches),
+        "import" => read_import(alloc, matches),
+        "export" => read_export(alloc, matches),
+        "textgrid" => read_textgrid(alloc, matches),
+        "history" => Ok(Words::History),
+        "config" => Ok(Words::Config),
+        "work" => read_work(matches),
         _ => Err(WordsFault::Usage),
     }
 }
 
-/// What the words behind the program's name ask for. `Usage` comes exactly where they are no command line
-/// (`words_of`), whatever memory does; the only other refusal is want of memory.
-pub fn read_words(alloc: Global, words: &[String]) -> Result<Words, WordsFault>
-    ensures { ReadsWords result (words_of (map (λ w. string_bytes w) words.now)) }
+/// Whether the word `--` stands among the words: `clap` ends the options there, and no command line has it.
+fn has_dashes(words: &[String]) -> bool
+    ensures { result ≡ list_any ends_options (map (λ w. string_bytes w) words.now) }
 {
-    match first_of(words) {
-        Some((command, rest)) => behind_command(alloc, command, rest),
+    let mut rest = words;
+    while let [word, after @ ..] = rest {
+        if word.as_str() == "--" {
+            return true;
+        }
+        rest = after;
+    }
+    false
+}
+
+/// What the subcommand that was found asks for.
+fn read_found(alloc: Global, matches: &ArgMatches) -> Result<Words, WordsFault>
+    ensures { ReadsWords result (read_found (subcommand_rows_of matches.now)) }
+{
+    match matches.subcommand() {
+        Some((name, matches)) => read_named(alloc, name, matches),
         None => Err(WordsFault::Usage),
+    }
+}
+
+/// What the words behind the program's name ask for. `Usage` comes exactly where they are no command line
+/// (`words_of`); the only other refusal is that memory ran out. The numbers are in their ranges (`IsInRange`).
+pub fn read_words(alloc: Global, words: &[String]) -> Result<Words, WordsFault>
+    ensures ranges { IfOk result IsInRange }
+    ensures read { ReadsWords result (words_of (map (λ w. string_bytes w) words.now)) }
+{
+    if has_dashes(words) {
+        return Err(WordsFault::Usage);
+    }
+    match parsed(alloc, words) {
+        Ok(matches) => read_found(alloc, &matches),
+        Err(fault) => Err(fault),
     }
 }
 

@@ -55,8 +55,17 @@ pub enum Words {
         /// The bundle's name.
         bundle: Text,
     },
+    /// `textgrid SESSION BUNDLE`: a bundle of the store as a TextGrid.
+    TextGrid {
+        /// The session's name.
+        session: Text,
+        /// The bundle's name.
+        bundle: Text,
+    },
     /// `history`: the entries of the store.
     History,
+    /// `config`: the configuration of the store.
+    Config,
     /// `work NUMBER BUNDLES`: the script of a number.
     Work {
         /// The number.

@@ -3,7 +3,8 @@ use Rattle.std.proofs.Common.{◌≡◌, ℕ, Bool, true, false, not, ◌&&◌, 
 use Rattle.std.specs.List.{list_any}
 use Rattle.std.proofs.lemmas.List.Folds.{list_any-append}
 use Rattle.std.proofs.lemmas.Cmp.{nat_list_eq_equiv}
-use Rattle.db_config.specs.Names.{same_text, first_double, are_distinct}
+use Rattle.db_config.specs.Names.{first_double, are_distinct}
+use Rattle.emu_names.specs.Texts.{same_text}
 use Rattle.db_config.specs.Laws.{DoublesAreFound}
 
 -- none of the names is among those seen

@@ -1,11 +1,4 @@
-pub mod Members
-pub mod Typed
-pub mod Heads
-pub mod Filled
 pub mod Doubles
-pub mod Lists
-pub mod Placed
 pub mod Tables
+pub mod Tests
 pub mod Above
-pub mod Stops
-pub mod Sound

@@ -5,7 +5,8 @@ use Rattle.std.proofs.lemmas.Bool.{and_parts, ltb-true}
 use Rattle.std.proofs.lemmas.List.FromFn.{map-range_with_len_more, get_or-map-range_with_len, length-map-range_with_len}
 use Rattle.std.proofs.lemmas.Option.{get_or_from_slice_get}
 use Rattle.db_config.specs.declared.parts.LinkDef.{LinkDef}
-use Rattle.db_config.specs.Above.{is_above, above_row, above_rows}
+use Rattle.db_config.specs.Above.{is_above}
+use Rattle.db_config.specs.Inner.Above.{above_row, above_rows}
 use Rattle.db_config.specs.Valid.{is_in_range}
 
 -- one element more

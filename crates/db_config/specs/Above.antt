@@ -1,7 +1,7 @@
 -- Which level is above which: a path of link definitions leads down from the one to the other
 -- (EMU-SDMS Manual, "The emuDB format": `linkDefinitions`).
-use Rattle.std.specs.Prelude.{◌≡◌, ℕ, Bool, false, ◌&&◌, ◌||◌, ◌==◌, List, [], ◌∷◌, map, Contains}
-use Rattle.std.specs.List.{list_any, range_with_len}
+use Rattle.std.specs.Prelude.{◌≡◌, ℕ, Bool, false, ◌&&◌, ◌||◌, ◌==◌, List, [], ◌∷◌, Contains}
+use Rattle.std.specs.List.{list_any}
 use Rattle.db_config.specs.declared.parts.LinkDef.{LinkDef}
 
 -- each definition of the path begins at the level where the one before it ends, from `upper` to `lower`
@@ -26,11 +26,3 @@ is_above (d ∷ defs) upper lower =
 -- some path leads from a level to itself
 abbrev pub leads_round : List LinkDef → Bool
 leads_round defs = list_any (λ d. is_above defs d.upper d.upper) defs
-
--- the levels below a level, one answer for each of `count` levels
-abbrev pub above_row : List LinkDef → ℕ → ℕ → List Bool
-above_row defs count upper = map (λ lower. is_above defs upper lower) (range_with_len 0 count)
-
--- one such row for each of `count` levels
-abbrev pub above_rows : List LinkDef → ℕ → List (List Bool)
-above_rows defs count = map (λ upper. above_row defs count upper) (range_with_len 0 count)

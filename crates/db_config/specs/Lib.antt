@@ -1,10 +1,7 @@
-pub mod Counts
+pub mod Made
 pub mod Names
 pub mod Above
 pub mod Valid
 pub mod Lookups
-pub mod Faults
-pub mod Forms
-pub mod Read
-pub mod Kept
 pub mod Laws
+pub mod Inner

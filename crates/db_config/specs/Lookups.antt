@@ -7,7 +7,7 @@ use Rattle.db_config.specs.declared.attributes.AttributeDef.{AttributeDef}
 use Rattle.db_config.specs.declared.parts.LevelDef.{LevelDef}
 use Rattle.db_config.specs.declared.parts.LinkDef.{LinkDef}
 use Rattle.db_config.specs.declared.parts.AttributePlace.{AttributePlace}
-use Rattle.db_config.specs.Names.{same_text}
+use Rattle.emu_names.specs.Texts.{same_text}
 
 -- the number of the first level of this name
 abbrev pub level_named : List ℕ → List LevelDef → Option ℕ

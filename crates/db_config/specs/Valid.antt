@@ -1,11 +1,10 @@
--- Which parts are a configuration (EMU-SDMS Manual, "The emuDB format": `_DBconfig.json`). The limits on
--- attributes, label groups and texts are those of the types of these lists, and so is that each level
--- has an attribute.
+-- Which parts are a configuration (EMU-SDMS Manual, "The emuDB format": `_DBconfig.json`).
 use Rattle.std.specs.Prelude.{ℕ, Bool, true, ◌&&◌, not, ◌==◌, List, [], ◌∷◌, length, nat_le, nat_lt}
 use Rattle.std.specs.List.{list_all, list_any}
 use Rattle.emu_names.specs.declared.limits.TheConstants.{LEVELS, LINK_DEFINITIONS, TRACKS}
 use Rattle.db_config.specs.declared.parts.LinkDef.{LinkDef}
 use Rattle.db_config.specs.declared.parts.ConfigParts.{ConfigParts}
+use Rattle.db_config.specs.Made.{is_made}
 use Rattle.db_config.specs.Names.{all_names, are_distinct}
 use Rattle.db_config.specs.Above.{leads_round}
 
@@ -37,6 +36,10 @@ keeps_rules parts =
     && list_all (is_in_range (length parts.levels)) parts.links
     && are_apart parts.links
 
--- the parts are a configuration
+-- the rules on the parts together: limits, names that stand once, link definitions
 abbrev pub is_valid : ConfigParts → Bool
 is_valid parts = keeps_rules parts && not (leads_round parts.links)
+
+-- the parts are a configuration: each of them is one by itself, and they keep the rules together
+abbrev pub is_config : ConfigParts → Bool
+is_config parts = is_made parts && is_valid parts

@@ -1,10 +1,11 @@
 //! The attributes of a level, of which there is at least one.
+ghost use Rattle.db_config.specs.Lookups.{is_legal_for};
 ghost use Rattle.std.specs.Prelude.{◌≡◌, ◌≤◌, ◌<◌, ◌++◌, ◌∷◌, [], length, slice_get, Some, IfOk, OnOk, OnErr};
 
 use crate::groups::{GroupDefs, GroupValues};
-use emu_lists::{PlainData, Series};
+use crate::names::is_among;
 use emu_names::limits::ATTRIBUTES;
-use emu_names::{Memory, Name};
+use emu_names::{Memory, Name, PlainData, Series};
 use std::alloc::Global;
 use std::marker::Model;
 
@@ -30,6 +31,17 @@ fn legal_copy(alloc: Global, legal: &Option<GroupValues>) -> Result<Option<Group
 }
 
 impl AttributeDef {
+    /// Whether edits may set this label: it is empty, or no legal labels are listed, or it is among
+    /// them.
+    pub fn is_legal(&self, label: &str) -> bool
+        ensures { result ≡ is_legal_for label.now self.now }
+    {
+        match &self.legal {
+            Some(labels) => label.len() == 0 || is_among(label, labels.as_slice()),
+            None => true,
+        }
+    }
+
     /// The same attribute again. The only refusal is want of memory.
     pub fn copy(&self, alloc: Global) -> Result<AttributeDef, Memory>
         ensures { IfOk result (λ made. made ≡ self.now) }
@@ -63,7 +75,7 @@ impl Model for AttributeDefs {
 
     ghost Value = { List AttributeDef };
 
-    ghost use Rattle.db_config.specs.Counts.{AreFew};
+    ghost use Rattle.db_config.specs.Inner.Counts.{AreFew};
 
     ghost view = { λ a. a.defs };
 
@@ -81,7 +93,7 @@ impl AttributeDefs {
     }
 
     /// These attributes, of which there are 1 to 16.
-    pub(crate) fn of(defs: Series<AttributeDef>) -> AttributeDefs
+    pub fn of(defs: Series<AttributeDef>) -> AttributeDefs
         requires some { 1 ≤ length defs }
         requires few { length defs ≤ ATTRIBUTES }
         ensures { result ≡ defs }

@@ -1,21 +1,19 @@
 //! The configuration of a database, valid by its type.
 ghost use Rattle.std.specs.Prelude.{◌≡◌, ◌<◌, ℕ, IsTrue, IsSome, IfOk, IfSome, length, true, false, Some, option_map, option_and_then};
 ghost use Rattle.std.specs.List.{slice_get, position};
-ghost use Rattle.db_config.specs.Valid.{is_valid, keeps_rules};
+ghost use Rattle.db_config.specs.Valid.{is_config, is_valid, keeps_rules};
 ghost use Rattle.db_config.specs.Above.{is_above, leads_round};
-ghost use Rattle.db_config.specs.Kept.{IsKept};
+ghost use Rattle.db_config.specs.Inner.Kept.{IsKept};
 ghost use Rattle.db_config.specs.Lookups.{level_named, attribute_named, name_place, attribute_at, is_legal_for, group_values, leads};
 
 use crate::faults::PartsFault;
 use crate::groups::GroupValues;
+use crate::made::parts_are;
 use crate::parts::{AttributePlace, ConfigParts};
 use crate::paths::{Rows, entry, leads_round, rows_of};
-use crate::places::{
-    attribute_named, definition_between, is_legal_for, level_named, name_place, values_named,
-};
+use crate::places::{attribute_named, definition_between, level_named, name_place, values_named};
 use crate::rules::keeps_rules;
-use emu_lists::PlainData;
-use emu_names::{LevelKind, LinkKind, Memory};
+use emu_names::{LevelKind, LinkKind, Memory, PlainData};
 use std::alloc::Global;
 use std::marker::Model;
 
@@ -37,7 +35,7 @@ impl Model for Config {
 
     ghost Value = { ConfigParts };
 
-    ghost use Rattle.db_config.specs.Kept.{IsKept};
+    ghost use Rattle.db_config.specs.Inner.Kept.{IsKept};
 
     ghost view = { λ c. c.parts };
 
@@ -60,7 +58,7 @@ impl Config {
 
     /// The configuration of parts that keep all other rules. `NotValid` comes exactly where a path of
     /// link definitions leads from a level to itself.
-    pub(crate) fn from_kept(alloc: Global, parts: ConfigParts) -> Result<Config, PartsFault>
+    pub fn from_kept(alloc: Global, parts: ConfigParts) -> Result<Config, PartsFault>
         requires { keeps_rules parts ≡ true }
         ensures config { IfOk result (λ c. c ≡ parts) }
         ensures valid { IfOk result (λ c. leads_round parts.links ≡ false) }
@@ -76,6 +74,7 @@ impl Config {
     pub fn parts(&self) -> &ConfigParts
         ensures parts { result.now ≡ self.now }
         ensures valid { IsTrue (is_valid self.now) }
+        ensures config { IsTrue (is_config self.now) }
     {
         &self.parts
     }
@@ -136,14 +135,12 @@ impl Config {
         ensures { option_map (is_legal_for label.now) (attribute_at place self.now.levels)
             ≡ Some result }
     {
-        is_legal_for(
-            self.parts
-                .levels
-                .get(place.level)
-                .attributes
-                .get(place.attribute),
-            label,
-        )
+        self.parts
+            .levels
+            .get(place.level)
+            .attributes
+            .get(place.attribute)
+            .is_legal(label)
     }
 
     /// The values of the label group that a name stands for at an attribute, whose own groups come
@@ -216,6 +213,7 @@ fn kept_rows(alloc: Global, parts: &ConfigParts) -> Result<Rows, PartsFault>
     ensures valid { IfOk result (λ _. leads_round parts.now.links ≡ false) }
     ensures not_valid { result ≡ Err PartsFault.NotValid → leads_round parts.now.links ≡ true }
 {
+    parts_are(parts);
     let count = parts.levels.len();
     let above = rows_of(alloc, parts.links.as_slice(), count)?;
     if leads_round(&above, parts.links.as_slice(), count) {

@@ -1,9 +1,8 @@
 //! Lists of labels, and label groups, which are such lists with names.
 ghost use Rattle.std.specs.Prelude.{◌≡◌, ◌≤◌, ◌<◌, ◌==◌, ◌++◌, ◌∷◌, [], length, slice_get, Some, IfOk, OnOk, OnErr};
 
-use emu_lists::{PlainData, Series};
 use emu_names::limits::{LABEL_GROUPS, LIST_TEXTS};
-use emu_names::{Memory, Text};
+use emu_names::{Memory, PlainData, Series, Text};
 use std::alloc::Global;
 use std::marker::Model;
 

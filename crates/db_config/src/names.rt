@@ -1,11 +1,11 @@
 //! The names that the levels of a configuration take.
 ghost use Rattle.std.specs.Prelude.{◌≡◌, ◌++◌, ◌∷◌, ℕ, [], IfOk, OnOk, option_map, is_none};
 ghost use Rattle.std.specs.List.{list_any, flat_map};
-ghost use Rattle.db_config.specs.Names.{same_text, names_of, all_names, first_double, are_distinct};
+ghost use Rattle.db_config.specs.Names.{names_of, all_names, first_double, are_distinct};
+ghost use Rattle.emu_names.specs.Texts.{same_text};
 
 use crate::parts::LevelDef;
-use emu_lists::Series;
-use emu_names::{Memory, Text};
+use emu_names::{Memory, Series, Text};
 use std::alloc::Global;
 
 /// Puts a name last. The only refusal is want of memory.
@@ -69,7 +69,7 @@ pub(crate) fn are_distinct(names: &[Text]) -> bool
 }
 
 /// The first name that stands earlier.
-pub(crate) fn first_double(names: &[Text]) -> Option<&Text>
+fn first_double(names: &[Text]) -> Option<&Text>
     ensures { option_map (λ name. name.now) result ≡ first_double [] names.now }
 {
     for place in 0..names.len() {
@@ -78,4 +78,16 @@ pub(crate) fn first_double(names: &[Text]) -> Option<&Text>
         }
     }
     None
+}
+
+/// The first name that an earlier level or attribute has, in reading order; a level may share its name
+/// with one of its own attributes. The only refusal is want of memory.
+pub fn double_name(alloc: Global, levels: &[LevelDef]) -> Result<Option<Text>, Memory>
+    ensures { IfOk result (λ found. found ≡ first_double [] (all_names levels.now)) }
+{
+    let names = all_names(alloc, levels)?;
+    match first_double(names.as_slice()) {
+        Some(name) => Ok(Some(name.copy(alloc)?)),
+        None => Ok(None),
+    }
 }

@@ -3,8 +3,7 @@ ghost use Rattle.std.specs.Prelude.{◌≡◌, IfOk};
 
 use crate::attributes::AttributeDefs;
 use crate::groups::GroupDefs;
-use emu_lists::{PlainData, Series};
-use emu_names::{LevelKind, LinkKind, Memory, Name, Text};
+use emu_names::{LevelKind, LinkKind, Memory, Name, PlainData, Series, Text};
 use std::alloc::Global;
 
 /// A level (EMU-SDMS Manual, "The emuDB format": `levelDefinitions`).

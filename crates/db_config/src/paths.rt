@@ -1,12 +1,12 @@
 //! Which level is above which, worked out once for all levels of a configuration.
 ghost use Rattle.std.specs.Prelude.{◌≡◌, ◌<◌, ℕ, List, ◌∷◌, [], false, map, length, IfOk, IsTrue};
 ghost use Rattle.std.specs.List.{list_all, range_with_len};
-ghost use Rattle.db_config.specs.Above.{is_above, leads_round, above_row, above_rows};
+ghost use Rattle.db_config.specs.Above.{is_above, leads_round};
+ghost use Rattle.db_config.specs.Inner.Above.{above_row, above_rows};
 ghost use Rattle.db_config.specs.Valid.{is_in_range};
 
 use crate::parts::LinkDef;
-use emu_lists::Series;
-use emu_names::Memory;
+use emu_names::{Memory, Series};
 use std::alloc::Global;
 
 /// One answer for each two levels, by the upper one and then by the lower one.

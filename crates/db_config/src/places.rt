@@ -1,25 +1,15 @@
 //! What names stand for: levels, attributes and label groups.
-ghost use Rattle.std.specs.Prelude.{◌≡◌, ◌<◌, ◌≤◌, ℕ, List, true, IsSome, IfOk, IfSome, option_map, length};
-ghost use Rattle.std.specs.List.{position, list_all};
+ghost use Rattle.std.specs.Prelude.{◌≡◌, ◌<◌, IsSome, IfSome, option_map, length};
+ghost use Rattle.std.specs.List.{position};
 ghost use Rattle.db_config.specs.declared.parts.AttributePlace.{AttributePlace as Place};
-ghost use Rattle.db_config.specs.Lookups.{level_named, attribute_named, attribute_from, attribute_at, name_place, place_of, is_legal_for, values_named, leads};
-ghost use Rattle.db_config.specs.Read.{level_of_name, placed, all_placed};
-ghost use Rattle.db_config.specs.Faults.{Reads};
-ghost use Rattle.db_config.specs.Valid.{is_in_range};
+ghost use Rattle.db_config.specs.Lookups.{level_named, attribute_named, attribute_from, attribute_at, name_place, place_of, values_named, leads};
 
 use crate::attributes::AttributeDef;
-use crate::faults::ConfigFault;
 use crate::groups::{GroupDef, GroupValues};
-use crate::named::NamedLink;
-use crate::names::is_among;
-use crate::parts::{AttributePlace, LevelDef, LinkDef, LinkDefs};
-use emu_lists::Series;
-use emu_names::Text;
-use emu_names::limits::LEVELS;
-use std::alloc::Global;
+use crate::parts::{AttributePlace, LevelDef, LinkDef};
 
-/// The number of the level of this name.
-pub(crate) fn level_named(levels: &[LevelDef], name: &str) -> Option<usize>
+/// The number of the first level of this name.
+pub fn level_named(levels: &[LevelDef], name: &str) -> Option<usize>
     ensures named { result ≡ level_named name.now levels.now }
     ensures within { IfSome result (λ level. level < length levels.now) }
 {
@@ -72,16 +62,6 @@ pub(crate) fn name_place(levels: &[LevelDef], name: &str) -> Option<AttributePla
     Some(first_of_level(levels, level))
 }
 
-/// Whether a label is legal for an attribute.
-pub(crate) fn is_legal_for(def: &AttributeDef, label: &str) -> bool
-    ensures { result ≡ is_legal_for label.now def.now }
-{
-    match &def.legal {
-        Some(labels) => label.len() == 0 || is_among(label, labels.as_slice()),
-        None => true,
-    }
-}
-
 /// The values of the first label group of this name.
 pub(crate) fn values_named<'a>(groups: &'a [GroupDef], name: &str) -> Option<&'a GroupValues>
     ensures { option_map (λ v. v.now) result ≡ values_named name.now groups.now }
@@ -99,52 +79,4 @@ pub(crate) fn definition_between(links: &[LinkDef], upper: usize, lower: usize) 
     ensures { result ≡ position (leads upper lower) links.now }
 {
     links.iter().position(|def| def.upper as usize == upper && def.lower as usize == lower)
-}
-
-/// The number of the level that a link definition names.
-fn level_of_name(alloc: Global, levels: &[LevelDef], name: &Text) -> Result<u32, ConfigFault>
-    requires { length levels.now ≤ LEVELS }
-    ensures level { Reads result (level_of_name levels.now name.now) }
-    ensures within { IfOk result (λ level. level < length levels.now) }
-{
-    match level_named(levels, name.as_str()) {
-        Some(level) => Ok(level as u32),
-        None => Err(ConfigFault::UnknownLevel(name.copy(alloc)?)),
-    }
-}
-
-/// A link definition by the numbers of its levels.
-fn placed(alloc: Global, levels: &[LevelDef], link: &NamedLink) -> Result<LinkDef, ConfigFault>
-    requires { length levels.now ≤ LEVELS }
-    ensures definition { Reads result (placed levels.now link.now) }
-    ensures range { IfOk result (λ def. is_in_range (length levels.now) def ≡ true) }
-{
-    let upper = level_of_name(alloc, levels, &link.upper)?;
-    let lower = level_of_name(alloc, levels, &link.lower)?;
-    Ok(LinkDef {
-        kind: link.kind,
-        upper,
-        lower,
-    })
-}
-
-/// All link definitions by the numbers of their levels.
-pub(crate) fn all_placed(
-    alloc: Global,
-    levels: &[LevelDef],
-    links: &[NamedLink],
-) -> Result<LinkDefs, ConfigFault>
-    requires { length levels.now ≤ LEVELS }
-    ensures definitions { Reads result (all_placed levels.now links.now) }
-    ensures range { IfOk result (λ defs. list_all (is_in_range (length levels.now)) defs ≡ true) }
-    ensures count { IfOk result (λ defs. length defs ≡ length links.now) }
-{
-    let mut defs = Series::new(alloc);
-    for link in links {
-        match placed(alloc, levels, link) {
-            Ok(def) => defs.push(def)?,
-            Err(fault) => return Err(fault),
-        }
-    }
-    Ok(defs)
 }

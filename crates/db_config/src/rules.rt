@@ -52,7 +52,7 @@ fn has_levels(def: &LinkDef, links: &[LinkDef]) -> bool
 }
 
 /// Whether no two definitions have the same two levels.
-pub(crate) fn are_apart(links: &[LinkDef]) -> bool
+pub fn are_apart(links: &[LinkDef]) -> bool
     ensures { result ≡ are_apart links.now }
 {
     let mut rest = links;

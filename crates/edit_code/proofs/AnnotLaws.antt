@@ -4,14 +4,14 @@ use Rattle.std.specs.Prelude.{nat_lt, Option, Some, None}
 use Rattle.std.proofs.lemmas.Bool.Decides.{nat_tests}
 use Rattle.level_items.specs.declared.times.Time.{Time}
 use Rattle.level_items.specs.declared.times.Time.TheVariants.{NoTime, Span, Point}
-use Rattle.code_forms.specs.Forms.{Form, IsForm}
-use Rattle.code_forms.specs.Parts.{pair, imaged, just, byte_in, byte_below, u32_form, u64_form, FitsAs}
-use Rattle.code_forms.specs.Lists.{list_of}
-use Rattle.code_forms.specs.Utf8.{text_form}
-use Rattle.code_forms.proofs.Laws.{just_law, imaged_law, shaped_law, pair_law, led_law}
-use Rattle.code_forms.proofs.Numbers.{u32_law, u64_law}
-use Rattle.code_forms.proofs.Lists.{list_law, below_law}
-use Rattle.code_forms.proofs.TextLaws.{text_law}
+use Rattle.byte_forms.specs.Forms.{Form, IsForm}
+use Rattle.byte_forms.specs.Parts.{pair, imaged, just, byte_in, byte_below, u32_form, u64_form, FitsAs}
+use Rattle.byte_forms.specs.Lists.{list_of}
+use Rattle.byte_forms.specs.Utf8.{text_form}
+use Rattle.byte_forms.proofs.Laws.{just_law, imaged_law, shaped_law, pair_law, led_law}
+use Rattle.byte_forms.proofs.Numbers.{u32_law, u64_law}
+use Rattle.byte_forms.proofs.Lists.{list_law, below_law}
+use Rattle.byte_forms.proofs.TextLaws.{text_law}
 use Rattle.edit_code.specs.Annots.{id_form, key_form, level_place, level_kind_at, level_kind_form, time_tag, span_of, point_of, time_at, time_form, label_form, item_form, level_form, link_form, annot_form}
 
 pub id_law : IsForm id_form

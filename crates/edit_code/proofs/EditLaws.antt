@@ -8,13 +8,13 @@ use Rattle.edit_rules.specs.Edits.{key_of}
 use Rattle.emu_names.specs.declared.names.BundleKey.{BundleKey}
 use Rattle.edit_code.specs.declared.fields.Fields.{Fields}
 use Rattle.edit_code.specs.declared.fields.Fields.TheVariants as fields
-use Rattle.code_forms.specs.Forms.{IsForm}
-use Rattle.code_forms.specs.Parts.{pair, shaped, imaged, just, byte_in, byte_from_to, byte_is, option_of, u32_form, u64_form}
-use Rattle.code_forms.specs.Utf8.{text_form}
-use Rattle.code_forms.proofs.Laws.{just_law, imaged_law, shaped_law, pair_law, led_law}
-use Rattle.code_forms.proofs.Numbers.{u32_law, u64_law}
-use Rattle.code_forms.proofs.Lists.{option_law, from_to_law, is_law}
-use Rattle.code_forms.proofs.TextLaws.{text_law}
+use Rattle.byte_forms.specs.Forms.{IsForm}
+use Rattle.byte_forms.specs.Parts.{pair, shaped, imaged, just, byte_in, byte_from_to, byte_is, option_of, u32_form, u64_form}
+use Rattle.byte_forms.specs.Utf8.{text_form}
+use Rattle.byte_forms.proofs.Laws.{just_law, imaged_law, shaped_law, pair_law, led_law}
+use Rattle.byte_forms.proofs.Numbers.{u32_law, u64_law}
+use Rattle.byte_forms.proofs.Lists.{option_law, from_to_law, is_law}
+use Rattle.byte_forms.proofs.TextLaws.{text_law}
 use Rattle.edit_code.specs.Annots.{annot_form, id_form, item_form, key_form}
 use Rattle.edit_code.specs.Edits.{fields_of, edit_of, number_of, add_bundle_of, add_item_of, remove_item_of, set_label_of, set_segment_of, move_boundary_of, set_point_of, split_of, merge_of, add_link_of, remove_link_of, fields_at, keyed_form, edit_form, session_form, body_form, entry_form}
 use Rattle.edit_code.proofs.AnnotLaws.{annot_law, id_law, item_law, key_law, made_is}

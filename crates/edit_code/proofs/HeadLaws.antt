@@ -1,13 +1,13 @@
 -- The laws of the forms of configurations.
 use Rattle.std.proofs.Common.{◌≡◌, ℕ, zero, suc, ◌<◌, ◌∙◌, refl, ap, arith}
-use Rattle.code_forms.specs.Forms.{IsForm}
-use Rattle.code_forms.specs.Parts.{pair, just, byte_in, byte_is, byte_below, option_of, u32_form}
-use Rattle.code_forms.specs.Lists.{list_of}
-use Rattle.code_forms.specs.Utf8.{text_form}
-use Rattle.code_forms.proofs.Laws.{just_law, shaped_law, pair_law, led_law}
-use Rattle.code_forms.proofs.Numbers.{u32_law}
-use Rattle.code_forms.proofs.Lists.{list_law, option_law, below_law, is_law}
-use Rattle.code_forms.proofs.TextLaws.{text_law}
+use Rattle.byte_forms.specs.Forms.{IsForm}
+use Rattle.byte_forms.specs.Parts.{pair, just, byte_in, byte_is, byte_below, option_of, u32_form}
+use Rattle.byte_forms.specs.Lists.{list_of}
+use Rattle.byte_forms.specs.Utf8.{text_form}
+use Rattle.byte_forms.proofs.Laws.{just_law, shaped_law, pair_law, led_law}
+use Rattle.byte_forms.proofs.Numbers.{u32_law}
+use Rattle.byte_forms.proofs.Lists.{list_law, option_law, below_law, is_law}
+use Rattle.byte_forms.proofs.TextLaws.{text_law}
 use Rattle.edit_code.specs.Annots.{level_kind_form}
 use Rattle.edit_code.specs.Heads.{group_form, attribute_form, level_def_form, link_place, link_kind_at, link_kind_form, link_def_form, parts_form, head_form}
 use Rattle.edit_code.proofs.AnnotLaws.{below_is, level_kind_law}

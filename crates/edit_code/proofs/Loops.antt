@@ -1,12 +1,12 @@
 -- Steps of the loops over lists: their length, their writing, their reading.
 use Rattle.std.proofs.Common.{◌≡◌, ℕ, suc, ◌+◌, ◌-◌, ◌<◌, ◌≤◌, ◌^◌, List, [], ◌∷◌, ◌++◌, length, drop, get_or, min, refl, sym, ap, subst, ◌∙◌, arith, append_assoc, append-nil, length-append, drop-cons, drop_of_length-le}
 use Rattle.std.specs.Prelude.{Result, Ok, Err}
-use Rattle.code_forms.specs.Forms.{Form, ◌>>=◌}
-use Rattle.code_forms.specs.Parts.{led, u32_form}
-use Rattle.code_forms.specs.Reading.{Gives}
-use Rattle.code_forms.specs.declared.rest.ReadFault.{ReadFault}
-use Rattle.code_forms.specs.declared.rest.ReadFault.TheVariants as faults
-use Rattle.code_forms.specs.Lists.{ItemsFit, items_code, items_at, consed, times, list_of}
+use Rattle.byte_forms.specs.Forms.{Form, ◌>>=◌}
+use Rattle.byte_forms.specs.Parts.{led, u32_form}
+use Rattle.byte_forms.specs.Inner.Reading.{Gives}
+use Rattle.byte_forms.specs.declared.rest.ReadFault.{ReadFault}
+use Rattle.byte_forms.specs.declared.rest.ReadFault.TheVariants as faults
+use Rattle.byte_forms.specs.Lists.{ItemsFit, items_code, items_at, consed, times, list_of}
 
 -- the element at a place, and those behind it
 item_at : {A : Type 0} (items : List A) (place : ℕ) (x : A) → place < length items → x ≡ get_or items place x

@@ -3,11 +3,12 @@ use Rattle.std.proofs.Common.{◌≡◌, ℕ, ◌-◌, Bool, true, false, List, 
 use Rattle.std.specs.Prelude.{Result, Ok, Err, nat_lt, IfOk, IfErr}
 use Rattle.std.proofs.lemmas.Bool.Decides.{nat_tests}
 use Rattle.std.proofs.lemmas.List.{nil_from_length}
-use Rattle.code_forms.specs.Forms.{Form, AreBytes, StopsAt, IsCode, IsForm}
-use Rattle.code_forms.proofs.Stops.{code_is_read, stuck_stops, more_stops, end_stops}
+use Rattle.byte_forms.specs.Forms.{Form, AreBytes, IsCode, IsForm}
+use Rattle.byte_forms.specs.Inner.Forms.{StopsAt}
+use Rattle.byte_forms.proofs.Stops.{code_is_read, stuck_stops, more_stops, end_stops}
 use Rattle.edit_code.specs.declared.fault.CodeFault.{CodeFault}
 use Rattle.edit_code.specs.declared.fault.CodeFault.TheVariants as faults
-use Rattle.edit_code.specs.Codes.{whole, tested, Answers, IsReadAs, IsPlace}
+use Rattle.edit_code.specs.Inner.Codes.{whole, tested, Answers, IsReadAs, IsPlace}
 
 -- the bytes are the code of the value, which passes the test
 abbrev pub IsSo : {A : Type 0} → Form A → (A → Bool) → List ℕ → A → Type 0

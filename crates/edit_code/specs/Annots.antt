@@ -12,10 +12,10 @@ use Rattle.level_items.specs.declared.annot.AnnotLevel.{AnnotLevel}
 use Rattle.level_items.specs.declared.annot.AnnotLink.{AnnotLink}
 use Rattle.level_items.specs.declared.times.Time.{Time}
 use Rattle.level_items.specs.declared.times.Time.TheVariants.{NoTime, Span, Point}
-use Rattle.code_forms.specs.Forms.{Form}
-use Rattle.code_forms.specs.Parts.{pair, shaped, imaged, led, just, byte_below, u32_form, u64_form}
-use Rattle.code_forms.specs.Lists.{list_of}
-use Rattle.code_forms.specs.Utf8.{text_form}
+use Rattle.byte_forms.specs.Forms.{Form}
+use Rattle.byte_forms.specs.Parts.{pair, shaped, imaged, led, just, byte_below, u32_form, u64_form}
+use Rattle.byte_forms.specs.Lists.{list_of}
+use Rattle.byte_forms.specs.Utf8.{text_form}
 
 -- an id
 unfoldable pub id_form : Form ItemId

@@ -11,9 +11,9 @@ use Rattle.edit_rules.specs.declared.edit.Entry.{Entry}
 use Rattle.edit_rules.specs.Edits.{key_of}
 use Rattle.edit_code.specs.declared.fields.Fields.{Fields}
 use Rattle.edit_code.specs.declared.fields.Fields.TheVariants as fields
-use Rattle.code_forms.specs.Forms.{Form}
-use Rattle.code_forms.specs.Parts.{pair, shaped, imaged, led, just, byte_from_to, byte_is, option_of, u32_form, u64_form}
-use Rattle.code_forms.specs.Utf8.{text_form}
+use Rattle.byte_forms.specs.Forms.{Form}
+use Rattle.byte_forms.specs.Parts.{pair, shaped, imaged, led, just, byte_from_to, byte_is, option_of, u32_form, u64_form}
+use Rattle.byte_forms.specs.Utf8.{text_form}
 use Rattle.edit_code.specs.Annots.{annot_form, id_form, item_form, key_form}
 
 -- The fields behind the key.

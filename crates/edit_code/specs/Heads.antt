@@ -7,10 +7,10 @@ use Rattle.db_config.specs.declared.groups.GroupDef.{GroupDef}
 use Rattle.db_config.specs.declared.parts.ConfigParts.{ConfigParts}
 use Rattle.db_config.specs.declared.parts.LevelDef.{LevelDef}
 use Rattle.db_config.specs.declared.parts.LinkDef.{LinkDef}
-use Rattle.code_forms.specs.Forms.{Form}
-use Rattle.code_forms.specs.Parts.{pair, shaped, led, just, byte_is, byte_below, option_of, u32_form}
-use Rattle.code_forms.specs.Lists.{list_of}
-use Rattle.code_forms.specs.Utf8.{text_form}
+use Rattle.byte_forms.specs.Forms.{Form}
+use Rattle.byte_forms.specs.Parts.{pair, shaped, led, just, byte_is, byte_below, option_of, u32_form}
+use Rattle.byte_forms.specs.Lists.{list_of}
+use Rattle.byte_forms.specs.Utf8.{text_form}
 use Rattle.edit_code.specs.Annots.{level_kind_form}
 
 -- a label group: its name, its values

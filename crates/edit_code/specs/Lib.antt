@@ -4,3 +4,4 @@ pub mod Heads
 pub mod Names
 pub mod Codes
 pub mod Example
+pub mod Inner

@@ -1,20 +1,9 @@
--- What the data of a code must be beside their form: names, and a valid configuration.
-use Rattle.std.specs.Prelude.{ℕ, Bool, true, ◌&&◌, if◌then◌else◌, List, length, nat_le, Option, Some, None}
-use Rattle.std.specs.List.{list_all}
+-- What the data of an entry's code must be beside their form: names.
+use Rattle.std.specs.Prelude.{Bool, ◌&&◌}
 use Rattle.emu_names.specs.Name.{is_name}
-use Rattle.emu_names.specs.declared.limits.TheConstants.{ATTRIBUTES, LABEL_GROUPS, LIST_TEXTS}
 use Rattle.emu_names.specs.declared.names.BundleKey.{BundleKey}
-use Rattle.db_config.specs.declared.attributes.AttributeDef.{AttributeDef}
-use Rattle.db_config.specs.declared.groups.GroupDef.{GroupDef}
-use Rattle.db_config.specs.declared.parts.ConfigParts.{ConfigParts}
-use Rattle.db_config.specs.declared.parts.LevelDef.{LevelDef}
-use Rattle.db_config.specs.Valid.{is_valid}
 use Rattle.edit_rules.specs.declared.edit.Entry.{Entry}
 use Rattle.edit_rules.specs.Edits.{key_of}
-
--- the value, if it passes the test
-abbrev pub if_so : {A : Type 0} → (A → Bool) → A → Option A
-if_so test v = if test v then Some v else None
 
 -- both parts of the key are names
 abbrev pub is_key : BundleKey → Bool
@@ -23,44 +12,3 @@ is_key key = is_name key.session && is_name key.bundle
 -- the edit's key is one
 abbrev pub has_names : Entry → Bool
 has_names e = is_key (key_of e.edit)
-
--- there are few enough texts
-abbrev pub are_few_texts : List (List ℕ) → Bool
-are_few_texts texts = nat_le (length texts) LIST_TEXTS
-
--- legal labels are few enough, where there are some
-abbrev pub is_legal_list : Option (List (List ℕ)) → Bool
-is_legal_list None = true
-is_legal_list (Some texts) = are_few_texts texts
-
--- a label group has few enough values
-abbrev pub is_group : GroupDef → Bool
-is_group group = are_few_texts group.values
-
--- there are few enough label groups
-abbrev pub are_groups : List GroupDef → Bool
-are_groups groups = nat_le (length groups) LABEL_GROUPS && list_all is_group groups
-
--- an attribute has a name, and its lists are short enough
-abbrev pub is_attribute : AttributeDef → Bool
-is_attribute def = is_name def.name && is_legal_list def.legal && are_groups def.groups
-
--- there are some attributes, and few enough
-abbrev pub are_attributes : List AttributeDef → Bool
-are_attributes defs = nat_le 1 (length defs) && nat_le (length defs) ATTRIBUTES && list_all is_attribute defs
-
--- a level has a name, and attributes
-abbrev pub is_level : LevelDef → Bool
-is_level def = is_name def.name && are_attributes def.attributes
-
--- each level is one
-abbrev pub are_levels : List LevelDef → Bool
-are_levels levels = list_all is_level levels
-
--- names are names, and the lists have their lengths
-abbrev pub is_made : ConfigParts → Bool
-is_made parts = is_name parts.name && are_levels parts.levels && are_groups parts.groups
-
--- the parts are a configuration, with the limits that the types of its lists keep
-abbrev pub is_config : ConfigParts → Bool
-is_config parts = is_made parts && is_valid parts

@@ -1,11 +1,11 @@
 //! The codes of annotations.
 ghost use Rattle.std.specs.Prelude.{◌≡◌, ◌<◌, ◌^◌, ◌++◌, length, min, OnOk};
-ghost use Rattle.code_forms.specs.Forms.{Form};
-ghost use Rattle.code_forms.specs.Reading.{Gives};
+ghost use Rattle.byte_forms.specs.Forms.{Form};
+ghost use Rattle.byte_forms.specs.Inner.Reading.{Gives};
 ghost use Rattle.edit_code.specs.Annots.{annot_form, item_form, label_form, level_form, link_form};
 
 use crate::coded::{Coded, Readable, put_both, put_three, size_of_both, size_of_three};
-use code_forms::{CODE_LIMIT, CodeBytes, ReadFault, Rest};
+use byte_forms::{CODE_LIMIT, CodeBytes, ReadFault, Rest};
 use emu_names::Memory;
 use level_items::{Annot, AnnotItem, AnnotLabel, AnnotLevel, AnnotLink};
 use std::alloc::Global;
@@ -13,12 +13,12 @@ use std::alloc::Global;
 impl Coded for AnnotLabel {
     ghost form = { label_form };
 
-    #[tactic(auto, unfolding(crate::specs::Annots::label_form, code_forms::specs::Parts::shaped))]
+    #[tactic(auto, unfolding(crate::specs::Annots::label_form, byte_forms::specs::Parts::shaped))]
     fn size(&self) -> u64 {
         size_of_both(&self.name, &self.value)
     }
 
-    #[tactic(auto, unfolding(crate::specs::Annots::label_form, code_forms::specs::Parts::shaped))]
+    #[tactic(auto, unfolding(crate::specs::Annots::label_form, byte_forms::specs::Parts::shaped))]
     fn put(&self, out: &mut CodeBytes) -> Result<(), Memory> {
         put_both(&self.name, &self.value, out)
     }
@@ -27,7 +27,7 @@ impl Coded for AnnotLabel {
 impl Readable for AnnotLabel {
     ghost form = { label_form };
 
-    #[tactic(auto, unfolding(crate::specs::Annots::label_form, code_forms::specs::Parts::shaped))]
+    #[tactic(auto, unfolding(crate::specs::Annots::label_form, byte_forms::specs::Parts::shaped))]
     fn read(alloc: Global, from: &mut Rest<'_>) -> Result<AnnotLabel, ReadFault> {
         let (name, value) = Readable::read(alloc, from)?;
         Ok(AnnotLabel { name, value })
@@ -37,12 +37,12 @@ impl Readable for AnnotLabel {
 impl Coded for AnnotItem {
     ghost form = { item_form };
 
-    #[tactic(auto, unfolding(crate::specs::Annots::item_form, code_forms::specs::Parts::shaped))]
+    #[tactic(auto, unfolding(crate::specs::Annots::item_form, byte_forms::specs::Parts::shaped))]
     fn size(&self) -> u64 {
         size_of_three(&self.id, &self.time, &self.labels)
     }
 
-    #[tactic(auto, unfolding(crate::specs::Annots::item_form, code_forms::specs::Parts::shaped))]
+    #[tactic(auto, unfolding(crate::specs::Annots::item_form, byte_forms::specs::Parts::shaped))]
     fn put(&self, out: &mut CodeBytes) -> Result<(), Memory> {
         put_three(&self.id, &self.time, &self.labels, out)
     }
@@ -51,7 +51,7 @@ impl Coded for AnnotItem {
 impl Readable for AnnotItem {
     ghost form = { item_form };
 
-    #[tactic(auto, unfolding(crate::specs::Annots::item_form, code_forms::specs::Parts::shaped))]
+    #[tactic(auto, unfolding(crate::specs::Annots::item_form, byte_forms::specs::Parts::shaped))]
     fn read(alloc: Global, from: &mut Rest<'_>) -> Result<AnnotItem, ReadFault> {
         let (id, (time, labels)) = Readable::read(alloc, from)?;
         Ok(AnnotItem { id, time, labels })
@@ -61,12 +61,12 @@ impl Readable for AnnotItem {
 impl Coded for AnnotLevel {
     ghost form = { level_form };
 
-    #[tactic(auto, unfolding(crate::specs::Annots::level_form, code_forms::specs::Parts::shaped))]
+    #[tactic(auto, unfolding(crate::specs::Annots::level_form, byte_forms::specs::Parts::shaped))]
     fn size(&self) -> u64 {
         size_of_three(&self.name, &self.kind, &self.items)
     }
 
-    #[tactic(auto, unfolding(crate::specs::Annots::level_form, code_forms::specs::Parts::shaped))]
+    #[tactic(auto, unfolding(crate::specs::Annots::level_form, byte_forms::specs::Parts::shaped))]
     fn put(&self, out: &mut CodeBytes) -> Result<(), Memory> {
         put_three(&self.name, &self.kind, &self.items, out)
     }
@@ -75,7 +75,7 @@ impl Coded for AnnotLevel {
 impl Readable for AnnotLevel {
     ghost form = { level_form };
 
-    #[tactic(auto, unfolding(crate::specs::Annots::level_form, code_forms::specs::Parts::shaped))]
+    #[tactic(auto, unfolding(crate::specs::Annots::level_form, byte_forms::specs::Parts::shaped))]
     fn read(alloc: Global, from: &mut Rest<'_>) -> Result<AnnotLevel, ReadFault> {
         let (name, (kind, items)) = Readable::read(alloc, from)?;
         Ok(AnnotLevel { name, kind, items })
@@ -85,12 +85,12 @@ impl Readable for AnnotLevel {
 impl Coded for AnnotLink {
     ghost form = { link_form };
 
-    #[tactic(auto, unfolding(crate::specs::Annots::link_form, code_forms::specs::Parts::shaped))]
+    #[tactic(auto, unfolding(crate::specs::Annots::link_form, byte_forms::specs::Parts::shaped))]
     fn size(&self) -> u64 {
         size_of_both(&self.from, &self.to)
     }
 
-    #[tactic(auto, unfolding(crate::specs::Annots::link_form, code_forms::specs::Parts::shaped))]
+    #[tactic(auto, unfolding(crate::specs::Annots::link_form, byte_forms::specs::Parts::shaped))]
     fn put(&self, out: &mut CodeBytes) -> Result<(), Memory> {
         put_both(&self.from, &self.to, out)
     }
@@ -99,7 +99,7 @@ impl Coded for AnnotLink {
 impl Readable for AnnotLink {
     ghost form = { link_form };
 
-    #[tactic(auto, unfolding(crate::specs::Annots::link_form, code_forms::specs::Parts::shaped))]
+    #[tactic(auto, unfolding(crate::specs::Annots::link_form, byte_forms::specs::Parts::shaped))]
     fn read(alloc: Global, from: &mut Rest<'_>) -> Result<AnnotLink, ReadFault> {
         let (upper, lower) = Readable::read(alloc, from)?;
         Ok(AnnotLink {
@@ -112,13 +112,13 @@ impl Readable for AnnotLink {
 impl Coded for Annot {
     ghost form = { annot_form };
 
-    #[tactic(auto, unfolding(crate::specs::Annots::annot_form, code_forms::specs::Parts::shaped, code_forms::specs::Parts::pair))]
+    #[tactic(auto, unfolding(crate::specs::Annots::annot_form, byte_forms::specs::Parts::shaped, byte_forms::specs::Parts::pair))]
     fn size(&self) -> u64 {
         let lists = size_of_both(&self.levels, &self.links);
         (self.annotates.size() + self.rate.size() + lists).min(CODE_LIMIT)
     }
 
-    #[tactic(auto, unfolding(crate::specs::Annots::annot_form, code_forms::specs::Parts::shaped, code_forms::specs::Parts::pair))]
+    #[tactic(auto, unfolding(crate::specs::Annots::annot_form, byte_forms::specs::Parts::shaped, byte_forms::specs::Parts::pair))]
     fn put(&self, out: &mut CodeBytes) -> Result<(), Memory> {
         put_both(&self.annotates, &self.rate, out)?;
         put_both(&self.levels, &self.links, out)
@@ -128,7 +128,7 @@ impl Coded for Annot {
 impl Readable for Annot {
     ghost form = { annot_form };
 
-    #[tactic(auto, unfolding(crate::specs::Annots::annot_form, code_forms::specs::Parts::shaped))]
+    #[tactic(auto, unfolding(crate::specs::Annots::annot_form, byte_forms::specs::Parts::shaped))]
     fn read(alloc: Global, from: &mut Rest<'_>) -> Result<Annot, ReadFault> {
         let (annotates, (rate, (levels, links))) = Readable::read(alloc, from)?;
         Ok(Annot {

@@ -1,10 +1,10 @@
 //! Values with a code: how many bytes it has, how it is written, and how it is read.
 ghost use Rattle.std.specs.Prelude.{◌≡◌, ◌<◌, ◌^◌, ◌++◌, length, min, OnOk};
-ghost use Rattle.code_forms.specs.Forms.{Form};
-ghost use Rattle.code_forms.specs.Parts.{pair};
-ghost use Rattle.code_forms.specs.Reading.{Gives};
+ghost use Rattle.byte_forms.specs.Forms.{Form};
+ghost use Rattle.byte_forms.specs.Parts.{pair};
+ghost use Rattle.byte_forms.specs.Inner.Reading.{Gives};
 
-use code_forms::{CODE_LIMIT, CodeBytes, ReadFault, Rest};
+use byte_forms::{CODE_LIMIT, CodeBytes, ReadFault, Rest};
 use emu_names::Memory;
 use std::alloc::Global;
 
@@ -35,7 +35,7 @@ pub(crate) trait Readable: Drop {
 }
 
 /// Writes two values, one behind the other. The only refusal is want of memory.
-#[tactic(auto, unfolding(code_forms::specs::Parts::pair))]
+#[tactic(auto, unfolding(byte_forms::specs::Parts::pair))]
 pub(crate) fn put_both<A: Coded, B: Coded>(
     first: &A,
     second: &B,
@@ -48,7 +48,7 @@ pub(crate) fn put_both<A: Coded, B: Coded>(
 }
 
 /// How many bytes the codes of two values have, or 2^32 where they have as many or more.
-#[tactic(auto, unfolding(code_forms::specs::Parts::pair))]
+#[tactic(auto, unfolding(byte_forms::specs::Parts::pair))]
 pub(crate) fn size_of_both<A: Coded, B: Coded>(first: &A, second: &B) -> u64
     ensures len { result ≡ min (2 ^ 32) (length ((pair A.form B.form).code (first.now, second.now))) }
     ensures some { 0 < result }
@@ -58,7 +58,7 @@ pub(crate) fn size_of_both<A: Coded, B: Coded>(first: &A, second: &B) -> u64
 }
 
 /// Writes three values, one behind another. The only refusal is want of memory.
-#[tactic(auto, unfolding(code_forms::specs::Parts::pair))]
+#[tactic(auto, unfolding(byte_forms::specs::Parts::pair))]
 pub(crate) fn put_three<A: Coded, B: Coded, C: Coded>(
     first: &A,
     second: &B,
@@ -73,7 +73,7 @@ pub(crate) fn put_three<A: Coded, B: Coded, C: Coded>(
 }
 
 /// How many bytes the codes of three values have, or 2^32 where they have as many or more.
-#[tactic(auto, unfolding(code_forms::specs::Parts::pair))]
+#[tactic(auto, unfolding(byte_forms::specs::Parts::pair))]
 pub(crate) fn size_of_three<A: Coded, B: Coded, C: Coded>(first: &A, second: &B, third: &C) -> u64
     ensures len { result
         ≡ min (2 ^ 32) (length ((pair A.form (pair B.form C.form)).code (first.now, (second.now, third.now)))) }
@@ -88,7 +88,7 @@ pub(crate) fn size_of_three<A: Coded, B: Coded, C: Coded>(first: &A, second: &B,
 impl<A: Readable, B: Readable> Readable for (A, B) {
     ghost form = { pair A.form B.form };
 
-    #[tactic(auto, unfolding(code_forms::specs::Parts::pair))]
+    #[tactic(auto, unfolding(byte_forms::specs::Parts::pair))]
     fn read(alloc: Global, from: &mut Rest<'_>) -> Result<(A, B), ReadFault> {
         let first = A::read(alloc, from)?;
         let second = B::read(alloc, from)?;

@@ -2,18 +2,18 @@
 ghost use Rattle.std.specs.Prelude.{◌≡◌, ◌<◌, ◌^◌, length, min, IfOk, IfErr, true};
 ghost use Rattle.db_config.specs.declared.parts.ConfigParts.{ConfigParts};
 ghost use Rattle.edit_rules.specs.declared.edit.Entry.{Entry};
-ghost use Rattle.edit_code.specs.Codes.{entry_code, head_code, HasCode, HasHeadCode, entry_of, head_of, Answers, IsEntryCode, IsHeadCode, IsReadAs, IsPlace, whole};
+ghost use Rattle.edit_code.specs.Codes.{entry_code, head_code, IsEntryCode, IsHeadCode};
+ghost use Rattle.edit_code.specs.Inner.Codes.{HasCode, HasHeadCode, entry_of, head_of, Answers, IsReadAs, IsPlace, whole};
 ghost use Rattle.edit_code.specs.Edits.{entry_form};
 ghost use Rattle.edit_code.specs.Heads.{head_form};
 ghost use Rattle.edit_code.specs.Names.{is_key};
 
 use crate::coded::{Coded, Readable};
 use crate::fault::CodeFault;
-use crate::kept::config_is;
 use crate::made_head::config_in;
 use crate::raw_entry::{RawEntry, entry_in};
 use crate::raw_head::RawParts;
-use code_forms::{CodeBytes, ReadFault, Rest};
+use byte_forms::{CodeBytes, ReadFault, Rest};
 use db_config::Config;
 use edit_rules::Entry;
 use emu_names::{BundleKey, Memory};
@@ -28,7 +28,7 @@ fn names_are(key: &BundleKey)
 }
 
 /// The code of an entry that has one. The only refusal is want of memory.
-#[tactic(auto, unfolding(crate::specs::Codes::entry_code, crate::specs::Codes::HasCode))]
+#[tactic(auto, unfolding(crate::specs::Codes::entry_code, crate::specs::Inner::Codes::HasCode))]
 pub fn write_entry(alloc: Global, entry: &Entry) -> Result<CodeBytes, Memory>
     requires { HasCode entry.now }
     ensures code { IfOk result (λ bytes. bytes ≡ entry_code entry.now) }
@@ -41,20 +41,20 @@ pub fn write_entry(alloc: Global, entry: &Entry) -> Result<CodeBytes, Memory>
 }
 
 /// The code of a configuration that has one. The only refusal is want of memory.
-#[tactic(auto, unfolding(crate::specs::Codes::head_code, crate::specs::Codes::HasHeadCode))]
+#[tactic(auto, unfolding(crate::specs::Codes::head_code, crate::specs::Inner::Codes::HasHeadCode))]
 pub fn write_head(alloc: Global, config: &Config) -> Result<CodeBytes, Memory>
     requires { HasHeadCode config.now }
     ensures code { IfOk result (λ bytes. bytes ≡ head_code config.now) }
     ensures is { IfOk result (λ bytes. IsHeadCode bytes config.now) }
 {
-    config_is(config);
+    let parts = config.parts();
     let mut code = CodeBytes::new(alloc);
-    config.parts().put(&mut code)?;
+    parts.put(&mut code)?;
     Ok(code)
 }
 
 /// How many bytes the code of an entry has, or 2^32 where it has as many or more. It takes no memory.
-#[tactic(auto, unfolding(crate::specs::Codes::entry_code, crate::specs::Codes::HasCode))]
+#[tactic(auto, unfolding(crate::specs::Codes::entry_code, crate::specs::Inner::Codes::HasCode))]
 pub fn entry_len(entry: &Entry) -> u64
     ensures len { result ≡ min (2 ^ 32) (length (entry_code entry.now)) }
     ensures has { result < 2 ^ 32 → HasCode entry.now }
@@ -63,7 +63,7 @@ pub fn entry_len(entry: &Entry) -> u64
 }
 
 /// How many bytes the code of a configuration has, or 2^32 where it has as many or more. It takes no memory.
-#[tactic(auto, unfolding(crate::specs::Codes::head_code, crate::specs::Codes::HasHeadCode))]
+#[tactic(auto, unfolding(crate::specs::Codes::head_code, crate::specs::Inner::Codes::HasHeadCode))]
 pub fn head_len(config: &Config) -> u64
     ensures len { result ≡ min (2 ^ 32) (length (head_code config.now)) }
     ensures has { result < 2 ^ 32 → HasHeadCode config.now }
@@ -92,7 +92,7 @@ fn read_whole<R: Readable>(alloc: Global, bytes: &[u8]) -> Result<R, CodeFault>
 }
 
 /// The entry whose code the bytes are, or the place where they are none.
-#[tactic(auto, unfolding(crate::specs::Codes::entry_of))]
+#[tactic(auto, unfolding(crate::specs::Inner::Codes::entry_of))]
 fn entry_of(alloc: Global, bytes: &[u8]) -> Result<Entry, CodeFault>
     ensures { Answers result (entry_of bytes.now) }
 {
@@ -104,7 +104,7 @@ fn entry_of(alloc: Global, bytes: &[u8]) -> Result<Entry, CodeFault>
 }
 
 /// The configuration whose code the bytes are, or the place where they are none.
-#[tactic(auto, unfolding(crate::specs::Codes::head_of))]
+#[tactic(auto, unfolding(crate::specs::Inner::Codes::head_of))]
 fn head_of(alloc: Global, bytes: &[u8]) -> Result<Config, CodeFault>
     ensures { Answers result (head_of bytes.now) }
 {

@@ -1,10 +1,10 @@
 //! The codes of edits and entries: how many bytes they have, and how they are written.
 ghost use Rattle.std.specs.Prelude.{◌≡◌, ◌<◌, ◌^◌, ◌++◌, length, min, OnOk};
-ghost use Rattle.code_forms.specs.Forms.{Form};
+ghost use Rattle.byte_forms.specs.Forms.{Form};
 ghost use Rattle.edit_code.specs.Edits.{body_form, edit_form, entry_form, fields_at, fields_of, number_of};
 
 use crate::coded::{Coded, put_both, put_three, size_of_both, size_of_three};
-use code_forms::{CODE_LIMIT, CodeBytes};
+use byte_forms::{CODE_LIMIT, CodeBytes};
 use edit_rules::{Edit, Entry};
 use emu_names::Memory;
 
@@ -29,7 +29,7 @@ fn number_of(edit: &Edit) -> u8
 }
 
 /// How many bytes the fields behind the key have, or 2^32 where they have as many or more.
-#[tactic(auto, unfolding(code_forms::specs::Parts::imaged, code_forms::specs::Parts::just))]
+#[tactic(auto, unfolding(byte_forms::specs::Parts::imaged, byte_forms::specs::Parts::just))]
 fn fields_size(edit: &Edit) -> u64
     ensures len { result
         ≡ min (2 ^ 32) (length ((fields_at (number_of (fields_of edit.now))).code (fields_of edit.now))) }
@@ -67,7 +67,7 @@ fn fields_size(edit: &Edit) -> u64
 }
 
 /// Writes the fields behind the key. The only refusal is want of memory.
-#[tactic(auto, unfolding(code_forms::specs::Parts::imaged, code_forms::specs::Parts::just))]
+#[tactic(auto, unfolding(byte_forms::specs::Parts::imaged, byte_forms::specs::Parts::just))]
 fn put_fields(edit: &Edit, out: &mut CodeBytes) -> Result<(), Memory>
     ensures { OnOk result
         (out.new ≡ out.old ++ (fields_at (number_of (fields_of edit.now))).code (fields_of edit.now)) }
@@ -106,12 +106,12 @@ fn put_fields(edit: &Edit, out: &mut CodeBytes) -> Result<(), Memory>
 impl Coded for Edit {
     ghost form = { edit_form };
 
-    #[tactic(auto, using(crate::proofs::KindPlaces::number_is_one), unfolding(crate::specs::Edits::edit_form, crate::specs::Edits::keyed_form, code_forms::specs::Parts::led, code_forms::specs::Parts::byte_in, code_forms::specs::Parts::shaped, code_forms::specs::Parts::pair))]
+    #[tactic(auto, using(crate::proofs::KindPlaces::number_is_one), unfolding(crate::specs::Edits::edit_form, crate::specs::Edits::keyed_form, byte_forms::specs::Parts::led, byte_forms::specs::Parts::byte_in, byte_forms::specs::Parts::shaped, byte_forms::specs::Parts::pair))]
     fn size(&self) -> u64 {
         (1 + self.key().size() + fields_size(self)).min(CODE_LIMIT)
     }
 
-    #[tactic(auto, unfolding(crate::specs::Edits::edit_form, crate::specs::Edits::keyed_form, code_forms::specs::Parts::led, code_forms::specs::Parts::byte_in, code_forms::specs::Parts::shaped, code_forms::specs::Parts::pair))]
+    #[tactic(auto, unfolding(crate::specs::Edits::edit_form, crate::specs::Edits::keyed_form, byte_forms::specs::Parts::led, byte_forms::specs::Parts::byte_in, byte_forms::specs::Parts::shaped, byte_forms::specs::Parts::pair))]
     fn put(&self, out: &mut CodeBytes) -> Result<(), Memory> {
         out.put_byte(number_of(self))?;
         self.key().put(out)?;
@@ -122,12 +122,12 @@ impl Coded for Edit {
 impl Coded for Entry {
     ghost form = { entry_form };
 
-    #[tactic(auto, unfolding(crate::specs::Edits::entry_form, crate::specs::Edits::body_form, code_forms::specs::Parts::led, code_forms::specs::Parts::byte_in, code_forms::specs::Parts::shaped))]
+    #[tactic(auto, unfolding(crate::specs::Edits::entry_form, crate::specs::Edits::body_form, byte_forms::specs::Parts::led, byte_forms::specs::Parts::byte_in, byte_forms::specs::Parts::shaped))]
     fn size(&self) -> u64 {
         (1 + size_of_three(&self.session, &self.line, &self.edit)).min(CODE_LIMIT)
     }
 
-    #[tactic(auto, unfolding(crate::specs::Edits::entry_form, crate::specs::Edits::body_form, code_forms::specs::Parts::led, code_forms::specs::Parts::byte_in, code_forms::specs::Parts::shaped))]
+    #[tactic(auto, unfolding(crate::specs::Edits::entry_form, crate::specs::Edits::body_form, byte_forms::specs::Parts::led, byte_forms::specs::Parts::byte_in, byte_forms::specs::Parts::shaped))]
     fn put(&self, out: &mut CodeBytes) -> Result<(), Memory> {
         out.put_byte(1)?;
         put_three(&self.session, &self.line, &self.edit, out)

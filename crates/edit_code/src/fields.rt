@@ -1,10 +1,10 @@
 //! What an edit has behind its key: the fields of each kind of edits, and how they are read.
 ghost use Rattle.std.specs.Prelude.{◌≡◌, ◌≤◌};
-ghost use Rattle.code_forms.specs.Reading.{Gives};
+ghost use Rattle.byte_forms.specs.Inner.Reading.{Gives};
 ghost use Rattle.edit_code.specs.Edits.{fields_at};
 
 use crate::coded::Readable;
-use code_forms::{ReadFault, Rest};
+use byte_forms::{ReadFault, Rest};
 use emu_names::{ItemId, Text};
 use level_items::{Annot, AnnotItem};
 use std::alloc::Global;
@@ -61,7 +61,7 @@ pub(crate) enum Fields {
 }
 
 /// Reads the annotation of a bundle that is added.
-#[tactic(auto, unfolding(code_forms::specs::Parts::imaged))]
+#[tactic(auto, unfolding(byte_forms::specs::Parts::imaged))]
 fn read_add_bundle(alloc: Global, from: &mut Rest<'_>) -> Result<Fields, ReadFault>
     ensures { Gives result from.new ((fields_at 1).read from.old) }
 {
@@ -70,7 +70,7 @@ fn read_add_bundle(alloc: Global, from: &mut Rest<'_>) -> Result<Fields, ReadFau
 }
 
 /// Reads the level, the position and the item that is put there.
-#[tactic(auto, unfolding(code_forms::specs::Parts::imaged))]
+#[tactic(auto, unfolding(byte_forms::specs::Parts::imaged))]
 fn read_add_item(alloc: Global, from: &mut Rest<'_>) -> Result<Fields, ReadFault>
     ensures { Gives result from.new ((fields_at 3).read from.old) }
 {
@@ -83,7 +83,7 @@ fn read_add_item(alloc: Global, from: &mut Rest<'_>) -> Result<Fields, ReadFault
 }
 
 /// Reads the id of an item that is taken out.
-#[tactic(auto, unfolding(code_forms::specs::Parts::imaged))]
+#[tactic(auto, unfolding(byte_forms::specs::Parts::imaged))]
 fn read_remove_item(alloc: Global, from: &mut Rest<'_>) -> Result<Fields, ReadFault>
     ensures { Gives result from.new ((fields_at 4).read from.old) }
 {
@@ -92,7 +92,7 @@ fn read_remove_item(alloc: Global, from: &mut Rest<'_>) -> Result<Fields, ReadFa
 }
 
 /// Reads an item's id, the name of an attribute and its label.
-#[tactic(auto, unfolding(code_forms::specs::Parts::imaged))]
+#[tactic(auto, unfolding(byte_forms::specs::Parts::imaged))]
 fn read_set_label(alloc: Global, from: &mut Rest<'_>) -> Result<Fields, ReadFault>
     ensures { Gives result from.new ((fields_at 5).read from.old) }
 {
@@ -105,7 +105,7 @@ fn read_set_label(alloc: Global, from: &mut Rest<'_>) -> Result<Fields, ReadFaul
 }
 
 /// Reads a segment's id, and its new start and duration.
-#[tactic(auto, unfolding(code_forms::specs::Parts::imaged))]
+#[tactic(auto, unfolding(byte_forms::specs::Parts::imaged))]
 fn read_set_segment(alloc: Global, from: &mut Rest<'_>) -> Result<Fields, ReadFault>
     ensures { Gives result from.new ((fields_at 6).read from.old) }
 {
@@ -114,7 +114,7 @@ fn read_set_segment(alloc: Global, from: &mut Rest<'_>) -> Result<Fields, ReadFa
 }
 
 /// Reads the id of the segment before a boundary, and the boundary's new place.
-#[tactic(auto, unfolding(code_forms::specs::Parts::imaged))]
+#[tactic(auto, unfolding(byte_forms::specs::Parts::imaged))]
 fn read_move_boundary(alloc: Global, from: &mut Rest<'_>) -> Result<Fields, ReadFault>
     ensures { Gives result from.new ((fields_at 7).read from.old) }
 {
@@ -123,7 +123,7 @@ fn read_move_boundary(alloc: Global, from: &mut Rest<'_>) -> Result<Fields, Read
 }
 
 /// Reads a point's id, and its new sample.
-#[tactic(auto, unfolding(code_forms::specs::Parts::imaged))]
+#[tactic(auto, unfolding(byte_forms::specs::Parts::imaged))]
 fn read_set_point(alloc: Global, from: &mut Rest<'_>) -> Result<Fields, ReadFault>
     ensures { Gives result from.new ((fields_at 8).read from.old) }
 {
@@ -132,7 +132,7 @@ fn read_set_point(alloc: Global, from: &mut Rest<'_>) -> Result<Fields, ReadFaul
 }
 
 /// Reads the ids of both parts of a segment that is cut, and the place of the cut.
-#[tactic(auto, unfolding(code_forms::specs::Parts::imaged))]
+#[tactic(auto, unfolding(byte_forms::specs::Parts::imaged))]
 fn read_split(alloc: Global, from: &mut Rest<'_>) -> Result<Fields, ReadFault>
     ensures { Gives result from.new ((fields_at 9).read from.old) }
 {
@@ -141,7 +141,7 @@ fn read_split(alloc: Global, from: &mut Rest<'_>) -> Result<Fields, ReadFault>
 }
 
 /// Reads the id of a segment that is joined with the next one.
-#[tactic(auto, unfolding(code_forms::specs::Parts::imaged))]
+#[tactic(auto, unfolding(byte_forms::specs::Parts::imaged))]
 fn read_merge(alloc: Global, from: &mut Rest<'_>) -> Result<Fields, ReadFault>
     ensures { Gives result from.new ((fields_at 10).read from.old) }
 {
@@ -150,7 +150,7 @@ fn read_merge(alloc: Global, from: &mut Rest<'_>) -> Result<Fields, ReadFault>
 }
 
 /// Reads the ids of two items that are linked.
-#[tactic(auto, unfolding(code_forms::specs::Parts::imaged))]
+#[tactic(auto, unfolding(byte_forms::specs::Parts::imaged))]
 fn read_add_link(alloc: Global, from: &mut Rest<'_>) -> Result<Fields, ReadFault>
     ensures { Gives result from.new ((fields_at 11).read from.old) }
 {
@@ -162,7 +162,7 @@ fn read_add_link(alloc: Global, from: &mut Rest<'_>) -> Result<Fields, ReadFault
 }
 
 /// Reads the ids of two items whose link is taken out.
-#[tactic(auto, unfolding(code_forms::specs::Parts::imaged))]
+#[tactic(auto, unfolding(byte_forms::specs::Parts::imaged))]
 fn read_remove_link(alloc: Global, from: &mut Rest<'_>) -> Result<Fields, ReadFault>
     ensures { Gives result from.new ((fields_at 12).read from.old) }
 {
@@ -174,7 +174,7 @@ fn read_remove_link(alloc: Global, from: &mut Rest<'_>) -> Result<Fields, ReadFa
 }
 
 /// Reads the fields of the edits of a number, 1 to 12.
-#[tactic(auto, unfolding(code_forms::specs::Parts::just))]
+#[tactic(auto, unfolding(byte_forms::specs::Parts::just))]
 pub(crate) fn read_fields(
     alloc: Global,
     number: u8,

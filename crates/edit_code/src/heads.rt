@@ -1,13 +1,13 @@
 //! The codes of configurations: how many bytes they have, and how they are written.
 ghost use Rattle.std.specs.Prelude.{◌≡◌, ◌<◌, ◌^◌, ◌++◌, length, min, OnOk};
-ghost use Rattle.code_forms.specs.Forms.{Form};
-ghost use Rattle.code_forms.specs.Lists.{list_of};
-ghost use Rattle.code_forms.specs.Utf8.{text_form};
+ghost use Rattle.byte_forms.specs.Forms.{Form};
+ghost use Rattle.byte_forms.specs.Lists.{list_of};
+ghost use Rattle.byte_forms.specs.Utf8.{text_form};
 ghost use Rattle.edit_code.specs.Heads.{attribute_form, group_form, head_form, level_def_form, link_def_form};
 
 use crate::coded::{Coded, put_both, put_three, size_of_both, size_of_three};
 use crate::lists::{list_size, put_list};
-use code_forms::{CODE_LIMIT, CodeBytes};
+use byte_forms::{CODE_LIMIT, CodeBytes};
 use db_config::{
     AttributeDef, AttributeDefs, ConfigParts, GroupDef, GroupDefs, GroupValues, LevelDef, LinkDef,
 };
@@ -28,12 +28,12 @@ impl Coded for GroupValues {
 impl Coded for GroupDef {
     ghost form = { group_form };
 
-    #[tactic(auto, unfolding(crate::specs::Heads::group_form, code_forms::specs::Parts::shaped))]
+    #[tactic(auto, unfolding(crate::specs::Heads::group_form, byte_forms::specs::Parts::shaped))]
     fn size(&self) -> u64 {
         size_of_both(&self.name, &self.values)
     }
 
-    #[tactic(auto, unfolding(crate::specs::Heads::group_form, code_forms::specs::Parts::shaped))]
+    #[tactic(auto, unfolding(crate::specs::Heads::group_form, byte_forms::specs::Parts::shaped))]
     fn put(&self, out: &mut CodeBytes) -> Result<(), Memory> {
         put_both(&self.name, &self.values, out)
     }
@@ -54,12 +54,12 @@ impl Coded for GroupDefs {
 impl Coded for AttributeDef {
     ghost form = { attribute_form };
 
-    #[tactic(auto, unfolding(crate::specs::Heads::attribute_form, code_forms::specs::Parts::shaped))]
+    #[tactic(auto, unfolding(crate::specs::Heads::attribute_form, byte_forms::specs::Parts::shaped))]
     fn size(&self) -> u64 {
         size_of_three(&self.name, &self.legal, &self.groups)
     }
 
-    #[tactic(auto, unfolding(crate::specs::Heads::attribute_form, code_forms::specs::Parts::shaped))]
+    #[tactic(auto, unfolding(crate::specs::Heads::attribute_form, byte_forms::specs::Parts::shaped))]
     fn put(&self, out: &mut CodeBytes) -> Result<(), Memory> {
         put_three(&self.name, &self.legal, &self.groups, out)
     }
@@ -80,12 +80,12 @@ impl Coded for AttributeDefs {
 impl Coded for LevelDef {
     ghost form = { level_def_form };
 
-    #[tactic(auto, unfolding(crate::specs::Heads::level_def_form, code_forms::specs::Parts::shaped))]
+    #[tactic(auto, unfolding(crate::specs::Heads::level_def_form, byte_forms::specs::Parts::shaped))]
     fn size(&self) -> u64 {
         size_of_three(&self.name, &self.kind, &self.attributes)
     }
 
-    #[tactic(auto, unfolding(crate::specs::Heads::level_def_form, code_forms::specs::Parts::shaped))]
+    #[tactic(auto, unfolding(crate::specs::Heads::level_def_form, byte_forms::specs::Parts::shaped))]
     fn put(&self, out: &mut CodeBytes) -> Result<(), Memory> {
         put_three(&self.name, &self.kind, &self.attributes, out)
     }
@@ -94,12 +94,12 @@ impl Coded for LevelDef {
 impl Coded for LinkDef {
     ghost form = { link_def_form };
 
-    #[tactic(auto, unfolding(crate::specs::Heads::link_def_form, code_forms::specs::Parts::shaped))]
+    #[tactic(auto, unfolding(crate::specs::Heads::link_def_form, byte_forms::specs::Parts::shaped))]
     fn size(&self) -> u64 {
         size_of_three(&self.kind, &self.upper, &self.lower)
     }
 
-    #[tactic(auto, unfolding(crate::specs::Heads::link_def_form, code_forms::specs::Parts::shaped))]
+    #[tactic(auto, unfolding(crate::specs::Heads::link_def_form, byte_forms::specs::Parts::shaped))]
     fn put(&self, out: &mut CodeBytes) -> Result<(), Memory> {
         put_three(&self.kind, &self.upper, &self.lower, out)
     }
@@ -108,14 +108,14 @@ impl Coded for LinkDef {
 impl Coded for ConfigParts {
     ghost form = { head_form };
 
-    #[tactic(auto, unfolding(crate::specs::Heads::head_form, crate::specs::Heads::parts_form, code_forms::specs::Parts::shaped, code_forms::specs::Parts::led, code_forms::specs::Parts::byte_in, code_forms::specs::Parts::pair))]
+    #[tactic(auto, unfolding(crate::specs::Heads::head_form, crate::specs::Heads::parts_form, byte_forms::specs::Parts::shaped, byte_forms::specs::Parts::led, byte_forms::specs::Parts::byte_in, byte_forms::specs::Parts::pair))]
     fn size(&self) -> u64 {
         let texts = size_of_three(&self.name, &self.uuid, &self.extension);
         let lists = size_of_three(&self.levels, &self.groups, &self.links);
         (1 + texts + self.tracks.size() + lists).min(CODE_LIMIT)
     }
 
-    #[tactic(auto, unfolding(crate::specs::Heads::head_form, crate::specs::Heads::parts_form, code_forms::specs::Parts::shaped, code_forms::specs::Parts::led, code_forms::specs::Parts::byte_in, code_forms::specs::Parts::pair))]
+    #[tactic(auto, unfolding(crate::specs::Heads::head_form, crate::specs::Heads::parts_form, byte_forms::specs::Parts::shaped, byte_forms::specs::Parts::led, byte_forms::specs::Parts::byte_in, byte_forms::specs::Parts::pair))]
     fn put(&self, out: &mut CodeBytes) -> Result<(), Memory> {
         out.put_byte(0)?;
         put_three(&self.name, &self.uuid, &self.extension, out)?;

@@ -1,6 +1,6 @@
 //! Laws of the codes, with nothing to run.
 ghost use Rattle.std.specs.Prelude.{◌≡◌};
-ghost use Rattle.code_forms.specs.Forms.{IsForm, IsPrefixFree};
+ghost use Rattle.byte_forms.specs.Forms.{IsForm, IsPrefixFree};
 ghost use Rattle.edit_code.specs.Codes.{entry_code};
 ghost use Rattle.edit_code.specs.Edits.{entry_form};
 ghost use Rattle.edit_code.specs.Example.{seventh_bytes, seventh_removed};

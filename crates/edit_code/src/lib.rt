@@ -8,7 +8,6 @@ mod edits;
 mod fault;
 mod fields;
 mod heads;
-mod kept;
 mod laws;
 mod lists;
 mod made_head;

@@ -1,18 +1,17 @@
 //! The codes of lists, and of values that may be there.
 ghost use Rattle.std.specs.Prelude.{◌≡◌, ◌<◌, ◌^◌, ◌++◌, length, min, OnOk};
-ghost use Rattle.code_forms.specs.Forms.{Form};
-ghost use Rattle.code_forms.specs.Lists.{items_at, items_code, list_of};
-ghost use Rattle.code_forms.specs.Parts.{option_of};
-ghost use Rattle.code_forms.specs.Reading.{Gives};
+ghost use Rattle.byte_forms.specs.Forms.{Form};
+ghost use Rattle.byte_forms.specs.Lists.{items_at, items_code, list_of};
+ghost use Rattle.byte_forms.specs.Parts.{option_of};
+ghost use Rattle.byte_forms.specs.Inner.Reading.{Gives};
 
 use crate::coded::{Coded, Readable};
-use code_forms::{CODE_LIMIT, CodeBytes, ReadFault, Rest};
-use emu_lists::Series;
-use emu_names::Memory;
+use byte_forms::{CODE_LIMIT, CodeBytes, ReadFault, Rest};
+use emu_names::{Memory, Series};
 use std::alloc::Global;
 
 /// How many bytes the code of a list has, or 2^32 where it has as many or more.
-#[tactic(auto, unfolding(code_forms::specs::Lists::list_of, code_forms::specs::Lists::times, code_forms::specs::Parts::led, code_forms::specs::Parts::u32_form))]
+#[tactic(auto, unfolding(byte_forms::specs::Lists::list_of, byte_forms::specs::Lists::times, byte_forms::specs::Parts::led, byte_forms::specs::Parts::u32_form))]
 pub(crate) fn list_size<T: Coded>(items: &[T]) -> u64
     ensures len { result ≡ min (2 ^ 32) (length ((list_of T.form).code items.now)) }
     ensures some { 0 < result }
@@ -26,7 +25,7 @@ pub(crate) fn list_size<T: Coded>(items: &[T]) -> u64
 }
 
 /// Writes a list: how many elements there are, and the elements. The only refusal is want of memory.
-#[tactic(auto, unfolding(code_forms::specs::Lists::list_of, code_forms::specs::Lists::times, code_forms::specs::Parts::led))]
+#[tactic(auto, unfolding(byte_forms::specs::Lists::list_of, byte_forms::specs::Lists::times, byte_forms::specs::Parts::led))]
 pub(crate) fn put_list<T: Coded>(items: &[T], out: &mut CodeBytes) -> Result<(), Memory>
     ensures { OnOk result (out.new ≡ out.old ++ (list_of T.form).code items.now) }
 {
@@ -77,7 +76,7 @@ impl<T: Coded> Coded for Series<T> {
 impl<T: Readable> Readable for Series<T> {
     ghost form = { list_of T.form };
 
-    #[tactic(auto, unfolding(code_forms::specs::Lists::list_of, code_forms::specs::Lists::times, code_forms::specs::Parts::led))]
+    #[tactic(auto, unfolding(byte_forms::specs::Lists::list_of, byte_forms::specs::Lists::times, byte_forms::specs::Parts::led))]
     fn read(alloc: Global, from: &mut Rest<'_>) -> Result<Series<T>, ReadFault> {
         let count = from.read_u32()?;
         read_items(alloc, count, from)
@@ -87,7 +86,7 @@ impl<T: Readable> Readable for Series<T> {
 impl<T: Coded> Coded for Option<T> {
     ghost form = { option_of T.form };
 
-    #[tactic(auto, unfolding(code_forms::specs::Parts::option_of, code_forms::specs::Parts::led, code_forms::specs::Parts::byte_in, code_forms::specs::Parts::just, code_forms::specs::Parts::imaged))]
+    #[tactic(auto, unfolding(byte_forms::specs::Parts::option_of, byte_forms::specs::Parts::led, byte_forms::specs::Parts::byte_in, byte_forms::specs::Parts::just, byte_forms::specs::Parts::imaged))]
     fn size(&self) -> u64 {
         match self {
             None => 1,
@@ -95,7 +94,7 @@ impl<T: Coded> Coded for Option<T> {
         }
     }
 
-    #[tactic(auto, unfolding(code_forms::specs::Parts::option_of, code_forms::specs::Parts::led, code_forms::specs::Parts::byte_in, code_forms::specs::Parts::just, code_forms::specs::Parts::imaged))]
+    #[tactic(auto, unfolding(byte_forms::specs::Parts::option_of, byte_forms::specs::Parts::led, byte_forms::specs::Parts::byte_in, byte_forms::specs::Parts::just, byte_forms::specs::Parts::imaged))]
     fn put(&self, out: &mut CodeBytes) -> Result<(), Memory> {
         match self {
             None => out.put_byte(0),
@@ -110,7 +109,7 @@ impl<T: Coded> Coded for Option<T> {
 impl<T: Readable> Readable for Option<T> {
     ghost form = { option_of T.form };
 
-    #[tactic(auto, unfolding(code_forms::specs::Parts::option_of, code_forms::specs::Parts::led, code_forms::specs::Parts::just, code_forms::specs::Parts::imaged))]
+    #[tactic(auto, unfolding(byte_forms::specs::Parts::option_of, byte_forms::specs::Parts::led, byte_forms::specs::Parts::just, byte_forms::specs::Parts::imaged))]
     fn read(alloc: Global, from: &mut Rest<'_>) -> Result<Option<T>, ReadFault> {
         let there = from.read_byte_below(2)?;
         if there == 0 {

@@ -1,7 +1,9 @@
 //! A configuration that was read, if its names are names and its lists are short enough.
 ghost use Rattle.std.specs.Prelude.{◌≡◌, ◌≤◌, ◌+◌, ◌++◌, length, true, IfOk};
 ghost use Rattle.std.specs.List.{list_all};
-ghost use Rattle.edit_code.specs.Names.{are_attributes, are_few_texts, are_groups, are_levels, if_so, is_attribute, is_config, is_group, is_legal_list, is_level, is_made};
+ghost use Rattle.db_config.specs.Made.{are_attributes, are_few_texts, are_groups, are_levels, is_attribute, is_group, is_legal_list, is_level, is_made};
+ghost use Rattle.db_config.specs.Valid.{is_config};
+ghost use Rattle.edit_code.specs.Inner.Names.{if_so};
 
 use crate::raw_head::{RawAttribute, RawGroup, RawLevel, RawParts, RawTexts};
 use crate::raw_key::name_in;
@@ -9,9 +11,8 @@ use db_config::{
     AttributeDef, AttributeDefs, Config, ConfigParts, GroupDef, GroupDefs, GroupValues, LevelDef,
     LevelDefs, PartsFault,
 };
-use emu_lists::{PlainData, Series};
 use emu_names::limits::{ATTRIBUTES, LABEL_GROUPS, LIST_TEXTS};
-use emu_names::{Memory, Text};
+use emu_names::{Memory, PlainData, Series, Text};
 use std::alloc::Global;
 
 /// The texts, if they are few enough. The only refusal is want of memory.

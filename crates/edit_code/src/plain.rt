@@ -1,15 +1,15 @@
 //! The codes of numbers, texts, names, ids, keys and kinds.
 ghost use Rattle.std.specs.Prelude.{◌≡◌, ◌<◌, ◌^◌, ◌++◌, length, min, OnOk};
-ghost use Rattle.code_forms.specs.Forms.{Form};
-ghost use Rattle.code_forms.specs.Parts.{u32_form, u64_form};
-ghost use Rattle.code_forms.specs.Reading.{Gives};
-ghost use Rattle.code_forms.specs.Utf8.{text_form};
+ghost use Rattle.byte_forms.specs.Forms.{Form};
+ghost use Rattle.byte_forms.specs.Parts.{u32_form, u64_form};
+ghost use Rattle.byte_forms.specs.Inner.Reading.{Gives};
+ghost use Rattle.byte_forms.specs.Utf8.{text_form};
 ghost use Rattle.edit_code.specs.Annots.{id_form, key_form, level_kind_form, level_kind_at, time_form};
 ghost use Rattle.edit_code.specs.Edits.{session_form};
 ghost use Rattle.edit_code.specs.Heads.{link_kind_form, link_kind_at};
 
 use crate::coded::{Coded, Readable, put_both, size_of_both};
-use code_forms::{CODE_LIMIT, CodeBytes, ReadFault, Rest, text_size};
+use byte_forms::{CODE_LIMIT, CodeBytes, ReadFault, Rest, text_size};
 use emu_names::{BundleKey, ItemId, LevelKind, LinkKind, Memory, Name, SessionNo, Text};
 use level_items::Time;
 use std::alloc::Global;
@@ -17,7 +17,7 @@ use std::alloc::Global;
 impl Coded for u32 {
     ghost form = { u32_form };
 
-    #[tactic(auto, unfolding(code_forms::specs::Parts::u32_form))]
+    #[tactic(auto, unfolding(byte_forms::specs::Parts::u32_form))]
     fn size(&self) -> u64 {
         let _value = *self;
         4
@@ -39,7 +39,7 @@ impl Readable for u32 {
 impl Coded for u64 {
     ghost form = { u64_form };
 
-    #[tactic(auto, unfolding(code_forms::specs::Parts::u64_form))]
+    #[tactic(auto, unfolding(byte_forms::specs::Parts::u64_form))]
     fn size(&self) -> u64 {
         let _value = *self;
         8
@@ -93,12 +93,12 @@ impl Coded for Name {
 impl Coded for ItemId {
     ghost form = { id_form };
 
-    #[tactic(auto, unfolding(crate::specs::Annots::id_form, code_forms::specs::Parts::shaped))]
+    #[tactic(auto, unfolding(crate::specs::Annots::id_form, byte_forms::specs::Parts::shaped))]
     fn size(&self) -> u64 {
         self.0.size()
     }
 
-    #[tactic(auto, unfolding(crate::specs::Annots::id_form, code_forms::specs::Parts::shaped))]
+    #[tactic(auto, unfolding(crate::specs::Annots::id_form, byte_forms::specs::Parts::shaped))]
     fn put(&self, out: &mut CodeBytes) -> Result<(), Memory> {
         out.put_u32(self.0)
     }
@@ -107,7 +107,7 @@ impl Coded for ItemId {
 impl Readable for ItemId {
     ghost form = { id_form };
 
-    #[tactic(auto, unfolding(crate::specs::Annots::id_form, code_forms::specs::Parts::shaped))]
+    #[tactic(auto, unfolding(crate::specs::Annots::id_form, byte_forms::specs::Parts::shaped))]
     fn read(_alloc: Global, from: &mut Rest<'_>) -> Result<ItemId, ReadFault> {
         let number = from.read_u32()?;
         Ok(ItemId(number))
@@ -117,12 +117,12 @@ impl Readable for ItemId {
 impl Coded for SessionNo {
     ghost form = { session_form };
 
-    #[tactic(auto, unfolding(crate::specs::Edits::session_form, code_forms::specs::Parts::shaped))]
+    #[tactic(auto, unfolding(crate::specs::Edits::session_form, byte_forms::specs::Parts::shaped))]
     fn size(&self) -> u64 {
         self.0.size()
     }
 
-    #[tactic(auto, unfolding(crate::specs::Edits::session_form, code_forms::specs::Parts::shaped))]
+    #[tactic(auto, unfolding(crate::specs::Edits::session_form, byte_forms::specs::Parts::shaped))]
     fn put(&self, out: &mut CodeBytes) -> Result<(), Memory> {
         out.put_u32(self.0)
     }
@@ -131,7 +131,7 @@ impl Coded for SessionNo {
 impl Readable for SessionNo {
     ghost form = { session_form };
 
-    #[tactic(auto, unfolding(crate::specs::Edits::session_form, code_forms::specs::Parts::shaped))]
+    #[tactic(auto, unfolding(crate::specs::Edits::session_form, byte_forms::specs::Parts::shaped))]
     fn read(_alloc: Global, from: &mut Rest<'_>) -> Result<SessionNo, ReadFault> {
         let number = from.read_u32()?;
         Ok(SessionNo(number))
@@ -141,12 +141,12 @@ impl Readable for SessionNo {
 impl Coded for BundleKey {
     ghost form = { key_form };
 
-    #[tactic(auto, unfolding(crate::specs::Annots::key_form, code_forms::specs::Parts::shaped))]
+    #[tactic(auto, unfolding(crate::specs::Annots::key_form, byte_forms::specs::Parts::shaped))]
     fn size(&self) -> u64 {
         size_of_both(&self.session, &self.bundle)
     }
 
-    #[tactic(auto, unfolding(crate::specs::Annots::key_form, code_forms::specs::Parts::shaped))]
+    #[tactic(auto, unfolding(crate::specs::Annots::key_form, byte_forms::specs::Parts::shaped))]
     fn put(&self, out: &mut CodeBytes) -> Result<(), Memory> {
         put_both(&self.session, &self.bundle, out)
     }
@@ -167,14 +167,14 @@ fn level_kind_at(place: u8) -> LevelKind
 impl Coded for LevelKind {
     ghost form = { level_kind_form };
 
-    #[tactic(auto, unfolding(crate::specs::Annots::level_kind_form, code_forms::specs::Parts::led, code_forms::specs::Parts::byte_in, code_forms::specs::Parts::just))]
+    #[tactic(auto, unfolding(crate::specs::Annots::level_kind_form, byte_forms::specs::Parts::led, byte_forms::specs::Parts::byte_in, byte_forms::specs::Parts::just))]
     fn size(&self) -> u64 {
         match self {
             LevelKind::Item | LevelKind::Segment | LevelKind::Event => 1,
         }
     }
 
-    #[tactic(auto, unfolding(crate::specs::Annots::level_kind_form, code_forms::specs::Parts::led, code_forms::specs::Parts::byte_in, code_forms::specs::Parts::just))]
+    #[tactic(auto, unfolding(crate::specs::Annots::level_kind_form, byte_forms::specs::Parts::led, byte_forms::specs::Parts::byte_in, byte_forms::specs::Parts::just))]
     fn put(&self, out: &mut CodeBytes) -> Result<(), Memory> {
         match self {
             LevelKind::Item => out.put_byte(0),
@@ -187,7 +187,7 @@ impl Coded for LevelKind {
 impl Readable for LevelKind {
     ghost form = { level_kind_form };
 
-    #[tactic(auto, unfolding(crate::specs::Annots::level_kind_form, code_forms::specs::Parts::led, code_forms::specs::Parts::just))]
+    #[tactic(auto, unfolding(crate::specs::Annots::level_kind_form, byte_forms::specs::Parts::led, byte_forms::specs::Parts::just))]
     fn read(_alloc: Global, from: &mut Rest<'_>) -> Result<LevelKind, ReadFault> {
         let place = from.read_byte_below(3)?;
         Ok(level_kind_at(place))
@@ -209,14 +209,14 @@ fn link_kind_at(place: u8) -> LinkKind
 impl Coded for LinkKind {
     ghost form = { link_kind_form };
 
-    #[tactic(auto, unfolding(crate::specs::Heads::link_kind_form, code_forms::specs::Parts::led, code_forms::specs::Parts::byte_in, code_forms::specs::Parts::just))]
+    #[tactic(auto, unfolding(crate::specs::Heads::link_kind_form, byte_forms::specs::Parts::led, byte_forms::specs::Parts::byte_in, byte_forms::specs::Parts::just))]
     fn size(&self) -> u64 {
         match self {
             LinkKind::OneToOne | LinkKind::OneToMany | LinkKind::ManyToMany => 1,
         }
     }
 
-    #[tactic(auto, unfolding(crate::specs::Heads::link_kind_form, code_forms::specs::Parts::led, code_forms::specs::Parts::byte_in, code_forms::specs::Parts::just))]
+    #[tactic(auto, unfolding(crate::specs::Heads::link_kind_form, byte_forms::specs::Parts::led, byte_forms::specs::Parts::byte_in, byte_forms::specs::Parts::just))]
     fn put(&self, out: &mut CodeBytes) -> Result<(), Memory> {
         match self {
             LinkKind::OneToOne => out.put_byte(0),
@@ -229,7 +229,7 @@ impl Coded for LinkKind {
 impl Readable for LinkKind {
     ghost form = { link_kind_form };
 
-    #[tactic(auto, unfolding(crate::specs::Heads::link_kind_form, code_forms::specs::Parts::led, code_forms::specs::Parts::just))]
+    #[tactic(auto, unfolding(crate::specs::Heads::link_kind_form, byte_forms::specs::Parts::led, byte_forms::specs::Parts::just))]
     fn read(_alloc: Global, from: &mut Rest<'_>) -> Result<LinkKind, ReadFault> {
         let place = from.read_byte_below(3)?;
         Ok(link_kind_at(place))
@@ -239,7 +239,7 @@ impl Readable for LinkKind {
 impl Coded for Time {
     ghost form = { time_form };
 
-    #[tactic(auto, unfolding(crate::specs::Annots::time_form, code_forms::specs::Parts::led, code_forms::specs::Parts::byte_in, code_forms::specs::Parts::just, code_forms::specs::Parts::imaged))]
+    #[tactic(auto, unfolding(crate::specs::Annots::time_form, byte_forms::specs::Parts::led, byte_forms::specs::Parts::byte_in, byte_forms::specs::Parts::just, byte_forms::specs::Parts::imaged))]
     fn size(&self) -> u64 {
         match self {
             Time::NoTime => 1,
@@ -248,7 +248,7 @@ impl Coded for Time {
         }
     }
 
-    #[tactic(auto, unfolding(crate::specs::Annots::time_form, code_forms::specs::Parts::led, code_forms::specs::Parts::byte_in, code_forms::specs::Parts::just, code_forms::specs::Parts::imaged))]
+    #[tactic(auto, unfolding(crate::specs::Annots::time_form, byte_forms::specs::Parts::led, byte_forms::specs::Parts::byte_in, byte_forms::specs::Parts::just, byte_forms::specs::Parts::imaged))]
     fn put(&self, out: &mut CodeBytes) -> Result<(), Memory> {
         match self {
             Time::NoTime => out.put_byte(0),
@@ -267,7 +267,7 @@ impl Coded for Time {
 impl Readable for Time {
     ghost form = { time_form };
 
-    #[tactic(auto, unfolding(crate::specs::Annots::time_form, code_forms::specs::Parts::led, code_forms::specs::Parts::just, code_forms::specs::Parts::imaged))]
+    #[tactic(auto, unfolding(crate::specs::Annots::time_form, byte_forms::specs::Parts::led, byte_forms::specs::Parts::just, byte_forms::specs::Parts::imaged))]
     fn read(alloc: Global, from: &mut Rest<'_>) -> Result<Time, ReadFault> {
         let tag = from.read_byte_below(3)?;
         if tag == 0 {

@@ -1,14 +1,15 @@
 //! An entry as it is read, before the parts of its key are names.
 ghost use Rattle.std.specs.Prelude.{◌≡◌, IfOk};
-ghost use Rattle.code_forms.specs.Forms.{Form};
-ghost use Rattle.code_forms.specs.Reading.{Gives};
+ghost use Rattle.byte_forms.specs.Forms.{Form};
+ghost use Rattle.byte_forms.specs.Inner.Reading.{Gives};
 ghost use Rattle.edit_code.specs.Edits.{edit_form, edit_of, entry_form};
-ghost use Rattle.edit_code.specs.Names.{has_names, if_so};
+ghost use Rattle.edit_code.specs.Names.{has_names};
+ghost use Rattle.edit_code.specs.Inner.Names.{if_so};
 
 use crate::coded::Readable;
 use crate::fields::{Fields, read_fields};
 use crate::raw_key::{RawKey, key_in};
-use code_forms::{ReadFault, Rest};
+use byte_forms::{ReadFault, Rest};
 use edit_rules::{Edit, Entry};
 use emu_names::{BundleKey, Memory, SessionNo};
 use std::alloc::Global;
@@ -50,7 +51,7 @@ impl Model for RawEntry {
 impl Readable for RawEdit {
     ghost form = { edit_form };
 
-    #[tactic(auto, unfolding(crate::specs::Edits::edit_form, crate::specs::Edits::keyed_form, code_forms::specs::Parts::led, code_forms::specs::Parts::shaped, code_forms::specs::Parts::pair))]
+    #[tactic(auto, unfolding(crate::specs::Edits::edit_form, crate::specs::Edits::keyed_form, byte_forms::specs::Parts::led, byte_forms::specs::Parts::shaped, byte_forms::specs::Parts::pair))]
     fn read(alloc: Global, from: &mut Rest<'_>) -> Result<RawEdit, ReadFault> {
         let number = from.read_byte_from_to(1, 12)?;
         let key = RawKey::read(alloc, from)?;
@@ -62,7 +63,7 @@ impl Readable for RawEdit {
 impl Readable for RawEntry {
     ghost form = { entry_form };
 
-    #[tactic(auto, unfolding(crate::specs::Edits::entry_form, crate::specs::Edits::body_form, code_forms::specs::Parts::led, code_forms::specs::Parts::shaped))]
+    #[tactic(auto, unfolding(crate::specs::Edits::entry_form, crate::specs::Edits::body_form, byte_forms::specs::Parts::led, byte_forms::specs::Parts::shaped))]
     fn read(alloc: Global, from: &mut Rest<'_>) -> Result<RawEntry, ReadFault> {
         from.read_byte_is(1)?;
         let (session, (line, edit)) = Readable::read(alloc, from)?;

@@ -1,15 +1,14 @@
 //! The parts of a configuration as they are read, before its names are names and its lists are known to be short
 //! enough. Contracts see the parts of the configuration.
 ghost use Rattle.std.specs.Prelude.{◌≡◌};
-ghost use Rattle.code_forms.specs.Forms.{Form};
-ghost use Rattle.code_forms.specs.Reading.{Gives};
+ghost use Rattle.byte_forms.specs.Forms.{Form};
+ghost use Rattle.byte_forms.specs.Inner.Reading.{Gives};
 ghost use Rattle.edit_code.specs.Heads.{attribute_form, group_form, head_form, level_def_form, link_def_form};
 
 use crate::coded::Readable;
-use code_forms::{ReadFault, Rest};
+use byte_forms::{ReadFault, Rest};
 use db_config::{LinkDef, LinkDefs, TrackNames};
-use emu_lists::Series;
-use emu_names::{LevelKind, Text};
+use emu_names::{LevelKind, Series, Text};
 use std::alloc::Global;
 use std::marker::Model;
 
@@ -94,7 +93,7 @@ impl Model for RawParts {
 impl Readable for RawGroup {
     ghost form = { group_form };
 
-    #[tactic(auto, unfolding(crate::specs::Heads::group_form, code_forms::specs::Parts::shaped))]
+    #[tactic(auto, unfolding(crate::specs::Heads::group_form, byte_forms::specs::Parts::shaped))]
     fn read(alloc: Global, from: &mut Rest<'_>) -> Result<RawGroup, ReadFault> {
         let (name, values) = Readable::read(alloc, from)?;
         Ok(RawGroup { name, values })
@@ -104,7 +103,7 @@ impl Readable for RawGroup {
 impl Readable for RawAttribute {
     ghost form = { attribute_form };
 
-    #[tactic(auto, unfolding(crate::specs::Heads::attribute_form, code_forms::specs::Parts::shaped))]
+    #[tactic(auto, unfolding(crate::specs::Heads::attribute_form, byte_forms::specs::Parts::shaped))]
     fn read(alloc: Global, from: &mut Rest<'_>) -> Result<RawAttribute, ReadFault> {
         let (name, (legal, groups)) = Readable::read(alloc, from)?;
         Ok(RawAttribute {
@@ -118,7 +117,7 @@ impl Readable for RawAttribute {
 impl Readable for RawLevel {
     ghost form = { level_def_form };
 
-    #[tactic(auto, unfolding(crate::specs::Heads::level_def_form, code_forms::specs::Parts::shaped))]
+    #[tactic(auto, unfolding(crate::specs::Heads::level_def_form, byte_forms::specs::Parts::shaped))]
     fn read(alloc: Global, from: &mut Rest<'_>) -> Result<RawLevel, ReadFault> {
         let (name, (kind, attributes)) = Readable::read(alloc, from)?;
         Ok(RawLevel {
@@ -132,7 +131,7 @@ impl Readable for RawLevel {
 impl Readable for LinkDef {
     ghost form = { link_def_form };
 
-    #[tactic(auto, unfolding(crate::specs::Heads::link_def_form, code_forms::specs::Parts::shaped))]
+    #[tactic(auto, unfolding(crate::specs::Heads::link_def_form, byte_forms::specs::Parts::shaped))]
     fn read(alloc: Global, from: &mut Rest<'_>) -> Result<LinkDef, ReadFault> {
         let (kind, (upper, lower)) = Readable::read(alloc, from)?;
         Ok(LinkDef { kind, upper, lower })
@@ -142,7 +141,7 @@ impl Readable for LinkDef {
 impl Readable for RawParts {
     ghost form = { head_form };
 
-    #[tactic(auto, unfolding(crate::specs::Heads::head_form, crate::specs::Heads::parts_form, code_forms::specs::Parts::led, code_forms::specs::Parts::shaped))]
+    #[tactic(auto, unfolding(crate::specs::Heads::head_form, crate::specs::Heads::parts_form, byte_forms::specs::Parts::led, byte_forms::specs::Parts::shaped))]
     fn read(alloc: Global, from: &mut Rest<'_>) -> Result<RawParts, ReadFault> {
         from.read_byte_is(0)?;
         let (name, (uuid, (extension, (tracks, (levels, (groups, links)))))) = Readable::read(

@@ -1,13 +1,14 @@
 //! The key of a bundle as it is read, before its parts are names.
 ghost use Rattle.std.specs.Prelude.{◌≡◌, IfOk};
-ghost use Rattle.code_forms.specs.Forms.{Form};
-ghost use Rattle.code_forms.specs.Reading.{Gives};
+ghost use Rattle.byte_forms.specs.Forms.{Form};
+ghost use Rattle.byte_forms.specs.Inner.Reading.{Gives};
 ghost use Rattle.emu_names.specs.Name.{is_name};
 ghost use Rattle.edit_code.specs.Annots.{key_form};
-ghost use Rattle.edit_code.specs.Names.{if_so, is_key};
+ghost use Rattle.edit_code.specs.Names.{is_key};
+ghost use Rattle.edit_code.specs.Inner.Names.{if_so};
 
 use crate::coded::Readable;
-use code_forms::{ReadFault, Rest};
+use byte_forms::{ReadFault, Rest};
 use emu_names::{BundleKey, Memory, Name, NameFault, Text};
 use std::alloc::Global;
 use std::marker::Model;
@@ -30,7 +31,7 @@ impl Model for RawKey {
 impl Readable for RawKey {
     ghost form = { key_form };
 
-    #[tactic(auto, unfolding(crate::specs::Annots::key_form, code_forms::specs::Parts::shaped))]
+    #[tactic(auto, unfolding(crate::specs::Annots::key_form, byte_forms::specs::Parts::shaped))]
     fn read(alloc: Global, from: &mut Rest<'_>) -> Result<RawKey, ReadFault> {
         let (session, bundle) = Readable::read(alloc, from)?;
         Ok(RawKey { session, bundle })

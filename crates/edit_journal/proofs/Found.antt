@@ -5,8 +5,9 @@ use Rattle.std.proofs.Math.Seq.{take-add}
 use Rattle.emu_disk.specs.Disk.{IsRead}
 use Rattle.edit_journal.specs.declared.body.Body.{Body}
 use Rattle.edit_journal.specs.Store.{limit, head, body_at, walk, with_front, bodies, frame, frames, start, placed, IsSized, AreSized}
-use Rattle.edit_journal.specs.Held.{texts_of, Stands, Tells, Reads}
-use Rattle.edit_journal.specs.Recovery.{IsFront}
+use Rattle.edit_journal.specs.Held.{texts_of, Stands, Tells}
+use Rattle.edit_journal.specs.Inner.Held.{Reads}
+use Rattle.edit_journal.specs.Inner.Recovery.{IsFront}
 use Rattle.edit_journal.proofs.Walk.{bodies-too_long, bodies-start, length-start, length_frame, start-push, sized_push, stands_back}
 
 -- where the bytes are told, the first of them

@@ -7,8 +7,9 @@ use Rattle.edit_journal.specs.declared.journal.Journal.{Journal}
 use Rattle.edit_journal.specs.declared.journal.Gate.{Gate}
 use Rattle.edit_journal.specs.declared.journal.Gate.TheVariants.{Missing, Closed, InDoubt}
 use Rattle.edit_journal.specs.Store.{limit, head, frame, start, IsSized, AreSized, StandsFor}
-use Rattle.edit_journal.specs.Staged.{staged_of}
-use Rattle.edit_journal.specs.Held.{Stands, IsHeldBy, FitsGate, Holds, IsHeld, IsStagedIn, MayHave, DuringAppend, IsAsBefore}
+use Rattle.edit_journal.specs.Inner.Staged.{staged_of}
+use Rattle.edit_journal.specs.Held.{Stands, IsHeldBy, FitsGate, Holds}
+use Rattle.edit_journal.specs.Inner.Held.{IsHeld, IsStagedIn, MayHave, DuringAppend, IsAsBefore}
 use Rattle.edit_journal.proofs.Walk.{bodies-short, stands_back, may_have, sized_push, start-push}
 use Rattle.edit_journal.proofs.Steps.{staging, staged, gate_torn, opened, shut_again, end_within, head_put, head_torn}
 

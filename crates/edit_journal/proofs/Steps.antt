@@ -4,7 +4,7 @@ use Rattle.std.specs.Int.{to_be_bytes}
 use Rattle.std.proofs.lemmas.List.{drop_all, drop_at, drop_more}
 use Rattle.emu_disk.specs.Disk.{put, Torn}
 use Rattle.edit_journal.specs.Store.{limit, head, frame, start}
-use Rattle.edit_journal.specs.Staged.{staged_of, body_of}
+use Rattle.edit_journal.specs.Inner.Staged.{staged_of, body_of}
 use Rattle.edit_journal.specs.Held.{Stands}
 use Rattle.edit_journal.proofs.Walk.{start-push}
 

@@ -7,7 +7,8 @@ use Rattle.std.proofs.lemmas.List.{append-nil, drop_at}
 use Rattle.std.proofs.lemmas.Nat.{from_be_bytes-to_be_bytes_4}
 use Rattle.edit_journal.specs.declared.body.Body.{Body}
 use Rattle.edit_journal.specs.Store.{limit, head, body_at, size_of, is_whole, with_front, walk, bodies, frame, frames, start, placed, IsSized, AreSized, StandsFor}
-use Rattle.edit_journal.specs.Held.{Stands, MayHave}
+use Rattle.edit_journal.specs.Held.{Stands}
+use Rattle.edit_journal.specs.Inner.Held.{MayHave}
 
 with_front-nil : (r : Result (List Body) ℕ) → with_front [] r ≡ r
 with_front-nil (Ok more) = refl

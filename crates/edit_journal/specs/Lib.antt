@@ -1,5 +1,4 @@
 pub mod Held
 pub mod Law
-pub mod Recovery
-pub mod Staged
 pub mod Store
+pub mod Inner

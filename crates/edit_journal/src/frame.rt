@@ -1,6 +1,6 @@
 //! A body made ready to be written: its length, its bytes and a closed gate.
 ghost use Rattle.std.specs.Prelude.{◌≡◌, ◌^◌, ◌≤◌, length, IfOk};
-ghost use Rattle.edit_journal.specs.Staged.{staged_of};
+ghost use Rattle.edit_journal.specs.Inner.Staged.{staged_of};
 ghost use Rattle.edit_journal.specs.Store.{IsSized};
 
 use emu_names::Memory;
@@ -15,7 +15,7 @@ pub struct Frame {
 
 impl Model for Frame {
     ghost use Rattle.std.specs.Prelude.{List, ℕ};
-    ghost use Rattle.edit_journal.specs.Staged.{body_of, IsStaged};
+    ghost use Rattle.edit_journal.specs.Inner.Staged.{body_of, IsStaged};
 
     ghost Value = { List ℕ };
 

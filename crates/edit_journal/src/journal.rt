@@ -1,13 +1,15 @@
 //! The journal: a list of bodies on a disk, which grows by one body at a time, safe from a crash at
 //! any moment.
 ghost use Rattle.std.specs.Prelude.{◌≡◌, ◌⊎◌, ◌+◌, ◌<◌, ◌≤◌, ◌↔◌, ◌++◌, [], ◌∷◌, List, ℕ, Option, None, Some, length, IsTrue, OnOk, OnErr, IsErrOf};
-ghost use Rattle.fault_counts.specs.Count.{HasCause, Rose};
+ghost use Rattle.emu_names.specs.Count.{HasCause, Rose};
 ghost use Rattle.emu_disk.specs.Disk.{put, HasPlace, TornBy, Follows, LeavesOnly};
-ghost use Rattle.edit_journal.specs.Staged.{staged_of};
+ghost use Rattle.edit_journal.specs.Inner.Staged.{staged_of};
 ghost use Rattle.edit_journal.specs.Store.{limit, start, StandsFor};
-ghost use Rattle.edit_journal.specs.Held.{disk_of, end_of, count_in, has_failed, Holds, IsHeld};
-ghost use Rattle.edit_journal.specs.Held.{ForHeld, ForSettled, ForStaged, EachImage, LeavesIn, PassesLimit};
-ghost use Rattle.edit_journal.specs.Held.{IsStagedIn, MayHave, DuringAppend, IsAsBefore};
+ghost use Rattle.edit_journal.specs.Held.{disk_of, count_in, Holds};
+ghost use Rattle.edit_journal.specs.Inner.Held.{end_of, has_failed, IsHeld};
+ghost use Rattle.edit_journal.specs.Held.{LeavesIn};
+ghost use Rattle.edit_journal.specs.Inner.Held.{ForHeld, ForSettled, ForStaged, EachImage, PassesLimit};
+ghost use Rattle.edit_journal.specs.Inner.Held.{IsStagedIn, MayHave, DuringAppend, IsAsBefore};
 
 use crate::fault::JournalFault;
 use crate::frame::Frame;

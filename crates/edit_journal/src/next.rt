@@ -1,6 +1,6 @@
 //! What stands at the place of a gate.
 ghost use Rattle.std.specs.Prelude.{◌≤◌, length};
-ghost use Rattle.edit_journal.specs.Recovery.{Stood};
+ghost use Rattle.edit_journal.specs.Inner.Recovery.{Stood};
 ghost use Rattle.edit_journal.specs.Store.{limit};
 
 /// What stands where a gate should stand.

@@ -1,10 +1,11 @@
 //! Recovery: the list of bodies of a store that a crash may have left.
 ghost use Rattle.std.specs.Prelude.{◌≡◌, ◌<◌, ◌≤◌, [], ◌∷◌, ◌++◌, List, ℕ, None, Ok, Err, false, length, take, IfOk, IfErr, IsErrOf};
-ghost use Rattle.fault_counts.specs.Count.{Rose};
+ghost use Rattle.emu_names.specs.Count.{Rose};
 ghost use Rattle.emu_disk.specs.Disk.{Within, LeavesOnly};
 ghost use Rattle.edit_journal.specs.Store.{limit, head, start, placed, bodies, IsSized};
-ghost use Rattle.edit_journal.specs.Held.{disk_of, end_of, has_failed, texts_of, Holds, IsHeld, Tells, Reads};
-ghost use Rattle.edit_journal.specs.Recovery.{ForDamage, IsFound, IsFoundOn};
+ghost use Rattle.edit_journal.specs.Held.{disk_of, texts_of, Holds, Tells};
+ghost use Rattle.edit_journal.specs.Inner.Held.{end_of, has_failed, IsHeld, Reads};
+ghost use Rattle.edit_journal.specs.Inner.Recovery.{ForDamage, IsFound, IsFoundOn};
 
 use crate::body::{Bodies, Body, BodyBytes};
 use crate::fault::{JournalFault, NoJournal};

@@ -19,7 +19,8 @@ use Rattle.level_items.specs.Faults.{retime_fault, insert_fault}
 use Rattle.level_items.proofs.Apart.{ends_before, IsSplit}
 use Rattle.level_items.proofs.Changes.{fit_at}
 use Rattle.bundle_state.specs.Bundle.{BundleParts, all_ids, place_of}
-use Rattle.bundle_state.specs.Linked.{unless_broken, onward}
+use Rattle.bundle_state.specs.Linked.{unless_broken}
+use Rattle.emu_names.specs.Steps.{onward}
 use Rattle.bundle_state.specs.Valid.{KeepsBundleRules}
 use Rattle.bundle_state.specs.Changed.{change_level, with_levels, with_item, with_changed, with_change, without, without_item, place_for, item_retimed, item_added, item_removed}
 use Rattle.bundle_state.proofs.LinksKept.{goes_on, ok_same, fine_value, onward_goes}

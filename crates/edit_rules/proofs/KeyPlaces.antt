@@ -9,11 +9,11 @@ use Rattle.std.proofs.lemmas.Bool.{true≢false, and_parts, and_from}
 use Rattle.emu_names.specs.declared.names.BundleKey.{BundleKey}
 use Rattle.emu_names.specs.Order.{key_cmp}
 use Rattle.emu_names.proofs.KeyOrder.{exact_keys, keys_total}
-use Rattle.db_config.specs.Names.{same_text}
+use Rattle.emu_names.specs.Texts.{same_text}
 use Rattle.bundle_state.specs.Bundle.{BundleParts}
 use Rattle.bundle_state.proofs.Tests.{Each, text_true, text_same}
 use Rattle.edit_rules.specs.Database.{same_key, is_before, bundle_with, without, put_in_order, are_keys_rising}
-use Rattle.edit_rules.specs.KeyPlaces.{IsAt, IsFree, has_key_at}
+use Rattle.edit_rules.specs.Inner.KeyPlaces.{IsAt, IsFree, has_key_at}
 
 -- The order of keys.
 

@@ -5,11 +5,11 @@ use Rattle.std.proofs.lemmas.List.{map-append}
 use Rattle.emu_names.specs.declared.rules.Broken.{Broken}
 use Rattle.level_items.specs.declared.annot.AnnotLabel.{AnnotLabel}
 use Rattle.db_config.specs.declared.attributes.AttributeDef.{AttributeDef}
-use Rattle.db_config.specs.Names.{same_text}
+use Rattle.emu_names.specs.Texts.{same_text}
 use Rattle.bundle_state.proofs.Walks.{drop_at, take_at}
 use Rattle.bundle_state.proofs.FaultSteps.{first_fault, no_fault}
 use Rattle.edit_rules.specs.Changes.{given_label_fault, new_labels_fault}
-use Rattle.edit_rules.specs.Given.{names_of}
+use Rattle.edit_rules.specs.Inner.Given.{names_of}
 
 -- the rule that one label breaks
 abbrev pub one : List AttributeDef → List (List ℕ) → AnnotLabel → Option Broken

@@ -1,11 +1,9 @@
 -- Names and ids that are looked up, against the walks of the definitions.
-use Rattle.std.proofs.Common.{◌≡◌, ℕ, zero, suc, ◌+◌, ◌<◌, Bool, true, false, cond, List, [], ◌∷◌, length, map, get_or, Option, Some, None, is_some, IfSome, ok_or, option_map, Result, Ok, Err, nat_eq, refl, sym, ◌∙◌, ap, subst, arith}
-use Rattle.std.specs.List.{list_any, position, position_from, slice_get}
+use Rattle.std.proofs.Common.{◌≡◌, ℕ, ◌<◌, Bool, cond, List, [], ◌∷◌, length, map, Option, Some, None, is_some, IfSome, ok_or, option_map, Result, Ok, Err, nat_eq, refl, sym, ◌∙◌, ap, subst, arith}
+use Rattle.std.specs.List.{list_any, position, slice_get}
 use Rattle.std.specs.Option.{option_and_then}
 use Rattle.std.proofs.lemmas.List.{length-map}
 use Rattle.std.proofs.lemmas.List.Quantifiers.{position-Some}
-use Rattle.std.proofs.lemmas.Iterator.Adapters.{position_from-zero}
-use Rattle.std.proofs.lemmas.Option.{slice_get-get_or}
 use Rattle.emu_names.specs.declared.kinds.ItemId.{ItemId}
 use Rattle.emu_names.specs.declared.rules.Broken.{Broken}
 use Rattle.emu_names.specs.declared.rules.Broken.TheVariants as rules
@@ -15,16 +13,16 @@ use Rattle.db_config.specs.declared.attributes.AttributeDef.{AttributeDef}
 use Rattle.db_config.specs.declared.parts.ConfigParts.{ConfigParts}
 use Rattle.db_config.specs.declared.parts.LevelDef.{LevelDef}
 use Rattle.db_config.specs.Lookups.{level_named, attribute_named}
-use Rattle.db_config.specs.Names.{same_text}
+use Rattle.emu_names.specs.Texts.{same_text}
 use Rattle.bundle_state.specs.Bundle.{BundleParts, all_ids, level_of_id, place_of}
 use Rattle.bundle_state.specs.Built.{form_of, form_asked, FitsConfig}
-use Rattle.bundle_state.specs.Linked.{onward}
-use Rattle.bundle_state.specs.Changed.{attributes_with}
+use Rattle.emu_names.specs.Steps.{onward}
+use Rattle.bundle_state.specs.Inner.Changed.{attributes_with}
 use Rattle.bundle_state.proofs.ChangedLevels.{has_level}
 use Rattle.bundle_state.proofs.ChangedKept.{place_within}
 use Rattle.bundle_state.proofs.IdLevels.{IsAt, place_found, place_none}
 use Rattle.edit_rules.specs.declared.bundle_change.Counts.{Counts}
-use Rattle.edit_rules.specs.Changes.{id_fault, level_from, NumberedLevel, put_on, item_put, attribute_from, NumberedAttribute, attribute_of, labelled, label_given}
+use Rattle.edit_rules.specs.Changes.{id_fault, numbered, level_found, NumberedLevel, put_on, item_put, attribute_found, NumberedAttribute, attribute_of, labelled, label_given}
 use Rattle.edit_rules.proofs.Spans.{some_same}
 use Rattle.edit_rules.proofs.Next.{IsLevelFor, level_fitting}
 
@@ -54,49 +52,13 @@ free_is id levels is = by (level_of_id levels id.0) refl (has_level 0 id.0 level
 
 -- Levels by name.
 
-abbrev found_level : ℕ → LevelDef → Result NumberedLevel Broken
-found_level n d = Ok (n, d)
-
-abbrev has_level_name : List ℕ → LevelDef → Bool
-has_level_name name d = same_text d.name name
-
-level_numbered : (n : ℕ) (name : List ℕ) (defs : List LevelDef) (k : ℕ) (d : LevelDef) → slice_get defs k ≡ Some d → same_text d.name name ≡ true →
-    ((j : ℕ) → j < k → same_text (get_or defs j d).name name ≡ false) → level_from n name defs ≡ Ok (n + k, d)
-level_numbered n name [] k d at own others = absurd cc
-level_numbered n name (x ∷ defs) zero d at own others =
-    let same : x ≡ d = some_same x d at in
-    ap (λ (t : Bool). cond t (found_level n x) (level_from (suc n) name defs)) (ap (has_level_name name) same ∙ own)
-    ∙ ap (λ (e : LevelDef). found_level n e) same ∙ ap (λ (m : ℕ). found_level m d) (no_more n)
-  where
-    no_more : (a : ℕ) → a ≡ a + 0
-    no_more a = omega arith
-level_numbered n name (x ∷ defs) (suc k) d at own others =
-    ap (λ (t : Bool). cond t (found_level n x) (level_from (suc n) name defs)) (others 0 (omega arith))
-    ∙ level_numbered (suc n) name defs k d at own (λ j low. others (suc j) (omega (arith, low)))
-    ∙ ap (λ (m : ℕ). found_level m d) (more n k)
-  where
-    more : (a b : ℕ) → suc a + b ≡ a + suc b
-    more a b = omega arith
-
-level_missing : (n m : ℕ) (name : List ℕ) (defs : List LevelDef) → position_from (has_level_name name) n defs ≡ None → level_from m name defs ≡ Err (rules.NoLevel name)
-level_missing n m name [] none = refl
-level_missing n m name (x ∷ defs) none = by (same_text x.name name) (λ h. level_missing (n + 1) (suc m) name defs h) none
-  where
-    by : (t : Bool) → (position_from (has_level_name name) (n + 1) defs ≡ None → level_from (suc m) name defs ≡ Err (rules.NoLevel name)) → cond t (Some n) (position_from (has_level_name name) (n + 1) defs) ≡ None → cond t (found_level m x) (level_from (suc m) name defs) ≡ Err (rules.NoLevel name)
-    by true more h = absurd cc
-    by false more h = more h
-
-pub level_is : (name : List ℕ) (defs : List LevelDef) (k : ℕ) (d : LevelDef) → level_named name defs ≡ Some k → slice_get defs k ≡ Some d → level_from 0 name defs ≡ Ok (k, d)
+pub level_is : (name : List ℕ) (defs : List LevelDef) (k : ℕ) (d : LevelDef) → level_named name defs ≡ Some k → slice_get defs k ≡ Some d → level_found name defs ≡ Ok (k, d)
 level_is name defs k d is at =
-    let found = position-Some (has_level_name name) defs k d is in
-    let own : get_or defs k d ≡ d = some_same (get_or defs k d) d (sym (slice_get-get_or defs k d found.0) ∙ at) in
-    level_numbered 0 name defs k d at (ap (has_level_name name) (sym own) ∙ found.1) found.2 ∙ ap (λ (m : ℕ). found_level m d) (none_more k)
-  where
-    none_more : (a : ℕ) → 0 + a ≡ a
-    none_more a = omega arith
+    ap (λ (o : Option ℕ). ok_or (option_and_then (numbered defs) o) (rules.NoLevel name)) is
+    ∙ ap (λ (o : Option LevelDef). ok_or (option_map (λ (e : LevelDef). (k, e)) o) (rules.NoLevel name)) at
 
-pub no_level_is : (name : List ℕ) (defs : List LevelDef) → level_named name defs ≡ None → level_from 0 name defs ≡ Err (rules.NoLevel name)
-no_level_is name defs none = level_missing 0 0 name defs (sym (position_from-zero (has_level_name name) defs) ∙ none)
+pub no_level_is : (name : List ℕ) (defs : List LevelDef) → level_named name defs ≡ None → level_found name defs ≡ Err (rules.NoLevel name)
+no_level_is name defs none = ap (λ (o : Option ℕ). ok_or (option_and_then (numbered defs) o) (rules.NoLevel name)) none
 
 -- a new item on a level that is found by its name
 pub put_is : (config : ConfigParts) (counts : Counts) (name : List ℕ) (position : Option ℕ) (item : AnnotItem) (b : BundleParts) (k : ℕ) (d : LevelDef) →
@@ -109,49 +71,16 @@ not_put config counts name position item b none = ap (λ (r : Result NumberedLev
 
 -- Attributes by name.
 
-abbrev found_attribute : ℕ → AttributeDef → Result NumberedAttribute Broken
-found_attribute n d = Ok (n, d)
-
 abbrev has_name : List ℕ → AttributeDef → Bool
 has_name name d = same_text d.name name
 
-attribute_numbered : (n : ℕ) (name : List ℕ) (defs : List AttributeDef) (k : ℕ) (d : AttributeDef) → slice_get defs k ≡ Some d → same_text d.name name ≡ true →
-    ((j : ℕ) → j < k → same_text (get_or defs j d).name name ≡ false) → attribute_from n name defs ≡ Ok (n + k, d)
-attribute_numbered n name [] k d at own others = absurd cc
-attribute_numbered n name (x ∷ defs) zero d at own others =
-    let same : x ≡ d = some_same x d at in
-    ap (λ (t : Bool). cond t (found_attribute n x) (attribute_from (suc n) name defs)) (ap (has_name name) same ∙ own)
-    ∙ ap (λ (e : AttributeDef). found_attribute n e) same ∙ ap (λ (m : ℕ). found_attribute m d) (no_more n)
-  where
-    no_more : (a : ℕ) → a ≡ a + 0
-    no_more a = omega arith
-attribute_numbered n name (x ∷ defs) (suc k) d at own others =
-    ap (λ (t : Bool). cond t (found_attribute n x) (attribute_from (suc n) name defs)) (others 0 (omega arith))
-    ∙ attribute_numbered (suc n) name defs k d at own (λ j low. others (suc j) (omega (arith, low)))
-    ∙ ap (λ (m : ℕ). found_attribute m d) (more n k)
-  where
-    more : (a b : ℕ) → suc a + b ≡ a + suc b
-    more a b = omega arith
-
-attribute_missing : (n m : ℕ) (name : List ℕ) (defs : List AttributeDef) → position_from (has_name name) n defs ≡ None → attribute_from m name defs ≡ Err (rules.NoAttribute name)
-attribute_missing n m name [] none = refl
-attribute_missing n m name (x ∷ defs) none = by (same_text x.name name) (λ h. attribute_missing (n + 1) (suc m) name defs h) none
-  where
-    by : (t : Bool) → (position_from (has_name name) (n + 1) defs ≡ None → attribute_from (suc m) name defs ≡ Err (rules.NoAttribute name)) → cond t (Some n) (position_from (has_name name) (n + 1) defs) ≡ None → cond t (found_attribute m x) (attribute_from (suc m) name defs) ≡ Err (rules.NoAttribute name)
-    by true more h = absurd cc
-    by false more h = more h
-
-attribute_is : (name : List ℕ) (defs : List AttributeDef) (k : ℕ) (d : AttributeDef) → attribute_named name defs ≡ Some k → slice_get defs k ≡ Some d → attribute_from 0 name defs ≡ Ok (k, d)
+attribute_is : (name : List ℕ) (defs : List AttributeDef) (k : ℕ) (d : AttributeDef) → attribute_named name defs ≡ Some k → slice_get defs k ≡ Some d → attribute_found name defs ≡ Ok (k, d)
 attribute_is name defs k d is at =
-    let found = position-Some (has_name name) defs k d is in
-    let own : get_or defs k d ≡ d = some_same (get_or defs k d) d (sym (slice_get-get_or defs k d found.0) ∙ at) in
-    attribute_numbered 0 name defs k d at (ap (has_name name) (sym own) ∙ found.1) found.2 ∙ ap (λ (m : ℕ). found_attribute m d) (none_more k)
-  where
-    none_more : (a : ℕ) → 0 + a ≡ a
-    none_more a = omega arith
+    ap (λ (o : Option ℕ). ok_or (option_and_then (numbered defs) o) (rules.NoAttribute name)) is
+    ∙ ap (λ (o : Option AttributeDef). ok_or (option_map (λ (e : AttributeDef). (k, e)) o) (rules.NoAttribute name)) at
 
-no_attribute_is : (name : List ℕ) (defs : List AttributeDef) → attribute_named name defs ≡ None → attribute_from 0 name defs ≡ Err (rules.NoAttribute name)
-no_attribute_is name defs none = attribute_missing 0 0 name defs (sym (position_from-zero (has_name name) defs) ∙ none)
+no_attribute_is : (name : List ℕ) (defs : List AttributeDef) → attribute_named name defs ≡ None → attribute_found name defs ≡ Err (rules.NoAttribute name)
+no_attribute_is name defs none = ap (λ (o : Option ℕ). ok_or (option_and_then (numbered defs) o) (rules.NoAttribute name)) none
 
 pub named_low : (name : List ℕ) (defs : List AttributeDef) (k : ℕ) → attribute_named name defs ≡ Some k → k < length defs
 named_low name [] k is = absurd cc

@@ -1,5 +1,5 @@
 -- What an edit makes of a bundle: it keeps its key, the rules and the form, and has at most so many items more.
-use Rattle.std.proofs.Common.{◌≡◌, ℕ, zero, suc, ◌+◌, ◌-◌, ◌<◌, ◌≤◌, Bool, true, false, cond, ◌==◌, List, [], ◌∷◌, ◌++◌, length, map, take, drop, remove, insert, Option, Some, None, Ok, nat_eq, nat_lt, nat_le, IsTrue, IfSome, refl, sym, ◌∙◌, ap, subst, arith, length-append, eq-eqb}
+use Rattle.std.proofs.Common.{◌≡◌, ℕ, zero, suc, ◌+◌, ◌-◌, ◌<◌, ◌≤◌, Bool, true, false, cond, ◌==◌, List, [], ◌∷◌, ◌++◌, length, map, take, drop, remove, insert, Option, Some, None, Ok, nat_eq, nat_lt, nat_le, IsTrue, IfSome, refl, sym, ◌∙◌, ap, subst, arith, length-append, eq-eqb, ok_or, option_map}
 use Rattle.std.specs.Prelude.{replicate}
 use Rattle.std.specs.List.{list_any, list_all, find, slice_get}
 use Rattle.std.proofs.lemmas.Bool.{and_from, leb-true, leb-false, ltb-false, le-leb}
@@ -16,15 +16,18 @@ use Rattle.level_items.specs.declared.items.Item.{Item}
 use Rattle.level_items.specs.declared.times.Time.{Time}
 use Rattle.level_items.specs.declared.times.Time.TheVariants.{Span, Point}
 use Rattle.level_items.specs.Levels.{Level, are_labels_for, is_short, retimed, relabelled, change_at, new_place}
-use Rattle.level_items.specs.Faults.{or_else, time_fault}
+use Rattle.level_items.specs.Faults.{time_fault}
+use Rattle.std.specs.Option.{option_or, option_and_then}
 use Rattle.level_items.proofs.Changes.{length-change_at}
 use Rattle.db_config.specs.declared.attributes.AttributeDef.{AttributeDef}
 use Rattle.db_config.specs.declared.parts.ConfigParts.{ConfigParts}
 use Rattle.db_config.specs.declared.parts.LevelDef.{LevelDef}
-use Rattle.db_config.specs.Names.{same_text}
+use Rattle.db_config.specs.Lookups.{level_named}
+use Rattle.emu_names.specs.Texts.{same_text}
 use Rattle.bundle_state.specs.Bundle.{BundleParts, all_ids, item_count, level_of_id}
 use Rattle.bundle_state.specs.Built.{form_of, form_asked, FitsConfig}
-use Rattle.bundle_state.specs.Linked.{unless_broken, onward, definition_for}
+use Rattle.bundle_state.specs.Linked.{unless_broken, definition_for}
+use Rattle.emu_names.specs.Steps.{onward}
 use Rattle.bundle_state.specs.Made.{label_named, made_labels, made_item}
 use Rattle.bundle_state.specs.Valid.{KeepsBundleRules}
 use Rattle.bundle_state.specs.Changed.{with_levels, change_level, with_item, without_item, with_changed, with_change, without, place_for, new_item_fault, new_time_fault, item_added, item_removed, label_set, item_retimed, link_put, link_added, missing_fault, link_removed}
@@ -37,7 +40,7 @@ use Rattle.edit_rules.specs.declared.bundle_change.Counts.{Counts}
 use Rattle.edit_rules.specs.declared.edit.Edit.{Edit}
 use Rattle.edit_rules.specs.declared.edit.Edit.TheVariants as edits
 use Rattle.edit_rules.specs.declared.segments.Segment.{Segment}
-use Rattle.edit_rules.specs.Changes.{level_from, NumberedLevel, room_fault, id_fault, label_fault, given_label_fault, new_labels_fault, given_item_fault, put_on, item_put, NumberedAttribute, attribute_of, labelled, label_given, segment_of, next_of, cut_fault, last_of, moved, second_part, cut_at, boundary_moved, split_in, segment_split, joined, segments_merged, bundle_changed}
+use Rattle.edit_rules.specs.Changes.{level_found, numbered, NumberedLevel, room_fault, id_fault, label_fault, given_label_fault, new_labels_fault, given_item_fault, put_on, item_put, NumberedAttribute, attribute_of, labelled, label_given, segment_of, next_of, cut_fault, last_of, moved, second_part, cut_at, boundary_moved, split_in, segment_split, joined, segments_merged, bundle_changed}
 use Rattle.edit_rules.proofs.Spans.{some_same}
 use Rattle.edit_rules.proofs.Places.{level_here}
 use Rattle.edit_rules.proofs.Cuts.{IsSegmentOf, ArePair, IsCut, segment_found, pair_found, cut_parts, moved_back, moved_on, merged, cut_short, part_added}
@@ -239,24 +242,17 @@ level_fitting (d ∷ defs) (l ∷ levels) (suc number) def same at =
     let rest : IsLevelFor def levels number = level_fitting defs levels number def tail at in
     record { level = rest.level; there = rest.there; attributes = rest.attributes }
 
-pub record IsNumbered (n : ℕ) (defs : List LevelDef) (m : NumberedLevel) : Type 0 where
-  pub offset : ℕ
-  pub is : m.0 ≡ n + offset
-  pub there : slice_get defs offset ≡ Some m.1
-
-pub numbered_level : (n : ℕ) (name : List ℕ) (defs : List LevelDef) (m : NumberedLevel) → level_from n name defs ≡ Ok m → IsNumbered n defs m
-numbered_level n name [] m is = absurd cc
-numbered_level n name (d ∷ defs) m is = by (same_text d.name name) (λ h. numbered_level (suc n) name defs m h) is
+-- the level of a name stands at its number
+pub level_there : (name : List ℕ) (defs : List LevelDef) (m : NumberedLevel) → level_found name defs ≡ Ok m → slice_get defs m.0 ≡ Some m.1
+level_there name defs m is = by (level_named name defs) is
   where
-    by : (b : Bool) → (level_from (suc n) name defs ≡ Ok m → IsNumbered (suc n) defs m) → cond b (Ok (n, d)) (level_from (suc n) name defs) ≡ Ok m → IsNumbered n (d ∷ defs) m
-    by true more h =
-        let same : (n, d) ≡ m = ok_same (n, d) m h in
-        let number : m.0 ≡ n = ap (λ (p : NumberedLevel). p.0) (sym same) in
-        record { offset = 0; is = omega (arith, number); there = ap (λ (p : NumberedLevel). Some p.1) same }
-    by false more h =
-        let rest : IsNumbered (suc n) defs m = more h in
-        let number = rest.is in
-        record { offset = suc rest.offset; is = omega arith; there = rest.there }
+    at : (k : ℕ) (o : Option LevelDef) → slice_get defs k ≡ o → ok_or (option_map (λ (d : LevelDef). (k, d)) o) (rules.NoLevel name) ≡ Ok m → slice_get defs m.0 ≡ Some m.1
+    at k None here h = absurd cc
+    at k (Some d) here h = subst (λ (p : NumberedLevel). slice_get defs p.0 ≡ Some p.1) (ok_same (k, d) m h) here
+
+    by : (o : Option ℕ) → ok_or (option_and_then (numbered defs) o) (rules.NoLevel name) ≡ Ok m → slice_get defs m.0 ≡ Some m.1
+    by None h = absurd cc
+    by (Some k) h = at k (slice_get defs k) refl h
 
 -- as many levels as the configuration has
 pub level_count : (config : ConfigParts) (b : BundleParts) → FitsConfig config b → length b.levels ≡ length config.levels
@@ -348,11 +344,8 @@ module _ (config : ConfigParts) (counts : Counts) (b next : BundleParts) (keeps 
 
   item_next : (level : List ℕ) (position : Option ℕ) (item : AnnotItem) → item_put config counts level position item b ≡ Ok next → HasNext config counts b next
   item_next level position item is =
-      let on = goes_on (level_from 0 level config.levels) (put_on counts position item b) next is in
-      let n : IsNumbered 0 config.levels on.middle = numbered_level 0 level config.levels on.middle on.first in
-      let at = n.is in
-      let number : on.middle.0 ≡ n.offset = omega arith in
-      put_next position item on.middle (ap (λ (k : ℕ). slice_get config.levels k) number ∙ n.there) on.second
+      let on = goes_on (level_found level config.levels) (put_on counts position item b) next is in
+      put_next position item on.middle (level_there level config.levels on.middle on.first) on.second
 
   label_next : (id : ItemId) (label : List ℕ) (m : NumberedAttribute) → labelled id label b m ≡ Ok next → HasNext config counts b next
   label_next id label (number, def) is =
@@ -410,7 +403,7 @@ module _ (config : ConfigParts) (counts : Counts) (b next : BundleParts) (keeps 
       same_count config counts b next (next_then config 0 0 b on.middle next taken last)
 
   -- what a cut that breaks no rule comes to
-  pub cut_room : (new_id : ItemId) (start : ℕ) (s : Segment) → or_else (room_fault counts b.levels) (or_else (id_fault new_id b.levels) (cut_fault s (last_of s) start)) ≡ None →
+  pub cut_room : (new_id : ItemId) (start : ℕ) (s : Segment) → option_or (room_fault counts b.levels) (option_or (id_fault new_id b.levels) (cut_fault s (last_of s) start)) ≡ None →
       (item_count b.levels < BUNDLE_ITEMS) × (counts.items < ALL_ITEMS) × (list_any (nat_eq new_id.0) (all_ids b.levels) ≡ false) × IsCut s (last_of s) start
   cut_room new_id start s free =
       let one = or_none (room_fault counts b.levels) _ free in
@@ -423,7 +416,7 @@ module _ (config : ConfigParts) (counts : Counts) (b next : BundleParts) (keeps 
       let one = goes_on (segment_of id b.levels) (split_in counts new_id start b) next is in
       let s : Segment = one.middle in
       let whole : BundleParts = with_levels b (change_level (cut_at new_id start s) s.level b.levels) in
-      let two = unbroken (or_else (room_fault counts b.levels) (or_else (id_fault new_id b.levels) (cut_fault s (last_of s) start))) whole next one.second in
+      let two = unbroken (option_or (room_fault counts b.levels) (option_or (id_fault new_id b.levels) (cut_fault s (last_of s) start))) whole next one.second in
       let room = cut_room new_id start s two.0 in
       let p : IsSegmentOf b.levels s = segment_found id b s keeps one.first in
       let shorter : Time = Span s.start (start - 1 - s.start) in

@@ -9,11 +9,12 @@ use Rattle.emu_names.specs.declared.rules.Broken.TheVariants as rules
 use Rattle.emu_names.specs.declared.rules.What.TheVariants as counted
 use Rattle.level_items.specs.declared.annot.Annot.{Annot}
 use Rattle.level_items.specs.declared.annot.AnnotItem.{AnnotItem}
-use Rattle.level_items.specs.Faults.{or_else}
+use Rattle.std.specs.Option.{option_or}
 use Rattle.db_config.specs.declared.parts.ConfigParts.{ConfigParts}
 use Rattle.bundle_state.specs.Bundle.{BundleParts, item_count}
 use Rattle.bundle_state.specs.Built.{built}
-use Rattle.bundle_state.specs.Linked.{unless_broken, onward}
+use Rattle.bundle_state.specs.Linked.{unless_broken}
+use Rattle.emu_names.specs.Steps.{onward}
 use Rattle.bundle_state.specs.Made.{made_item}
 use Rattle.bundle_state.specs.Changed.{with_levels, change_level, item_added}
 use Rattle.bundle_state.proofs.LinksKept.{goes_on, ok_same, fine_value}
@@ -23,7 +24,7 @@ use Rattle.edit_rules.specs.declared.edit.Edit.{Edit}
 use Rattle.edit_rules.specs.declared.edit.Edit.TheVariants as edits
 use Rattle.edit_rules.specs.declared.segments.Segment.{Segment}
 use Rattle.edit_rules.specs.Edits.{key_of}
-use Rattle.edit_rules.specs.Changes.{unless_too_many, bundle_added, level_from, NumberedLevel, room_fault, id_fault, given_item_fault, put_on, item_put, segment_of, last_of, cut_fault, cut_at, split_in, segment_split, bundle_changed, if_kept, changed}
+use Rattle.edit_rules.specs.Changes.{unless_too_many, bundle_added, level_found, NumberedLevel, room_fault, id_fault, given_item_fault, put_on, item_put, segment_of, last_of, cut_fault, cut_at, split_in, segment_split, bundle_changed, if_kept, changed}
 use Rattle.edit_rules.specs.Database.{DatabaseParts, with_bundles, same_key, is_before, bundle_with, without, put_in_order, put_for, counts_of, are_keys_rising, KeepsDatabaseRules}
 use Rattle.edit_rules.specs.Effects.{put_back, effect}
 use Rattle.edit_rules.specs.Laws.{OrderDoesNotMatter}
@@ -146,8 +147,8 @@ put_alike one two position item b x y (number, def) first second =
 item_alike : (config : ConfigParts) (one two : Counts) (level : List ℕ) (position : Option ℕ) (item : AnnotItem) (b x y : BundleParts) →
     item_put config one level position item b ≡ Ok x → item_put config two level position item b ≡ Ok y → x ≡ y
 item_alike config one two level position item b x y first second =
-    let f = goes_on (level_from 0 level config.levels) (put_on one position item b) x first in
-    let g = goes_on (level_from 0 level config.levels) (put_on two position item b) y second in
+    let f = goes_on (level_found level config.levels) (put_on one position item b) x first in
+    let g = goes_on (level_found level config.levels) (put_on two position item b) y second in
     let same : f.middle ≡ g.middle = ok_same f.middle g.middle (sym f.first ∙ g.first) in
     put_alike one two position item b x y f.middle f.second (ap (λ (m : NumberedLevel). put_on two position item b m) same ∙ g.second)
 
@@ -159,8 +160,8 @@ split_alike one two id new_id start b x y first second =
     let s : Segment = f.middle in
     let other : split_in two new_id start b s ≡ Ok y = ap (λ (t : Segment). split_in two new_id start b t) same ∙ g.second in
     let whole : BundleParts = with_levels b (change_level (cut_at new_id start s) s.level b.levels) in
-    sym (unbroken (or_else (room_fault one b.levels) (or_else (id_fault new_id b.levels) (cut_fault s (last_of s) start))) whole x f.second).1
-    ∙ (unbroken (or_else (room_fault two b.levels) (or_else (id_fault new_id b.levels) (cut_fault s (last_of s) start))) whole y other).1
+    sym (unbroken (option_or (room_fault one b.levels) (option_or (id_fault new_id b.levels) (cut_fault s (last_of s) start))) whole x f.second).1
+    ∙ (unbroken (option_or (room_fault two b.levels) (option_or (id_fault new_id b.levels) (cut_fault s (last_of s) start))) whole y other).1
 
 bundle_alike : (config : ConfigParts) (one two : Counts) (edit : Edit) (b x y : BundleParts) → bundle_changed config one edit b ≡ Ok x → bundle_changed config two edit b ≡ Ok y → x ≡ y
 bundle_alike config one two (edits.AddBundle key annot) b x y first second = absurd cc

@@ -13,7 +13,8 @@ use Rattle.level_items.specs.Levels.{Level, ids_of, are_different, retimed}
 use Rattle.level_items.specs.Faults.{retime_fault}
 use Rattle.level_items.proofs.Found.{found, absent}
 use Rattle.bundle_state.specs.Bundle.{BundleParts, all_ids, place_from, place_of}
-use Rattle.bundle_state.specs.Linked.{unless_broken, onward}
+use Rattle.bundle_state.specs.Linked.{unless_broken}
+use Rattle.emu_names.specs.Steps.{onward}
 use Rattle.bundle_state.specs.Changed.{change_level, with_change, new_time_fault, item_retimed, without, item_removed}
 use Rattle.edit_rules.proofs.Spans.{some_same}
 

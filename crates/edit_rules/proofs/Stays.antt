@@ -15,7 +15,7 @@ use Rattle.db_config.specs.declared.parts.ConfigParts.{ConfigParts}
 use Rattle.db_config.specs.Valid.{is_valid}
 use Rattle.bundle_state.specs.Bundle.{BundleParts, item_count}
 use Rattle.bundle_state.specs.Built.{built}
-use Rattle.bundle_state.specs.Linked.{onward}
+use Rattle.emu_names.specs.Steps.{onward}
 use Rattle.bundle_state.proofs.LinksKept.{goes_on, ok_same, fine_value}
 use Rattle.bundle_state.proofs.BuiltKept.{IsBuilt, built_parts, built_keeps, built_fits}
 use Rattle.edit_rules.specs.declared.bundle_change.Counts.{Counts}
@@ -27,8 +27,8 @@ use Rattle.edit_rules.specs.Edits.{key_of}
 use Rattle.edit_rules.specs.Changes.{unless_too_many, bundle_added, bundle_changed, is_kept_by, if_kept, missing_changed, changed}
 use Rattle.edit_rules.specs.Database.{DatabaseParts, with_bundles, same_key, is_before, bundle_with, without, put_in_order, put_for, all_items, counts_of, are_keys_rising, IsBundleOf, KeepsDatabaseRules}
 use Rattle.edit_rules.specs.Effects.{put_back, effect}
-use Rattle.edit_rules.specs.Kept.{IsKept}
-use Rattle.edit_rules.specs.KeyPlaces.{IsKeyPlace, found_at, put_at}
+use Rattle.edit_rules.specs.Inner.Kept.{IsKept}
+use Rattle.edit_rules.specs.Inner.KeyPlaces.{IsKeyPlace, found_at, put_at}
 use Rattle.edit_rules.proofs.KeyPlaces.{Above, Apart, above_own, above_next, key_same, before_or, rising_tail}
 use Rattle.edit_rules.proofs.Next.{HasNext, bundle_next}
 use Rattle.edit_rules.proofs.Spans.{some_same}

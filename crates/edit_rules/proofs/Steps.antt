@@ -9,13 +9,14 @@ use Rattle.emu_names.specs.declared.rules.Broken.{Broken}
 use Rattle.level_items.specs.declared.items.Item.{Item}
 use Rattle.level_items.specs.declared.times.Time.{Time}
 use Rattle.level_items.specs.declared.times.Time.TheVariants.{Span}
-use Rattle.level_items.specs.Faults.{or_else}
+use Rattle.std.specs.Option.{option_or}
 use Rattle.level_items.specs.Levels.{Level, are_labels_for, retimed}
 use Rattle.db_config.specs.declared.parts.ConfigParts.{ConfigParts}
 use Rattle.db_config.specs.declared.parts.LevelDef.{LevelDef}
 use Rattle.bundle_state.specs.Bundle.{BundleParts}
 use Rattle.bundle_state.specs.Built.{FitsConfig}
-use Rattle.bundle_state.specs.Linked.{unless_broken, onward}
+use Rattle.bundle_state.specs.Linked.{unless_broken}
+use Rattle.emu_names.specs.Steps.{onward}
 use Rattle.bundle_state.specs.Valid.{KeepsBundleRules}
 use Rattle.bundle_state.specs.Changed.{with_levels, change_level, with_change, item_added, item_removed, item_retimed}
 use Rattle.bundle_state.proofs.LinksKept.{fine_value, onward_goes}
@@ -124,8 +125,8 @@ split_is config counts b id new_id start last count s labels fits keeps own room
     ap (λ (l : ℕ). item_as new_id (span_to start l) labels) is
     ∙ ap (λ (ls : List (List ℕ)). item_as new_id (span_to start (last_of s)) ls) (same ∙ ap (λ (n : ℕ). replicate n []) (sym (count_is config b s.level count p.level fits counted p.there))) in
     onward_goes (segment_of id b.levels) (split_in counts new_id start b) s own
-    ∙ ap (λ (o : Option Broken). unless_broken (or_else o (or_else (id_fault new_id b.levels) (cut_fault s (last_of s) start))) whole) room
-    ∙ ap (λ (o : Option Broken). unless_broken (or_else o (cut_fault s (last_of s) start)) whole) free
+    ∙ ap (λ (o : Option Broken). unless_broken (option_or o (option_or (id_fault new_id b.levels) (cut_fault s (last_of s) start))) whole) room
+    ∙ ap (λ (o : Option Broken). unless_broken (option_or o (cut_fault s (last_of s) start)) whole) free
     ∙ ap (λ (o : Option Broken). unless_broken o whole) cut_free
     ∙ sym (onward_goes (item_retimed s.id shorter b) (item_added s.level None (item_as new_id (span_to start last) labels)) mid first
     ∙ ap (λ (i : Item). item_added s.level None i mid) parts

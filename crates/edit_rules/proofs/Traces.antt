@@ -1,5 +1,5 @@
 -- What an edit leaves of the ids and of the links of a bundle.
-use Rattle.std.proofs.Common.{◌≡◌, ℕ, suc, ◌-◌, true, not, List, [], ◌∷◌, ◌++◌, take, drop, Option, Some, Ok, refl, sym, ◌∙◌, ap, subst, arith, eq-eqb}
+use Rattle.std.proofs.Common.{◌≡◌, ℕ, suc, ◌-◌, true, not, List, [], ◌∷◌, ◌++◌, take, drop, Option, Some, Ok, refl, sym, ◌∙◌, ap, subst, eq-eqb}
 use Rattle.std.specs.List.{filter, slice_get}
 use Rattle.std.proofs.lemmas.Bool.{and_from}
 use Rattle.emu_names.specs.declared.kinds.ItemId.{ItemId}
@@ -7,14 +7,15 @@ use Rattle.level_items.specs.declared.annot.AnnotItem.{AnnotItem}
 use Rattle.level_items.specs.declared.items.Item.{Item}
 use Rattle.level_items.specs.declared.times.Time.{Time}
 use Rattle.level_items.specs.declared.times.Time.TheVariants.{Span, Point}
-use Rattle.level_items.specs.Faults.{or_else}
+use Rattle.std.specs.Option.{option_or}
 use Rattle.level_items.specs.Levels.{Level, ids_of, retimed, relabelled, new_place}
 use Rattle.level_items.proofs.Lists.{around}
 use Rattle.link_graph.specs.Link.{joins, link_of}
 use Rattle.db_config.specs.declared.parts.ConfigParts.{ConfigParts}
 use Rattle.bundle_state.specs.Bundle.{BundleParts, all_ids, level_of_id}
 use Rattle.bundle_state.specs.Built.{FitsConfig}
-use Rattle.bundle_state.specs.Linked.{unless_broken, onward, definition_for}
+use Rattle.bundle_state.specs.Linked.{unless_broken, definition_for}
+use Rattle.emu_names.specs.Steps.{onward}
 use Rattle.bundle_state.specs.Made.{made_item}
 use Rattle.bundle_state.specs.Changed.{with_levels, with_links, change_level, with_item, without_item, with_changed, with_change, without, place_for, new_item_fault, new_time_fault, item_added, label_set, item_retimed, link_put, missing_fault}
 use Rattle.bundle_state.proofs.LinksKept.{goes_on, ok_same, fine_value}
@@ -24,10 +25,10 @@ use Rattle.bundle_state.proofs.ChangedKept.{IsPlace, place_parts, place_there, t
 use Rattle.edit_rules.specs.declared.bundle_change.Counts.{Counts}
 use Rattle.edit_rules.specs.declared.edit.Edit.TheVariants as edits
 use Rattle.edit_rules.specs.declared.segments.Segment.{Segment}
-use Rattle.edit_rules.specs.Changes.{level_from, NumberedLevel, room_fault, id_fault, label_fault, given_item_fault, put_on, NumberedAttribute, attribute_of, labelled, segment_of, next_of, cut_fault, last_of, moved, second_part, cut_at, split_in, joined}
+use Rattle.edit_rules.specs.Changes.{level_found, NumberedLevel, room_fault, id_fault, label_fault, given_item_fault, put_on, NumberedAttribute, attribute_of, labelled, segment_of, next_of, cut_fault, last_of, moved, second_part, cut_at, split_in, joined}
 use Rattle.edit_rules.specs.Laws.{HasOneMore, EditsKeepIds, EditsKeepLinks}
 use Rattle.edit_rules.proofs.Cuts.{IsSegmentOf, ArePair, segment_found, pair_found}
-use Rattle.edit_rules.proofs.Next.{IsLevelFor, level_fitting, IsNumbered, numbered_level}
+use Rattle.edit_rules.proofs.Next.{IsLevelFor, level_fitting, level_there}
 
 -- Links.
 
@@ -61,7 +62,7 @@ pub edits_keep_links : EditsKeepLinks
 edits_keep_links config counts (edits.AddBundle key annot) b next is = absurd cc
 edits_keep_links config counts (edits.DropBundle key) b next is = ap (λ (c : BundleParts). c.links) (sym (ok_same b next is))
 edits_keep_links config counts (edits.AddItem key level position item) b next is =
-    let on = goes_on (level_from 0 level config.levels) (put_on counts position item b) next is in
+    let on = goes_on (level_found level config.levels) (put_on counts position item b) next is in
     put_links_same counts position item b next on.middle on.second
 edits_keep_links config counts (edits.RemoveItem key id) b next is =
     let on = goes_on (place_for id b.levels) (λ place. fine_value (without id place b)) next is in
@@ -81,7 +82,7 @@ edits_keep_links config counts (edits.Split key id new_id start) b next is =
     let on = goes_on (segment_of id b.levels) (split_in counts new_id start b) next is in
     let s : Segment = on.middle in
     same_links b next (change_level (cut_at new_id start s) s.level b.levels)
-    (unbroken (or_else (room_fault counts b.levels) (or_else (id_fault new_id b.levels) (cut_fault s (last_of s) start))) (with_levels b (change_level (cut_at new_id start s) s.level b.levels)) next on.second).1
+    (unbroken (option_or (room_fault counts b.levels) (option_or (id_fault new_id b.levels) (cut_fault s (last_of s) start))) (with_levels b (change_level (cut_at new_id start s) s.level b.levels)) next on.second).1
 edits_keep_links config counts (edits.Merge key id) b next is =
     let one = goes_on (segment_of id b.levels) (λ s. onward (next_of b.levels s) (λ n. fine_value (joined b s n))) next is in
     let two = goes_on (next_of b.levels one.middle) (λ n. fine_value (joined b one.middle n)) next one.second in
@@ -175,11 +176,8 @@ pub edits_keep_ids : EditsKeepIds
 edits_keep_ids config counts (edits.AddBundle key annot) b next keeps fits is = absurd cc
 edits_keep_ids config counts (edits.DropBundle key) b next keeps fits is = ap (λ (c : BundleParts). all_ids c.levels) (sym (ok_same b next is))
 edits_keep_ids config counts (edits.AddItem key level position item) b next keeps fits is =
-    let on = goes_on (level_from 0 level config.levels) (put_on counts position item b) next is in
-    let n : IsNumbered 0 config.levels on.middle = numbered_level 0 level config.levels on.middle on.first in
-    let at = n.is in
-    let number : on.middle.0 ≡ n.offset = omega arith in
-    put_ids config counts position item b next on.middle fits (ap (λ (k : ℕ). slice_get config.levels k) number ∙ n.there) on.second
+    let on = goes_on (level_found level config.levels) (put_on counts position item b) next is in
+    put_ids config counts position item b next on.middle fits (level_there level config.levels on.middle on.first) on.second
 edits_keep_ids config counts (edits.RemoveItem key id) b next keeps fits is =
     let on = goes_on (place_for id b.levels) (λ place. fine_value (without id place b)) next is in
     let p : IsPlace id.0 b.levels on.middle = place_parts id.0 b.levels on.middle (place_there id b.levels on.middle on.first) in
@@ -207,7 +205,7 @@ edits_keep_ids config counts (edits.Split key id new_id start) b next keeps fits
     let s : Segment = on.middle in
     let p : IsSegmentOf b.levels s = segment_found id b s keeps on.first in
     subst (λ (c : BundleParts). HasOneMore new_id.0 (all_ids b.levels) (all_ids c.levels))
-    (unbroken (or_else (room_fault counts b.levels) (or_else (id_fault new_id b.levels) (cut_fault s (last_of s) start))) (with_levels b (change_level (cut_at new_id start s) s.level b.levels)) next on.second).1
+    (unbroken (option_or (room_fault counts b.levels) (option_or (id_fault new_id b.levels) (cut_fault s (last_of s) start))) (with_levels b (change_level (cut_at new_id start s) s.level b.levels)) next on.second).1
     (cut_ids b s new_id start p)
 edits_keep_ids config counts (edits.Merge key id) b next keeps fits is =
     let one = goes_on (segment_of id b.levels) (λ s. onward (next_of b.levels s) (λ n. fine_value (joined b s n))) next is in

@@ -1,6 +1,6 @@
 -- What an edit makes of the bundle that it names, or the rule that it breaks first (EMU-SDMS Manual, "The
 -- emuDB format": `_annot.json` and `legalLabels`).
-use Rattle.std.specs.Prelude.{ℕ, suc, ◌+◌, ◌-◌, Bool, true, false, ◌&&◌, List, [], ◌∷◌, ◌++◌, length, insert, Option, Some, None, option_and_then, Result, Ok, Err, nat_eq, nat_le, nat_lt, if◌then◌else◌, ok_or, replicate, ◌==◌}
+use Rattle.std.specs.Prelude.{ℕ, suc, ◌+◌, ◌-◌, Bool, true, false, ◌&&◌, List, [], ◌∷◌, ◌++◌, length, insert, Option, Some, None, option_map, option_and_then, Result, Ok, Err, nat_eq, nat_le, nat_lt, if◌then◌else◌, ok_or, replicate, ◌==◌}
 use Rattle.std.specs.List.{list_any, find, slice_get}
 use Rattle.emu_names.specs.declared.limits.TheConstants.{ALL_ITEMS, BUNDLES, BUNDLE_ITEMS, LABEL_BYTES}
 use Rattle.emu_names.specs.declared.kinds.ItemId.{ItemId}
@@ -14,16 +14,18 @@ use Rattle.level_items.specs.declared.annot.AnnotLabel.{AnnotLabel}
 use Rattle.level_items.specs.declared.items.Item.{Item}
 use Rattle.level_items.specs.declared.times.Time.{Time}
 use Rattle.level_items.specs.declared.times.Time.TheVariants.{NoTime, Span, Point}
-use Rattle.level_items.specs.Faults.{or_else, time_fault}
+use Rattle.level_items.specs.Faults.{time_fault}
+use Rattle.std.specs.Option.{option_or}
 use Rattle.level_items.specs.Levels.{Level, with_items, change_at, retimed}
 use Rattle.db_config.specs.declared.attributes.AttributeDef.{AttributeDef}
 use Rattle.db_config.specs.declared.parts.ConfigParts.{ConfigParts}
 use Rattle.db_config.specs.declared.parts.LevelDef.{LevelDef}
-use Rattle.db_config.specs.Names.{same_text}
-use Rattle.db_config.specs.Lookups.{is_legal_for}
+use Rattle.db_config.specs.Lookups.{is_legal_for, level_named, attribute_named}
+use Rattle.emu_names.specs.Texts.{same_text}
 use Rattle.bundle_state.specs.Bundle.{BundleParts, all_ids, item_count}
 use Rattle.bundle_state.specs.Built.{built}
-use Rattle.bundle_state.specs.Linked.{onward, unless_broken}
+use Rattle.bundle_state.specs.Linked.{unless_broken}
+use Rattle.emu_names.specs.Steps.{onward}
 use Rattle.bundle_state.specs.Made.{made_item}
 use Rattle.bundle_state.specs.Changed.{change_level, with_levels, with_change, without, place_for, item_added, item_removed, label_set, item_retimed, link_added, link_removed}
 use Rattle.edit_rules.specs.declared.bundle_change.Counts.{Counts}
@@ -47,16 +49,18 @@ bundle_added config counts key annot =
 
 -- A new item.
 
+-- the element of a number in a list, with its number
+abbrev pub numbered : {A : Type 0} → List A → ℕ → Option (ℕ × A)
+numbered list number = option_map (λ element. (number, element)) (slice_get list number)
+
 -- the number and the definition of a level
 abbrev pub NumberedLevel : Type 0
 NumberedLevel = ℕ × LevelDef
 
--- the first of these levels that has this name, with its number, where they are numbered from `number` on; there
--- has to be one
-abbrev pub level_from : ℕ → List ℕ → List LevelDef → Result NumberedLevel Broken
-level_from number name [] = Err (rules.NoLevel name)
-level_from number name (def ∷ defs) =
-    if same_text def.name name then Ok (number, def) else level_from (suc number) name defs
+-- the level of this name; there has to be one
+abbrev pub level_found : List ℕ → List LevelDef → Result NumberedLevel Broken
+level_found name defs =
+    ok_or (option_and_then (numbered defs) (level_named name defs)) (rules.NoLevel name)
 
 -- there is no room for one item more in the bundle, or in the whole database
 abbrev pub room_fault : Counts → List Level → Option Broken
@@ -87,15 +91,15 @@ given_label_fault named l (Some def) =
 abbrev pub new_labels_fault : List AttributeDef → List (List ℕ) → List AnnotLabel → Option Broken
 new_labels_fault defs named [] = None
 new_labels_fault defs named (l ∷ ls) =
-    or_else (given_label_fault named l (find (λ d. same_text d.name l.name) defs))
+    option_or (given_label_fault named l (find (λ d. same_text d.name l.name) defs))
     (new_labels_fault defs (named ++ l.name ∷ []) ls)
 
 -- the rule that a new item of a level breaks, before its position and its neighbours are looked at
 abbrev pub given_item_fault : Counts → List Level → LevelDef → AnnotItem → Option Broken
 given_item_fault counts levels def item =
-    or_else (room_fault counts levels)
-    (or_else (id_fault item.id levels)
-    (or_else (time_fault def.kind item.time) (new_labels_fault def.attributes [] item.labels)))
+    option_or (room_fault counts levels)
+    (option_or (id_fault item.id levels)
+    (option_or (time_fault def.kind item.time) (new_labels_fault def.attributes [] item.labels)))
 
 -- a new item on a level
 abbrev pub put_on : Counts → Option ℕ → AnnotItem → BundleParts → NumberedLevel → Result BundleParts Broken
@@ -106,7 +110,7 @@ put_on counts position item b (number, def) =
 -- a new item on the level of a name
 abbrev pub item_put : ConfigParts → Counts → List ℕ → Option ℕ → AnnotItem → BundleParts → Result BundleParts Broken
 item_put config counts level position item b =
-    onward (level_from 0 level config.levels) (put_on counts position item b)
+    onward (level_found level config.levels) (put_on counts position item b)
 
 -- A label.
 
@@ -114,17 +118,15 @@ item_put config counts level position item b =
 abbrev pub NumberedAttribute : Type 0
 NumberedAttribute = ℕ × AttributeDef
 
--- the first of these attributes that has this name, with its number, where they are numbered from `number` on;
--- there has to be one
-abbrev pub attribute_from : ℕ → List ℕ → List AttributeDef → Result NumberedAttribute Broken
-attribute_from number name [] = Err (rules.NoAttribute name)
-attribute_from number name (def ∷ defs) =
-    if same_text def.name name then Ok (number, def) else attribute_from (suc number) name defs
+-- the attribute of this name; there has to be one
+abbrev pub attribute_found : List ℕ → List AttributeDef → Result NumberedAttribute Broken
+attribute_found name defs =
+    ok_or (option_and_then (numbered defs) (attribute_named name defs)) (rules.NoAttribute name)
 
 -- the attribute of this name on a level of the configuration
 abbrev pub attribute_of : List ℕ → Option LevelDef → Result NumberedAttribute Broken
 attribute_of name None = Err (rules.NoAttribute name)
-attribute_of name (Some def) = attribute_from 0 name def.attributes
+attribute_of name (Some def) = attribute_found name def.attributes
 
 -- another label of an item for an attribute
 abbrev pub labelled : ItemId → List ℕ → BundleParts → NumberedAttribute → Result BundleParts Broken
@@ -214,8 +216,8 @@ cut_at new_id start s level =
 -- a segment in two parts
 abbrev pub split_in : Counts → ItemId → ℕ → BundleParts → Segment → Result BundleParts Broken
 split_in counts new_id start b s =
-    unless_broken (or_else (room_fault counts b.levels)
-    (or_else (id_fault new_id b.levels) (cut_fault s (last_of s) start)))
+    unless_broken (option_or (room_fault counts b.levels)
+    (option_or (id_fault new_id b.levels) (cut_fault s (last_of s) start)))
     (with_levels b (change_level (cut_at new_id start s) s.level b.levels))
 
 -- the segment with an id in two parts

@@ -1,11 +1,9 @@
 -- What an edit does to a database, and the database that a history stands for.
-use Rattle.std.specs.Prelude.{◌≡◌, List, [], ◌∷◌, Option, Some, None, Result, Ok, Err}
+use Rattle.std.specs.Prelude.{◌≡◌, List, [], ◌∷◌, Option, Result, Ok, Err}
 use Rattle.emu_names.specs.declared.rules.Broken.{Broken}
-use Rattle.emu_names.specs.declared.rules.Fault.{Fault}
-use Rattle.emu_names.specs.declared.rules.Fault.TheVariants as faults
 use Rattle.db_config.specs.declared.parts.ConfigParts.{ConfigParts}
 use Rattle.bundle_state.specs.Bundle.{BundleParts}
-use Rattle.bundle_state.specs.Linked.{onward}
+use Rattle.emu_names.specs.Steps.{onward}
 use Rattle.edit_rules.specs.declared.edit.Edit.{Edit}
 use Rattle.edit_rules.specs.declared.edit.Entry.{Entry}
 use Rattle.edit_rules.specs.Edits.{key_of}
@@ -48,13 +46,3 @@ database_after config history = found_or (empty_database config) (after config h
 -- what one more edit would leave
 abbrev pub edited : ConfigParts → List Entry → Edit → Result DatabaseParts Broken
 edited config history edit = onward (after config history) (λ database. effect database edit)
-
--- a refusal by a rule is by the one that is broken first; want of memory says nothing
-abbrev pub IsFirstFault : Fault → Result DatabaseParts Broken → Type 0
-IsFirstFault (faults.Broken rule) there = there ≡ Err rule
-IsFirstFault faults.Memory there = Unit {0}
-
--- the rule that is broken, where one is
-abbrev pub rule_of : Result DatabaseParts Broken → Option Broken
-rule_of (Ok database) = None
-rule_of (Err rule) = Some rule

@@ -1,10 +1,10 @@
 //! What an edit makes of the bundle that it names.
 ghost use Rattle.std.specs.Prelude.{◌≡◌, IfSome, option_copied};
-ghost use Rattle.emu_names.specs.Gives.{GivesOrBroken};
+ghost use Rattle.emu_names.specs.Inner.Gives.{GivesOrBroken};
 ghost use Rattle.bundle_state.specs.Built.{FitsConfig};
-ghost use Rattle.bundle_state.specs.Linked.{onward};
+ghost use Rattle.emu_names.specs.Steps.{onward};
 ghost use Rattle.edit_rules.specs.Changes.{unless_too_many, bundle_added, bundle_changed, if_kept, missing_changed, changed};
-ghost use Rattle.edit_rules.specs.Given.{kept};
+ghost use Rattle.edit_rules.specs.Inner.Given.{kept};
 
 use crate::edit::Edit;
 use crate::item_changes::{give_label, link, put_item, retime, take_item, unlink};

@@ -4,13 +4,12 @@ ghost use Rattle.std.specs.List.{slice_get};
 ghost use Rattle.std.specs.List.Sorted.{IsPartitionPoint};
 ghost use Rattle.bundle_state.specs.Built.{FitsConfig};
 ghost use Rattle.edit_rules.specs.Database.{empty_database, with_bundles, is_before, same_key, bundle_with, all_items, counts_of, KeepsDatabaseRules};
-ghost use Rattle.edit_rules.specs.KeyPlaces.{IsKeyPlace, IsPlaceIn, has_key_at, found_at, put_at};
+ghost use Rattle.edit_rules.specs.Inner.KeyPlaces.{IsKeyPlace, IsPlaceIn, has_key_at, found_at, put_at};
 
 use crate::bundle_change::Counts;
 use bundle_state::Bundle;
 use db_config::Config;
-use emu_lists::{PlainData, Series, Shared};
-use emu_names::{BundleKey, Memory};
+use emu_names::{BundleKey, Memory, PlainData, Series, Shared};
 use std::alloc::Global;
 use std::marker::Model;
 
@@ -53,7 +52,7 @@ impl Model for Database {
 
     ghost Value = { DatabaseParts };
 
-    ghost use Rattle.edit_rules.specs.Kept.{IsKept};
+    ghost use Rattle.edit_rules.specs.Inner.Kept.{IsKept};
 
     ghost view = { λ d. record { config = d.config; bundles = d.list } };
 

@@ -2,8 +2,7 @@
 ghost use Rattle.std.specs.Prelude.{◌≡◌, IfOk};
 ghost use Rattle.edit_rules.specs.Edits.{key_of};
 
-use emu_lists::{PlainData, Series};
-use emu_names::{BundleKey, ItemId, Memory, SessionNo, Text};
+use emu_names::{BundleKey, ItemId, Memory, PlainData, Series, SessionNo, Text};
 use level_items::{Annot, AnnotItem};
 use std::alloc::Global;
 

@@ -1,7 +1,8 @@
 //! Edits that change a database.
 ghost use Rattle.std.specs.Prelude.{◌≡◌, Ok, IfErr, OnErr, OnOk, IfOk};
-ghost use Rattle.emu_names.specs.Gives.{FindsFault};
-ghost use Rattle.edit_rules.specs.Effects.{effect, rule_of, IsFirstFault};
+ghost use Rattle.emu_names.specs.Inner.Gives.{FindsFault};
+ghost use Rattle.edit_rules.specs.Effects.{effect};
+ghost use Rattle.edit_rules.specs.Inner.Effects.{rule_of, IsFirstFault};
 
 use crate::bundle_change::change;
 use crate::database::Database;

@@ -1,12 +1,13 @@
 //! Edits of one item or link of a bundle.
 ghost use Rattle.std.specs.Prelude.{◌≡◌, ◌<◌, length, IfSome, IsTrue, Some};
 ghost use Rattle.std.specs.List.{slice_get};
-ghost use Rattle.emu_names.specs.Gives.{GivesOrBroken, FindsFault};
+ghost use Rattle.emu_names.specs.Inner.Gives.{GivesOrBroken, FindsFault};
 ghost use Rattle.emu_names.specs.declared.limits.TheConstants.{BUNDLE_ITEMS};
 ghost use Rattle.level_items.specs.Levels.{are_labels_for};
 ghost use Rattle.bundle_state.specs.Bundle.{item_count};
 ghost use Rattle.bundle_state.specs.Built.{FitsConfig};
-ghost use Rattle.bundle_state.specs.Changed.{attributes_with, item_added, item_removed, item_retimed, link_added, link_removed};
+ghost use Rattle.bundle_state.specs.Changed.{item_added, item_removed, item_retimed, link_added, link_removed};
+ghost use Rattle.bundle_state.specs.Inner.Changed.{attributes_with};
 ghost use Rattle.edit_rules.specs.Changes.{room_fault, id_fault, given_item_fault, put_on, item_put, labelled, label_given};
 
 use crate::bundle_change::Counts;

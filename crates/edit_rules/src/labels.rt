@@ -1,29 +1,17 @@
 //! The labels that an edit gives an item.
 ghost use Rattle.std.specs.Prelude.{◌≡◌, [], replicate, IfOk, option_copied};
 ghost use Rattle.std.specs.List.{list_any, find};
-ghost use Rattle.emu_names.specs.Gives.{FindsFault};
-ghost use Rattle.db_config.specs.Names.{same_text};
+ghost use Rattle.emu_names.specs.Inner.Gives.{FindsFault};
+ghost use Rattle.emu_names.specs.Texts.{same_text};
 ghost use Rattle.bundle_state.specs.Made.{label_named, made_labels, made_item};
 ghost use Rattle.edit_rules.specs.Changes.{label_fault, given_label_fault, new_labels_fault};
-ghost use Rattle.edit_rules.specs.Given.{names_of};
+ghost use Rattle.edit_rules.specs.Inner.Given.{names_of};
 
 use db_config::AttributeDef;
 use emu_names::limits::LABEL_BYTES;
 use emu_names::{Broken, Fault, Memory, Text};
 use level_items::{AnnotItem, AnnotLabel, Item, Labels};
 use std::alloc::Global;
-
-/// Whether a label is among these.
-fn is_among(label: &Text, labels: &[Text]) -> bool
-    ensures { result ≡ list_any (same_text label.now) labels.now }
-{
-    for other in labels {
-        if label.as_str() == other.as_str() {
-            return true;
-        }
-    }
-    false
-}
 
 /// Tests a label for an attribute.
 pub(crate) fn label_passes(def: &AttributeDef, label: &Text) -> Result<(), Fault>
@@ -32,18 +20,10 @@ pub(crate) fn label_passes(def: &AttributeDef, label: &Text) -> Result<(), Fault
     if label.as_str().len() > LABEL_BYTES {
         return Err(Fault::Broken(Broken::LabelTooLong));
     }
-    if label.as_str().len() == 0 {
-        return Ok(());
-    }
-    match &def.legal {
-        Some(labels) => {
-            if is_among(label, labels.as_slice()) {
-                Ok(())
-            } else {
-                Err(Fault::Broken(Broken::IllegalLabel))
-            }
-        }
-        None => Ok(()),
+    if def.is_legal(label.as_str()) {
+        Ok(())
+    } else {
+        Err(Fault::Broken(Broken::IllegalLabel))
     }
 }
 

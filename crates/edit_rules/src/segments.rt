@@ -1,12 +1,12 @@
 //! Edits of segments that touch: their common boundary, a segment in two, two segments in one.
 ghost use Rattle.std.specs.Prelude.{◌≡◌, ◌==◌, ◌+◌, ◌<◌, suc, length, replicate, [], true, IfOk, IfSome, IsTrue, Some, Ok, None};
 ghost use Rattle.std.specs.List.{slice_get};
-ghost use Rattle.emu_names.specs.Gives.{GivesOrBroken, FindsFault};
+ghost use Rattle.emu_names.specs.Inner.Gives.{GivesOrBroken, FindsFault};
 ghost use Rattle.emu_names.specs.declared.limits.TheConstants.{BUNDLE_ITEMS, SAMPLES};
 ghost use Rattle.level_items.specs.Levels.{are_labels_for};
 ghost use Rattle.bundle_state.specs.Bundle.{item_count};
 ghost use Rattle.bundle_state.specs.Built.{FitsConfig};
-ghost use Rattle.bundle_state.specs.Linked.{onward};
+ghost use Rattle.emu_names.specs.Steps.{onward};
 ghost use Rattle.bundle_state.specs.Changed.{item_added, item_removed, item_retimed};
 ghost use Rattle.edit_rules.specs.Changes.{segment_at, segment_of, next_of, cut_fault, last_of, boundary_moved, segment_split, segments_merged};
 

@@ -1,16 +1,17 @@
 -- What a status says, of a whole call.
 use Rattle.std.proofs.Common.{◌≡◌, ◌⊎◌, inl, inr, ℕ, Bool, true, false, List, Option, Some, None, refl, sym, ◌∙◌, ap, subst}
-use Rattle.run_output.specs.declared.status.Status.{Status}
-use Rattle.run_output.specs.declared.status.Status.TheVariants as statuses
-use Rattle.run_output.specs.Texts.{usage_text}
+use Rattle.program_output.specs.declared.status.Status.{Status}
+use Rattle.program_output.specs.declared.status.Status.TheVariants as statuses
+use Rattle.program_output.specs.Texts.{usage_text}
 use Rattle.cli_words.specs.declared.words.Words.{Words}
 use Rattle.cli_words.specs.declared.words.Words.TheVariants as forms
 use Rattle.cli_words.specs.Forms.{words_of}
-use Rattle.store_calls.specs.declared.ending.Ending.{Ending}
-use Rattle.store_calls.specs.Ends.{is_of_store}
+use Rattle.program_output.specs.declared.ending.Ending.{Ending}
+use Rattle.emu_cli.specs.Ends.{is_of_store}
 use Rattle.script_runs.specs.Says.{Call}
-use Rattle.run_output.specs.Statuses.{WritesLast, code_of}
-use Rattle.emu_cli.specs.Calls.{AskForRun, AsksForStore, CallEnds, IsLiveWords, IsNoCommand, IsNoLive, IsNoRun, IsRunWords, RunCompletes, SaysStore, SaysUsage, live_asked, run_asked}
+use Rattle.program_output.specs.Statuses.{WritesLast, code_of}
+use Rattle.emu_cli.specs.Calls.{AskForRun, AsksForStore, CallEnds, IsLiveWords, IsNoCommand, IsNoLive, IsNoRun, IsRunWords, RunCompletes, SaysStore, SaysUsage}
+use Rattle.emu_cli.specs.Inner.Calls.{live_asked, run_asked}
 
 -- the last line, as a status says it
 pub usage_says : (status : Status) (before after : Option (List ℕ)) (w ws : ℕ) (call : Call) → call.written ≡ before → call.written_after ≡ after → call.writes ≡ w → call.writes_after ≡ ws → WritesLast status statuses.Usage before after w ws usage_text → SaysUsage status call
@@ -47,7 +48,9 @@ asked_run words (forms.Ask eql time) store h e = absurd (no_flag store e)
 asked_run words (forms.Load name) store h e = absurd (no_flag store e)
 asked_run words (forms.Import session bundle rate file) store h e = absurd (no_flag store e)
 asked_run words (forms.Export session bundle) store h e = absurd (no_flag store e)
+asked_run words (forms.TextGrid session bundle) store h e = absurd (no_flag store e)
 asked_run words forms.History store h e = absurd (no_flag store e)
+asked_run words forms.Config store h e = absurd (no_flag store e)
 asked_run words (forms.Work number bundles) store h e = absurd (no_flag store e)
 
 pub asked_none : (words : List (List ℕ)) (asked : Words) → words_of words ≡ Some asked → run_asked asked ≡ None → IsNoRun words
@@ -69,7 +72,9 @@ asked_live words (forms.Ask eql time) store h e = absurd (no_flag store e)
 asked_live words (forms.Load name) store h e = absurd (no_flag store e)
 asked_live words (forms.Import session bundle rate file) store h e = absurd (no_flag store e)
 asked_live words (forms.Export session bundle) store h e = absurd (no_flag store e)
+asked_live words (forms.TextGrid session bundle) store h e = absurd (no_flag store e)
 asked_live words forms.History store h e = absurd (no_flag store e)
+asked_live words forms.Config store h e = absurd (no_flag store e)
 asked_live words (forms.Work number bundles) store h e = absurd (no_flag store e)
 
 pub asked_no_live : (words : List (List ℕ)) (asked : Words) → words_of words ≡ Some asked → live_asked asked ≡ None → IsNoLive words

@@ -1,8 +1,8 @@
 -- The top call: what its words ask for, and what its status says by them.
-use Rattle.std.specs.Prelude.{◌≡◌, ◌⊎◌, ℕ, Bool, true, false, List, [], map, Option, Some, None, string_bytes}
+use Rattle.std.specs.Prelude.{◌≡◌, ◌⊎◌, ℕ, Bool, true, false, List, [], map, Some, string_bytes}
 use Rattle.std.specs.declared.string.String.{String}
 use Rattle.std.specs.Io.KnownBytes.{Appends}
-use Rattle.fault_counts.specs.Count.{Rose}
+use Rattle.emu_names.specs.Count.{Rose}
 use Rattle.emu_io.specs.Fronts.{WritesFront}
 use Rattle.emu_io.specs.declared.traits.Source as sources
 use Rattle.emu_io.specs.declared.traits.Sink as sinks
@@ -12,14 +12,14 @@ use Rattle.label_match.specs.declared.maker.PatternMaker as makers
 use Rattle.cli_words.specs.declared.words.Words.{Words}
 use Rattle.cli_words.specs.declared.words.Words.TheVariants as forms
 use Rattle.cli_words.specs.Forms.{words_of}
-use Rattle.store_calls.specs.declared.ending.Ending.{Ending}
-use Rattle.store_calls.specs.Ends.{EndsOnStore, is_of_store, outside_of}
-use Rattle.run_output.specs.declared.status.Status.{Status}
-use Rattle.run_output.specs.declared.status.Status.TheVariants as statuses
+use Rattle.program_output.specs.declared.ending.Ending.{Ending}
+use Rattle.emu_cli.specs.Ends.{EndsOnStore, is_of_store, outside_of}
+use Rattle.program_output.specs.declared.status.Status.{Status}
+use Rattle.program_output.specs.declared.status.Status.TheVariants as statuses
 use Rattle.script_runs.specs.Bases.{EachOf}
-use Rattle.run_output.specs.Texts.{usage_text}
+use Rattle.program_output.specs.Texts.{usage_text}
 use Rattle.script_runs.specs.Says.{Call, Completes, IsFaultless, Says}
-use Rattle.run_output.specs.Statuses.{code_of}
+use Rattle.program_output.specs.Statuses.{code_of}
 use Rattle.script_runs.specs.Lives.{SaysLive}
 use Rattle.script_runs.specs.Told.{FinishesBy, call_by}
 
@@ -31,11 +31,6 @@ texts_of words = map (λ w. string_bytes w) words
 abbrev pub IsRunWords : List (List ℕ) → Bool → Type 0
 IsRunWords words store = words_of words ≡ Some (forms.Run store)
 
--- whether a run that is asked for is one with a store; nothing where no run is asked for
-abbrev pub run_asked : Words → Option Bool
-run_asked (forms.Run store) = Some store
-run_asked words = None
-
 -- the words ask for no run
 abbrev pub IsNoRun : List (List ℕ) → Type 0
 IsNoRun words = (store : Bool) → IsRunWords words store → ⊥
@@ -43,11 +38,6 @@ IsNoRun words = (store : Bool) → IsRunWords words store → ⊥
 -- the words ask for a live run, without a store or with one, by some number of workers
 abbrev pub IsLiveWords : List (List ℕ) → Bool → Type 0
 IsLiveWords words store = (workers : ℕ) × (words_of words ≡ Some (forms.Live store workers))
-
--- whether a live run that is asked for is one with a store; nothing where no live run is asked for
-abbrev pub live_asked : Words → Option Bool
-live_asked (forms.Live store workers) = Some store
-live_asked words = None
 
 -- the words ask for no live run
 abbrev pub IsNoLive : List (List ℕ) → Type 0
@@ -112,7 +102,6 @@ CallCompletes words call code =
     (store : Bool) → AskForRun words store → IsFaultless (call store) → (code ≡ 0) ⊎ (code ≡ 8)
 
 -- By what source, sink, folder, disk and maker of patterns tell before the call and after it.
-
 module _ {F D P : Type 0} (folder : folders.Ghosts F) (disk : disks.Ghosts D) (maker : makers.Ghosts P)
     (files files_after : F) (before after : D) (patterns patterns_after : P) where
   -- a command on the store ended so

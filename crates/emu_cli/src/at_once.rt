@@ -1,7 +1,7 @@
 //! The command `live`: the store is opened, if there is one, the script is read whole, its sessions are run at once,
 //! and what they were answered is written when all have ended.
 ghost use Rattle.std.specs.Prelude.{◌≡◌, false};
-ghost use Rattle.script_runs.specs.Lives.{IsSpread};
+ghost use Rattle.script_runs.specs.Inner.Lives.{IsSpread};
 ghost use Rattle.script_runs.specs.Told.{CompletesBy, SaysLiveBy};
 
 use emu_disk::Disk;

@@ -1,12 +1,19 @@
 //! The program: its words, its commands and its status.
 #![tactic(auto)]
 
+mod adding;
 mod at_once;
+mod ending;
 mod in_order;
+mod program;
+mod reading;
+mod store;
 mod top;
 
 pub use at_once::live;
 pub use in_order::run;
-pub use run_output::Status;
+pub use program::{is_of_store, on_store};
+pub use program_output::{Ending, Status};
 pub use script_runs::{Ran, Spread};
+pub use store::StoreEnd;
 pub use top::{Exit, emu};

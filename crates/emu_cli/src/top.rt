@@ -1,24 +1,26 @@
 //! The top call.
 ghost use Rattle.std.specs.Prelude.{◌≡◌, ◌≤◌, true, false};
-ghost use Rattle.store_calls.specs.declared.ending.Ending.{Ending as Ends};
-ghost use Rattle.store_calls.specs.Ends.{HasRate, is_of_store};
-ghost use Rattle.run_output.specs.Texts.{usage_text};
-ghost use Rattle.emu_cli.specs.Calls.{AskForRun, AsksForStore, CallCompletesBy, CallEndsBy, CallSaysBy, EndsOnStoreBy, RunCompletesBy, live_asked, run_asked, texts_of};
-ghost use Rattle.run_output.specs.Statuses.{WritesLast};
+ghost use Rattle.program_output.specs.declared.ending.Ending.{Ending as Ends};
+ghost use Rattle.emu_cli.specs.Ends.{is_of_store};
+ghost use Rattle.cli_words.specs.Inner.Gives.{IsInRange};
+ghost use Rattle.program_output.specs.Texts.{usage_text};
+ghost use Rattle.emu_cli.specs.Calls.{AskForRun, AsksForStore, CallCompletesBy, CallEndsBy, CallSaysBy, EndsOnStoreBy, RunCompletesBy, texts_of};
+ghost use Rattle.emu_cli.specs.Inner.Calls.{live_asked, run_asked};
+ghost use Rattle.program_output.specs.Statuses.{WritesLast};
 ghost use Rattle.script_runs.specs.Told.{FinishesBy};
 
 use crate::at_once::live;
 use crate::in_order::run;
-use cli_words::{Words, WordsFault};
+use crate::{StoreEnd, is_of_store, on_store};
+use cli_words::{Words, WordsFault, read_words};
 use emu_disk::Disk;
 use emu_io::{Folder, Gate, Sink, Source};
 use label_match::PatternMaker;
-use run_output::{Status, code, finish, usage};
+use program_output::{Status, code, finish, usage};
 use script_runs::{Ran, Spread};
 use std::alloc::Global;
 use std::sync::Wait;
 use std::thread::Threads;
-use store_calls::{StoreEnd, is_of_store, on_store, read_command};
 
 /// Over how many passes the sessions of a live run look at the state: one for each session.
 const LIVE_READERS: u32 = 16;
@@ -39,7 +41,8 @@ fn run_asked(asked: &Words) -> Option<bool>
     match asked {
         Words::Run { store } => Some(*store),
         Words::Live { .. } | Words::Ask { .. } | Words::Load { .. } | Words::Import { .. } => None,
-        Words::Export { .. } | Words::History | Words::Work { .. } => None,
+        Words::Export { .. } | Words::TextGrid { .. } | Words::History => None,
+        Words::Config | Words::Work { .. } => None,
     }
 }
 
@@ -50,22 +53,19 @@ fn live_asked(asked: &Words) -> Option<bool>
     match asked {
         Words::Live { store, .. } => Some(*store),
         Words::Run { .. } | Words::Ask { .. } | Words::Load { .. } | Words::Import { .. } => None,
-        Words::Export { .. } | Words::History | Words::Work { .. } => None,
+        Words::Export { .. } | Words::TextGrid { .. } | Words::History => None,
+        Words::Config | Words::Work { .. } => None,
     }
 }
 
-/// How many workers a live run has that is asked for: the words ask for 1 to 8, and other numbers come to the nearest.
+/// How many workers a live run has that is asked for: 1 to 8.
 fn workers_asked(asked: &Words) -> u32
+    requires ranges { IsInRange asked.now }
     ensures few { (1 ≤ result) × (result ≤ 8) }
 {
     match asked {
-        Words::Live { workers, .. } => match *workers {
-            0 => 1,
-            1..=8 => *workers,
-            _ => 8,
-        },
-        Words::Run { .. } | Words::Ask { .. } | Words::Load { .. } | Words::Import { .. } => 1,
-        Words::Export { .. } | Words::History | Words::Work { .. } => 1,
+        Words::Live { workers, .. } => *workers,
+        _ => 1,
     }
 }
 
@@ -88,7 +88,7 @@ fn perform_on_store<
     gate: &G,
 ) -> Ran<D>
     requires kind { is_of_store command.now ≡ true }
-    requires rate { HasRate command.now }
+    requires ranges { IsInRange command.now }
     ensures { (ending : Ends) × EndsOnStoreBy F.Folder D.Disk P.PatternMaker folder.old folder.new
         disk result.disk patterns.old patterns.new command.now ending
         × FinishesBy K.Sink out.old out.new result.status ending }
@@ -118,7 +118,7 @@ fn perform_other<
     patterns: &mut P,
     gate: &G,
 ) -> Ran<D>
-    requires rate { HasRate command.now }
+    requires ranges { IsInRange command.now }
     ensures store { is_of_store command.now ≡ true → (ending : Ends)
         × EndsOnStoreBy F.Folder D.Disk P.PatternMaker folder.old folder.new
         disk result.disk patterns.old patterns.new command.now ending
@@ -166,7 +166,7 @@ fn perform<
     ensures untouched { (AskForRun (texts_of words.now) true → ⊥) →
         (AsksForStore (texts_of words.now) → ⊥) → result.disk ≡ disk }
 {
-    match read_command(alloc, words) {
+    match read_words(alloc, words) {
         Ok(asked) => match run_asked(&asked) {
             Some(store) => run(rt, alloc, store, script, out, disk, patterns),
             None => match live_asked(&asked) {
@@ -194,7 +194,7 @@ fn perform<
 /// Runs the program on its words, and hands the disk back.
 ///
 /// `run` runs the script of the source, in its order, and `live` its sessions at once, with `--store` over the store on
-/// the disk. `history`, `export` and `ask` read the store; `import` and `load` add bundles to it from files of the
+/// the disk. `history`, `export`, `textgrid` and `ask` read the store; `import` and `load` add bundles to it from files of the
 /// folder. The gate is told of the pieces of the query of `ask`, and in a live run of those of each query and of each
 /// line that is answered. The status is
 ///

@@ -1,14 +1,14 @@
 -- The images of a disk that keeps its calls, from call to call.
-use Rattle.std.proofs.Common.{◌≡◌, ◌⊎◌, inl, inr, ⊎_elim, ℕ, ◌+◌, ◌<◌, ◌≤◌, List, [], ◌∷◌, ◌++◌, length, take, Bool, true, false, Some, if◌then◌else◌, refl, sym, ◌∙◌, ap, subst, arith, get_or, length-append}
+use Rattle.std.proofs.Common.{◌≡◌, ◌⊎◌, inl, inr, ⊎_elim, ℕ, ◌+◌, ◌<◌, ◌≤◌, List, [], ◌∷◌, ◌++◌, length, take, Bool, true, false, Some, IsTrue, if◌then◌else◌, refl, sym, ◌∙◌, ap, subst, arith, get_or, length-append}
 use Rattle.std.proofs.lemmas.Bool.{cases_lt}
 use Rattle.std.proofs.lemmas.List.{take_all, take_more, take-append-le}
 use Rattle.emu_disk.specs.Disk.{Torn, Shorter, Scrambled, Becomes, Follows, Within, Only, Elapses}
 use Rattle.emu_disk.specs.declared.call.Call.{Call}
 use Rattle.emu_disk.specs.declared.call.Call.TheVariants.{Write, Cut, Sync}
 use Rattle.emu_disk.specs.declared.log.Log.{Log}
-use Rattle.emu_disk.specs.Memory.{landed, content, effect, CutLeaves, Step, Leaves, LeavesAfter, IsImage, WasImage}
-use Rattle.emu_disk.specs.Moves.{Adds, Stays}
-use Rattle.emu_disk.specs.Laws.{torn_put, torn_same, landed_fits, scrambled_same, reads_image, becomes_some}
+use Rattle.emu_disk.specs.Inner.Memory.{landed, content, effect, CutLeaves, Step, Leaves, LeavesAfter, IsImage, WasImage}
+use Rattle.emu_disk.specs.Inner.Moves.{Adds, Stays}
+use Rattle.emu_disk.specs.Inner.Laws.{torn_put, torn_same, landed_fits, scrambled_same, reads_image, becomes_some}
 
 content-push : (xs : List ℕ) (calls : List Call) (call : Call) → content xs (calls ++ call ∷ []) ≡ effect call (content xs calls)
 content-push xs [] call = refl
@@ -171,3 +171,11 @@ replayed first calls i call bytes bytes' image image' lt is so_far was by step =
 pub cut_leaves : (done : Bool) (n : ℕ) (old new : List ℕ) → Shorter n old new → Scrambled n old new → CutLeaves done n old new
 cut_leaves true n old new shorter scrambled = shorter
 cut_leaves false n old new shorter scrambled = scrambled
+
+not_both : (done : Bool) → done ≡ true → done ≡ false → ⊥
+not_both done t f = cc
+
+-- a call that failed was to fail, or is not kept
+pub not_due : {P : Type 0} (done : Bool) (old new : Log) → (P → IsTrue done) → (done ≡ false) ⊎ Stays old new → (P → ⊥) ⊎ (new.calls.items ≡ old.calls.items)
+not_due done old new all (inl not) = inl (λ due. not_both done (all due) not)
+not_due done old new all (inr stays) = inr stays.calls

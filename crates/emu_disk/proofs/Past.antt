@@ -5,7 +5,7 @@ use Rattle.std.proofs.lemmas.List.{take_all, drop_at, drop-drop, take-append-le,
 use Rattle.emu_disk.specs.Disk.{put, Elapses}
 use Rattle.emu_disk.specs.declared.sure.Mark.{Mark}
 use Rattle.emu_disk.specs.declared.sure.Mark.TheVariants.{Wrote, Cut}
-use Rattle.emu_disk.specs.Sure.{replay, total, Held}
+use Rattle.emu_disk.specs.Inner.Sure.{replay, total, Held}
 
 replay-append : (marks more : List Mark) (written xs : List ℕ) → replay (marks ++ more) written xs ≡ replay more (drop (total marks) written) (replay marks written xs)
 replay-append [] more written xs = refl

@@ -1,7 +1,7 @@
 //! A disk as its callers see it: what a read gives, what a crash may leave, and how often it has
 //! failed.
 ghost use Rattle.std.specs.Prelude.{◌≡◌, ◌≤◌, ℕ, List, Option, Some, length, take, IfOk, OnOk, OnErr};
-ghost use Rattle.fault_counts.specs.Count.{HasCause};
+ghost use Rattle.emu_names.specs.Count.{HasCause};
 ghost use Rattle.emu_disk.specs.Disk.{put, told, IsReadOf, HasPlace, TornBy, Shorter, Scrambled};
 ghost use Rattle.emu_disk.specs.Disk.{Becomes, Follows, Within, Only, GoesOn};
 

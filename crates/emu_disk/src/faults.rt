@@ -1,6 +1,6 @@
 //! What counts as a fault of a disk, and the count of its faults.
 ghost use Rattle.std.specs.Prelude.{◌≤◌};
-ghost use Rattle.fault_counts.specs.Count.{Rose};
+ghost use Rattle.emu_names.specs.Count.{Rose};
 
 use crate::disk::Failed;
 use std::alloc::{AllocError, AllocFailed};

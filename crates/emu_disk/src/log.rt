@@ -1,7 +1,7 @@
 //! The calls of a disk in memory, and what a read gives after them.
-ghost use Rattle.std.specs.Prelude.{◌≡◌, ◌≤◌, length, take, true, IfOk, OnOk, OnErr};
+ghost use Rattle.std.specs.Prelude.{◌≡◌, ◌⊎◌, ◌≤◌, length, take, true, false, IfOk, OnOk, OnErr};
 ghost use Rattle.emu_disk.specs.Disk.{put, IsRead};
-ghost use Rattle.emu_disk.specs.Memory.{content, effect};
+ghost use Rattle.emu_disk.specs.Inner.Memory.{content, effect};
 
 use crate::bytes::{copy_from, keep_front, overlay};
 use crate::call::{Call, Written};
@@ -19,7 +19,7 @@ pub(crate) struct Log {
 }
 
 impl Log {
-    ghost use Rattle.emu_disk.specs.Moves.{Adds, Stays, Keeps};
+    ghost use Rattle.emu_disk.specs.Inner.Moves.{Adds, Stays, Keeps};
 
     // Adds a call that changes no byte.
     fn note(&mut self, call: Call) -> Result<(), AllocError>
@@ -58,6 +58,7 @@ impl Log {
 
     pub(crate) fn read(&mut self, at: u64, buf: &mut [u8], done: bool) -> Result<usize, Failed>
         ensures due { OnOk result (done ≡ true) }
+        ensures failed { OnErr result ((done ≡ false) ⊎ Stays self.old self.new) }
         ensures bytes { IfOk result (λ n. IsRead self.old.bytes.items at n buf.new) }
         ensures moves { Keeps (λ done. Call.Read at (length buf.old) done)
             result self.old self.new }
@@ -82,6 +83,7 @@ impl Log {
     ) -> Result<(), Failed>
         requires { at ≤ length self.old.bytes.items }
         ensures due { OnOk result (done ≡ true) }
+        ensures failed { OnErr result ((done ≡ false) ⊎ Stays self.old self.new) }
         ensures moves { Keeps (λ done. Call.Write at bytes.now done) result self.old self.new }
     {
         let landed = part(bytes, done);
@@ -92,6 +94,7 @@ impl Log {
 
     pub(crate) fn cut(&mut self, len: u64, done: bool) -> Result<(), Failed>
         ensures due { OnOk result (done ≡ true) }
+        ensures failed { OnErr result ((done ≡ false) ⊎ Stays self.old self.new) }
         ensures moves { Keeps (λ done. Call.Cut len done) result self.old self.new }
     {
         if !done {
@@ -104,6 +107,7 @@ impl Log {
 
     pub(crate) fn sync(&mut self, done: bool) -> Result<(), Failed>
         ensures due { OnOk result (done ≡ true) }
+        ensures failed { OnErr result ((done ≡ false) ⊎ Stays self.old self.new) }
         ensures moves { Keeps (λ done. Call.Sync done) result self.old self.new }
     {
         self.note(Call::Sync { done })?;

@@ -1,10 +1,10 @@
 //! A disk in memory for tests: it keeps its calls, fails where it is told to, and shows what a
 //! crash may leave.
 ghost use Rattle.std.specs.Prelude.{◌≡◌, ◌≤◌, ◌++◌, ℕ, List, [], Option, Some, None, length, take, IfOk, OnOk, OnErr};
-ghost use Rattle.fault_counts.specs.Count.{HasCause};
+ghost use Rattle.emu_names.specs.Count.{HasCause};
 ghost use Rattle.emu_disk.specs.Disk.{put, told, IsReadOf, HasPlace, TornBy, Shorter, Scrambled};
 ghost use Rattle.emu_disk.specs.Disk.{Becomes, Follows, Within, Only, GoesOn};
-ghost use Rattle.emu_disk.specs.Laws.{as_read_of, image_now, image_only_now};
+ghost use Rattle.emu_disk.specs.Inner.Laws.{as_read_of, image_now, image_only_now};
 
 use crate::call::Call;
 use crate::disk::{Disk, Failed};
@@ -29,7 +29,7 @@ pub struct MemoryDisk {
 }
 
 impl MemoryDisk {
-    ghost use Rattle.emu_disk.specs.Planned.{bytes_of, calls_of, first_of, failing_of, images_of, stop_of, made_of, faults_of};
+    ghost use Rattle.emu_disk.specs.Inner.Planned.{bytes_of, calls_of, first_of, failing_of, images_of, stop_of, made_of, faults_of};
 
     /// A disk with these bytes, all of them safe. No call is to fail.
     pub fn new(alloc: Global, bytes: &[u8]) -> Result<MemoryDisk, Memory>
@@ -119,7 +119,7 @@ impl MemoryDisk {
 }
 
 impl Disk for MemoryDisk {
-    ghost use Rattle.emu_disk.specs.Planned.{reads_of, images_of, past_of, moment_of, faults_of, IsMade};
+    ghost use Rattle.emu_disk.specs.Inner.Planned.{reads_of, images_of, past_of, moment_of, faults_of, IsMade};
 
     ghost reads = { reads_of };
 

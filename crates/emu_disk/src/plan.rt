@@ -10,11 +10,12 @@ pub(crate) struct Plan {
 }
 
 impl Plan {
-    ghost use Rattle.emu_disk.specs.Plan.{IsDue};
+    ghost use Rattle.emu_disk.specs.Inner.Plan.{IsDue};
 
     // Counts a call, and says whether it is not to fail.
     pub(crate) fn turn(&mut self) -> bool
         ensures due { IsTrue result → IsDue self.old }
+        ensures all { IsDue self.old → IsTrue result }
         ensures failing { self.new.failing.items ≡ self.old.failing.items }
         ensures stop { self.new.stop ≡ self.old.stop }
         ensures made { self.new.made ≡ min (self.old.made + 1) (2 ^ 64 - 1) }

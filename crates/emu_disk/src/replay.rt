@@ -1,7 +1,7 @@
 //! What calls do to bytes, and an image that a crash may leave, picked by fates.
 ghost use Rattle.std.specs.Prelude.{◌≡◌, OnOk};
 ghost use Rattle.emu_disk.specs.Disk.{put, TornBy, Shorter, Scrambled};
-ghost use Rattle.emu_disk.specs.Memory.{landed, kept, effect, Step, CutLeaves, SyncLeaves};
+ghost use Rattle.emu_disk.specs.Inner.Memory.{landed, kept, effect, Step, CutLeaves, SyncLeaves};
 
 use crate::bytes::{keep_front, write_over};
 use crate::call::Call;

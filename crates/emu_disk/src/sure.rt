@@ -1,11 +1,11 @@
 //! A disk in memory that takes all its room when it is made, for callers that are to succeed
 //! without memory.
 ghost use Rattle.std.specs.Prelude.{◌≡◌, ◌+◌, ◌-◌, ◌*◌, ◌<◌, ◌≤◌, ◌^◌, ℕ, List, [], ◌∷◌, ◌++◌, Some, length, take, vec_capacity, vec_len, IsOk, IfOk, OnOk, OnErr};
-ghost use Rattle.fault_counts.specs.Count.{HasCause};
+ghost use Rattle.emu_names.specs.Count.{HasCause};
 ghost use Rattle.emu_disk.specs.Disk.{put, told, IsReadOf, HasPlace, TornBy, Shorter, Scrambled};
 ghost use Rattle.emu_disk.specs.Disk.{Becomes, Follows, Within, Only, GoesOn};
-ghost use Rattle.emu_disk.specs.Sure.{replay, total};
-ghost use Rattle.emu_disk.specs.Laws.{held_now, held_only_now, some_same};
+ghost use Rattle.emu_disk.specs.Inner.Sure.{replay, total};
+ghost use Rattle.emu_disk.specs.Inner.Laws.{held_now, held_only_now, some_same};
 
 use crate::bytes::{copy_from, extend, overlay};
 use crate::disk::{Disk, Failed};
@@ -53,7 +53,7 @@ pub struct SureDisk {
 }
 
 impl SureDisk {
-    ghost use Rattle.emu_disk.specs.Roomy.{bytes_of, room_of, faults_of};
+    ghost use Rattle.emu_disk.specs.Inner.Roomy.{bytes_of, room_of, faults_of};
 
     /// A disk of no byte, with room for so many bytes to be written. Room of 2^32 bytes or more is
     /// refused as want of memory.
@@ -83,7 +83,7 @@ impl SureDisk {
 }
 
 impl Disk for SureDisk {
-    ghost use Rattle.emu_disk.specs.Roomy.{bytes_of, reads_of, room_of, images_of, moment_of, past_of, faults_of};
+    ghost use Rattle.emu_disk.specs.Inner.Roomy.{bytes_of, reads_of, room_of, images_of, moment_of, past_of, faults_of};
 
     ghost reads = { reads_of };
 

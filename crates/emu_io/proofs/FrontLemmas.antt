@@ -3,7 +3,8 @@ use Rattle.std.proofs.Common.{◌≡◌, ◌∙◌, ℕ, ◌<◌, ◌≤◌, Boo
 use Rattle.std.proofs.Math.Seq.{take-append_seam}
 use Rattle.std.proofs.KnownBytes.{Consumes-trans, Appends-trans}
 use Rattle.std.specs.Io.KnownBytes.{Appends, Consumes, IsAtEnd}
-use Rattle.emu_io.specs.Fronts.{Tells, TakesFront, IsFrontOf}
+use Rattle.emu_io.specs.Fronts.{Tells}
+use Rattle.emu_io.specs.Inner.Fronts.{TakesFront, IsFrontOf}
 
 -- bytes that were taken begin what the source had
 told_front : (old new : Option (List ℕ)) (bytes : List ℕ) → Consumes old new bytes → (rest : List ℕ) × Tells old (bytes ++ rest)

@@ -4,7 +4,7 @@ use Rattle.std.specs.Prelude.{List, [], ◌∷◌, length, Option, None, Some, i
 use Rattle.std.specs.List.{before_first, position_or_len, list_any, insert}
 use Rattle.std.specs.Ordering.{nat_cmp, is_lt}
 use Rattle.std.specs.Cmp.Lexicographic.{pointwise, slice_cmp}
-use Rattle.fault_counts.specs.Count.{next_count, Rose}
+use Rattle.emu_names.specs.Count.{Rose}
 use Rattle.emu_io.specs.declared.entries.FolderEntry.{FolderEntry}
 use Rattle.emu_io.specs.declared.tree.Stored.{Stored}
 use Rattle.emu_io.specs.declared.folder.FolderFault.{FolderFault}
@@ -110,22 +110,6 @@ abbrev pub IsAnswer : {A : Type 0} → Option (List Stored) → (List Stored →
     → Type 0
 IsAnswer None wanted result = ⊤
 IsAnswer (Some content) wanted result = Gives (wanted content) result
-
--- the count of faults after an answer
-abbrev pub faults_after : {A : Type 0} → ℕ → Result A FolderFault → ℕ
-faults_after n (Ok x) = n
-faults_after n (Err Failed) = next_count n
-faults_after n (Err Absent) = n
-faults_after n (Err TooLarge) = n
-faults_after n (Err Memory) = n
-
--- the count of misses after an answer
-abbrev pub misses_after : {A : Type 0} → ℕ → Result A FolderFault → ℕ
-misses_after n (Ok x) = n
-misses_after n (Err Failed) = n
-misses_after n (Err Absent) = next_count n
-misses_after n (Err TooLarge) = next_count n
-misses_after n (Err Memory) = n
 
 -- The counts never fall. `Failed` comes only where the count of faults rose, `Absent` and `TooLarge` only where the
 -- count of misses rose.

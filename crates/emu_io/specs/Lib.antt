@@ -1,4 +1,4 @@
 pub mod Cause
 pub mod Folders
 pub mod Fronts
-pub mod InMemory
+pub mod Inner

@@ -2,7 +2,7 @@
 ghost use Rattle.std.specs.Prelude.{◌≡◌, ℕ, List, Option, Result};
 ghost use Rattle.emu_io.specs.declared.tree.Stored.{Stored};
 ghost use Rattle.emu_io.specs.Folders.{HasFolderCause, IsAnswer, file_answer, list_answer};
-ghost use Rattle.emu_io.specs.Folders.{faults_after, misses_after};
+ghost use Rattle.emu_io.specs.Inner.Folders.{faults_after, misses_after};
 
 use crate::entries::{FileBytes, FolderEntries};
 use crate::faults::Memory;

@@ -2,7 +2,8 @@
 ghost use Rattle.std.specs.Prelude.{◌≡◌, [], ◌↔◌, ◌<◌, length, min, Contains, IsErr, IfOk, OnErr, OnOk};
 ghost use Rattle.std.specs.Io.{ReadsAtMost, WritesAtMost};
 ghost use Rattle.std.specs.Io.KnownBytes.{ReadConsumes, WriteAppends};
-ghost use Rattle.fault_counts.specs.Count.{HasCause, next_count};
+ghost use Rattle.emu_names.specs.Count.{HasCause};
+ghost use Rattle.emu_names.specs.Inner.Count.{next_count};
 
 use crate::copying::copy_front;
 use crate::faults::Failed;
@@ -23,7 +24,7 @@ pub struct ListSource {
 
 impl Model for ListSource {
     ghost use Rattle.std.specs.Prelude.{◌≤◌, drop, length};
-    ghost use Rattle.emu_io.specs.InMemory.{ListedSource};
+    ghost use Rattle.emu_io.specs.Inner.InMemory.{ListedSource};
 
     ghost Value = { ListedSource };
 
@@ -111,7 +112,7 @@ pub struct ListSink {
 }
 
 impl Model for ListSink {
-    ghost use Rattle.emu_io.specs.InMemory.{ListedSink};
+    ghost use Rattle.emu_io.specs.Inner.InMemory.{ListedSink};
 
     ghost Value = { ListedSink };
 

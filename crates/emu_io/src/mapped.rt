@@ -1,8 +1,8 @@
 //! Folders in memory: one that fails at the calls that its maker lists, and one that never fails.
 ghost use Rattle.std.specs.Prelude.{◌≡◌, ◌↔◌, Contains, IsErrOf};
-ghost use Rattle.fault_counts.specs.Count.{next_count};
+ghost use Rattle.emu_names.specs.Inner.Count.{next_count};
 ghost use Rattle.emu_io.specs.Folders.{HasFolderCause, IsAnswer, file_answer, list_answer};
-ghost use Rattle.emu_io.specs.Folders.{faults_after, misses_after};
+ghost use Rattle.emu_io.specs.Inner.Folders.{faults_after, misses_after};
 
 use crate::entries::{FileBytes, FolderEntries};
 use crate::folder::{Folder, FolderFault, count_miss};
@@ -21,7 +21,7 @@ pub struct MapFolder {
 }
 
 impl Model for MapFolder {
-    ghost use Rattle.emu_io.specs.InMemory.{ListedFolder};
+    ghost use Rattle.emu_io.specs.Inner.InMemory.{ListedFolder};
 
     ghost Value = { ListedFolder };
 
@@ -134,7 +134,7 @@ pub struct SureFolder {
 }
 
 impl Model for SureFolder {
-    ghost use Rattle.emu_io.specs.InMemory.{CountedFolder};
+    ghost use Rattle.emu_io.specs.Inner.InMemory.{CountedFolder};
 
     ghost Value = { CountedFolder };
 

@@ -1,6 +1,6 @@
 //! The real folder that the program runs in: the trusted edge, which tells nothing of its content.
 ghost use Rattle.std.specs.Prelude.{◌≡◌, None};
-ghost use Rattle.emu_io.specs.Folders.{faults_after, misses_after};
+ghost use Rattle.emu_io.specs.Inner.Folders.{faults_after, misses_after};
 
 use crate::adapters::InputSource;
 use crate::entries::{FileBytes, FileName, FolderEntries, FolderEntry};

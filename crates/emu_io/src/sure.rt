@@ -2,7 +2,8 @@
 ghost use Rattle.std.specs.Prelude.{◌≡◌, [], ◌↔◌, ◌+◌, ◌<◌, ◌≤◌, length, min, IsErr, IfOk, IsOk, OnOk, OnErr};
 ghost use Rattle.std.specs.Io.{ReadsAtMost, WritesAtMost};
 ghost use Rattle.std.specs.Io.KnownBytes.{ReadConsumes, WriteAppends};
-ghost use Rattle.fault_counts.specs.Count.{HasCause, next_count};
+ghost use Rattle.emu_names.specs.Count.{HasCause};
+ghost use Rattle.emu_names.specs.Inner.Count.{next_count};
 
 use crate::copying::copy_front;
 use crate::faults::{Failed, Memory};
@@ -77,7 +78,7 @@ pub struct SureSink {
 impl Model for SureSink {
     ghost use Rattle.std.specs.Prelude.{◌≤◌, length};
     ghost use Rattle.std.specs.Vec.{vec_capacity};
-    ghost use Rattle.emu_io.specs.InMemory.{RoomySink};
+    ghost use Rattle.emu_io.specs.Inner.InMemory.{RoomySink};
 
     ghost Value = { RoomySink };
 

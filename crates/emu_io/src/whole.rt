@@ -1,8 +1,9 @@
 //! Reading a source as far as a limit, and writing all of a text.
 ghost use Rattle.std.specs.Prelude.{◌≡◌, ◌≤◌, ℕ, List, length, IsTrue, IsErrOf, IfOk, OnOk, OnErr};
 ghost use Rattle.std.specs.Io.KnownBytes.{Appends, Consumes};
-ghost use Rattle.fault_counts.specs.Count.{Rose};
-ghost use Rattle.emu_io.specs.Fronts.{TakesFront, IsFrontOf, WritesFront};
+ghost use Rattle.emu_names.specs.Count.{Rose};
+ghost use Rattle.emu_io.specs.Fronts.{WritesFront};
+ghost use Rattle.emu_io.specs.Inner.Fronts.{TakesFront, IsFrontOf};
 
 use crate::faults::{Failed, ReadFault};
 use crate::traits::{Sink, Source};

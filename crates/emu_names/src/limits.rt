@@ -42,6 +42,13 @@ pub const TOP_RATE: u64 = 1_000_000;
 /// The number of samples that items may name: 2^40. The last one is this number less 1.
 pub const SAMPLES: u64 = 1_099_511_627_776;
 
+/// The highest id of an item, position on a level or number of a line that is read: 2^32 - 1.
+pub const TOP_ID: u64 = 4_294_967_295;
+
+/// The highest sample, duration or sample rate that is read: 2^63 - 1. Past the number of samples, or
+/// past the highest rate, an edit is refused by its rule.
+pub const TOP_WHOLE: u64 = 9_223_372_036_854_775_807;
+
 /// The most bytes of the text of a query.
 pub const QUERY_BYTES: usize = 4_096;
 
@@ -50,6 +57,9 @@ pub const OPEN_BRACKETS: usize = 32;
 
 /// The most tuples of a part of a query in one bundle.
 pub const TUPLES: usize = 1_000_000;
+
+/// The most edits of one list of edits, which are accepted or refused as one.
+pub const LIST_EDITS: usize = 65_536;
 
 /// The most edits of a history.
 pub const HISTORY_EDITS: usize = 100_000;

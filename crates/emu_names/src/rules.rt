@@ -1,6 +1,10 @@
 //! The rules that an edit may break, and the answer that names the first one.
+//!
+//! A refusal's rule has a number, which stands at its variant: those of edits here, those of queries,
+//! TextGrids, runs and stores (26 to 51 and from 62 on) where these refusals are defined.
 ghost use Rattle.std.specs.Prelude.{◌≡◌, IfOk};
-ghost use Rattle.emu_names.specs.Rule.{number_of, word_of, counted_of};
+ghost use Rattle.emu_names.specs.Rule.{word_of, counted_of};
+ghost use Rattle.emu_names.specs.Inner.Rule.{number_of};
 
 use crate::kinds::ItemId;
 use crate::shortage::Memory;
@@ -19,6 +23,13 @@ pub enum What {
     AllItems,
     /// The links of one bundle, of which there are at most 262,144.
     BundleLinks,
+    /// The levels of the configuration, of which there are at most 64. No edit counts them yet.
+    Levels,
+    /// The attributes of a level, of which there are at most 16. No edit counts them yet.
+    Attributes,
+    /// The link definitions of the configuration, of which there are at most 64. No edit counts them
+    /// yet.
+    LinkDefinitions,
 }
 
 impl What {
@@ -38,6 +49,9 @@ impl What {
             What::BundleItems => "BundleItems",
             What::AllItems => "AllItems",
             What::BundleLinks => "BundleLinks",
+            What::Levels => "Levels",
+            What::Attributes => "Attributes",
+            What::LinkDefinitions => "LinkDefinitions",
         }
     }
 }
@@ -45,60 +59,75 @@ impl What {
 /// A rule that an edit breaks, with the name, the id or the counted thing that breaks it.
 #[derive(Debug, Drop, PartialEq, Eq)]
 pub enum Broken {
-    /// A bundle of this key is there already.
+    /// Rule 1: a bundle of this key is there already.
     BundleTaken,
-    /// No bundle of this key is there.
+    /// Rule 2: no bundle of this key is there.
     NoBundle,
-    /// The counted thing would pass its limit.
+    /// Rule 3: the counted thing would pass its limit.
     TooMany(What),
-    /// The sample rate is not 1 to 1,000,000 samples a second.
+    /// Rule 4: the sample rate is not 1 to 1,000,000 samples a second.
     RateOut,
-    /// No level of the configuration has this name.
+    /// Rule 5: no level of the configuration has this name.
     NoLevel(Text),
-    /// The level of this name is given twice.
+    /// Rule 6: the level of this name is given twice.
     TwoLevels(Text),
-    /// The level of this name is given with another kind than the configuration has.
+    /// Rule 7: the level of this name is given with another kind than the configuration has.
     LevelKind(Text),
-    /// The level has no attribute of this name.
+    /// Rule 8: the level has no attribute of this name.
     NoAttribute(Text),
-    /// The attribute of this name is given two labels.
+    /// Rule 9: the attribute of this name is given two labels.
     TwoLabels(Text),
-    /// A label has over 4,096 bytes.
+    /// Rule 10: a label has over 4,096 bytes.
     LabelTooLong,
-    /// A label is neither empty nor among the attribute's legal labels.
+    /// Rule 11: a label is neither empty nor among the attribute's legal labels.
     IllegalLabel,
-    /// An item of the bundle has this id already.
+    /// Rule 12: an item of the bundle has this id already.
     IdTaken(ItemId),
-    /// No item of the bundle has this id.
+    /// Rule 13: no item of the bundle has this id.
     NoItem(ItemId),
-    /// A position lies past the level's end, or is given on a level whose items have times.
+    /// Rule 14: a position lies past the level's end, or is given on a level whose items have
+    /// times.
     PositionOut,
-    /// The time does not have the form that the level's kind asks for.
+    /// Rule 15: the time does not have the form that the level's kind asks for.
     TimeKind,
-    /// The last sample is 2^40 or more.
+    /// Rule 16: the last sample is 2^40 or more.
     TimeOut,
-    /// A segment shares a sample with this neighbour, or lies on its wrong side.
+    /// Rule 17: a segment shares a sample with this neighbour, or lies on its wrong side.
     Overlap(ItemId),
-    /// A point does not lie strictly on its side of this neighbour.
+    /// Rule 18: a point does not lie strictly on its side of this neighbour.
     NotRising(ItemId),
-    /// No segment follows this one at once, touching it.
+    /// Rule 19: no segment follows this one at once, touching it.
     NoNeighbour(ItemId),
-    /// The place of a cut or of a boundary is not inside.
+    /// Rule 20: the place of a cut or of a boundary is not inside.
     CutOut,
-    /// No link definition leads from the level of the first item to that of the second.
+    /// Rule 21: no link definition leads from the level of the first item to that of the second.
     NoLinkDefinition,
-    /// The two items are linked already.
+    /// Rule 22: the two items are linked already.
     LinkExists,
-    /// The two items are not linked.
+    /// Rule 23: the two items are not linked.
     NoLink,
-    /// The lower item has this parent, and may have one only.
+    /// Rule 24: the lower item has this parent, and may have one only.
     OneParent(ItemId),
-    /// The upper item has this child, and may have one only.
+    /// Rule 25: the upper item has this child, and may have one only.
     OneChild(ItemId),
+    /// Rule 53: a level or an attribute of the configuration has this name already. No edit breaks
+    /// it yet.
+    DoubleName(Text),
+    /// Rule 54: a link definition names this level, which the configuration does not have. No edit
+    /// breaks it yet.
+    UnknownLevel(Text),
+    /// Rule 55: a link definition of the same two levels is there already. No edit breaks it yet.
+    DoubleLink,
+    /// Rule 56: a path of link definitions would lead from a level to itself. No edit breaks it
+    /// yet.
+    LevelCycle,
+    /// Rule 57: each pair of items that was to be linked is linked already. No edit breaks it yet.
+    NothingToLink,
 }
 
 impl Broken {
-    /// The rule's number, 1 to 25.
+    /// The rule's number: 1 to 25, or 53 to 57. The numbers between are those of refusals that are not
+    /// by a rule on edits, as of the faults of queries and TextGrids.
     pub fn number(&self) -> u8
         ensures { result ≡ number_of self.now }
     {
@@ -128,6 +157,11 @@ impl Broken {
             Broken::NoLink => 23,
             Broken::OneParent(_) => 24,
             Broken::OneChild(_) => 25,
+            Broken::DoubleName(_) => 53,
+            Broken::UnknownLevel(_) => 54,
+            Broken::DoubleLink => 55,
+            Broken::LevelCycle => 56,
+            Broken::NothingToLink => 57,
         }
     }
 
@@ -161,6 +195,11 @@ impl Broken {
             Broken::NoLink => "NoLink",
             Broken::OneParent(_) => "OneParent",
             Broken::OneChild(_) => "OneChild",
+            Broken::DoubleName(_) => "DoubleName",
+            Broken::UnknownLevel(_) => "UnknownLevel",
+            Broken::DoubleLink => "DoubleLink",
+            Broken::LevelCycle => "LevelCycle",
+            Broken::NothingToLink => "NothingToLink",
         }
     }
 
@@ -194,6 +233,11 @@ impl Broken {
             Broken::NoLink => Broken::NoLink,
             Broken::OneParent(id) => Broken::OneParent(*id),
             Broken::OneChild(id) => Broken::OneChild(*id),
+            Broken::DoubleName(name) => Broken::DoubleName(name.copy(alloc)?),
+            Broken::UnknownLevel(name) => Broken::UnknownLevel(name.copy(alloc)?),
+            Broken::DoubleLink => Broken::DoubleLink,
+            Broken::LevelCycle => Broken::LevelCycle,
+            Broken::NothingToLink => Broken::NothingToLink,
         };
         Ok(made)
     }

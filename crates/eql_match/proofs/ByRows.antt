@@ -15,15 +15,16 @@ use Rattle.emu_names.specs.declared.limits.TheConstants.{BUNDLE_ITEMS}
 use Rattle.bundle_state.specs.Bundle.{BundleParts}
 use Rattle.hier_closure.specs.Dominance.{ids_at, closure_of}
 use Rattle.eql_model.specs.declared.tuple.Tuple.{Tuple}
-use Rattle.eql_model.specs.Flags.{flag_at}
-use Rattle.eql_model.specs.Joins.{bit_at, bits_cover, is_under, positions}
+use Rattle.eql_model.specs.Inner.Flags.{flag_at}
+use Rattle.eql_model.specs.Inner.Joins.{bit_at, bits_cover, is_under, positions}
 use Rattle.eql_model.specs.Meaning.{single}
-use Rattle.eql_model.specs.Sets.{tuple_cmp, each_once, is_over, GivesSet}
+use Rattle.eql_model.specs.Sets.{tuple_cmp, each_once, is_over}
+use Rattle.eql_model.specs.Inner.Sets.{GivesSet}
 use Rattle.eql_model.specs.Tuples.{fits_in, follows, both, left_with, one_covers, pairs_with, joined}
 use Rattle.eql_model.proofs.Covers.{dominance_is}
 use Rattle.eql_model.proofs.Members.{once_is, once_sorted, joined_has, same_sorted}
 use Rattle.eql_model.proofs.Walk.{none_among, range_split}
-use Rattle.eql_match.specs.Found.{above_some, followed, is_above_some, is_below_some, items_of, neighbours, with_below, AreDominant}
+use Rattle.eql_match.specs.Inner.Found.{above_some, followed, is_above_some, is_below_some, items_of, neighbours, with_below, AreDominant}
 use Rattle.eql_match.proofs.Bare.{less_by_first}
 use Rattle.eql_match.proofs.Standing.{flag_in}
 use Rattle.eql_match.proofs.Order.{From}

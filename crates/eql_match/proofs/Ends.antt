@@ -6,8 +6,8 @@ use Rattle.std.proofs.lemmas.Bool.{ltb-true, ltb-false}
 use Rattle.std.proofs.lemmas.List.{append-nil}
 use Rattle.std.proofs.lemmas.List.Elements.{filter-append}
 use Rattle.std.proofs.lemmas.Option.{slice_get_past, slice_get_within}
-use Rattle.lane_bits.specs.Row.{NoneWhere, IsLast}
-use Rattle.eql_model.specs.Flags.{flag_at}
+use Rattle.lane_bits.specs.Inner.Row.{NoneWhere, IsLast}
+use Rattle.eql_model.specs.Inner.Flags.{flag_at}
 use Rattle.eql_model.specs.declared.tuple.Tuple.{Tuple}
 use Rattle.eql_model.proofs.Walk.{none_among, range_split}
 

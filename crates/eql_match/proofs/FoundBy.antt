@@ -9,12 +9,14 @@ use Rattle.eql_resolve.specs.Asked.{AskedQuery, AskedTerm, terms, sequence, domi
 use Rattle.eql_model.specs.declared.tuple.Tuple.{Tuple}
 use Rattle.eql_model.specs.declared.faults.MatchFault.{MatchFault}
 use Rattle.eql_model.specs.declared.faults.MatchFault.TheVariants.{TooManyTuples, Memory}
-use Rattle.eql_model.specs.Meaning.{has_too_many, items_at, singles, tuples}
-use Rattle.eql_model.specs.Sets.{is_over, GivesSet}
+use Rattle.eql_model.specs.Meaning.{has_too_many, singles, tuples}
+use Rattle.level_items.specs.Levels.{items_at}
+use Rattle.eql_model.specs.Sets.{is_over}
+use Rattle.eql_model.specs.Inner.Sets.{GivesSet}
 use Rattle.eql_model.specs.Tuples.{follows, both, left_with, one_covers, joined}
 use Rattle.eql_model.proofs.Between.{ids_count}
 use Rattle.eql_model.proofs.Fitting.{conjunction_finds}
-use Rattle.eql_match.specs.Found.{followed, items_of, tuples_in, AreDominant, AreFoundFor, FindsAll, IsRowOf, IsShort}
+use Rattle.eql_match.specs.Inner.Found.{followed, items_of, tuples_in, AreDominant, AreFoundFor, FindsAll, IsRowOf, IsShort}
 use Rattle.eql_match.specs.declared.found.Found.{Found}
 use Rattle.eql_match.specs.declared.found.Found.TheVariants.{Items, Tuples}
 use Rattle.eql_match.proofs.ByRows.{dominating_gives, followed_gives}

@@ -7,11 +7,13 @@ use Rattle.level_items.specs.declared.items.Item.{Item}
 use Rattle.db_config.specs.declared.parts.ConfigParts.{ConfigParts}
 use Rattle.bundle_state.specs.Bundle.{BundleParts}
 use Rattle.eql_resolve.specs.Asked.{AskedTerm, is_marked_term}
-use Rattle.eql_model.specs.Flags.{flag_at}
-use Rattle.eql_model.specs.Meaning.{items_at, met_row, single, singles}
+use Rattle.eql_model.specs.Inner.Flags.{flag_at}
+use Rattle.eql_model.specs.Meaning.{single, singles}
+use Rattle.level_items.specs.Levels.{items_at}
+use Rattle.eql_model.specs.Inner.Meaning.{met_row}
 use Rattle.eql_model.proofs.Conditions.{conjunction_exit}
-use Rattle.eql_match.specs.Found.{tuples_in, IsRowOf}
-use Rattle.eql_match.specs.Rows.{all_bits}
+use Rattle.eql_match.specs.Inner.Found.{tuples_in, IsRowOf}
+use Rattle.eql_match.specs.Inner.Rows.{all_bits}
 use Rattle.eql_match.specs.declared.found.Found.{Found}
 use Rattle.eql_match.proofs.Tests.{singles_exit}
 

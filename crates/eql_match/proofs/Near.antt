@@ -10,15 +10,15 @@ use Rattle.std.proofs.lemmas.List.FromFn.{map-range_with_len_more}
 use Rattle.std.proofs.lemmas.List.Elements.{All-head, All-tail, All-filter, All-weaker}
 use Rattle.std.proofs.lemmas.List.Folds.{list_any-append}
 use Rattle.std.proofs.lemmas.Option.{slice_get_within, get_or_from_slice_get, unwrap_or-slice_get}
-use Rattle.lane_bits.specs.Row.{NoneWhere, IsFirst, IsLast}
+use Rattle.lane_bits.specs.Inner.Row.{NoneWhere, IsFirst, IsLast}
 use Rattle.eql_model.specs.declared.tuple.Tuple.{Tuple}
-use Rattle.eql_model.specs.Flags.{flag_at}
+use Rattle.eql_model.specs.Inner.Flags.{flag_at}
 use Rattle.eql_model.specs.Tuples.{fits_in, pairs_with}
-use Rattle.eql_model.specs.Joins.{bit_at, is_under, bits_cover}
+use Rattle.eql_model.specs.Inner.Joins.{bit_at, is_under, bits_cover}
 use Rattle.eql_match.specs.declared.ways.Way.{Way}
 use Rattle.eql_match.specs.declared.ways.Way.TheVariants.{Behind, Covers, CoversLeft}
-use Rattle.eql_match.specs.Reach.{IsWithin, Widens, Reaches, ReachesTo}
-use Rattle.eql_match.specs.Ways.{joins, makes, IsOther, ReachesAll}
+use Rattle.eql_match.specs.Inner.Reach.{IsWithin, Widens, Reaches, ReachesTo}
+use Rattle.eql_match.specs.Inner.Ways.{joins, makes, IsOther, ReachesAll}
 
 -- ---- halves of a list in which a test holds first of all and then of none
 

@@ -18,9 +18,10 @@ use Rattle.eql_resolve.specs.Asked.{AskedQuery, terms, sequence, dominance, is_m
 use Rattle.eql_model.specs.declared.tuple.Tuple.{Tuple}
 use Rattle.eql_model.specs.Sets.{tuple_cmp}
 use Rattle.eql_model.specs.Tuples.{follows, both, left_with, one_covers, pairs_with}
-use Rattle.eql_model.specs.Meaning.{items_at, meets_all, single, tuples}
+use Rattle.eql_model.specs.Meaning.{meets_all, single, tuples}
+use Rattle.level_items.specs.Levels.{items_at}
 use Rattle.eql_model.proofs.Members.{once_sorted}
-use Rattle.eql_match.specs.Ways.{Rise}
+use Rattle.eql_match.specs.Inner.Ways.{Rise}
 
 -- ---- sets
 

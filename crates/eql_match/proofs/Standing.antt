@@ -11,23 +11,22 @@ use Rattle.std.proofs.lemmas.List.Folds.{list_any-append}
 use Rattle.std.proofs.lemmas.List.FromFn.{fill_by_all, get_or-map-range_with_len, length-map-range_with_len}
 use Rattle.std.proofs.lemmas.Option.{get_or_from_slice_get, slice_get_within, unwrap_or-slice_get}
 use Rattle.std.proofs.lemmas.Simd.{get_or-zip2, length-zip2, zip2-map}
-use Rattle.lane_bits.specs.Row.{NoneWhere, IsFirst, IsLast}
+use Rattle.lane_bits.specs.Inner.Row.{NoneWhere, IsFirst, IsLast}
 use Rattle.level_items.specs.declared.items.Item.{Item}
-use Rattle.level_items.specs.Levels.{are_different, ids_of}
+use Rattle.level_items.specs.Levels.{are_different, ids_of, items_at}
 use Rattle.bundle_state.specs.Bundle.{BundleParts, all_ids}
 use Rattle.hier_closure.specs.Dominance.{closure_of, ids_at}
 use Rattle.hier_closure.proofs.Ids.{ids_different}
 use Rattle.eql_syntax.specs.declared.query.Compare.{Compare}
 use Rattle.eql_syntax.specs.declared.query.Place.{Place}
 use Rattle.eql_syntax.specs.declared.query.Place.TheVariants.{Start, Medial, End}
-use Rattle.eql_model.specs.Flags.{flag_at}
+use Rattle.eql_model.specs.Inner.Flags.{flag_at}
 use Rattle.eql_model.specs.Positions.{has_place, is_first, is_last, stands}
-use Rattle.eql_model.specs.Bits.{row_counts, row_stands, rows_place}
-use Rattle.eql_model.specs.Meaning.{items_at}
+use Rattle.eql_model.specs.Inner.Bits.{row_counts, row_stands, rows_place}
 use Rattle.eql_model.proofs.Between.{ids_are, position_exit, rows_wide}
 use Rattle.eql_model.proofs.Places.{first_is, last_is}
-use Rattle.eql_match.specs.Rows.{any_bits}
-use Rattle.eql_match.specs.Places.{AddsPlaced, ArePlaced, PassPlace}
+use Rattle.eql_match.specs.Inner.Rows.{any_bits}
+use Rattle.eql_match.specs.Inner.Places.{AddsPlaced, ArePlaced, PassPlace}
 use Rattle.eql_match.proofs.Bits.{IsFilled, any_long, filled_all, filled_more, unset_wide}
 
 -- ---- ids that differ

@@ -19,23 +19,26 @@ use Rattle.db_config.specs.declared.parts.AttributePlace.{AttributePlace}
 use Rattle.db_config.specs.declared.parts.ConfigParts.{ConfigParts}
 use Rattle.db_config.specs.declared.parts.LevelDef.{LevelDef}
 use Rattle.db_config.specs.Lookups.{attribute_at}
-use Rattle.db_config.specs.Names.{same_text}
+use Rattle.emu_names.specs.Texts.{same_text}
 use Rattle.bundle_state.specs.Bundle.{BundleParts}
 use Rattle.bundle_state.specs.Built.{FitsConfig}
 use Rattle.bundle_state.proofs.Calling.{level_within}
-use Rattle.bundle_index.specs.Index.{attributes_on, has_label, items_on, label_at as index_label}
-use Rattle.bundle_index.specs.Numbered.{IsColumnOf}
+use Rattle.bundle_index.specs.Inner.Index.{attributes_on, has_label}
+use Rattle.level_items.specs.Levels.{items_at, label_of}
+use Rattle.bundle_index.specs.Inner.Numbered.{IsColumnOf}
 use Rattle.bundle_index.proofs.Callers.{attributes_asked}
 use Rattle.label_match.specs.Pattern.{matches_label}
 use Rattle.eql_resolve.specs.Asked.{AskedTerm, term_level}
-use Rattle.lane_bits.specs.Row.{IsFirst}
+use Rattle.lane_bits.specs.Inner.Row.{IsFirst}
 use Rattle.eql_model.specs.declared.tuple.Tuple.{Tuple}
-use Rattle.eql_model.specs.Flags.{flag_at}
-use Rattle.eql_model.specs.Labels.{is_as, is_wanted, label_of, matched_row, stands_for, wanted_labels}
-use Rattle.eql_model.specs.Meaning.{items_at, meets, met_row, single}
+use Rattle.eql_model.specs.Inner.Flags.{flag_at}
+use Rattle.eql_model.specs.Labels.{is_as, is_wanted, stands_for, wanted_labels}
+use Rattle.eql_model.specs.Inner.Labels.{matched_row}
+use Rattle.eql_model.specs.Meaning.{meets, single}
+use Rattle.eql_model.specs.Inner.Meaning.{met_row}
 use Rattle.eql_model.proofs.MadeRows.{flag_of_map, no_item}
-use Rattle.eql_match.specs.Labels.{label_row, label_at, HasColumn, IsAlone, AreNumbersOf, AreAnswers}
-use Rattle.eql_match.specs.Rows.{any_bits, all_bits}
+use Rattle.eql_match.specs.Inner.Labels.{label_row, label_at, HasColumn, IsAlone, AreNumbersOf, AreAnswers}
+use Rattle.eql_match.specs.Inner.Rows.{any_bits, all_bits}
 use Rattle.eql_match.proofs.Bits.{IsFilled, filled_all, any_rows_are, rows_wide, all_long, all_first, all_none, all_step, or_false}
 
 -- ---- columns that are there
@@ -71,15 +74,11 @@ text_swap [] (y ∷ ys) = refl
 text_swap (x ∷ xs) [] = refl
 text_swap (x ∷ xs) (y ∷ ys) = λ i. nat_swap x y i && text_swap xs ys i
 
-label_is : (attribute : ℕ) (item : Item) → index_label attribute item ≡ label_of attribute item
-label_is attribute item = sym (unwrap_or-slice_get item.labels attribute [])
-
 same_label : (attribute : ℕ) (label : List ℕ) (item : Item) → has_label attribute label item ≡ same_text (label_of attribute item) label
-same_label attribute label item =
-    text_swap label (index_label attribute item) ∙ ap (λ l. same_text l label) (label_is attribute item)
+same_label attribute label item = text_swap label (label_of attribute item)
 
 pub label_exit : (b : BundleParts) (place : AttributePlace) (label : List ℕ) (r : Result (List Bool) Memory) →
-    IfOk r (λ row. row ≡ map (has_label place.attribute label) (items_on b place.level)) → IfOk r (λ row. row ≡ label_row b place label)
+    IfOk r (λ row. row ≡ map (has_label place.attribute label) (items_at b.levels place.level)) → IfOk r (λ row. row ≡ label_row b place label)
 label_exit b place label (Err e) told = tt
 label_exit b place label (Ok row) told =
     told ∙ (λ i. map (λ item. same_label place.attribute label item i) (items_at b.levels place.level))
@@ -144,9 +143,6 @@ alone_exit config place b written w row only is told =
 
 -- ---- numbers of labels
 
-labels_are : (attribute : ℕ) (items : List Item) → map (index_label attribute) items ≡ map (label_of attribute) items
-labels_are attribute items = λ i. map (λ item. label_is attribute item i) items
-
 abbrev some_label : List ℕ → Option (List ℕ)
 some_label l = Some l
 
@@ -170,16 +166,14 @@ numbers_by numbered column labels is = record {
     count = sym (length-map column (slice_get numbered)) ∙ ap length is ∙ length-map labels some_label
 
 pub numbers_of : (numbered : List (List ℕ)) (column : List ℕ) (attribute : ℕ) (items : List Item) →
-    IsColumnOf numbered column (map (index_label attribute) items) → AreNumbersOf column (map (label_of attribute) items)
-numbers_of numbered column attribute items is =
-    subst (AreNumbersOf column) (labels_are attribute items)
-    (numbers_by numbered column (map (index_label attribute) items) is)
+    IsColumnOf numbered column (map (label_of attribute) items) → AreNumbersOf column (map (label_of attribute) items)
+numbers_of numbered column attribute items is = numbers_by numbered column (map (label_of attribute) items) is
 
 -- a column has a number for each item
 pub column_long : (numbered : List (List ℕ)) (column : List ℕ) (attribute : ℕ) (items : List Item) →
-    IsColumnOf numbered column (map (index_label attribute) items) → length column ≡ length items
+    IsColumnOf numbered column (map (label_of attribute) items) → length column ≡ length items
 column_long numbered column attribute items is =
-    (numbers_by numbered column (map (index_label attribute) items) is).count ∙ length-map items (index_label attribute)
+    (numbers_by numbered column (map (label_of attribute) items) is).count ∙ length-map items (label_of attribute)
 
 -- ---- answers at numbers
 

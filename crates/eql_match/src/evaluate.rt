@@ -3,8 +3,8 @@ ghost use Rattle.std.specs.Prelude.{◌≡◌, map};
 ghost use Rattle.bundle_state.specs.Built.{FitsConfig};
 ghost use Rattle.eql_resolve.specs.Asked.{AreOnOneLevel, dominance, is_marked, level_of, sequence, terms};
 ghost use Rattle.eql_resolve.specs.Sound.{IsQueryOf};
-ghost use Rattle.eql_resolve.specs.View.{query_in, term_in};
-ghost use Rattle.eql_match.specs.Found.{AreFoundFor, FindsAll};
+ghost use Rattle.eql_resolve.specs.Inner.View.{query_in, term_in};
+ghost use Rattle.eql_match.specs.Inner.Found.{AreFoundFor, FindsAll};
 
 use crate::conditions::{are_marked, conjunction};
 use crate::found::{Found, Sides, dominating, follow, side_by_side};

@@ -1,16 +1,15 @@
 //! Tests of labels: each wanted label is looked up once, and its number is compared with a whole column.
 ghost use Rattle.std.specs.Prelude.{◌≡◌, ◌++◌, ◌∷◌, [], map, true, IfOk, OnOk, IsSome};
 ghost use Rattle.db_config.specs.Lookups.{attribute_at};
-ghost use Rattle.eql_model.specs.Labels.{is_wanted, label_of, stands_for, wanted_labels};
-ghost use Rattle.eql_model.specs.Meaning.{items_at};
-ghost use Rattle.eql_match.specs.Labels.{label_row, HasColumn, IsAlone};
-ghost use Rattle.eql_match.specs.Rows.{IsUnsetFor};
+ghost use Rattle.eql_model.specs.Labels.{is_wanted, stands_for, wanted_labels};
+ghost use Rattle.level_items.specs.Levels.{label_of, items_at};
+ghost use Rattle.eql_match.specs.Inner.Labels.{label_row, HasColumn, IsAlone};
+ghost use Rattle.eql_match.specs.Inner.Rows.{IsUnsetFor};
 
 use crate::rows::set_any;
 use bundle_index::Indexed;
 use db_config::{AttributePlace, Config};
-use emu_lists::Series;
-use emu_names::{Memory, Text};
+use emu_names::{Memory, Series, Text};
 use lane_bits::{BitRow, eq_lanes};
 use std::alloc::Global;
 

@@ -1,17 +1,17 @@
 //! Tests by patterns: each pattern is tried once on each label of a column, and the items read the
 //! answers by the numbers of their labels.
 ghost use Rattle.std.specs.Prelude.{◌≡◌, ◌<◌, All, length, map, IfOk, OnOk};
-ghost use Rattle.eql_model.specs.Labels.{is_matched, label_of, matched_row};
-ghost use Rattle.eql_model.specs.Meaning.{items_at};
+ghost use Rattle.eql_model.specs.Labels.{is_matched};
+ghost use Rattle.level_items.specs.Levels.{label_of, items_at};
+ghost use Rattle.eql_model.specs.Inner.Labels.{matched_row};
 ghost use Rattle.label_match.specs.Pattern.{matches_label};
-ghost use Rattle.eql_match.specs.Labels.{AreAnswers, AreNumbersOf, HasColumn, label_at};
-ghost use Rattle.eql_match.specs.Rows.{IsUnsetFor};
+ghost use Rattle.eql_match.specs.Inner.Labels.{AreAnswers, AreNumbersOf, HasColumn, label_at};
+ghost use Rattle.eql_match.specs.Inner.Rows.{IsUnsetFor};
 
 use crate::rows::{none_set, set_any};
 use bundle_index::Indexed;
 use db_config::AttributePlace;
-use emu_lists::Series;
-use emu_names::Memory;
+use emu_names::{Memory, Series};
 use eql_model::label_of;
 use label_match::{Matching, Pattern};
 use lane_bits::BitRow;

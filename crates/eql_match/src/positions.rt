@@ -4,10 +4,10 @@ ghost use Rattle.std.specs.Prelude.{◌≡◌, ◌<◌, All, false, length, map,
 ghost use Rattle.bundle_state.specs.Built.{FitsConfig};
 ghost use Rattle.hier_closure.specs.Dominance.{ids_at};
 ghost use Rattle.eql_model.specs.Positions.{has_number, has_place};
-ghost use Rattle.eql_model.specs.Bits.{row_counts};
-ghost use Rattle.eql_model.specs.Meaning.{items_at};
-ghost use Rattle.eql_match.specs.Rows.{any_bits, IsUnsetFor};
-ghost use Rattle.eql_match.specs.Places.{AddsPlaced, ArePlaced, PassPlace};
+ghost use Rattle.eql_model.specs.Inner.Bits.{row_counts};
+ghost use Rattle.level_items.specs.Levels.{items_at};
+ghost use Rattle.eql_match.specs.Inner.Rows.{any_bits, IsUnsetFor};
+ghost use Rattle.eql_match.specs.Inner.Places.{AddsPlaced, ArePlaced, PassPlace};
 
 use crate::rows::{none_set, turn};
 use bundle_index::Indexed;

@@ -1,7 +1,7 @@
 //! From which item to which one the items of a stretch reach on another level.
 ghost use Rattle.std.specs.Prelude.{◌≡◌, length, true};
 ghost use Rattle.eql_model.specs.Tuples.{fits_in};
-ghost use Rattle.eql_match.specs.Reach.{Reaches, Widens};
+ghost use Rattle.eql_match.specs.Inner.Reach.{Reaches, Widens};
 
 use eql_model::Tuple;
 use hier_closure::Closure;

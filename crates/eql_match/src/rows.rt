@@ -1,7 +1,7 @@
 //! Rows of bits, one bit for each item of a level, and what is asked of several of them at each place.
 ghost use Rattle.std.specs.Prelude.{◌≡◌, All, false, true, length, map, not, replicate, IfOk};
 ghost use Rattle.eql_model.specs.Labels.{is_as};
-ghost use Rattle.eql_match.specs.Rows.{any_bits};
+ghost use Rattle.eql_match.specs.Inner.Rows.{any_bits};
 
 use emu_names::Memory;
 use lane_bits::{BitRow, or_into};

@@ -1,7 +1,7 @@
 //! Runs of tuples in order, found by halving.
 ghost use Rattle.std.specs.Prelude.{◌≡◌, not, nat_lt};
 ghost use Rattle.std.specs.List.{filter};
-ghost use Rattle.eql_match.specs.Ways.{Rise};
+ghost use Rattle.eql_match.specs.Inner.Ways.{Rise};
 
 use eql_model::Tuple;
 

@@ -9,16 +9,15 @@ use Rattle.std.proofs.lemmas.List.FromFn.{fill_by_all}
 use Rattle.std.proofs.lemmas.List.Sums.{length-filter, sum_by-cons}
 use Rattle.emu_names.specs.declared.shortage.Memory.{Memory}
 use Rattle.level_items.specs.declared.items.Item.{Item}
-use Rattle.level_items.specs.Levels.{Level, ids_of}
+use Rattle.level_items.specs.Levels.{Level, ids_of, items_at}
 use Rattle.link_graph.specs.declared.link.Link.{Link}
 use Rattle.bundle_state.specs.Bundle.{BundleParts}
 use Rattle.hier_closure.specs.Dominance.{dominates, ids_at, closure_row, closure_rows, closure_of}
 use Rattle.eql_syntax.specs.declared.query.Compare.{Compare}
 use Rattle.eql_syntax.specs.declared.query.Place.{Place}
-use Rattle.eql_model.specs.Flags.{flag_at}
+use Rattle.eql_model.specs.Inner.Flags.{flag_at}
 use Rattle.eql_model.specs.Positions.{stands, makes_stand, has_place, has_number, compares}
-use Rattle.eql_model.specs.Bits.{row_stands, rows_place, row_counts}
-use Rattle.eql_model.specs.Meaning.{items_at}
+use Rattle.eql_model.specs.Inner.Bits.{row_stands, rows_place, row_counts}
 use Rattle.eql_model.proofs.MadeRows.{flag_of_map, no_item}
 
 -- ---- levels

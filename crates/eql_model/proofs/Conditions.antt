@@ -8,13 +8,14 @@ use Rattle.std.proofs.lemmas.List.FromFn.{map-range_with_len_more}
 use Rattle.std.proofs.lemmas.List.Sums.{sum_by-cons, length-filter, count_by-le-length}
 use Rattle.emu_names.specs.declared.shortage.Memory.{Memory}
 use Rattle.level_items.specs.declared.items.Item.{Item}
-use Rattle.level_items.specs.Levels.{Level}
+use Rattle.level_items.specs.Levels.{Level, items_at}
 use Rattle.db_config.specs.declared.parts.ConfigParts.{ConfigParts}
 use Rattle.bundle_state.specs.Bundle.{BundleParts, item_count}
 use Rattle.eql_resolve.specs.Asked.{AskedTerm, is_marked_term}
 use Rattle.eql_model.specs.declared.tuple.Tuple.{Tuple}
-use Rattle.eql_model.specs.Flags.{flag_at}
-use Rattle.eql_model.specs.Meaning.{items_at, meets, meets_all, met_row, single, singles}
+use Rattle.eql_model.specs.Inner.Flags.{flag_at}
+use Rattle.eql_model.specs.Meaning.{meets, meets_all, single, singles}
+use Rattle.eql_model.specs.Inner.Meaning.{met_row}
 use Rattle.eql_model.proofs.MadeRows.{all_of_maps, no_item}
 
 -- ---- one position more

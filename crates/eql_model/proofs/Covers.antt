@@ -12,7 +12,7 @@ use Rattle.hier_closure.specs.Dominance.{dominates, ids_at, closure_row, closure
 use Rattle.eql_model.specs.declared.tuple.Tuple.{Tuple}
 use Rattle.eql_model.specs.Sets.{each_once}
 use Rattle.eql_model.specs.Tuples.{stretch, fits_in, covers, one_covers, left_with, pairs_with, joined}
-use Rattle.eql_model.specs.Joins.{positions, bit_at, is_under, bits_cover, goes_with, makes, both_ways}
+use Rattle.eql_model.specs.Inner.Joins.{positions, bit_at, is_under, bits_cover, goes_with, makes, both_ways}
 
 -- ---- a stretch by its positions
 

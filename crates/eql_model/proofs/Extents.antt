@@ -6,17 +6,16 @@ use Rattle.std.proofs.lemmas.Bool.Decides.{nat_tests}
 use Rattle.std.proofs.lemmas.List.{drop_more, take-map, drop-map, get_or-map, length-map, get_or_default}
 use Rattle.std.proofs.lemmas.List.Elements.{All-weaker}
 use Rattle.level_items.specs.declared.items.Item.{Item}
-use Rattle.level_items.specs.Levels.{ids_of}
+use Rattle.level_items.specs.Levels.{ids_of, items_at}
 use Rattle.level_items.specs.Times.{first_sample, last_sample}
 use Rattle.bundle_state.specs.Bundle.{BundleParts}
 use Rattle.hier_closure.specs.Dominance.{dominates, ids_at, closure_of}
 use Rattle.eql_model.specs.declared.tuple.Span.{Span}
 use Rattle.eql_model.specs.Tuples.{from_to, stretch, fits_in}
-use Rattle.eql_model.specs.Joins.{is_under}
-use Rattle.eql_model.specs.Meaning.{items_at}
+use Rattle.eql_model.specs.Inner.Joins.{is_under}
 use Rattle.eql_model.specs.Results.{bare, IsStretchIn}
 use Rattle.eql_model.specs.Rows.{items_of, is_below_some, least, greatest, extent, end_to_end}
-use Rattle.eql_model.specs.Below.{widened}
+use Rattle.eql_model.specs.Inner.Below.{widened}
 use Rattle.eql_model.proofs.Between.{ids_are, wide_exit}
 use Rattle.eql_model.proofs.Covers.{under_is, taken_by}
 

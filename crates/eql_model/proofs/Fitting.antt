@@ -22,10 +22,13 @@ use Rattle.eql_resolve.proofs.Kept.{level_within}
 use Rattle.eql_model.specs.declared.tuple.Tuple.{Tuple}
 use Rattle.eql_model.specs.declared.joins.Join.{Join}
 use Rattle.eql_model.specs.declared.faults.MatchFault.{MatchFault}
-use Rattle.eql_model.specs.Sets.{tuple_cmp, put_all, each_once, is_over, GivesSet}
+use Rattle.eql_model.specs.Sets.{tuple_cmp, put_all, each_once, is_over}
+use Rattle.eql_model.specs.Inner.Sets.{GivesSet}
 use Rattle.eql_model.specs.Tuples.{fits_in, follows, both, left_with, one_covers, pairs_with, joined}
-use Rattle.eql_model.specs.Joins.{AreWide, goes_with, makes, both_ways}
-use Rattle.eql_model.specs.Meaning.{items_at, meets_all, single, singles, tuples, has_too_many, LieOn, IsTermOn}
+use Rattle.eql_model.specs.Inner.Joins.{AreWide, goes_with, makes, both_ways}
+use Rattle.eql_model.specs.Meaning.{meets_all, single, singles, tuples, has_too_many, LieOn}
+use Rattle.level_items.specs.Levels.{items_at}
+use Rattle.eql_model.specs.Inner.Meaning.{IsTermOn}
 use Rattle.eql_model.proofs.Between.{ids_count, rows_count, rows_wide}
 use Rattle.eql_model.proofs.Conditions.{level_few, singles_few}
 use Rattle.eql_model.proofs.Covers.{dominance_is}
@@ -145,6 +148,9 @@ dominance_exit b left right join ls rs r e on_left on_right told =
 pub levels_same : (c : ConfigParts) (b : BundleParts) → FitsConfig c b → length b.levels ≡ length c.levels
 levels_same c b fits =
     sym (length-map b.levels form_of) ∙ ap length fits.levels ∙ length-map c.levels form_asked
+
+pub level_fits : (c : ConfigParts) (b : BundleParts) (level : ℕ) → FitsConfig c b → level < length c.levels → level < length b.levels
+level_fits c b level fits there = let count = levels_same c b fits in omega arith
 
 pub terms_on : {A : Type 0} (c : ConfigParts) (level : ℕ) (view : A → AskedTerm) (xs : List A) → AreTermsOf c (map view xs) →
     list_all (is_on level) (map view xs) ≡ true → All (λ x. IsTermOn c level (view x)) xs

@@ -1,10 +1,12 @@
 pub mod Between
+mod Checkable
 pub mod Conditions
 pub mod Covers
 mod Edges
 pub mod Extents
 pub mod Fitting
 pub mod Gathers
+pub mod Listed
 pub mod MadeRows
 pub mod Members
 mod Mirrored

@@ -6,8 +6,10 @@ use Rattle.std.proofs.lemmas.Option.{unwrap_or-slice_get}
 use Rattle.level_items.specs.declared.items.Item.{Item}
 use Rattle.level_items.specs.declared.times.Time.TheVariants.{NoTime}
 use Rattle.label_match.specs.Pattern.{matches_label}
-use Rattle.eql_model.specs.Flags.{flag_at}
-use Rattle.eql_model.specs.Labels.{label_of, is_as, is_matched, matched_row}
+use Rattle.eql_model.specs.Inner.Flags.{flag_at}
+use Rattle.eql_model.specs.Labels.{is_as, is_matched}
+use Rattle.level_items.specs.Levels.{label_of}
+use Rattle.eql_model.specs.Inner.Labels.{matched_row}
 
 -- an item to take where there is none
 abbrev pub no_item : Item

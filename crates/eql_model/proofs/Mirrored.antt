@@ -16,7 +16,8 @@ use Rattle.eql_resolve.proofs.Marks.{mark_some}
 use Rattle.eql_model.specs.declared.tuple.Tuple.{Tuple}
 use Rattle.eql_model.specs.Sets.{tuple_cmp, has, each_once}
 use Rattle.eql_model.specs.Tuples.{stretch, follows, both, left_with, covers, one_covers}
-use Rattle.eql_model.specs.Meaning.{items_at, meets_all, single, tuples}
+use Rattle.eql_model.specs.Meaning.{meets_all, single, tuples}
+use Rattle.level_items.specs.Levels.{items_at}
 use Rattle.eql_model.specs.Results.{marked_item, shown, span_at, results}
 use Rattle.eql_model.specs.Laws.{MirrorsAgree}
 use Rattle.eql_model.proofs.Fitting.{all_joined}

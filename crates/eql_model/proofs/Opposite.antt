@@ -11,8 +11,9 @@ use Rattle.eql_syntax.specs.declared.query.Op.TheVariants.{Is, IsNot, Like, NotL
 use Rattle.eql_resolve.specs.Asked.{test, AskedTerm}
 use Rattle.eql_model.specs.declared.tuple.Tuple.{Tuple}
 use Rattle.eql_model.specs.Sets.{tuple_cmp, has}
-use Rattle.eql_model.specs.Labels.{label_of, is_wanted, is_matched}
-use Rattle.eql_model.specs.Meaning.{items_at, meets, meets_all, single}
+use Rattle.eql_model.specs.Labels.{is_wanted, is_matched}
+use Rattle.level_items.specs.Levels.{label_of, items_at}
+use Rattle.eql_model.specs.Meaning.{meets, meets_all, single}
 use Rattle.eql_model.specs.Results.{bare}
 use Rattle.eql_model.specs.Laws.{opposite, TestsAreOpposite, QueriesAreOpposite}
 use Rattle.eql_model.proofs.Members.{same_tuple, tuples_total}

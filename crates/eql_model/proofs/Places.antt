@@ -4,7 +4,7 @@ use Rattle.std.specs.Prelude.{◌==◌, nat_eq}
 use Rattle.std.specs.List.{slice_get, items_where_true, list_any}
 use Rattle.std.proofs.lemmas.List.{drop_more, map_more, get_or-map, length-map}
 use Rattle.std.proofs.lemmas.Option.{slice_get_within, get_or_from_slice_get}
-use Rattle.lane_bits.specs.Row.{NoneWhere, IsFirst, IsLast}
+use Rattle.lane_bits.specs.Inner.Row.{NoneWhere, IsFirst, IsLast}
 use Rattle.level_items.specs.declared.items.Item.{Item}
 use Rattle.level_items.specs.Levels.{ids_of}
 use Rattle.eql_model.specs.Positions.{is_first, is_last}

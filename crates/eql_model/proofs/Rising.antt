@@ -12,7 +12,7 @@ use Rattle.eql_model.specs.declared.tuple.Tuple.{Tuple}
 use Rattle.eql_model.specs.declared.kept.Kept.{Kept}
 use Rattle.eql_model.specs.declared.kept.Kept.TheVariants.{Rising}
 use Rattle.eql_model.specs.Sets.{tuple_cmp, each_once}
-use Rattle.eql_model.specs.Kept.{kept_tuples, order_behind, IsInOrder}
+use Rattle.eql_model.specs.Inner.Kept.{kept_tuples, order_behind, IsInOrder}
 use Rattle.eql_model.proofs.Members.{tuples_total, same_tuple, sorted_insert, once_is}
 
 -- ---- the order behind the last tuple

@@ -13,7 +13,7 @@ use Rattle.std.proofs.lemmas.List.{length-append}
 use Rattle.std.proofs.lemmas.List.Concat.{flat_map-cons}
 use Rattle.std.proofs.lemmas.List.Elements.{All-nil, All-cons, All-head, All-tail, All-append}
 use Rattle.level_items.specs.declared.items.Item.{Item}
-use Rattle.level_items.specs.Levels.{Level}
+use Rattle.level_items.specs.Levels.{Level, items_at}
 use Rattle.db_config.specs.declared.parts.AttributePlace.{AttributePlace}
 use Rattle.db_config.specs.declared.parts.ConfigParts.{ConfigParts}
 use Rattle.db_config.specs.Lookups.{attribute_at}
@@ -28,10 +28,12 @@ use Rattle.eql_model.specs.declared.tuple.Tuple.{Tuple}
 use Rattle.eql_model.specs.declared.tuple.Span.{Span}
 use Rattle.eql_model.specs.declared.faults.MatchFault.{MatchFault}
 use Rattle.eql_model.specs.declared.faults.MatchFault.TheVariants.{TooManyTuples, Memory}
-use Rattle.eql_model.specs.Sets.{tuple_cmp, put_all, each_once, is_over, GivesSet}
+use Rattle.eql_model.specs.Sets.{tuple_cmp, put_all, each_once, is_over}
+use Rattle.eql_model.specs.Inner.Sets.{GivesSet}
 use Rattle.eql_model.specs.Tuples.{fits_in, follows, both, left_with, one_covers}
-use Rattle.eql_model.specs.Meaning.{items_at, meets_all, single, tuples, has_too_many}
-use Rattle.eql_model.specs.Results.{bare, marked_item, shown, stretches, span_at, results, Matches, IsSpanIn, AreThere}
+use Rattle.eql_model.specs.Meaning.{meets_all, single, tuples, has_too_many}
+use Rattle.eql_model.specs.Results.{bare, marked_item, shown, stretches, span_at, results, IsSpanIn, AreThere}
+use Rattle.eql_model.specs.Inner.Results.{Matches}
 use Rattle.eql_model.proofs.Fitting.{all_once, all_joined, tuples_fit, levels_same}
 
 -- ---- marks lie on the level of the marked condition, and all tuples have one where there is one

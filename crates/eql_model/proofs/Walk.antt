@@ -6,9 +6,10 @@ use Rattle.std.proofs.lemmas.List.{append-nil}
 use Rattle.std.proofs.lemmas.List.Elements.{filter-append}
 use Rattle.std.proofs.lemmas.Option.{slice_get_within}
 use Rattle.db_config.specs.declared.parts.AttributePlace.{AttributePlace}
-use Rattle.lane_bits.specs.Row.{IsNext}
-use Rattle.eql_model.specs.Flags.{flag_at}
-use Rattle.eql_model.specs.Results.{bare, row_spans, span_at}
+use Rattle.lane_bits.specs.Inner.Row.{IsNext}
+use Rattle.eql_model.specs.Inner.Flags.{flag_at}
+use Rattle.eql_model.specs.Results.{bare, span_at}
+use Rattle.eql_model.specs.Inner.Results.{row_spans}
 use Rattle.eql_model.specs.declared.tuple.Span.{Span}
 
 pub none_among : (q : ℕ → Bool) (a n : ℕ) → ((i : ℕ) → a ≤ i → i < a + n → q i ≡ false) → filter q (range_with_len a n) ≡ []

@@ -1,19 +1,15 @@
 -- Which labels a label test is after (EMU-SDMS Manual, "The EMU Query Language (EQL)": the operators of
 -- simple queries; label groups).
-use Rattle.std.specs.Prelude.{ℕ, Bool, true, false, not, List, [], ◌∷◌, map, unwrap_or, option_and_then}
+use Rattle.std.specs.Prelude.{ℕ, Bool, true, false, not, List, [], ◌∷◌, unwrap_or, option_and_then}
 use Rattle.std.specs.List.{flat_map, list_any, slice_get}
 use Rattle.level_items.specs.declared.items.Item.{Item}
 use Rattle.db_config.specs.declared.parts.AttributePlace.{AttributePlace}
 use Rattle.db_config.specs.declared.parts.ConfigParts.{ConfigParts}
 use Rattle.db_config.specs.Lookups.{attribute_at, group_values}
-use Rattle.db_config.specs.Names.{same_text}
+use Rattle.emu_names.specs.Texts.{same_text}
 use Rattle.label_match.specs.Pattern.{matches_label}
 use Rattle.eql_syntax.specs.declared.query.Op.{Op}
 use Rattle.eql_syntax.specs.declared.query.Op.TheVariants.{Is, IsNot, Like, NotLike}
-
--- the label of an item for an attribute of its level
-abbrev pub label_of : ℕ → Item → List ℕ
-label_of attribute item = unwrap_or (slice_get item.labels attribute) []
 
 -- what a written label stands for at an attribute: the values of the label group of this name, where
 -- the attribute's groups come before the database's, else the label alone
@@ -47,7 +43,3 @@ passes config place Is written label = is_wanted config place written label
 passes config place IsNot written label = is_as false (is_wanted config place written label)
 passes config place Like patterns label = is_matched patterns label
 passes config place NotLike patterns label = is_as false (is_matched patterns label)
-
--- for each item whether a pattern matches its label
-abbrev pub matched_row : ℕ → List Item → List ℕ → List Bool
-matched_row attribute items pattern = map (λ item. matches_label pattern (label_of attribute item)) items

@@ -1,9 +1,10 @@
 -- What sets of tuples, joins and results come to, and what a user can check of two queries that go
 -- together (EMU-SDMS Manual, "The EMU Query Language (EQL)"), each law said by itself.
-use Rattle.std.specs.Prelude.{◌≡◌, ◌≤◌, ◌<◌, ◌&&◌, ◌||◌, not, ℕ, Bool, true, false, List, [], ◌∷◌, length}
+use Rattle.std.specs.Prelude.{◌≡◌, ◌≤◌, ◌<◌, ◌&&◌, ◌||◌, not, ℕ, Bool, true, false, List, [], ◌∷◌, length, ◌+◌, ◌++◌, All}
 use Rattle.std.specs.List.{list_any, filter}
 use Rattle.std.specs.List.Sorted.{IsStrictlySortedBy}
 use Rattle.std.specs.BTreeMap.{is_at}
+use Rattle.emu_names.specs.declared.kinds.LevelKind.TheVariants as kinds
 use Rattle.level_items.specs.declared.items.Item.{Item}
 use Rattle.db_config.specs.declared.parts.AttributePlace.{AttributePlace}
 use Rattle.db_config.specs.declared.parts.ConfigParts.{ConfigParts}
@@ -11,15 +12,20 @@ use Rattle.bundle_state.specs.Bundle.{BundleParts}
 use Rattle.hier_closure.specs.Dominance.{dominates, ids_at}
 use Rattle.eql_syntax.specs.declared.query.Op.{Op}
 use Rattle.eql_syntax.specs.declared.query.Op.TheVariants.{Is, IsNot, Like, NotLike}
+use Rattle.eql_syntax.specs.declared.query.Compare.{Compare}
+use Rattle.eql_syntax.specs.declared.query.Compare.TheVariants.{Eq, Ne, Lt, Le, Gt, Ge}
 use Rattle.eql_syntax.specs.declared.query.Place.{Place}
 use Rattle.eql_syntax.specs.declared.query.Place.TheVariants.{Start, Medial, End}
-use Rattle.eql_resolve.specs.Asked.{test, position, AskedQuery, terms, dominance, is_marked, level_of, result_level, AreOnOneLevel}
+use Rattle.eql_resolve.specs.Asked.{AskedParts, test, position, number, AskedQuery, terms, dominance, is_marked, level_of, result_level, AreOnOneLevel}
 use Rattle.eql_resolve.specs.Sound.{IsQueryOf}
 use Rattle.eql_model.specs.declared.tuple.Tuple.{Tuple}
 use Rattle.eql_model.specs.Sets.{tuple_cmp, has, each_once}
 use Rattle.eql_model.specs.Tuples.{joined}
-use Rattle.eql_model.specs.Meaning.{items_at, meets, tuples, LieOn}
+use Rattle.eql_model.specs.Labels.{stands_for}
+use Rattle.eql_model.specs.Meaning.{meets, tuples, LieOn}
+use Rattle.level_items.specs.Levels.{items_at}
 use Rattle.eql_model.specs.Results.{bare, results, AreThere}
+use Rattle.eql_model.specs.Rows.{start_of, end_of, rows, segment_list}
 
 -- the set of some tuples has those and no others
 abbrev pub SetsHaveTheirTuples : Type 0
@@ -117,3 +123,53 @@ QueriesAreOpposite =
     at < length (items_at b.levels place.level) →
     has (tuples c b (terms (test false place (opposite op) labels ∷ []))) (bare at at)
     ≡ not (has (tuples c b (terms (test false place op labels ∷ []))) (bare at at))
+
+-- a group of labels finds what its values find that are written out, where no value names a group
+abbrev pub GroupsAreTheirValues : Type 0
+GroupsAreTheirValues =
+    (c : ConfigParts) (b : BundleParts) (marked : Bool) (place : AttributePlace) (name : List ℕ)
+    (values : List (List ℕ)) (item : Item) → stands_for c place name ≡ values →
+    All (λ value. stands_for c place value ≡ value ∷ []) values →
+    meets c b (test marked place Is (name ∷ [])) item ≡ meets c b (test marked place Is values) item
+
+-- an item is found by some of two lists of labels exactly where it is found by both together: so neither
+-- their order nor a label that stands twice changes what is found
+abbrev pub LabelsAreAlternatives : Type 0
+LabelsAreAlternatives =
+    (c : ConfigParts) (b : BundleParts) (marked : Bool) (place : AttributePlace)
+    (labels others : List (List ℕ)) (item : Item) →
+    meets c b (test marked place Is (labels ++ others)) item
+    ≡ (meets c b (test marked place Is labels) item || meets c b (test marked place Is others) item)
+
+-- ---- numbers
+
+-- an item meets one of `Num(..) < n`, `== n` and `> n`, and no two of them; `!=`, `>=` and `<=` are the
+-- opposites of `==`, `<` and `>`
+abbrev pub NumbersCompare : Type 0
+NumbersCompare =
+    (c : ConfigParts) (b : BundleParts) (marked : Bool) (upper : AttributePlace) (lower n : ℕ) (item : Item) →
+    let met : Compare → Bool = λ how. meets c b (number marked upper lower how n) item in
+    (met Ne ≡ not (met Eq)) × (met Ge ≡ not (met Lt)) × (met Le ≡ not (met Gt))
+    × (met Eq ≡ (met Le && met Ge)) × ((met Lt && met Gt) ≡ false)
+
+-- an item meets `Num(..) == 0` exactly where it dominates no item of the lower level
+abbrev pub ZeroIsNone : Type 0
+ZeroIsNone =
+    (c : ConfigParts) (b : BundleParts) (marked : Bool) (upper : AttributePlace) (lower : ℕ) (item : Item) →
+    meets c b (number marked upper lower Eq 0) item
+    ≡ not (list_any (dominates b.links item.id.0) (ids_at b.levels lower))
+
+-- ---- rows
+
+-- a segment that begins with the sample behind the last one of another starts in the microsecond in which
+-- that one ends
+abbrev pub TouchingSegmentsMeet : Type 0
+TouchingSegmentsMeet =
+    (rate last : ℕ) → end_of kinds.Segment rate last ≡ start_of kinds.Segment rate (last + 1)
+
+-- a bundle that is put in or taken out changes no row of the others, nor their order
+abbrev pub BundlesKeepTheirRows : Type 0
+BundlesKeepTheirRows =
+    (c : ConfigParts) (before behind : List BundleParts) (b : BundleParts) (a : AskedParts) →
+    (segment_list c (before ++ behind) a ≡ segment_list c before a ++ segment_list c behind a)
+    × (segment_list c (before ++ b ∷ behind) a ≡ segment_list c before a ++ (rows c b a ++ segment_list c behind a))

@@ -1,8 +1,3 @@
-pub mod Below
-pub mod Bits
-pub mod Flags
-pub mod Joins
-pub mod Kept
 pub mod Labels
 pub mod Laws
 pub mod Meaning
@@ -11,3 +6,4 @@ pub mod Results
 pub mod Rows
 pub mod Sets
 pub mod Tuples
+pub mod Inner

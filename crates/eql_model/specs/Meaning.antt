@@ -1,26 +1,19 @@
 -- What a query means in one bundle: a set of tuples (EMU-SDMS Manual, "The EMU Query Language (EQL)":
 -- simple queries, conjunction, sequence, dominance, functions).
-use Rattle.std.specs.Prelude.{◌≡◌, ℕ, Bool, true, false, ◌||◌, List, [], All, length, map, Some, None, Result, Ok, Err, if◌then◌else◌}
+use Rattle.std.specs.Prelude.{◌≡◌, ℕ, Bool, true, ◌||◌, List, [], All, length, map, Some, None, if◌then◌else◌}
 use Rattle.std.specs.List.{enumerate_from, filter, list_all, list_any, slice_get}
 use Rattle.std.specs.Option.{option_map_or}
 use Rattle.level_items.specs.declared.items.Item.{Item}
-use Rattle.level_items.specs.Levels.{Level}
+use Rattle.level_items.specs.Levels.{Level, items_at, label_of}
 use Rattle.db_config.specs.declared.parts.ConfigParts.{ConfigParts}
 use Rattle.bundle_state.specs.Bundle.{BundleParts}
 use Rattle.hier_closure.specs.Dominance.{ids_at}
-use Rattle.eql_resolve.specs.Asked.{AskedTerm, test, position, number, AskedQuery, terms, sequence, dominance, is_marked_term, term_level, level_of}
-use Rattle.eql_resolve.specs.Sound.{IsTermOf}
+use Rattle.eql_resolve.specs.Asked.{AskedTerm, test, position, number, AskedQuery, terms, sequence, dominance, is_marked_term, level_of}
 use Rattle.eql_model.specs.declared.tuple.Tuple.{Tuple}
-use Rattle.eql_model.specs.declared.faults.MatchFault.{MatchFault}
-use Rattle.eql_model.specs.declared.faults.MatchFault.TheVariants.{TooManyTuples, Memory}
 use Rattle.eql_model.specs.Sets.{is_over}
 use Rattle.eql_model.specs.Tuples.{fits_in, follows, both, left_with, one_covers, joined}
-use Rattle.eql_model.specs.Labels.{label_of, passes}
+use Rattle.eql_model.specs.Labels.{passes}
 use Rattle.eql_model.specs.Positions.{has_place, has_number}
-
--- the items of a level, in order
-abbrev pub items_at : List Level → ℕ → List Item
-items_at levels n = option_map_or (λ level. level.items) (slice_get levels n) []
 
 -- an item meets a condition
 abbrev pub meets : ConfigParts → BundleParts → AskedTerm → Item → Bool
@@ -33,14 +26,6 @@ meets c b (number marked upper lower compare count) item =
 -- tuples lie on a level
 abbrev pub LieOn : List Level → ℕ → List Tuple → Type 0
 LieOn levels n ts = All (λ t. fits_in (length (items_at levels n)) t ≡ true) ts
-
--- for each item of a level whether it meets a condition
-abbrev pub met_row : ConfigParts → BundleParts → ℕ → AskedTerm → List Bool
-met_row c b level t = map (meets c b t) (items_at b.levels level)
-
--- a condition is one of the configuration, and on the level
-abbrev pub IsTermOn : ConfigParts → ℕ → AskedTerm → Type 0
-IsTermOn c level t = IsTermOf c t × (term_level t ≡ level)
 
 -- an item meets all conditions
 abbrev pub meets_all : ConfigParts → BundleParts → List AskedTerm → Item → Bool
@@ -73,9 +58,3 @@ has_too_many c b (sequence p q) =
     has_too_many c b p || has_too_many c b q || is_over (tuples c b (sequence p q))
 has_too_many c b (dominance p q) =
     has_too_many c b p || has_too_many c b q || is_over (tuples c b (dominance p q))
-
--- an answer is the set of the tuples, and no part of the query has too many; or it is that some part has
-abbrev pub Finds : Result (List Tuple) MatchFault → ConfigParts → BundleParts → AskedQuery → Type 0
-Finds (Ok found) c b q = (found ≡ tuples c b q) × (has_too_many c b q ≡ false)
-Finds (Err TooManyTuples) c b q = has_too_many c b q ≡ true
-Finds (Err Memory) c b q = Unit {0}

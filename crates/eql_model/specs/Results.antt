@@ -1,7 +1,7 @@
 -- The results of a query in one bundle (EMU-SDMS Manual, "The EMU Query Language (EQL)": results are
 -- stretches of items, or the items that a `#` marks).
-use Rattle.std.specs.Prelude.{◌≡◌, ◌<◌, ◌≤◌, ℕ, Bool, true, false, List, [], ◌∷◌, All, length, map, Option, Some, None, IsSome, Result, Ok, Err}
-use Rattle.std.specs.List.{filter, flat_map, range_with_len}
+use Rattle.std.specs.Prelude.{◌≡◌, ◌<◌, ◌≤◌, ℕ, Bool, true, false, List, [], ◌∷◌, All, length, map, Option, Some, None, IsSome}
+use Rattle.std.specs.List.{flat_map}
 use Rattle.db_config.specs.declared.parts.AttributePlace.{AttributePlace}
 use Rattle.db_config.specs.declared.parts.ConfigParts.{ConfigParts}
 use Rattle.db_config.specs.Lookups.{attribute_at, place_of}
@@ -9,11 +9,9 @@ use Rattle.bundle_state.specs.Bundle.{BundleParts}
 use Rattle.eql_resolve.specs.Asked.{AskedQuery, is_marked, shown_place}
 use Rattle.eql_model.specs.declared.tuple.Tuple.{Tuple}
 use Rattle.eql_model.specs.declared.tuple.Span.{Span}
-use Rattle.eql_model.specs.declared.faults.MatchFault.{MatchFault}
-use Rattle.eql_model.specs.declared.faults.MatchFault.TheVariants.{TooManyTuples, Memory}
-use Rattle.eql_model.specs.Flags.{flag_at}
 use Rattle.eql_model.specs.Sets.{each_once}
-use Rattle.eql_model.specs.Meaning.{items_at, tuples, has_too_many}
+use Rattle.eql_model.specs.Meaning.{tuples}
+use Rattle.level_items.specs.Levels.{items_at}
 
 -- a stretch without a mark
 abbrev pub bare : ℕ → ℕ → Tuple
@@ -38,21 +36,9 @@ abbrev pub span_at : AttributePlace → Tuple → Span
 span_at place t =
     record { level = place.level; attribute = place.attribute; first = t.first; last = t.last }
 
--- the items of which a row has the bit, each as a stretch of its own
-abbrev pub row_spans : AttributePlace → List Bool → List Span
-row_spans place row =
-    map (λ k. span_at place (bare k k)) (filter (λ k. flag_at k row) (range_with_len 0 (length row)))
-
 -- the results of a query
 abbrev pub results : ConfigParts → BundleParts → AskedQuery → List Span
 results c b q = map (span_at (shown_place q)) (stretches c b q)
-
--- an answer is the list of the results, and no part of the query has too many tuples; or it is that
--- some part has
-abbrev pub Matches : Result (List Span) MatchFault → ConfigParts → BundleParts → AskedQuery → Type 0
-Matches (Ok spans) c b q = (spans ≡ results c b q) × (has_too_many c b q ≡ false)
-Matches (Err TooManyTuples) c b q = has_too_many c b q ≡ true
-Matches (Err Memory) c b q = Unit {0}
 
 -- the stretch of a result lies on its level, and has one item at least
 pub record IsStretchIn (b : BundleParts) (span : Span) : Type 0 where

@@ -1,6 +1,6 @@
 -- The rows of a segment list (EMU-SDMS Manual, "The EMU Query Language (EQL)": the columns of a segment
 -- list).
-use Rattle.std.specs.Prelude.{◌≡◌, ℕ, Bool, true, false, List, [], ◌∷◌, map, min, max, codes, Option, Some, None, option_map, unwrap_or, Result, Ok, Err}
+use Rattle.std.specs.Prelude.{ℕ, Bool, List, [], ◌∷◌, map, min, max, codes, Option, Some, None, option_map, unwrap_or}
 use Rattle.std.specs.List.{filter, flat_map, join_by, list_any, slice_get}
 use Rattle.std.specs.Option.{option_map_or}
 use Rattle.emu_names.specs.declared.kinds.ItemId.{ItemId}
@@ -8,7 +8,7 @@ use Rattle.emu_names.specs.declared.kinds.LevelKind.{LevelKind}
 use Rattle.emu_names.specs.declared.kinds.LevelKind.TheVariants as kinds
 use Rattle.sample_time.specs.Micros.{micros_of_start, micros_of_end, micros_of_point}
 use Rattle.level_items.specs.declared.items.Item.{Item}
-use Rattle.level_items.specs.Levels.{ids_of}
+use Rattle.level_items.specs.Levels.{ids_of, items_at, label_of}
 use Rattle.level_items.specs.Times.{first_sample, last_sample}
 use Rattle.link_graph.specs.declared.link.Link.{Link}
 use Rattle.db_config.specs.declared.parts.ConfigParts.{ConfigParts}
@@ -19,11 +19,8 @@ use Rattle.eql_resolve.specs.Asked.{AskedParts}
 use Rattle.eql_resolve.specs.Resolve.{kind_at}
 use Rattle.eql_model.specs.declared.tuple.Span.{Span}
 use Rattle.eql_model.specs.declared.row.Row.{Row}
-use Rattle.eql_model.specs.declared.faults.MatchFault.{MatchFault}
-use Rattle.eql_model.specs.declared.faults.MatchFault.TheVariants.{TooManyTuples, Memory}
 use Rattle.eql_model.specs.Tuples.{from_to}
-use Rattle.eql_model.specs.Labels.{label_of}
-use Rattle.eql_model.specs.Meaning.{items_at, has_too_many}
+use Rattle.eql_model.specs.Meaning.{has_too_many}
 use Rattle.eql_model.specs.Results.{results}
 
 -- ---- what a row shows
@@ -141,9 +138,6 @@ rows c b a = map (row_of c b a.time) (results c b a.query)
 abbrev pub segment_list : ConfigParts → List BundleParts → AskedParts → List Row
 segment_list c bundles a = flat_map (λ b. rows c b a) bundles
 
--- an answer is the list of the rows, and no part of the query has too many tuples; or it is that some
--- part has
-abbrev pub Answers : Result (List Row) MatchFault → ConfigParts → BundleParts → AskedParts → Type 0
-Answers (Ok list) c b a = (list ≡ rows c b a) × (has_too_many c b a.query ≡ false)
-Answers (Err TooManyTuples) c b a = has_too_many c b a.query ≡ true
-Answers (Err Memory) c b a = Unit {0}
+-- some part of a query has over 1,000,000 tuples in one of these bundles
+abbrev pub any_has_too_many : ConfigParts → List BundleParts → AskedParts → Bool
+any_has_too_many c bundles a = list_any (λ b. has_too_many c b a.query) bundles

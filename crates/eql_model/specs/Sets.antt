@@ -1,5 +1,5 @@
 -- Sets of tuples: lists in order in which no tuple stands twice.
-use Rattle.std.specs.Prelude.{◌≡◌, Bool, true, false, Result, Ok, Err, List, [], ◌∷◌, length, nat_lt}
+use Rattle.std.specs.Prelude.{Bool, List, [], ◌∷◌, length, nat_lt}
 use Rattle.std.specs.List.{list_any}
 use Rattle.std.specs.Option.{option_cmp}
 use Rattle.std.specs.declared.cmp.Ordering.{Ordering}
@@ -8,8 +8,6 @@ use Rattle.std.specs.BTreeMap.{is_at}
 use Rattle.std.specs.BTreeSet.{insert_key}
 use Rattle.emu_names.specs.declared.limits.TheConstants.{TUPLES}
 use Rattle.eql_model.specs.declared.tuple.Tuple.{Tuple}
-use Rattle.eql_model.specs.declared.faults.MatchFault.{MatchFault}
-use Rattle.eql_model.specs.declared.faults.MatchFault.TheVariants.{TooManyTuples, Memory}
 
 -- the order of tuples: by the first position, then by the last one, then by the mark, where no mark
 -- comes before any
@@ -34,9 +32,3 @@ each_once tuples = put_all [] tuples
 -- a set has over 1,000,000 tuples
 abbrev pub is_over : List Tuple → Bool
 is_over set = nat_lt TUPLES (length set)
-
--- an answer is the set, which has at most 1,000,000 tuples; or it is that it has more
-abbrev pub GivesSet : Result (List Tuple) MatchFault → List Tuple → Type 0
-GivesSet (Ok made) set = (made ≡ set) × (is_over set ≡ false)
-GivesSet (Err TooManyTuples) set = is_over set ≡ true
-GivesSet (Err Memory) set = Unit {0}

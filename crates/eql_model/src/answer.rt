@@ -4,11 +4,12 @@ ghost use Rattle.emu_names.specs.declared.limits.TheConstants.{BUNDLE_ITEMS};
 ghost use Rattle.db_config.specs.Lookups.{attribute_at};
 ghost use Rattle.bundle_state.specs.Built.{FitsConfig};
 ghost use Rattle.eql_resolve.specs.Asked.{is_marked};
-ghost use Rattle.eql_resolve.specs.Sound.{IsResolvedBy};
-ghost use Rattle.eql_resolve.specs.View.{query_in};
+ghost use Rattle.eql_resolve.specs.Inner.Sound.{IsResolvedBy};
+ghost use Rattle.eql_resolve.specs.Inner.View.{query_in};
 ghost use Rattle.eql_model.specs.Meaning.{has_too_many, tuples};
-ghost use Rattle.eql_model.specs.Results.{Matches, row_spans, span_at};
-ghost use Rattle.eql_model.specs.Rows.{Answers};
+ghost use Rattle.eql_model.specs.Results.{span_at};
+ghost use Rattle.eql_model.specs.Inner.Results.{Matches, row_spans};
+ghost use Rattle.eql_model.specs.Inner.Rows.{Answers};
 
 use crate::evaluate::evaluate;
 use crate::faults::MatchFault;

@@ -4,17 +4,18 @@ ghost use Rattle.std.specs.List.{filter, list_all, list_any, range_with_len};
 ghost use Rattle.emu_names.specs.declared.limits.TheConstants.{BUNDLE_ITEMS};
 ghost use Rattle.bundle_state.specs.Built.{FitsConfig};
 ghost use Rattle.eql_resolve.specs.Asked.{is_marked_term};
-ghost use Rattle.eql_resolve.specs.View.{term_in};
-ghost use Rattle.eql_model.specs.Flags.{flag_at};
-ghost use Rattle.eql_model.specs.Meaning.{items_at, met_row, IsTermOn, single, singles};
+ghost use Rattle.eql_resolve.specs.Inner.View.{term_in};
+ghost use Rattle.eql_model.specs.Inner.Flags.{flag_at};
+ghost use Rattle.eql_model.specs.Meaning.{single, singles};
+ghost use Rattle.level_items.specs.Levels.{items_at};
+ghost use Rattle.eql_model.specs.Inner.Meaning.{met_row, IsTermOn};
 
 use crate::flags::{Flags, all_at};
 use crate::terms::{items_at, term_flags};
 use crate::tuple::{Tuple, Tuples};
 use bundle_state::Bundle;
 use db_config::Config;
-use emu_lists::Series;
-use emu_names::Memory;
+use emu_names::{Memory, Series};
 use eql_resolve::AskedTerm;
 use std::alloc::Global;
 

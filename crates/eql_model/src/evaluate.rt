@@ -3,9 +3,10 @@ ghost use Rattle.std.specs.Prelude.{◌≡◌, map};
 ghost use Rattle.bundle_state.specs.Built.{FitsConfig};
 ghost use Rattle.eql_resolve.specs.Asked.{AreOnOneLevel, dominance, is_marked, level_of, terms};
 ghost use Rattle.eql_resolve.specs.Sound.{IsQueryOf};
-ghost use Rattle.eql_resolve.specs.View.{query_in, term_in};
-ghost use Rattle.eql_model.specs.Sets.{GivesSet};
-ghost use Rattle.eql_model.specs.Meaning.{Finds, tuples};
+ghost use Rattle.eql_resolve.specs.Inner.View.{query_in, term_in};
+ghost use Rattle.eql_model.specs.Inner.Sets.{GivesSet};
+ghost use Rattle.eql_model.specs.Meaning.{tuples};
+ghost use Rattle.eql_model.specs.Inner.Meaning.{Finds};
 
 use crate::conjunction::conjunction;
 use crate::faults::MatchFault;

@@ -5,9 +5,8 @@ ghost use Rattle.eql_model.specs.Sets.{put_all, is_over};
 use crate::faults::MatchFault;
 use crate::kept::Kept;
 use crate::tuple::{Tuple, Tuples};
-use emu_lists::Series;
-use emu_names::Memory;
 use emu_names::limits::TUPLES;
+use emu_names::{Memory, Series};
 use std::alloc::Global;
 use std::marker::Model;
 
@@ -24,7 +23,7 @@ impl Model for Gathered {
 
     ghost Value = { List Tuple };
 
-    ghost use Rattle.eql_model.specs.Kept.{kept_tuples, IsInOrder};
+    ghost use Rattle.eql_model.specs.Inner.Kept.{kept_tuples, IsInOrder};
 
     ghost view = { λ s. kept_tuples s.kept };
 

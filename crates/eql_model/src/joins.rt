@@ -2,9 +2,10 @@
 ghost use Rattle.std.specs.Prelude.{◌≡◌, ◌<◌, [], ◌∷◌, length, get_or, true, false, Err, OnOk, All};
 ghost use Rattle.std.specs.List.{flat_map};
 ghost use Rattle.std.specs.Option.{option_or};
-ghost use Rattle.eql_model.specs.Sets.{put_all, is_over, GivesSet};
+ghost use Rattle.eql_model.specs.Sets.{put_all, is_over};
+ghost use Rattle.eql_model.specs.Inner.Sets.{GivesSet};
 ghost use Rattle.eql_model.specs.Tuples.{fits_in, follows, joined, pairs_with};
-ghost use Rattle.eql_model.specs.Joins.{bit_at, is_under, bits_cover, goes_with, makes, AreWide, IsOnLeft, IsOnRight};
+ghost use Rattle.eql_model.specs.Inner.Joins.{bit_at, is_under, bits_cover, goes_with, makes, AreWide, IsOnLeft, IsOnRight};
 
 use crate::faults::MatchFault;
 use crate::gathered::Gathered;
@@ -23,7 +24,7 @@ pub(crate) enum Join {
 }
 
 /// The bit at a place of a row.
-fn bit_at(rows: &Closure, row: usize, place: usize) -> bool
+pub fn bit_at(rows: &Closure, row: usize, place: usize) -> bool
     requires row { row < length rows.now }
     requires place { place < length (get_or rows.now row []) }
     ensures { result ≡ bit_at rows.now row place }

@@ -3,11 +3,10 @@ ghost use Rattle.std.specs.Prelude.{◌≡◌, length, IfOk, OnOk};
 ghost use Rattle.std.specs.declared.cmp.Ordering.TheVariants.{Greater};
 ghost use Rattle.std.specs.BTreeSet.{insert_key};
 ghost use Rattle.eql_model.specs.Sets.{each_once, tuple_cmp};
-ghost use Rattle.eql_model.specs.Kept.{kept_tuples, order_behind, IsInOrder};
+ghost use Rattle.eql_model.specs.Inner.Kept.{kept_tuples, order_behind, IsInOrder};
 
 use crate::tuple::{Tuple, Tuples};
-use emu_lists::Series;
-use emu_names::Memory;
+use emu_names::{Memory, Series};
 use std::alloc::Global;
 use std::cmp::Ordering;
 use std::collections::BTreeSet;

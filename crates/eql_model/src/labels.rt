@@ -1,14 +1,15 @@
 //! Tests of labels.
 ghost use Rattle.std.specs.Prelude.{◌≡◌, ◌++◌, map, IfOk, OnOk, IsSome};
 ghost use Rattle.std.specs.List.{list_any};
-ghost use Rattle.db_config.specs.Names.{same_text};
+ghost use Rattle.emu_names.specs.Texts.{same_text};
 ghost use Rattle.db_config.specs.Lookups.{attribute_at};
-ghost use Rattle.eql_model.specs.Labels.{label_of, stands_for, is_wanted, is_matched, is_as, matched_row};
+ghost use Rattle.eql_model.specs.Labels.{stands_for, is_wanted, is_matched, is_as};
+ghost use Rattle.level_items.specs.Levels.{label_of};
+ghost use Rattle.eql_model.specs.Inner.Labels.{matched_row};
 
 use crate::flags::{Flags, any_at};
 use db_config::{AttributePlace, Config};
-use emu_lists::Series;
-use emu_names::{Memory, Text};
+use emu_names::{Memory, Series, Text};
 use label_match::{Matching, Pattern};
 use level_items::Item;
 use std::alloc::Global;

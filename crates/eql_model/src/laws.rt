@@ -1,7 +1,7 @@
 //! Laws with nothing to run: what sets of tuples, joins and results come to, and what a user can check of
 //! two queries that go together (EMU-SDMS Manual, "The EMU Query Language (EQL)": simple queries,
 //! domination, position functions).
-ghost use Rattle.eql_model.specs.Laws.{SetsHaveTheirTuples, SetsAreInOrder, JoinsArePairs, TuplesLieOnLevel, ResultsAreThere, MirrorsAgree, EdgesAreNotMedial, MedialIsNoEdge, PlacesAreToldBelow, TestsAreOpposite, QueriesAreOpposite};
+ghost use Rattle.eql_model.specs.Laws.{SetsHaveTheirTuples, SetsAreInOrder, JoinsArePairs, TuplesLieOnLevel, ResultsAreThere, MirrorsAgree, EdgesAreNotMedial, MedialIsNoEdge, PlacesAreToldBelow, TestsAreOpposite, QueriesAreOpposite, GroupsAreTheirValues, LabelsAreAlternatives, NumbersCompare, ZeroIsNone, TouchingSegmentsMeet, BundlesKeepTheirRows};
 
 /// The set of some tuples has those and no others.
 pub fn sets_have_their_tuples()
@@ -64,4 +64,37 @@ pub fn tests_are_opposite()
 /// `!~` with the same patterns.
 pub fn queries_are_opposite()
     ensures { QueriesAreOpposite }
+{}
+
+/// A label group finds what its values find that are written out with `|`, where no value names a group.
+pub fn groups_are_their_values()
+    ensures { GroupsAreTheirValues }
+{}
+
+/// `[A == a|b]` finds what `[A == a]` or `[A == b]` finds, so that neither the order of labels nor a label
+/// that stands twice changes what is found.
+pub fn labels_are_alternatives()
+    ensures { LabelsAreAlternatives }
+{}
+
+/// An item meets exactly one of `Num(..) < n`, `== n` and `> n`; `!=`, `>=` and `<=` are the opposites of
+/// `==`, `<` and `>`.
+pub fn numbers_compare()
+    ensures { NumbersCompare }
+{}
+
+/// An item meets `Num(..) == 0` exactly where it dominates no item of the lower level.
+pub fn zero_is_none()
+    ensures { ZeroIsNone }
+{}
+
+/// A segment that begins with the sample behind the last one of another starts in the microsecond in which
+/// that one ends.
+pub fn touching_segments_meet()
+    ensures { TouchingSegmentsMeet }
+{}
+
+/// A bundle that is put in or taken out changes no row of the others, nor their order.
+pub fn bundles_keep_their_rows()
+    ensures { BundlesKeepTheirRows }
 {}

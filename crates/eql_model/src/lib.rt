@@ -25,16 +25,18 @@ pub use answer::{answer_plain, match_plain, spans_of, spans_of_row};
 pub use conjunction::single;
 pub use faults::MatchFault;
 pub use gathered::Gathered;
-pub use joins::bits_cover;
+pub use joins::{bit_at, bits_cover};
 pub use labels::label_of;
 pub use laws::{
-    edges_are_not_medial, joins_are_pairs, medial_is_no_edge, mirrors_agree, places_are_told_below,
-    queries_are_opposite, results_are_there, sets_are_in_order, sets_have_their_tuples,
-    tests_are_opposite, tuples_lie_on_level,
+    bundles_keep_their_rows, edges_are_not_medial, groups_are_their_values, joins_are_pairs,
+    labels_are_alternatives, medial_is_no_edge, mirrors_agree, numbers_compare,
+    places_are_told_below, queries_are_opposite, results_are_there, sets_are_in_order,
+    sets_have_their_tuples, tests_are_opposite, touching_segments_meet, tuples_lie_on_level,
+    zero_is_none,
 };
 pub use positions::row_counts;
 pub use results::shown_once;
 pub use row::{Row, SegmentList};
-pub use rows::rows_of;
+pub use rows::{rows_at, rows_of};
 pub use terms::items_at;
 pub use tuple::{Span, Spans, Tuple, Tuples};

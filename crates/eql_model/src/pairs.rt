@@ -2,9 +2,9 @@
 ghost use Rattle.std.specs.Prelude.{◌≡◌, ◌<◌, length, IfOk};
 ghost use Rattle.bundle_state.specs.Built.{FitsConfig};
 ghost use Rattle.hier_closure.specs.Dominance.{ids_at};
-ghost use Rattle.eql_model.specs.Sets.{GivesSet};
+ghost use Rattle.eql_model.specs.Inner.Sets.{GivesSet};
 ghost use Rattle.eql_model.specs.Tuples.{both, follows, joined, left_with, one_covers};
-ghost use Rattle.eql_model.specs.Joins.{both_ways};
+ghost use Rattle.eql_model.specs.Inner.Joins.{both_ways};
 ghost use Rattle.eql_model.specs.Meaning.{LieOn};
 
 use crate::faults::MatchFault;

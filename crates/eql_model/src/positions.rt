@@ -3,13 +3,12 @@
 ghost use Rattle.std.specs.Prelude.{◌≡◌, ◌<◌, All, length, map, IfOk, get_or, not};
 ghost use Rattle.std.specs.List.{items_where_true, list_any, range_with_len};
 ghost use Rattle.level_items.specs.Levels.{ids_of};
-ghost use Rattle.eql_model.specs.Flags.{flag_at};
+ghost use Rattle.eql_model.specs.Inner.Flags.{flag_at};
 ghost use Rattle.eql_model.specs.Positions.{is_first, is_last, stands, compares};
-ghost use Rattle.eql_model.specs.Bits.{row_stands, rows_place, row_counts};
+ghost use Rattle.eql_model.specs.Inner.Bits.{row_stands, rows_place, row_counts};
 
 use crate::flags::Flags;
-use emu_lists::Series;
-use emu_names::Memory;
+use emu_names::{Memory, Series};
 use eql_syntax::{Compare, Place};
 use hier_closure::Closure;
 use lane_bits::BitRow;

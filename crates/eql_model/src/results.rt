@@ -2,15 +2,16 @@
 ghost use Rattle.std.specs.Prelude.{◌≡◌, ◌<◌, ◌≤◌, ◌^◌, length, true, false, map, Err, IfOk, OnOk};
 ghost use Rattle.emu_names.specs.declared.limits.TheConstants.{BUNDLE_ITEMS};
 ghost use Rattle.std.specs.List.{flat_map};
-ghost use Rattle.eql_model.specs.Sets.{GivesSet, each_once, is_over, put_all};
-ghost use Rattle.eql_model.specs.Results.{bare, row_spans, shown, span_at};
+ghost use Rattle.eql_model.specs.Sets.{each_once, is_over, put_all};
+ghost use Rattle.eql_model.specs.Inner.Sets.{GivesSet};
+ghost use Rattle.eql_model.specs.Results.{bare, shown, span_at};
+ghost use Rattle.eql_model.specs.Inner.Results.{row_spans};
 
 use crate::faults::MatchFault;
 use crate::gathered::Gathered;
 use crate::tuple::{Span, Spans, Tuple, Tuples};
 use db_config::AttributePlace;
-use emu_lists::Series;
-use emu_names::Memory;
+use emu_names::{Memory, Series};
 use lane_bits::BitRow;
 use std::alloc::Global;
 

@@ -1,8 +1,7 @@
 //! Segment lists, the answers to queries.
 ghost use Rattle.std.specs.Prelude.{◌≡◌, IfOk};
 
-use emu_lists::{PlainData, Series};
-use emu_names::{ItemId, Memory, Text};
+use emu_names::{ItemId, Memory, PlainData, Series, Text};
 use std::alloc::Global;
 
 /// A row of a segment list (EMU-SDMS Manual, "The EMU Query Language (EQL)": segment lists).

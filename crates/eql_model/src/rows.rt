@@ -2,10 +2,10 @@
 ghost use Rattle.std.specs.Prelude.{◌≡◌, ◌<◌, ◌++◌, length, map, IfOk, IfSome, OnOk, option_map, string_bytes};
 ghost use Rattle.bundle_state.specs.Built.{FitsConfig};
 ghost use Rattle.eql_resolve.specs.Asked.{result_level};
-ghost use Rattle.eql_resolve.specs.Sound.{IsResolvedBy};
-ghost use Rattle.eql_model.specs.Meaning.{items_at};
+ghost use Rattle.eql_resolve.specs.Inner.Sound.{IsResolvedBy, IsTimeLevel};
+ghost use Rattle.level_items.specs.Levels.{items_at};
 ghost use Rattle.eql_model.specs.Results.{AreThere, IsSpanIn, IsStretchIn};
-ghost use Rattle.eql_model.specs.Below.{IsBelow};
+ghost use Rattle.eql_model.specs.Inner.Below.{IsBelow};
 ghost use Rattle.eql_model.specs.Rows.{attribute_name, id_at, items_of, joined_labels, kind_of, level_name, row_of};
 
 use crate::labels::label_of;
@@ -15,8 +15,7 @@ use crate::times::{Below, below_of, samples_of, times_of};
 use crate::tuple::Span;
 use bundle_state::Bundle;
 use db_config::Config;
-use emu_lists::Series;
-use emu_names::{ItemId, LevelKind, Memory, Text};
+use emu_names::{ItemId, LevelKind, Memory, Series, Text};
 use eql_resolve::Asked;
 use level_items::Item;
 use std::alloc::Global;
@@ -164,6 +163,31 @@ fn rows_below(
     Ok(rows)
 }
 
+/// The rows of some results on a level, in their order. The only refusal is want of memory.
+///
+/// The bundle has the configuration's levels and link definitions, and each result lies on the level. On an
+/// ITEM level the rows have their times from the SEGMENT level `time`, where there is one.
+pub fn rows_at(
+    alloc: Global,
+    config: &Config,
+    bundle: &Bundle,
+    level: usize,
+    time: Option<usize>,
+    spans: &[Span],
+) -> Result<SegmentList, Memory>
+    requires fits { FitsConfig config.now bundle.now }
+    requires level { level < length config.now.levels }
+    requires time { IfSome time (IsTimeLevel config.now) }
+    requires spans { AreThere config.now bundle.now level spans.now }
+    ensures { IfOk result (λ rows. rows ≡ map (row_of config.now bundle.now time) spans.now) }
+{
+    if spans.is_empty() {
+        return Ok(Series::new(alloc));
+    }
+    let below = below_of(alloc, config, bundle, level, time)?;
+    rows_below(alloc, config, bundle, &below, level, spans)
+}
+
 /// The rows of results of a query in a bundle, in their order. The only refusal is want of memory.
 ///
 /// The query was resolved by the configuration, whose levels and link definitions the bundle has, and
@@ -181,7 +205,6 @@ pub fn rows_of(
     ensures { IfOk result (λ rows. rows
         ≡ map (row_of config.now bundle.now asked.now.time) spans.now) }
 {
-    let level = asked.query().shown_place().level;
-    let below = below_of(alloc, config, bundle, level, asked.time())?;
-    rows_below(alloc, config, bundle, &below, level, spans)
+    let level = asked.query().result_level();
+    rows_at(alloc, config, bundle, level, asked.time(), spans)
 }

@@ -6,10 +6,11 @@ ghost use Rattle.bundle_state.specs.Built.{FitsConfig};
 ghost use Rattle.hier_closure.specs.Dominance.{ids_at};
 ghost use Rattle.eql_resolve.specs.Asked.{term_level};
 ghost use Rattle.eql_resolve.specs.Sound.{IsTermOf};
-ghost use Rattle.eql_resolve.specs.View.{term_in, op_in, labels_in};
-ghost use Rattle.eql_model.specs.Labels.{label_of, passes};
+ghost use Rattle.eql_resolve.specs.Inner.View.{term_in, op_in, labels_in};
+ghost use Rattle.eql_model.specs.Labels.{passes};
+ghost use Rattle.level_items.specs.Levels.{label_of, items_at};
 ghost use Rattle.eql_model.specs.Positions.{has_place, has_number};
-ghost use Rattle.eql_model.specs.Meaning.{items_at, meets};
+ghost use Rattle.eql_model.specs.Meaning.{meets};
 
 use crate::flags::Flags;
 use crate::labels::{label_flags, match_flags};

@@ -2,9 +2,9 @@
 ghost use Rattle.std.specs.Prelude.{◌≡◌, ◌<◌, ◌≤◌, ◌^◌, All, length, true, IfOk, IfSome, Some, option_map, if◌then◌else◌};
 ghost use Rattle.level_items.specs.Times.{ends_in_time, last_sample};
 ghost use Rattle.bundle_state.specs.Built.{FitsConfig};
-ghost use Rattle.eql_model.specs.Meaning.{items_at};
+ghost use Rattle.level_items.specs.Levels.{items_at};
 ghost use Rattle.eql_model.specs.Rows.{items_below, items_of, extent, end_to_end, samples_of, start_of, end_of};
-ghost use Rattle.eql_model.specs.Below.{widened, IsBelow, below_of, AreInTime};
+ghost use Rattle.eql_model.specs.Inner.Below.{widened, IsBelow, below_of, AreInTime};
 ghost use Rattle.eql_model.specs.Results.{IsStretchIn};
 
 use crate::joins::is_under;

@@ -1,8 +1,7 @@
 //! Tuples: what a part of a query finds in one bundle.
 ghost use Rattle.std.specs.Prelude.{◌≡◌, IfOk};
 
-use emu_lists::{PlainData, Series};
-use emu_names::Memory;
+use emu_names::{Memory, PlainData, Series};
 use std::alloc::Global;
 
 /// A stretch of items on the level of a part of a query, with the item that is marked in it, where one

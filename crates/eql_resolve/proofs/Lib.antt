@@ -2,6 +2,7 @@ pub mod Choices
 pub mod Bounds
 pub mod Kept
 pub mod Loops
+pub mod Makings
 pub mod Marks
 pub mod Steps
 pub mod TimeLevel

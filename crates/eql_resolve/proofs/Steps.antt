@@ -8,7 +8,7 @@ use Rattle.std.proofs.Math.Seq.{drop-append_seam}
 use Rattle.std.specs.Prelude.{nat_lt}
 use Rattle.std.proofs.lemmas.Bool.Decides.{nat_tests}
 use Rattle.json_view.specs.Steps.{with_front}
-use Rattle.fault_counts.specs.Count.{Rose}
+use Rattle.emu_names.specs.Count.{Rose}
 use Rattle.label_match.specs.Pattern.{are_patterns}
 use Rattle.label_match.specs.declared.faults.PatternFault.{PatternFault}
 use Rattle.label_match.specs.declared.faults.PatternFault.TheVariants as makers
@@ -17,7 +17,8 @@ use Rattle.eql_syntax.specs.declared.query.Term.{Term}
 use Rattle.eql_resolve.specs.declared.faults.AskFault.{AskFault}
 use Rattle.eql_resolve.specs.Asked.{AskedTerm}
 use Rattle.eql_resolve.specs.Prepared.{term_patterns, terms_patterns}
-use Rattle.eql_resolve.specs.Prepare.{IsPatternFault, refusal, is_no_pattern}
+use Rattle.eql_resolve.specs.Prepare.{is_no_pattern}
+use Rattle.eql_resolve.specs.Inner.Prepare.{IsPatternFault, refusal}
 use Rattle.eql_resolve.specs.Resolve.{asked_term, asked_terms}
 use Rattle.eql_resolve.specs.Sound.{IsTermOf, AreTermsOf}
 use Rattle.eql_resolve.proofs.Loops.{AreCompiled, AreAsked}

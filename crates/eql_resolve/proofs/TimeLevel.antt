@@ -1,5 +1,5 @@
 -- The level of the times is one that gives the results times.
-use Rattle.std.proofs.Common.{◌≡◌, ℕ, ◌<◌, Bool, true, false, cond, ◌&&◌, List, [], ◌∷◌, length, Option, Some, None, Ok, Err, IfSome, refl, sym, subst}
+use Rattle.std.proofs.Common.{◌≡◌, ℕ, ◌<◌, Bool, true, false, cond, ◌&&◌, List, [], ◌∷◌, length, Option, Some, None, Result, Ok, Err, IfOk, IfSome, refl, sym, subst}
 use Rattle.std.specs.List.{slice_get, filter, range_with_len}
 use Rattle.std.specs.Option.{option_map, option_map_or}
 use Rattle.std.proofs.lemmas.Option.{slice_get_within}
@@ -12,7 +12,8 @@ use Rattle.eql_resolve.specs.declared.faults.AskFault.{AskFault}
 use Rattle.eql_resolve.specs.declared.faults.AskFault.TheVariants.{BadTimeLevel}
 use Rattle.eql_resolve.specs.Asked.{AskedQuery, result_level}
 use Rattle.eql_resolve.specs.Resolve.{is_item_level, is_segment_kind, is_segment_level, gives_times, segments_below, one_alone, time_level, timed}
-use Rattle.eql_resolve.specs.Sound.{IsSound, IsTimeLevel, IsTimeOf, IsResolvedBy}
+use Rattle.eql_resolve.specs.Inner.Sound.{IsSound, IsTimeLevel, IsTimeOf, IsResolvedBy}
+use Rattle.eql_resolve.specs.Inner.View.{Gives}
 use Rattle.eql_resolve.proofs.Choices.{ok_if}
 
 both_of : (a b : Bool) → (a && b) ≡ true → (a ≡ true) × (b ≡ true)
@@ -65,6 +66,18 @@ time_sound c level (Some name) t is =
     let made = ok_if (is_item_level c level && option_map_or (gives_times c level) (level_named name c.levels) false) (level_named name c.levels) t BadTimeLevel is in
     named_if c level (level_named name c.levels) t (both_of (is_item_level c level) _ made.0) made.1
 time_sound c level None t is = unnamed_if c level (is_item_level c level) t refl is
+
+-- the same of an answer
+pub time_below : (c : ConfigParts) (level : ℕ) (time : Option (List ℕ)) (r : Result (Option ℕ) AskFault) →
+    Gives (λ t. t) r (time_level c level time) → IfOk r (λ t. IfSome t (IsTimeOf c level))
+time_below c level time (Ok t) given = time_sound c level time t given
+time_below c level time (Err e) given = tt
+
+-- the one SEGMENT level below an ITEM level
+pub alone_below : (c : ConfigParts) (level : ℕ) (r : Result (Option ℕ) AskFault) → is_item_level c level ≡ true →
+    Gives (λ t. t) r (one_alone (segments_below c level)) → IfOk r (λ t. IfSome t (IsTimeOf c level))
+alone_below c level (Ok t) item given = alone_if c level (segments_below c level) t item refl given
+alone_below c level (Err e) item given = tt
 
 -- ---- the query with its level of times
 

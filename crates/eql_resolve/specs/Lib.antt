@@ -2,7 +2,7 @@ pub mod Asked
 pub mod Prepared
 pub mod Resolve
 pub mod Sound
-pub mod Codes
-pub mod View
 pub mod Prepare
+pub mod Made
 pub mod Laws
+pub mod Inner

@@ -158,3 +158,7 @@ timed c query time = do
 -- what a query asks of a database, with the name of a level for the times where one is given
 unfoldable pub asked : ConfigParts → Tree → Option (List ℕ) → Result AskedParts AskFault
 asked c q time = asked_query c q >>= λ query. timed c query time
+
+-- the same without a level that gives its results their times
+unfoldable pub untimed : ConfigParts → Tree → Result AskedParts AskFault
+untimed c q = asked_query c q >>= λ query. Ok (record { query = query; time = None })

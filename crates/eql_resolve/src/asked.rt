@@ -1,7 +1,9 @@
 //! A query with its names replaced by levels and attributes.
-ghost use Rattle.std.specs.Prelude.{◌≡◌, map};
+ghost use Rattle.std.specs.Prelude.{◌≡◌, map, IfSome};
+ghost use Rattle.db_config.specs.declared.parts.ConfigParts.{ConfigParts};
 ghost use Rattle.eql_resolve.specs.Asked.{is_marked_term, term_place, first_of, marked_of, first_place, level_of, mark_place, is_marked, shown_place, result_level};
-ghost use Rattle.eql_resolve.specs.View.{term_in, query_in};
+ghost use Rattle.eql_resolve.specs.Inner.Sound.{IsResolvedBy, IsTimeLevel};
+ghost use Rattle.eql_resolve.specs.Inner.View.{term_in, query_in};
 
 use db_config::AttributePlace;
 use emu_names::Text;
@@ -178,8 +180,8 @@ pub struct Asked<'a> {
 
 impl<'a> Model for Asked<'a> {
     ghost use Rattle.eql_resolve.specs.Asked.{AskedParts};
-    ghost use Rattle.eql_resolve.specs.Codes.{asked_code};
-    ghost use Rattle.eql_resolve.specs.View.{query_in};
+    ghost use Rattle.eql_resolve.specs.Inner.Codes.{asked_code};
+    ghost use Rattle.eql_resolve.specs.Inner.View.{query_in};
 
     ghost Value = { AskedParts };
 
@@ -194,6 +196,19 @@ impl<'a> Asked<'a> {
         ensures { result ≡ record { query = query_in query.entry; time = time } }
     {
         Asked { query, time }
+    }
+
+    /// The same query, with its results' times from this level. It stays resolved by a configuration of
+    /// which that is a SEGMENT level, as one that `time_level` gave is.
+    pub fn with_time(self, time: Option<usize>) -> Asked<'a>
+        ensures parts { result ≡ record { query = self.entry.query; time = time } }
+        ensures sound { (c : ConfigParts) → IsResolvedBy c self.entry
+            → IfSome time (IsTimeLevel c) → IsResolvedBy c result }
+    {
+        Asked {
+            query: self.query,
+            time,
+        }
     }
 
     /// The query with its names replaced.

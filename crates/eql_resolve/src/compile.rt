@@ -3,9 +3,9 @@ ghost use Rattle.std.specs.Prelude.{◌≡◌, ◌≤◌, ◌++◌, true, IfOk, 
 ghost use Rattle.std.specs.List.{list_all};
 ghost use Rattle.emu_names.specs.declared.limits.TheConstants.{QUERY_BYTES};
 ghost use Rattle.label_match.specs.Pattern.{are_patterns};
-ghost use Rattle.eql_syntax.specs.Tree.{tree_of};
+ghost use Rattle.eql_syntax.specs.Inner.Tree.{tree_of};
 ghost use Rattle.eql_resolve.specs.Prepared.{patterns_under, term_patterns, terms_patterns, patterns_of};
-ghost use Rattle.eql_resolve.specs.Prepare.{IsPatternFault, refusal};
+ghost use Rattle.eql_resolve.specs.Inner.Prepare.{IsPatternFault, refusal};
 
 use crate::faults::PrepareFault;
 use emu_names::{Memory, Text};

@@ -1,6 +1,6 @@
 //! How many patterns a query has.
 ghost use Rattle.std.specs.Prelude.{◌≡◌, ◌<◌, ◌^◌, length};
-ghost use Rattle.eql_syntax.specs.Tree.{tree_of};
+ghost use Rattle.eql_syntax.specs.Inner.Tree.{tree_of};
 ghost use Rattle.eql_resolve.specs.Prepared.{patterns_under, term_patterns, terms_patterns, patterns_of};
 
 use eql_syntax::{Op, Query, Term, Words};

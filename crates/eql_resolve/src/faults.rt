@@ -12,13 +12,13 @@ pub enum PrepareFault {
     /// The text is no query.
     #[error("{0}")]
     Query(QueryFault),
-    /// The text of this pattern is no regular expression, or is nested too deep.
+    /// Rule 30: the text of this pattern is no regular expression, or is nested too deep.
     #[error("pattern {0} is no regular expression")]
     BadPattern(u32),
-    /// This pattern is too large once it is compiled.
+    /// Rule 31: this pattern is too large once it is compiled.
     #[error("pattern {0} is too large")]
     PatternTooLarge(u32),
-    /// Memory ran out.
+    /// Rule 44: memory ran out.
     #[error("out of memory")]
     Memory,
 }
@@ -57,25 +57,25 @@ impl<T: Drop> From<AllocFailed<T>> for PrepareFault {
 /// Why a database cannot be asked a query.
 #[derive(Debug, Drop, Error)]
 pub enum AskFault {
-    /// No attribute and no level has this name.
+    /// Rule 32: no attribute and no level has this name.
     #[error("there is no level or attribute {0}")]
     UnknownName(Text),
-    /// The conditions of a conjunction are on more than one level.
+    /// Rule 33: the conditions of a conjunction are on more than one level.
     #[error("the conditions are on two levels")]
     MixedLevels,
-    /// The two parts of a sequence are on two levels.
+    /// Rule 34: the two parts of a sequence are on two levels.
     #[error("the parts of a sequence are on two levels")]
     SequenceLevels,
-    /// No path of link definitions leads down from the one level to the other.
+    /// Rule 35: no path of link definitions leads down from the one level to the other.
     #[error("no path leads between the levels")]
     NoPath,
-    /// More than one SEGMENT level could give the results their times.
+    /// Rule 36: more than one SEGMENT level could give the results their times.
     #[error("two levels could give the times")]
     AmbiguousTime,
-    /// The level that was named for the times cannot give them.
+    /// Rule 37: the level that was named for the times cannot give them.
     #[error("the level cannot give the times")]
     BadTimeLevel,
-    /// Memory ran out.
+    /// Rule 44: memory ran out.
     #[error("out of memory")]
     Memory,
 }

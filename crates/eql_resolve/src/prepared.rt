@@ -1,16 +1,20 @@
 //! A query whose patterns are compiled.
 ghost use Rattle.std.specs.Prelude.{◌≡◌, ◌≤◌, true, length, IfOk, IfErr, OnOk};
+ghost use Rattle.emu_names.specs.Count.{RoseBy};
 ghost use Rattle.emu_names.specs.declared.limits.TheConstants.{QUERY_BYTES};
 ghost use Rattle.std.specs.List.{list_all};
 ghost use Rattle.label_match.specs.Pattern.{are_patterns};
 ghost use Rattle.eql_syntax.specs.declared.query.QueryFault.{QueryFault};
-ghost use Rattle.eql_syntax.specs.Tree.{Tree, tree_of};
+ghost use Rattle.eql_syntax.specs.Tree.{Tree};
+ghost use Rattle.eql_syntax.specs.Inner.Tree.{tree_of};
 ghost use Rattle.eql_syntax.specs.Answer.{IsQuery, IsFault};
 ghost use Rattle.eql_resolve.specs.Prepared.{patterns_of};
-ghost use Rattle.eql_resolve.specs.Prepare.{IsPatternFault, IsPrepareFault, PreparesQuery, PreparesFault};
+ghost use Rattle.eql_resolve.specs.Made.{IsMade, times_too_large};
+ghost use Rattle.eql_resolve.specs.Inner.Prepare.{IsPatternFault, Prepares, PreparesQuery, PreparesFault};
 
 use crate::compile::compile_query;
 use crate::faults::PrepareFault;
+use emu_names::Memory;
 use eql_syntax::{Query, QueryFault, read_query};
 use label_match::{Pattern, PatternMaker};
 use std::alloc::Global;
@@ -26,9 +30,9 @@ pub struct Prepared {
 
 impl Model for Prepared {
     ghost use Rattle.std.specs.Prelude.{◌≡◌};
-    ghost use Rattle.eql_syntax.specs.Tree.{tree_of};
+    ghost use Rattle.eql_syntax.specs.Inner.Tree.{tree_of};
     ghost use Rattle.eql_resolve.specs.Prepared.{PreparedParts, patterns_of};
-    ghost use Rattle.eql_resolve.specs.Codes.{prepared_code};
+    ghost use Rattle.eql_resolve.specs.Inner.Codes.{prepared_code};
 
     ghost Value = { PreparedParts };
 
@@ -81,15 +85,14 @@ fn with_patterns<P: PatternMaker>(
 /// The fault of the text comes first, else that of the first pattern which the maker refuses:
 /// `BadPattern` is the first that is no pattern of labels, `PatternTooLarge` comes only where the
 /// maker's refusals rose in this call.
+#[tactic(auto, using(crate::proofs::Makings::prepares, crate::proofs::Makings::rose_for))]
 pub fn prepare<P: PatternMaker>(
     alloc: Global,
     maker: &mut P,
     text: &str,
 ) -> Result<Prepared, PrepareFault>
-    ensures query { IfOk result (λ prepared. IsQuery text.now prepared.query) }
-    ensures read { IfOk result (λ prepared. list_all are_patterns prepared.patterns ≡ true) }
-    ensures fault { IfErr result
-        (IsPrepareFault text.now (P.refusals maker.old) (P.refusals maker.new)) }
+    ensures made { Prepares text.now result }
+    ensures rose { RoseBy (times_too_large result) (P.refusals maker.old) (P.refusals maker.new) }
     ensures only { (q : Tree) → IsQuery text.now q
         → PreparesQuery q (P.refusals maker.old) (P.refusals maker.new) result }
     ensures told { (fault : QueryFault) → IsFault text.now fault → PreparesFault fault result }
@@ -99,5 +102,24 @@ pub fn prepare<P: PatternMaker>(
         Ok(query) => with_patterns(alloc, maker, query),
         Err(QueryFault::Memory) => Err(PrepareFault::Memory),
         Err(fault) => Err(PrepareFault::Query(fault)),
+    }
+}
+
+/// What is made of a text: its query with its patterns compiled, or the fault of the text or of a
+/// pattern, as `prepare` tells them. The only refusal is want of memory, which is no fault of the text.
+pub fn made_of<P: PatternMaker>(
+    alloc: Global,
+    maker: &mut P,
+    text: &str,
+) -> Result<Result<Prepared, PrepareFault>, Memory>
+    ensures made { IfOk result (λ made. IsMade text.now made) }
+    ensures rose { IfOk result (λ made. RoseBy (times_too_large made)
+        (P.refusals maker.old) (P.refusals maker.new)) }
+    ensures later { P.refusals maker.old ≤ P.refusals maker.new }
+{
+    match prepare(alloc, maker, text) {
+        Ok(prepared) => Ok(Ok(prepared)),
+        Err(PrepareFault::Memory) => Err(Memory),
+        Err(fault) => Ok(Err(fault)),
     }
 }

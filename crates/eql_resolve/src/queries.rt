@@ -1,12 +1,12 @@
 //! The conjunctions, sequences and dominances of a query, whose levels have to agree.
 ghost use Rattle.std.specs.Prelude.{◌≡◌, ◌<◌, length, map, IfOk};
 ghost use Rattle.std.specs.List.{list_all};
-ghost use Rattle.eql_syntax.specs.Tree.{tree_of};
+ghost use Rattle.eql_syntax.specs.Inner.Tree.{tree_of};
 ghost use Rattle.eql_resolve.specs.Asked.{is_on, level_of};
 ghost use Rattle.eql_resolve.specs.Prepared.{patterns_of};
 ghost use Rattle.eql_resolve.specs.Resolve.{are_alike, conjunction_of, sequence_of, are_joined, dominance_of, asked_query};
-ghost use Rattle.eql_resolve.specs.Sound.{IsSound};
-ghost use Rattle.eql_resolve.specs.View.{Gives, term_in, query_in};
+ghost use Rattle.eql_resolve.specs.Inner.Sound.{IsSound};
+ghost use Rattle.eql_resolve.specs.Inner.View.{Gives, term_in, query_in};
 
 use crate::asked::{AskedQuery, AskedTerm};
 use crate::counts::query_count;
@@ -67,7 +67,7 @@ fn sequence_of<'a>(
 }
 
 /// Whether one of the two levels is above the other.
-fn are_joined(config: &Config, left: usize, right: usize) -> bool
+pub fn are_joined(config: &Config, left: usize, right: usize) -> bool
     requires left { left < length config.now.levels }
     requires right { right < length config.now.levels }
     ensures { result ≡ are_joined config.now left right }

@@ -2,9 +2,9 @@
 ghost use Rattle.std.specs.Prelude.{IfOk, IfSome};
 ghost use Rattle.std.specs.Option.{option_copied};
 ghost use Rattle.eql_resolve.specs.Asked.{result_level};
-ghost use Rattle.eql_resolve.specs.Resolve.{timed, asked};
-ghost use Rattle.eql_resolve.specs.Sound.{IsSound, IsResolvedBy, IsTimeOf};
-ghost use Rattle.eql_resolve.specs.View.{Gives, query_in};
+ghost use Rattle.eql_resolve.specs.Resolve.{timed, asked, untimed};
+ghost use Rattle.eql_resolve.specs.Inner.Sound.{IsSound, IsResolvedBy, IsTimeOf};
+ghost use Rattle.eql_resolve.specs.Inner.View.{Gives, query_in};
 
 use crate::asked::{Asked, AskedQuery};
 use crate::faults::AskFault;
@@ -58,6 +58,23 @@ pub fn resolve<'a>(
 {
     match asked_query(alloc, config, prepared.query(), prepared.patterns()) {
         Ok(query) => timed(config, query, time),
+        Err(fault) => Err(fault),
+    }
+}
+
+/// What a prepared query asks of a database, without a level for the times of its results: the faults are
+/// those of `resolve` but for the time's.
+#[tactic(auto, unfolding(crate::specs::Resolve::untimed))]
+pub fn resolve_untimed<'a>(
+    alloc: Global,
+    config: &Config,
+    prepared: &'a Prepared,
+) -> Result<Asked<'a>, AskFault>
+    ensures asked { Gives (λ a. a) result (untimed config.now prepared.now.query) }
+    ensures sound { IfOk result (IsResolvedBy config.now) }
+{
+    match asked_query(alloc, config, prepared.query(), prepared.patterns()) {
+        Ok(query) => Ok(Asked::of(query, None)),
         Err(fault) => Err(fault),
     }
 }

@@ -5,7 +5,7 @@ ghost use Rattle.db_config.specs.Lookups.{attribute_at};
 ghost use Rattle.eql_resolve.specs.Prepared.{patterns_under, term_patterns, terms_patterns};
 ghost use Rattle.eql_resolve.specs.Resolve.{named, path_between, places_between, asked_term, asked_terms};
 ghost use Rattle.eql_resolve.specs.Sound.{IsTermOf, AreTermsOf};
-ghost use Rattle.eql_resolve.specs.View.{Gives, op_in, is_found, labels_in, term_in};
+ghost use Rattle.eql_resolve.specs.Inner.View.{Gives, op_in, is_found, labels_in, term_in};
 
 use crate::asked::{AskedTerm, Wanted};
 use crate::counts::term_count;
@@ -16,8 +16,9 @@ use eql_syntax::{Op, Term};
 use label_match::Pattern;
 use std::alloc::Global;
 
-/// The attribute that a name stands for.
-fn named(alloc: Global, config: &Config, name: &Text) -> Result<AttributePlace, AskFault>
+/// The attribute that a name stands for: its own, else the first of the level of this name. `UnknownName`
+/// comes where there is neither. The only other refusal is want of memory.
+pub fn named(alloc: Global, config: &Config, name: &Text) -> Result<AttributePlace, AskFault>
     ensures named { Gives (λ p. p) result (named config.now name.now) }
     ensures there { IfOk result (λ p. IsSome (attribute_at p config.now.levels)) }
 {

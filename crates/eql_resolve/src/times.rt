@@ -2,8 +2,8 @@
 ghost use Rattle.std.specs.Prelude.{◌≡◌, ◌<◌, length, IfOk, IfSome};
 ghost use Rattle.std.specs.Option.{option_copied};
 ghost use Rattle.eql_resolve.specs.Resolve.{is_item_level, is_segment_level, gives_times, segments_below, one_alone, time_named, time_level};
-ghost use Rattle.eql_resolve.specs.Sound.{IsTimeOf};
-ghost use Rattle.eql_resolve.specs.View.{Gives};
+ghost use Rattle.eql_resolve.specs.Inner.Sound.{IsTimeOf};
+ghost use Rattle.eql_resolve.specs.Inner.View.{Gives};
 
 use crate::faults::AskFault;
 use db_config::Config;
@@ -70,14 +70,18 @@ fn time_named(config: &Config, level: usize, name: &Text) -> Result<Option<usize
     }
 }
 
-/// The level that gives results on a level their times.
-pub(crate) fn time_level(
+/// The level that gives results on a level their times, where they have them from another level. With a
+/// name, `BadTimeLevel` comes unless the level is an ITEM level and the name that of a SEGMENT level below
+/// it; without one, `AmbiguousTime` where it is an ITEM level with two or more SEGMENT levels below it.
+#[tactic(auto, using(crate::proofs::TimeLevel::time_below))]
+pub fn time_level(
     config: &Config,
     level: usize,
     time: Option<&Text>,
 ) -> Result<Option<usize>, AskFault>
     requires { level < length config.now.levels }
-    ensures { Gives (λ t. t) result (time_level config.now level (option_copied time.entry)) }
+    ensures found { Gives (λ t. t) result (time_level config.now level (option_copied time.entry)) }
+    ensures below { IfOk result (λ t. IfSome t (IsTimeOf config.now level)) }
 {
     match time {
         Some(name) => time_named(config, level, name),

@@ -16,7 +16,7 @@ use Rattle.eql_syntax.specs.declared.token.Token.TheVariants.{Close, LeftParen, 
 use Rattle.eql_syntax.specs.Tree.{Tree, Conjunction, Sequence, Dominance}
 use Rattle.eql_syntax.specs.Words.{place_of, is_count}
 use Rattle.eql_syntax.specs.Grammar.{SpellsLabels, last_label, label_or, SpellsBody, test, place, count, SpellsTerm, plain, marked, SpellsTerms, last_term, term_and, SpellsThen, conjunction, brackets, sequence, dominance, Spells, Begins}
-use Rattle.eql_syntax.specs.Machine.{Bracket, Opened, Before, Over, Function, Placing, Counting, placing_or, function_of, Spot, Beginning, Another, Marked, Named, Tested, Labelled, Parted, Called, Upper, Split, Lower, Sided, Asked, Counted, Ended, Closed, State, at, after, tested, called, placed, compared, counted, step, step_on, steps, ended_at}
+use Rattle.eql_syntax.specs.Inner.Machine.{Bracket, Opened, Before, Over, Function, Placing, Counting, placing_or, function_of, Spot, Beginning, Another, Marked, Named, Tested, Labelled, Parted, Called, Upper, Split, Lower, Sided, Asked, Counted, Ended, Closed, State, at, after, tested, called, placed, compared, counted, step, step_on, steps, ended_at}
 use Rattle.eql_syntax.proofs.Residual.{Completes, done, closed, sequel, below, Finishes, FinishesFrom, step_back}
 
 texts_same : (a b : List ℕ) → pointwise nat_eq a b ≡ true → a ≡ b

@@ -10,8 +10,8 @@ use Rattle.eql_syntax.specs.declared.token.Token.TheVariants.{Open, Hash}
 use Rattle.eql_syntax.specs.Tree.{Tree}
 use Rattle.eql_syntax.specs.Grammar.{Spells, Begins}
 use Rattle.eql_syntax.specs.Fault.{kinds, depth_step, open_from, mark_step, marked_from, fits, is_within, FaultHere, no_query, too_deep, two_marks, FirstFault}
-use Rattle.eql_syntax.specs.Machine.{Bracket, Spot, State, at, step, step_on, steps}
-use Rattle.eql_syntax.specs.Reading.{Reading, at_start, limit_at, moved, taken, query_or, closed_at, finished, reads, read}
+use Rattle.eql_syntax.specs.Inner.Machine.{Bracket, Spot, State, at, step, step_on, steps}
+use Rattle.eql_syntax.specs.Inner.Reading.{Reading, at_start, limit_at, moved, taken, query_or, closed_at, finished, reads, read}
 use Rattle.eql_syntax.proofs.Accepts.{start, steps-append, no_state, begins_from_state, spelled_from_state, state_from_spelled}
 
 -- the reading behind the tokens `done`

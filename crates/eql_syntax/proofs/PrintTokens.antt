@@ -24,7 +24,7 @@ use Rattle.eql_syntax.specs.declared.token.Token.TheVariants.{Open, Close, LeftP
 use Rattle.eql_syntax.specs.Tree.{Tree, Conjunction, Sequence, Dominance}
 use Rattle.eql_syntax.specs.Tokens.{front, symbol, symbol_or_word, quoted, quoted_len, is_unquoted, bare, word_len, ends_word, token_at, is_space, tokens_from, tokens_of}
 use Rattle.eql_syntax.specs.Fault.{kinds}
-use Rattle.eql_syntax.specs.Print.{op_text, compare_text, place_text, mark_text, bit_text, quoted_text, labels_text, names_text, term_text, query_text}
+use Rattle.eql_syntax.specs.Inner.Print.{op_text, compare_text, place_text, mark_text, bit_text, quoted_text, labels_text, names_text, term_text, query_text}
 use Rattle.eql_syntax.proofs.Numbers.{own}
 use Rattle.eql_syntax.proofs.Shapes.{IsWord, AreWords, SomeWords, IsTerm, AreTerms, IsTree}
 

@@ -6,7 +6,7 @@ use Rattle.eql_syntax.specs.Tokens.{tokens_of}
 use Rattle.eql_syntax.specs.Grammar.{Spells}
 use Rattle.eql_syntax.specs.Fault.{kinds, is_within}
 use Rattle.eql_syntax.specs.Answer.{IsQuery}
-use Rattle.eql_syntax.specs.Print.{query_text}
+use Rattle.eql_syntax.specs.Inner.Print.{query_text}
 use Rattle.eql_syntax.proofs.Shapes.{read_shape}
 use Rattle.eql_syntax.proofs.PrintTokens.{print_kinds}
 use Rattle.eql_syntax.proofs.Respells.{query_again}

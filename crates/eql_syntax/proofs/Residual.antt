@@ -12,7 +12,7 @@ use Rattle.eql_syntax.specs.declared.token.Token.TheVariants.{Open, Close, LeftP
 use Rattle.eql_syntax.specs.Tree.{Tree, Conjunction, Sequence, Dominance}
 use Rattle.eql_syntax.specs.Words.{op_of, compare_of, place_of, is_count, bit_of, number_of}
 use Rattle.eql_syntax.specs.Grammar.{SpellsLabels, last_label, label_or, SpellsBody, test, place, count, SpellsTerm, plain, marked, SpellsTerms, last_term, term_and, SpellsThen, conjunction, brackets, sequence, dominance}
-use Rattle.eql_syntax.specs.Machine.{Bracket, Opened, Before, Over, Function, Placing, Counting, placing_or, function_of, Spot, Beginning, Another, Marked, Named, Tested, Labelled, Parted, Called, Upper, Split, Lower, Sided, Asked, Counted, Ended, Closed, State, at, after, after_terms, first_of, tested, called, placed, compared, counted, step}
+use Rattle.eql_syntax.specs.Inner.Machine.{Bracket, Opened, Before, Over, Function, Placing, Counting, placing_or, function_of, Spot, Beginning, Another, Marked, Named, Tested, Labelled, Parted, Called, Upper, Split, Lower, Sided, Asked, Counted, Ended, Closed, State, at, after, after_terms, first_of, tested, called, placed, compared, counted, step}
 
 -- behind a query in the brackets, the tokens complete the whole query
 pub data Completes : List Bracket → Tree → List Token → Tree → Type 0 where

@@ -18,7 +18,7 @@ use Rattle.eql_syntax.specs.declared.token.Token.TheVariants.{Close, And, Above,
 use Rattle.eql_syntax.specs.Tree.{Tree, Conjunction, Sequence, Dominance}
 use Rattle.eql_syntax.specs.Words.{op_of, compare_of, place_of, bit_of, number_of}
 use Rattle.eql_syntax.specs.Grammar.{SpellsLabels, last_label, label_or, SpellsBody, test, place, count, SpellsTerm, plain, marked, SpellsTerms, last_term, term_and, SpellsThen, conjunction, sequence, dominance}
-use Rattle.eql_syntax.specs.Print.{place_text, bit_text}
+use Rattle.eql_syntax.specs.Inner.Print.{place_text, bit_text}
 use Rattle.eql_syntax.proofs.Numbers.{own}
 use Rattle.eql_syntax.proofs.Shapes.{SomeWords, IsTerm, AreTerms, IsTree}
 use Rattle.eql_syntax.proofs.PrintTokens.{mark_then, sign_of, compare_sign, other_labels, label_tokens, term_tokens, other_terms, query_tokens}

@@ -3,9 +3,6 @@ pub mod Tree
 pub mod Words
 pub mod Grammar
 pub mod Fault
-pub mod Machine
-pub mod Reading
-pub mod View
 pub mod Answer
-pub mod Print
 pub mod Laws
+pub mod Inner

@@ -1,6 +1,6 @@
 -- The tokens of an EQL text with the places in bytes at which they begin. (EMU-SDMS Manual, "The
 -- EMU Query Language version 2".)
-use Rattle.std.specs.Prelude.{◌≡◌, ℕ, zero, suc, ◌+◌, ◌-◌, ◌==◌, nat_lt, ◌||◌, ◌&&◌, not, Bool, true, false, List, [], ◌∷◌, length, take, if◌then◌else◌, Option, Some, None}
+use Rattle.std.specs.Prelude.{ℕ, zero, suc, ◌+◌, ◌-◌, ◌==◌, nat_lt, ◌||◌, ◌&&◌, not, Bool, true, false, List, [], ◌∷◌, length, take, if◌then◌else◌, Option, Some, None}
 use Rattle.std.specs.List.{prefix_len}
 use Rattle.eql_syntax.specs.declared.token.Sign.TheVariants as signs
 use Rattle.eql_syntax.specs.declared.token.Placed.{Placed}
@@ -101,7 +101,3 @@ tokens_from (b ∷ bs) zero place =
 -- the tokens of a text
 unfoldable pub tokens_of : List ℕ → List Placed
 tokens_of text = tokens_from text 0 0
-
--- the token that was found, with its length, is the one that there is
-abbrev pub IsToken : Token × ℕ → Token → ℕ → Type 0
-IsToken there token len = there ≡ (token, len)

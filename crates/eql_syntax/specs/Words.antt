@@ -1,9 +1,9 @@
 -- What single words and signs stand for in EQL. (EMU-SDMS Manual, "The EMU Query Language version
 -- 2".)
-use Rattle.std.specs.Prelude.{ℕ, ◌||◌, ◌&&◌, Bool, true, false, List, length, if◌then◌else◌, nat_le, nat_eq, codes, Option, Some, None}
-use Rattle.std.specs.Cmp.Lexicographic.{pointwise}
+use Rattle.std.specs.Prelude.{ℕ, ◌||◌, ◌&&◌, Bool, true, false, List, length, if◌then◌else◌, nat_le, codes, Option, Some, None}
 use Rattle.std.specs.Str.{all_ascii_digits}
 use Rattle.std.specs.Str.Parse.{digits_value}
+use Rattle.emu_names.specs.Texts.{same_text}
 use Rattle.eql_syntax.specs.declared.query.Op.{Op}
 use Rattle.eql_syntax.specs.declared.query.Op.TheVariants as ops
 use Rattle.eql_syntax.specs.declared.query.Compare.{Compare}
@@ -12,10 +12,6 @@ use Rattle.eql_syntax.specs.declared.query.Place.{Place}
 use Rattle.eql_syntax.specs.declared.query.Place.TheVariants as places
 use Rattle.eql_syntax.specs.declared.token.Sign.{Sign}
 use Rattle.eql_syntax.specs.declared.token.Sign.TheVariants as signs
-
--- the two texts are the same
-abbrev pub is_text : List ℕ → List ℕ → Bool
-is_text word text = pointwise nat_eq word text
 
 -- the operator of a label test
 abbrev pub op_of : Sign → Option Op
@@ -38,20 +34,20 @@ compare_of _ = None
 -- the function that tests a place
 abbrev pub place_of : List ℕ → Option Place
 place_of word =
-    if is_text word (codes "Start") then Some places.Start
-    else (if is_text word (codes "Medial") then Some places.Medial
-    else (if is_text word (codes "End") then Some places.End else None))
+    if same_text word (codes "Start") then Some places.Start
+    else (if same_text word (codes "Medial") then Some places.Medial
+    else (if same_text word (codes "End") then Some places.End else None))
 
 -- the function that counts
 abbrev pub is_count : List ℕ → Bool
-is_count word = is_text word (codes "Num")
+is_count word = same_text word (codes "Num")
 
 -- what is wanted of a place; this list of words is this project's own
 abbrev pub bit_of : List ℕ → Option Bool
 bit_of word =
-    if is_text word (codes "1") || is_text word (codes "TRUE") || is_text word (codes "T")
+    if same_text word (codes "1") || same_text word (codes "TRUE") || same_text word (codes "T")
     then Some true
-    else (if is_text word (codes "0") || is_text word (codes "FALSE") || is_text word (codes "F")
+    else (if same_text word (codes "0") || same_text word (codes "FALSE") || same_text word (codes "F")
     then Some false else None)
 
 -- a number of 1 to 9 digits

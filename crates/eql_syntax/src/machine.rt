@@ -1,10 +1,11 @@
 //! A reader of tokens, one after another.
 ghost use Rattle.std.specs.Prelude.{◌≡◌, ℕ, [], ◌∷◌, ◌++◌, IfOk, MatchOption, None, Some};
-ghost use Rattle.eql_syntax.specs.Tree.{tree_of, Conjunction};
+ghost use Rattle.eql_syntax.specs.Tree.{Conjunction};
+ghost use Rattle.eql_syntax.specs.Inner.Tree.{tree_of};
 ghost use Rattle.eql_syntax.specs.Words.{op_of, compare_of, place_of, is_count, bit_of, number_of};
-ghost use Rattle.eql_syntax.specs.Machine.{function_of, after, after_terms, first_of, tested, called, placed, compared, counted};
-ghost use Rattle.eql_syntax.specs.Machine.{Beginning, Marked, Named, Tested, Labelled, Parted, Called, Upper, Split, Lower, Sided, Asked, Counted};
-ghost use Rattle.eql_syntax.specs.View.{function_view, bracket_view, spot_view, stack, Moves, Steps};
+ghost use Rattle.eql_syntax.specs.Inner.Machine.{function_of, after, after_terms, first_of, tested, called, placed, compared, counted};
+ghost use Rattle.eql_syntax.specs.Inner.Machine.{Beginning, Marked, Named, Tested, Labelled, Parted, Called, Upper, Split, Lower, Sided, Asked, Counted};
+ghost use Rattle.eql_syntax.specs.Inner.View.{function_view, bracket_view, spot_view, stack, Moves, Steps};
 
 use crate::query::{Compare, Op, Place, Query, Term, Terms, Words};
 use crate::token::{Sign, Token};

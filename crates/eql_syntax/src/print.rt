@@ -1,9 +1,9 @@
 //! The text of a query.
 ghost use Rattle.std.specs.Prelude.{◌≡◌, ℕ, ◌++◌, ◌≤◌, List, length, IfOk, true, false, string_bytes, codes};
 ghost use Rattle.std.specs.List.{join_by, flat_map};
-ghost use Rattle.eql_syntax.specs.Tree.{tree_of};
+ghost use Rattle.eql_syntax.specs.Inner.Tree.{tree_of};
 ghost use Rattle.eql_syntax.specs.Answer.{IsQuery};
-ghost use Rattle.eql_syntax.specs.Print.{op_text, compare_text, place_text, mark_text, bit_text, quoted_text, labels_text, names_text, term_text, query_text, Gains};
+ghost use Rattle.eql_syntax.specs.Inner.Print.{op_text, compare_text, place_text, mark_text, bit_text, quoted_text, labels_text, names_text, term_text, query_text, Gains};
 ghost use Rattle.eql_syntax.specs.Grammar.{Spells};
 ghost use Rattle.eql_syntax.specs.Tokens.{tokens_of};
 ghost use Rattle.eql_syntax.specs.Fault.{kinds};

@@ -1,6 +1,6 @@
 //! Queries as they are spelled, and why a text spells none.
 ghost use Rattle.std.specs.Prelude.{◌≡◌, ◌<◌, ◌++◌, ◌∷◌, [], length, slice_get, Some, IfOk, OnOk, OnErr};
-ghost use Rattle.eql_syntax.specs.Tree.{tree_of};
+ghost use Rattle.eql_syntax.specs.Inner.Tree.{tree_of};
 
 use emu_names::{Memory, Text};
 use std::alloc::Global;
@@ -354,19 +354,19 @@ impl Query {
 /// Why a text is no query. Places count the bytes of the text from 0.
 #[derive(Clone, Copy, Debug, PartialEq, Eq, Error)]
 pub enum QueryFault {
-    /// The text has more bytes than a query may have.
+    /// Rule 26: the text has more bytes than a query may have.
     #[error("the query is too long")]
     TextTooLong,
-    /// No query begins with the text up to and with the token at this place.
+    /// Rule 27: no query begins with the text up to and with the token at this place.
     #[error("the query has a fault at byte {0}")]
     Syntax(u32),
-    /// At this place a bracket is opened inside as many as may be open at once.
+    /// Rule 28: at this place a bracket is opened inside as many as may be open at once.
     #[error("a bracket too many is opened at byte {0}")]
     TooDeep(u32),
-    /// At this place a second mark stands.
+    /// Rule 29: at this place a second mark stands.
     #[error("a second mark stands at byte {0}")]
     TwoMarks(u32),
-    /// Memory ran out.
+    /// Rule 44: memory ran out.
     #[error("out of memory")]
     Memory,
 }

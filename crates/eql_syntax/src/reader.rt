@@ -1,12 +1,13 @@
 //! The query of a text, or its first fault.
 ghost use Rattle.std.specs.Prelude.{◌≡◌, ◌≢◌, ℕ, ◌+◌, ◌<◌, ◌≤◌, ◌^◌, true, length, IfOk, IfErr, Ok, Err};
 ghost use Rattle.eql_syntax.specs.Fault.{fits, depth_step, mark_step};
-ghost use Rattle.eql_syntax.specs.Tree.{Tree, tree_of};
+ghost use Rattle.eql_syntax.specs.Tree.{Tree};
+ghost use Rattle.eql_syntax.specs.Inner.Tree.{tree_of};
 ghost use Rattle.eql_syntax.specs.Tokens.{tokens_of};
-ghost use Rattle.eql_syntax.specs.Machine.{ended_at};
-ghost use Rattle.eql_syntax.specs.Reading.{limit_at, taken, query_or, finished, reads, read};
+ghost use Rattle.eql_syntax.specs.Inner.Machine.{ended_at};
+ghost use Rattle.eql_syntax.specs.Inner.Reading.{limit_at, taken, query_or, finished, reads, read};
 ghost use Rattle.eql_syntax.specs.Answer.{IsQuery, IsFault};
-ghost use Rattle.eql_syntax.specs.View.{spot_view, reading_view, Takes, Gives};
+ghost use Rattle.eql_syntax.specs.Inner.View.{spot_view, reading_view, Takes, Gives};
 
 use crate::lexer::read_tokens;
 use crate::machine::{Bracket, Spot, State, pop, step};
@@ -69,7 +70,7 @@ fn mark_behind(marked: bool, token: &Token) -> bool
 }
 
 /// The reading behind one token more, or the fault at it.
-#[tactic(auto, unfolding(crate::specs::Reading::taken))]
+#[tactic(auto, unfolding(crate::specs::Inner::Reading::taken))]
 fn take(alloc: Global, reading: Reading, placed: &Placed) -> Result<Reading, QueryFault>
     requires { reading.depth ≤ OPEN_BRACKETS }
     ensures value { Takes result (taken (reading_view reading) placed.now.token placed.now.at) }

@@ -3,8 +3,8 @@ ghost use Rattle.std.specs.Prelude.{◌≡◌, ℕ, MatchOption, None, Some, cod
 ghost use Rattle.std.specs.Option.{option_map};
 ghost use Rattle.std.specs.Str.{all_ascii_digits};
 ghost use Rattle.eql_syntax.specs.Words.{op_of, compare_of, place_of, is_count, bit_of, number_of};
-ghost use Rattle.eql_syntax.specs.Machine.{function_of};
-ghost use Rattle.eql_syntax.specs.View.{function_view};
+ghost use Rattle.eql_syntax.specs.Inner.Machine.{function_of};
+ghost use Rattle.eql_syntax.specs.Inner.View.{function_view};
 
 use crate::machine::Function;
 use crate::query::{Compare, Op, Place};

@@ -19,7 +19,7 @@ use Rattle.bundle_state.specs.Bundle.{BundleParts}
 use Rattle.bundle_state.specs.Built.{FitsConfig, form_of, form_asked}
 use Rattle.bundle_state.specs.Linked.{IsBetween}
 use Rattle.hier_closure.specs.Dominance.{links_to, dominates}
-use Rattle.hier_closure.specs.Ranks.{rank_of}
+use Rattle.hier_closure.specs.Inner.Ranks.{rank_of}
 use Rattle.hier_closure.proofs.Ways.{Way, or_split, or_left, or_right, pair_from, pair_to}
 use Rattle.hier_closure.proofs.Ways as ways
 

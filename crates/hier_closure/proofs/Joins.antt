@@ -20,7 +20,7 @@ use Rattle.bundle_state.proofs.IdLevels.{number_within}
 use Rattle.bundle_state.specs.Valid.{KeepsBundleRules}
 use Rattle.db_config.specs.Above.{is_above}
 use Rattle.hier_closure.specs.Dominance.{links_to, dominates, is_or_dominates, ids_at, closure_row, closure_rows, closure_of}
-use Rattle.hier_closure.specs.Ranks.{AreMadeAtItem, AreMadeBelow, AreMadeBelowItem}
+use Rattle.hier_closure.specs.Inner.Ranks.{AreMadeAtItem, AreMadeBelow, AreMadeBelowItem}
 use Rattle.hier_closure.proofs.Ways.{Child, child_of, or_left, or_right, by_first_links}
 use Rattle.hier_closure.proofs.Ids.{is_in, level_is, ids_different}
 use Rattle.hier_closure.proofs.Heights.{AreAbove, links_above, none_below}

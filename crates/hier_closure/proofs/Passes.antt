@@ -19,8 +19,8 @@ use Rattle.bundle_state.specs.Linked.{IsBetween}
 use Rattle.bundle_state.specs.Valid.{KeepsBundleRules}
 use Rattle.bundle_state.proofs.IdLevels.{number_within}
 use Rattle.hier_closure.specs.Dominance.{links_to, dominates, ids_at, closure_row, closure_of}
-use Rattle.hier_closure.specs.Ranks.{any_between}
-use Rattle.hier_closure.specs.Linked.{AreLinkedIn, linked_row, linked_of}
+use Rattle.hier_closure.specs.Inner.Ranks.{any_between}
+use Rattle.hier_closure.specs.Inner.Linked.{AreLinkedIn, linked_row, linked_of}
 use Rattle.hier_closure.specs.declared.linked.LinkedLevels.{LinkedLevels}
 use Rattle.hier_closure.proofs.Ways.{Way, pair_from, pair_to, same_truth}
 use Rattle.hier_closure.proofs.Ways as ways

@@ -12,7 +12,7 @@ use Rattle.link_graph.specs.declared.link.Link.{Link}
 use Rattle.bundle_state.specs.Bundle.{BundleParts}
 use Rattle.bundle_state.specs.Valid.{KeepsBundleRules}
 use Rattle.hier_closure.specs.Dominance.{ids_at}
-use Rattle.hier_closure.specs.Linked.{AreLinkedIn, HaveSameIdsBut, linked_of, linked_row}
+use Rattle.hier_closure.specs.Inner.Linked.{AreLinkedIn, HaveSameIdsBut, linked_of, linked_row}
 use Rattle.hier_closure.specs.declared.linked.LinkedLevels.{LinkedLevels}
 
 -- ---- lists that are compared place by place

@@ -9,7 +9,7 @@ use Rattle.db_config.specs.declared.parts.ConfigParts.{ConfigParts}
 use Rattle.db_config.specs.Above.{is_above}
 use Rattle.bundle_state.specs.Bundle.{BundleParts}
 use Rattle.bundle_state.specs.Built.{FitsConfig}
-use Rattle.hier_closure.specs.Ranks.{IsUnder, rank_of, is_between, any_between, AreMadeBelow, AreMadeTo}
+use Rattle.hier_closure.specs.Inner.Ranks.{IsUnder, rank_of, is_between, any_between, AreMadeBelow, AreMadeTo}
 use Rattle.hier_closure.proofs.Heights.{above_trans, not_above_self, same_count, rank_lt, at_place}
 
 -- the rank of a level of a bundle

@@ -1,5 +1,3 @@
 pub mod Dominance
-pub mod Held
 pub mod Laws
-pub mod Linked
-pub mod Ranks
+pub mod Inner

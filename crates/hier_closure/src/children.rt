@@ -4,7 +4,7 @@ ghost use Rattle.std.specs.Simd.Lanes.{zip2};
 ghost use Rattle.bundle_state.specs.Bundle.{level_of_id, place_of};
 ghost use Rattle.bundle_state.specs.Valid.{KeepsBundleRules};
 ghost use Rattle.hier_closure.specs.Dominance.{is_or_dominates, ids_at, closure_row};
-ghost use Rattle.hier_closure.specs.Ranks.{IsUnder, AreMadeAtItem, AreMadeBelowItem};
+ghost use Rattle.hier_closure.specs.Inner.Ranks.{IsUnder, AreMadeAtItem, AreMadeBelowItem};
 
 use crate::levels::Rows;
 use bundle_state::Bundle;

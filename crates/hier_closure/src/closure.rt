@@ -3,7 +3,7 @@ ghost use Rattle.std.specs.Prelude.{◌≡◌, ◌<◌, length, slice_get, IfOk,
 ghost use Rattle.bundle_state.specs.Bundle.{BundleParts};
 ghost use Rattle.bundle_state.specs.Built.{FitsConfig};
 ghost use Rattle.hier_closure.specs.Dominance.{closure_of};
-ghost use Rattle.hier_closure.specs.Linked.{AreLinkedIn};
+ghost use Rattle.hier_closure.specs.Inner.Linked.{AreLinkedIn};
 
 use crate::held::Held;
 use crate::levels::{Rows, level_rows, rows_between};
@@ -11,8 +11,7 @@ use crate::linked::{LinkedLevels, rows_at};
 use crate::ranks::any_between;
 use bundle_state::Bundle;
 use db_config::Config;
-use emu_lists::{PlainData, Shared};
-use emu_names::Memory;
+use emu_names::{Memory, PlainData, Shared};
 use lane_bits::BitRow;
 use std::alloc::Global;
 use std::marker::Model;
@@ -27,7 +26,7 @@ pub struct Closure {
 
 impl Model for Closure {
     ghost use Rattle.std.specs.Prelude.{List, Bool};
-    ghost use Rattle.hier_closure.specs.Held.{rows_in};
+    ghost use Rattle.hier_closure.specs.Inner.Held.{rows_in};
 
     ghost Value = { List (List Bool) };
 

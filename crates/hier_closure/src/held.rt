@@ -2,12 +2,11 @@
 ghost use Rattle.std.specs.Prelude.{◌≡◌, ◌<◌, false, length, slice_get, IfOk, Some};
 ghost use Rattle.db_config.specs.Above.{is_above};
 ghost use Rattle.hier_closure.specs.Dominance.{closure_of};
-ghost use Rattle.hier_closure.specs.Held.{rows_in};
+ghost use Rattle.hier_closure.specs.Inner.Held.{rows_in};
 
 use crate::levels::Rows;
 use bundle_state::Bundle;
-use emu_lists::{PlainData, Shared};
-use emu_names::Memory;
+use emu_names::{Memory, PlainData, Shared};
 use lane_bits::BitRow;
 use std::alloc::Global;
 

@@ -1,14 +1,13 @@
 //! The rows of the levels between two levels, from the lower one upwards.
 ghost use Rattle.std.specs.Prelude.{◌≡◌, ◌<◌, ◌+◌, length, IfOk, OnOk};
 ghost use Rattle.hier_closure.specs.Dominance.{closure_of};
-ghost use Rattle.hier_closure.specs.Ranks.{IsUnder, AreMadeBelow, AreMadeTo};
+ghost use Rattle.hier_closure.specs.Inner.Ranks.{IsUnder, AreMadeBelow, AreMadeTo};
 
 use crate::children::item_row;
 use crate::ranks::{any_between, is_between, rank_of};
 use bundle_state::Bundle;
 use db_config::Config;
-use emu_lists::Series;
-use emu_names::Memory;
+use emu_names::{Memory, Series};
 use lane_bits::BitRow;
 use std::alloc::Global;
 

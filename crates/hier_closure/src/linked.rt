@@ -4,14 +4,13 @@ ghost use Rattle.std.specs.Prelude.{◌≡◌, ◌≢◌, ◌<◌, ◌+◌, true
 ghost use Rattle.bundle_state.specs.Bundle.{BundleParts, level_of_id, place_of};
 ghost use Rattle.bundle_state.specs.Valid.{KeepsBundleRules};
 ghost use Rattle.hier_closure.specs.Dominance.{ids_at};
-ghost use Rattle.hier_closure.specs.Linked.{AreLinkedIn, linked_of};
+ghost use Rattle.hier_closure.specs.Inner.Linked.{AreLinkedIn, linked_of};
 
 use crate::children::place_near;
 use crate::closure::Closure;
 use crate::levels::Rows;
 use bundle_state::Bundle;
-use emu_lists::{PlainData, Series};
-use emu_names::{ItemId, Memory};
+use emu_names::{ItemId, Memory, PlainData, Series};
 use lane_bits::BitRow;
 use link_graph::Link;
 use std::alloc::Global;

@@ -1,7 +1,7 @@
 //! Which levels lie between two levels, and the rank of a level: a level comes behind all those that are
 //! below it.
 ghost use Rattle.std.specs.Prelude.{◌≡◌, ◌<◌, length};
-ghost use Rattle.hier_closure.specs.Ranks.{any_between, is_between, rank_of};
+ghost use Rattle.hier_closure.specs.Inner.Ranks.{any_between, is_between, rank_of};
 
 use db_config::Config;
 

@@ -3,12 +3,11 @@
 ghost use Rattle.std.specs.Prelude.{◌≡◌, true, IfOk};
 ghost use Rattle.level_items.specs.Levels.{ids_of};
 ghost use Rattle.hier_closure.specs.Dominance.{ids_at};
-ghost use Rattle.hier_closure.specs.Linked.{AreLinkedIn, HaveSameIdsBut};
+ghost use Rattle.hier_closure.specs.Inner.Linked.{AreLinkedIn, HaveSameIdsBut};
 
 use crate::linked::{LinkedLevels, linked_levels};
 use bundle_state::Bundle;
-use emu_lists::{PlainData, Series};
-use emu_names::Memory;
+use emu_names::{Memory, PlainData, Series};
 use level_items::Item;
 use link_graph::Links;
 use std::alloc::Global;

@@ -8,7 +8,8 @@ use Rattle.serde_json.specs.Data.{Data}
 use Rattle.json_view.specs.declared.faults.Shape.{Shape}
 use Rattle.json_view.specs.declared.faults.ViewFault.{ViewFault}
 use Rattle.json_view.specs.declared.faults.ViewFault.TheVariants as fault
-use Rattle.json_view.specs.Lists.{each_from, each_of, element_of}
+use Rattle.json_view.specs.Lists.{each_from, each_of}
+use Rattle.json_view.specs.Inner.Lists.{element_of}
 use Rattle.json_view.specs.Parts.{elements_at, list_in}
 use Rattle.json_view.specs.Paths.{element_path}
 use Rattle.json_view.specs.Seen.{Seen, seen}

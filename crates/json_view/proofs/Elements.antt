@@ -7,7 +7,7 @@ use Rattle.serde_json.specs.Data.{Data, null, boolean, number, string, array, ob
 use Rattle.serde_json.specs.Find.{as_array}
 use Rattle.serde_json.specs.View.{view, items_of, items_view}
 use Rattle.serde_json.specs.declared.value.Value.{Value}
-use Rattle.json_view.specs.Lists.{element_of}
+use Rattle.json_view.specs.Inner.Lists.{element_of}
 use Rattle.json_view.specs.Parts.{elements, list_in}
 use Rattle.json_view.specs.Paths.{element_path}
 use Rattle.json_view.specs.Seen.{Seen, seen}

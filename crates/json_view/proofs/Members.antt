@@ -5,7 +5,8 @@ use Rattle.serde_json.specs.Data.{Data}
 use Rattle.serde_json.specs.Find.{as_str}
 use Rattle.json_view.specs.declared.faults.Shape.{Shape}
 use Rattle.json_view.specs.declared.wants.Wanted.{Wanted}
-use Rattle.json_view.specs.Parts.{at_most, member_of, present, shape, text_as, text_member_as, whole_as, whole_in, whole_member_as}
+use Rattle.json_view.specs.Parts.{at_most, member_of, present, shape, whole_in}
+use Rattle.json_view.specs.Inner.Parts.{text_as, text_member_as, whole_as, whole_member_as}
 use Rattle.json_view.specs.Paths.{member_path}
 use Rattle.json_view.specs.Seen.{Seen, seen}
 use Rattle.json_view.specs.Steps.{◌>>=◌}

@@ -4,5 +4,5 @@ pub mod Seen
 pub mod Parts
 pub mod Steps
 pub mod Lists
-pub mod Gives
 pub mod Laws
+pub mod Inner

@@ -1,6 +1,5 @@
 -- Lists of a JSON value (RFC 8259), each of whose elements is read by one reader.
-use Rattle.std.specs.Prelude.{ℕ, ◌+◌, List, [], ◌∷◌, Option, Result, Ok, option_map, drop}
-use Rattle.std.specs.List.{slice_get}
+use Rattle.std.specs.Prelude.{ℕ, ◌+◌, List, [], ◌∷◌, Result, Ok, drop}
 use Rattle.std.specs.Option.{option_map_or}
 use Rattle.serde_json.specs.Data.{Data}
 use Rattle.serde_json.specs.Find.{as_str}
@@ -9,11 +8,6 @@ use Rattle.json_view.specs.Paths.{element_path}
 use Rattle.json_view.specs.Seen.{Seen, seen}
 use Rattle.json_view.specs.Parts.{list_in, elements_at, text_at}
 use Rattle.json_view.specs.Steps.{◌>>=◌, with_front}
-
--- the element at this place, counted from 0
-unfoldable pub element_of : ℕ → Seen → Option Seen
-element_of place s =
-    option_map (λ d. seen d (element_path s.path place)) (slice_get (list_in s.value) place)
 
 -- what the reader gives of each value in turn, the first of which stands at this place of the list
 -- at the path, or the first fault

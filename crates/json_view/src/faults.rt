@@ -99,7 +99,7 @@ impl<T: Drop> From<AllocFailed<T>> for ViewFault {
 
 impl fmt::Display for ViewFault {
     ghost use Rattle.std.specs.Prelude.{Some};
-    ghost use Rattle.json_view.specs.Words.{fault_text};
+    ghost use Rattle.json_view.specs.Inner.Words.{fault_text};
 
     ghost output = { λ e. Some (fault_text e) };
 

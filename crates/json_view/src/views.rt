@@ -1,11 +1,14 @@
 //! A view of a place in a JSON value, which knows its path.
 ghost use Rattle.std.specs.Prelude.{◌≡◌, ◌≤◌, ◌<◌, ℕ, [], ◌∷◌, IfOk, IfErr, Some, length, map, option_map, string_bytes};
 ghost use Rattle.serde_json.specs.View.{view};
-ghost use Rattle.json_view.specs.Gives.{Gives, Tells};
-ghost use Rattle.json_view.specs.Lists.{each_of, element_of, texts_at};
-ghost use Rattle.json_view.specs.Parts.{elements_at, list_in, member_of, object_of, optional_of, optional_text, present, shape, text_at, text_member, text_member_as, whole_at, whole_member, whole_member_as};
+ghost use Rattle.json_view.specs.Inner.Gives.{Gives, Tells};
+ghost use Rattle.json_view.specs.Lists.{each_of, texts_at};
+ghost use Rattle.json_view.specs.Inner.Lists.{element_of};
+ghost use Rattle.json_view.specs.Parts.{elements_at, list_in, member_of, object_of, optional_of, present, shape, text_at, whole_at};
+ghost use Rattle.json_view.specs.Inner.Parts.{optional_text, text_member, text_member_as, whole_member, whole_member_as};
 ghost use Rattle.json_view.specs.Paths.{root_path, member_path, element_path};
-ghost use Rattle.json_view.specs.Seen.{seen, seen_at};
+ghost use Rattle.json_view.specs.Seen.{seen};
+ghost use Rattle.json_view.specs.Inner.Seen.{seen_at};
 
 use crate::faults::{PathText, Shape, ViewFault};
 use crate::text_views::TextViews;
@@ -162,7 +165,7 @@ impl<'a> View<'a> {
 // The parts of members, each read without a view of the member: only a fault has a path made for it.
 impl<'a> View<'a> {
     /// The text of the member of this name: what `member` and then `text` give.
-    #[tactic(auto, unfolding(crate::specs::Parts::text_at, crate::specs::Parts::text_as))]
+    #[tactic(auto, unfolding(crate::specs::Parts::text_at, crate::specs::Inner::Parts::text_as))]
     pub fn text_member(&self, name: &str) -> Result<&'a str, ViewFault>
         ensures { Gives (λ t. t.now) result (text_member name.now (seen_at self.now)) }
     {
@@ -171,7 +174,7 @@ impl<'a> View<'a> {
 
     /// The text of the member of this name, for a reader that wants this form of it: each fault is a
     /// `Shape` with the member's path and that form.
-    #[tactic(auto, unfolding(crate::specs::Parts::member_of, crate::specs::Parts::text_as))]
+    #[tactic(auto, unfolding(crate::specs::Parts::member_of, crate::specs::Inner::Parts::text_as))]
     pub fn text_member_as(&self, name: &str, wanted: Wanted) -> Result<&'a str, ViewFault>
         ensures { Gives (λ t. t.now) result
             (text_member_as wanted name.now (seen_at self.now)) }
@@ -206,7 +209,7 @@ impl<'a> View<'a> {
 
     /// The whole number of the member of this name, from 0 to `most`: what `member` and then `whole`
     /// give.
-    #[tactic(auto, unfolding(crate::specs::Parts::whole_at, crate::specs::Parts::whole_as))]
+    #[tactic(auto, unfolding(crate::specs::Parts::whole_at, crate::specs::Inner::Parts::whole_as))]
     pub fn whole_member(&self, name: &str, most: u64) -> Result<u64, ViewFault>
         ensures number { Gives (λ n. n) result
             (whole_member name.now most (seen_at self.now)) }
@@ -217,7 +220,7 @@ impl<'a> View<'a> {
 
     /// The whole number of the member of this name, from 0 to `most`, for a reader that wants this
     /// form of it: each fault is a `Shape` with the member's path and that form.
-    #[tactic(auto, unfolding(crate::specs::Parts::member_of, crate::specs::Parts::whole_as))]
+    #[tactic(auto, unfolding(crate::specs::Parts::member_of, crate::specs::Inner::Parts::whole_as))]
     pub fn whole_member_as(&self, name: &str, most: u64, wanted: Wanted) -> Result<u64, ViewFault>
         ensures number { Gives (λ n. n) result
             (whole_member_as wanted name.now most (seen_at self.now)) }

@@ -4,11 +4,11 @@ use Rattle.std.proofs.lemmas.Bool.{le-leb, lt-leb}
 use Rattle.std.proofs.lemmas.List.{get_or_default}
 use Rattle.regex.specs.Patterns.{Re, find_str, default_config}
 use Rattle.regex.specs.Strings.{regex_pattern, regex_source, regex_config, IsReadFromSource}
-use Rattle.regex.specs.Failures.{IsRightKind}
+use Rattle.regex.specs.Failures.{IsPattern, IsRightKind}
 use Rattle.regex.specs.Names.{names_of}
 use Rattle.regex.specs.Sources.{IsRefusal}
 use Rattle.regex.specs.declared.error.Error.{Error}
-use Rattle.regex.specs.declared.error.Error.TheVariants.{Syntax}
+use Rattle.regex.specs.declared.error.Error.TheVariants.{Syntax, CompiledTooBig, Internal}
 use Rattle.regex.specs.declared.string.regex.Regex.{Regex}
 use Rattle.regex_hir.specs.Meaning.{meaning}
 use Rattle.regex_syntax.specs.declared.error.Error as parser
@@ -54,6 +54,20 @@ refused_deep source kind (inr h) other = deep (read_in source) kind h
 pub refused_syntax : (source : List ℕ) (error : Error) (e : parser.Error) → IsRefusal default_config source error →
     IsRightKind default_config source error → error ≡ Syntax e → is_shallow (read_in source) ≡ false
 refused_syntax source error e refusal kind is = refused_deep source e.kind (refusal e is) (rw is at kind)
+
+-- what the grammar reads within its limit of nesting
+by_grammar : (source : List ℕ) → IsPattern default_config source → is_shallow (read_in source) ≡ true
+unfolding Reads
+by_grammar source is = shallow (read_in source) (meaning is.0) is.1 is.2
+
+-- an error of size is that of a text that the grammar reads, and so is one of an internal check
+pub read_too_big : (source : List ℕ) (error : Error) → IsRightKind default_config source error → error ≡ CompiledTooBig →
+    is_shallow (read_in source) ≡ true
+read_too_big source error kind is = by_grammar source (rw is at kind)
+
+pub read_internal : (source : List ℕ) (error : Error) → IsRightKind default_config source error → error ≡ Internal →
+    is_shallow (read_in source) ≡ true
+read_internal source error kind is = by_grammar source (rw is at kind)
 
 -- what `Regex::new` ensures of the regular expression of a text
 module _ (r : Regex) (source : List ℕ) (is_source : regex_source r ≡ source) (is_default : regex_config r ≡ default_config) (is_read : IsReadFromSource r) where

@@ -1,3 +1,2 @@
-pub mod Kept
-pub mod Maker
 pub mod Pattern
+pub mod Inner

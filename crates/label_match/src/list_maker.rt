@@ -1,7 +1,8 @@
 //! A maker that refuses the calls that it is told to refuse.
 ghost use Rattle.std.specs.Prelude.{◌≡◌, ◌≢◌, ◌≤◌, true, false, Contains, Err, IfOk, OnOk};
 ghost use Rattle.label_match.specs.Pattern.{are_patterns};
-ghost use Rattle.fault_counts.specs.Count.{Rose, next_count};
+ghost use Rattle.emu_names.specs.Count.{Rose};
+ghost use Rattle.emu_names.specs.Inner.Count.{next_count};
 
 use crate::faults::PatternFault;
 use crate::maker::PatternMaker;
@@ -18,7 +19,7 @@ pub struct ListMaker {
 }
 
 impl Model for ListMaker {
-    ghost use Rattle.label_match.specs.Maker.{ListedMaker};
+    ghost use Rattle.label_match.specs.Inner.Maker.{ListedMaker};
 
     ghost Value = { ListedMaker };
 

@@ -1,7 +1,7 @@
 //! What makes patterns of texts.
 ghost use Rattle.std.specs.Prelude.{◌≡◌, ◌≤◌, ℕ, true, false, Err, IfOk, OnOk};
 ghost use Rattle.label_match.specs.Pattern.{are_patterns};
-ghost use Rattle.fault_counts.specs.Count.{Rose};
+ghost use Rattle.emu_names.specs.Count.{Rose};
 
 use crate::faults::PatternFault;
 use crate::pattern::Pattern;

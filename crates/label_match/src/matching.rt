@@ -17,7 +17,7 @@ pub struct Matching<'p> {
 impl<'p> Model for Matching<'p> {
     ghost use Rattle.std.specs.Prelude.{List, ℕ};
     ghost use Rattle.regex.specs.Strings.{matcher_pattern};
-    ghost use Rattle.label_match.specs.Kept.{Tells};
+    ghost use Rattle.label_match.specs.Inner.Kept.{Tells};
 
     ghost Value = { List ℕ };
 

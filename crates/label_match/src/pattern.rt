@@ -19,7 +19,7 @@ pub struct Pattern {
 
 impl Model for Pattern {
     ghost use Rattle.std.specs.Prelude.{List, ℕ, string_bytes};
-    ghost use Rattle.label_match.specs.Kept.{IsOfText};
+    ghost use Rattle.label_match.specs.Inner.Kept.{IsOfText};
 
     ghost Value = { List ℕ };
 
@@ -34,6 +34,7 @@ impl Pattern {
         ensures ok { IfOk result (λ made. made ≡ text.now) }
         ensures read { OnOk result (are_patterns text.now ≡ true) }
         ensures syntax { result ≡ Err PatternFault.Syntax → are_patterns text.now ≡ false }
+        ensures size { result ≡ Err PatternFault.Size → is_shallow (read_in text.now) ≡ true }
     {
         let _alone = regex_of(alloc, text)?;
         let set = format!(in alloc; "^(?:{text})$")?;
@@ -79,6 +80,7 @@ fn regex_of(alloc: Global, source: &str) -> Result<Regex, PatternFault>
     ensures made { IfOk result IsReadFromSource }
     ensures read { OnOk result (is_shallow (read_in source.now) ≡ true) }
     ensures syntax { result ≡ Err PatternFault.Syntax → is_shallow (read_in source.now) ≡ false }
+    ensures size { result ≡ Err PatternFault.Size → is_shallow (read_in source.now) ≡ true }
 {
     match Regex::new(alloc, source) {
         Ok(made) => Ok(made),

@@ -1,7 +1,7 @@
 //! The maker that the program uses.
 ghost use Rattle.std.specs.Prelude.{◌≡◌, ◌≢◌, ◌≤◌, true, false, Err, IfOk, OnOk};
-ghost use Rattle.label_match.specs.Pattern.{are_patterns};
-ghost use Rattle.fault_counts.specs.Count.{Rose};
+ghost use Rattle.label_match.specs.Pattern.{are_patterns, is_shallow, read_in};
+ghost use Rattle.emu_names.specs.Count.{Rose};
 
 use crate::faults::PatternFault;
 use crate::maker::PatternMaker;
@@ -49,6 +49,9 @@ impl PatternMaker for RegexMaker {
         ensures syntax { result ≡ Err PatternFault.Syntax → are_patterns text.now ≡ false }
         ensures size { result ≡ Err PatternFault.Size → Rose self.old self.new }
         ensures later { self.old ≤ self.new }
+
+        // The grammar reads the text of a pattern that is refused as too large.
+        ensures too_large { result ≡ Err PatternFault.Size → is_shallow (read_in text.now) ≡ true }
 
         // Nothing else counts as a refusal.
         ensures steady { result ≢ Err PatternFault.Size → self.new ≡ self.old }

@@ -5,7 +5,7 @@ use Rattle.std.proofs.lemmas.Simd.{zip2_splat, bitmask_splat, length-zip2}
 use lib.Lanes.{Each1, mask_l, zip2, top}
 use lib.ListN.{replicate}
 use mir.Syntax.{w64}
-use Rattle.lane_bits.specs.Row.{is_between}
+use Rattle.lane_bits.specs.Inner.Row.{is_between}
 
 -- a lane after `low` was taken off, which wraps
 abbrev less : ℕ → ℕ → ℕ

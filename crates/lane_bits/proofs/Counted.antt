@@ -12,7 +12,7 @@ use Rattle.std.proofs.lemmas.Simd.{mask_l-lt, bit_mask_l, ones-mask_l}
 use Rattle.std.specs.Int.{bit_at}
 use Rattle.std.specs.Int.RustNames.{count_ones}
 use lib.Lanes.{mask_l, sum_l}
-use Rattle.lane_bits.specs.Words.{bit_in, bits_of, Hold}
+use Rattle.lane_bits.specs.Inner.Words.{bit_in, bits_of, Hold}
 
 -- how many bits are set in the words
 abbrev pub ones : List ℕ → ℕ

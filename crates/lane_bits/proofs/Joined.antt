@@ -4,7 +4,7 @@ use Rattle.std.proofs.lemmas.Bool.{cases_lt}
 use Rattle.std.proofs.lemmas.List.{ext_get_or}
 use Rattle.std.proofs.lemmas.Simd.{length-zip2, length-chunk, get_or-chunk, get_or-put_chunk_below, get_or-put_chunk_at, get_or-put_chunk_above, get_or-zip2}
 use lib.Lanes.{zip2, put_chunk}
-use Rattle.lane_bits.specs.Words.{JoinedIn}
+use Rattle.lane_bits.specs.Inner.Words.{JoinedIn}
 
 -- eight words that a vector joined
 pub eight_joined : (op : ℕ → ℕ → ℕ) (xs ys : List ℕ) (at : ℕ) → at + 8 ≤ length xs → length xs ≡ length ys →

@@ -8,7 +8,7 @@ use Rattle.std.proofs.lemmas.Nat.Bits.{bit_at-zero}
 use Rattle.std.proofs.lemmas.Simd.{mask_l-lt, bit_mask_l}
 use lib.Lanes.{mask_l}
 use mir.Val.{bool_byte}
-use Rattle.lane_bits.specs.Words.{bit_in, AreFor, Hold}
+use Rattle.lane_bits.specs.Inner.Words.{bit_in, AreFor, Hold}
 
 mask_cat : (xs ys : List Bool) → mask_l (xs ++ ys) ≡ mask_l xs + 2 ^ length xs * mask_l ys
 mask_cat [] ys = grind arith

@@ -12,8 +12,8 @@ use Rattle.std.specs.Int.{bit_at, trailing_zeros}
 use Rattle.std.specs.Int.Bits.{bit_and}
 use lib.Lanes.{zip2}
 use mir.Syntax.{w64}
-use Rattle.lane_bits.specs.Row.{IsNext}
-use Rattle.lane_bits.specs.Words.{bit_in, bits_of, Hold, SaysMeet}
+use Rattle.lane_bits.specs.Inner.Row.{IsNext}
+use Rattle.lane_bits.specs.Inner.Words.{bit_in, bits_of, Hold, SaysMeet}
 use Rattle.lane_bits.proofs.Places.{set_within, set_there, none_there, bit_of_word, clear_word, length-bits_of}
 use Rattle.lane_bits.proofs.Rows.{and_held}
 

@@ -8,8 +8,8 @@ use Rattle.std.proofs.lemmas.Nat.Bits.{bit_at-zero, bit_at_above, bit_at-trailin
 use Rattle.std.proofs.lemmas.Option.{slice_get-get_or}
 use Rattle.std.specs.Int.{bit_at, trailing_zeros}
 use mir.Syntax.{w64}
-use Rattle.lane_bits.specs.Row.{NoneWhere, IsFirst, IsLast}
-use Rattle.lane_bits.specs.Words.{bit_in, bits_of, Hold}
+use Rattle.lane_bits.specs.Inner.Row.{NoneWhere, IsFirst, IsLast}
+use Rattle.lane_bits.specs.Inner.Words.{bit_in, bits_of, Hold}
 
 pub length-bits_of : (n : ℕ) (words : List ℕ) → length (bits_of n words) ≡ n
 length-bits_of n words = length-map-range_with_len (bit_in words) 0 n

@@ -12,8 +12,8 @@ use Rattle.std.proofs.lemmas.Simd.{length-replicate, get_or-replicate, length-zi
 use Rattle.std.specs.Int.{bit_at, div_ceil}
 use Rattle.std.specs.Int.Bits.{bit_and, bit_or}
 use lib.Lanes.{zip2}
-use Rattle.lane_bits.specs.Row.{is_between}
-use Rattle.lane_bits.specs.Words.{bit_in, bits_of, AreFor, Hold}
+use Rattle.lane_bits.specs.Inner.Row.{is_between}
+use Rattle.lane_bits.specs.Inner.Words.{bit_in, bits_of, AreFor, Hold}
 
 -- words that hold bits show them, and nothing else
 pub held_is : (words : List ℕ) (bits : List Bool) (n : ℕ) → Hold words bits → length bits ≡ n → bits_of n words ≡ bits

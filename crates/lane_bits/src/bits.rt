@@ -4,8 +4,8 @@ ghost use Rattle.std.specs.Prelude.{◌≡◌, ◌≢◌, ℕ, ◌+◌, ◌<◌,
 ghost use Rattle.std.specs.Simd.Lanes.{sum_l};
 ghost use Rattle.std.specs.Int.{bit_at};
 ghost use Rattle.std.specs.Int.RustNames.{count_ones};
-ghost use Rattle.lane_bits.specs.Row.{IsFirst, IsLast, IsNext};
-ghost use Rattle.lane_bits.specs.Words.{bits_of, Hold, SaysMeet};
+ghost use Rattle.lane_bits.specs.Inner.Row.{IsFirst, IsLast, IsNext};
+ghost use Rattle.lane_bits.specs.Inner.Words.{bits_of, Hold, SaysMeet};
 
 use std::simd::prelude::*;
 

@@ -1,8 +1,8 @@
 //! What is asked of each number of a column, in words of 64 bits.
 ghost use Rattle.std.specs.Prelude.{◌≡◌, ◌+◌, ◌<◌, ◌≤◌, ◌==◌, length, map, drop, replicate};
 ghost use Rattle.std.specs.Simd.Lanes.{mask_l};
-ghost use Rattle.lane_bits.specs.Row.{is_between};
-ghost use Rattle.lane_bits.specs.Words.{AreFor, Hold};
+ghost use Rattle.lane_bits.specs.Inner.Row.{is_between};
+ghost use Rattle.lane_bits.specs.Inner.Words.{AreFor, Hold};
 
 use crate::lanes::{eq_eight, eq_word, range_word};
 

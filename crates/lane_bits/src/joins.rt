@@ -2,7 +2,7 @@
 ghost use Rattle.std.specs.Prelude.{◌≡◌, ◌+◌, ◌≤◌, length};
 ghost use Rattle.std.specs.Int.Bits.{bit_and, bit_or};
 ghost use Rattle.std.specs.Simd.Lanes.{zip2};
-ghost use Rattle.lane_bits.specs.Words.{JoinedIn};
+ghost use Rattle.lane_bits.specs.Inner.Words.{JoinedIn};
 
 use std::simd::prelude::*;
 

@@ -1,7 +1,7 @@
 //! What a vector of 64 or 8 numbers asks of each of them, as the bits of a number.
 ghost use Rattle.std.specs.Prelude.{◌≡◌, ◌+◌, ◌*◌, ◌<◌, ◌≤◌, ◌^◌, ◌==◌, length, map, take, drop};
 ghost use Rattle.std.specs.Simd.Lanes.{mask_l};
-ghost use Rattle.lane_bits.specs.Row.{is_between};
+ghost use Rattle.lane_bits.specs.Inner.Row.{is_between};
 
 use std::simd::prelude::*;
 

@@ -2,7 +2,7 @@
 ghost use Rattle.std.specs.Prelude.{◌≡◌, ◌<◌, ◌≤◌, ◌||◌, ◌&&◌, ◌==◌, count_by, length, map, replicate, slice_get, slice_set, false, IfOk, IsOk, Some};
 ghost use Rattle.std.specs.List.{list_any};
 ghost use Rattle.std.specs.Simd.Lanes.{zip2};
-ghost use Rattle.lane_bits.specs.Row.{is_between, IsFirst, IsLast, IsNext};
+ghost use Rattle.lane_bits.specs.Inner.Row.{is_between, IsFirst, IsLast, IsNext};
 
 use crate::bits::{clear_words, count_words, first_set, last_set, next_set, share_bit, with_bit};
 use crate::columns::{eq_words, range_words};
@@ -23,7 +23,7 @@ pub struct BitRow {
 
 impl Model for BitRow {
     ghost use Rattle.std.specs.Prelude.{List, Bool};
-    ghost use Rattle.lane_bits.specs.Words.{bits_of, Hold};
+    ghost use Rattle.lane_bits.specs.Inner.Words.{bits_of, Hold};
 
     ghost Value = { List Bool };
 

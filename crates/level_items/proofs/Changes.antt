@@ -2,7 +2,7 @@
 use Rattle.std.proofs.Common.{◌≡◌, ◌⊎◌, inl, inr, ℕ, zero, suc, ◌<◌, Bool, true, false, not, ◌&&◌, ◌||◌, ◌==◌, cond, List, [], ◌∷◌, ◌++◌, length, take, drop, nat_eq, refl, sym, ap, subst, ◌∙◌, Option, Some, None, arith}
 use Rattle.std.specs.List.{list_any, list_all, slice_get, slice_set, insert, remove}
 use Rattle.std.proofs.lemmas.Bool.{and_parts, and_from, eqb-true, eq-eqb}
-use Rattle.std.proofs.lemmas.List.{append-nil, take-append-drop, length-set}
+use Rattle.std.proofs.lemmas.List.{take-append-drop, length-set}
 use Rattle.std.proofs.Math.Seq.{take-append_seam}
 use Rattle.emu_names.specs.declared.kinds.LevelKind.{LevelKind}
 use Rattle.emu_names.specs.declared.rules.Broken.{Broken}
@@ -11,10 +11,11 @@ use Rattle.level_items.specs.declared.times.Time.{Time}
 use Rattle.level_items.specs.declared.items.Item.{Item}
 use Rattle.level_items.specs.declared.marks.Marks.{Marks}
 use Rattle.level_items.specs.Times.{fits_kind, ends_in_time}
-use Rattle.level_items.specs.Levels.{level_of, KeepsLevelRule, ids_of, are_labels_for, is_short, fits_level, last_of, new_place, change_at, retimed, relabelled}
-use Rattle.level_items.specs.Faults.{or_else, time_fault, position_fault, behind_fault, neighbour_fault, append_fault, insert_fault, retime_fault}
-use Rattle.level_items.specs.Marked.{is_marked}
-use Rattle.level_items.specs.Kept.{IsKept}
+use Rattle.level_items.specs.Levels.{level_of, KeepsLevelRule, ids_of, are_labels_for, is_short, fits_level, new_place, change_at, retimed, relabelled}
+use Rattle.level_items.specs.Faults.{time_fault, position_fault, neighbour_fault, insert_fault, retime_fault}
+use Rattle.std.specs.Option.{option_or}
+use Rattle.level_items.specs.Inner.Marked.{is_marked}
+use Rattle.level_items.specs.Inner.Kept.{IsKept}
 use Rattle.level_items.proofs.Lists.{around}
 use Rattle.level_items.proofs.Rules.{or_none, order_with, order_same, rule_with, rule_without, any_id, without_id, again}
 
@@ -99,8 +100,8 @@ pub insert_rule : (kind : LevelKind) (attributes : ℕ) (items : List Item) (pos
 insert_rule kind attributes items position place x keeps free is labels =
     let at = new_place kind items position x.time in
     let first = id_free (list_any (nat_eq x.id.0) (ids_of items)) (rules.IdTaken x.id)
-    (or_else (time_fault kind x.time) (or_else (position_fault kind (length items) position) (neighbour_fault kind (take at items) x.time (drop at items)))) free in
-    let second = or_none (time_fault kind x.time) (or_else (position_fault kind (length items) position) (neighbour_fault kind (take at items) x.time (drop at items))) first.1 in
+    (option_or (time_fault kind x.time) (option_or (position_fault kind (length items) position) (neighbour_fault kind (take at items) x.time (drop at items)))) free in
+    let second = or_none (time_fault kind x.time) (option_or (position_fault kind (length items) position) (neighbour_fault kind (take at items) x.time (drop at items))) first.1 in
     let third = or_none (position_fault kind (length items) position) (neighbour_fault kind (take at items) x.time (drop at items)) second.1 in
     let time = time_free kind x.time second.0 in
     let sides = ap (λ p. neighbour_fault kind (take p items) x.time (drop p items)) is ∙ third.1 in
@@ -123,37 +124,6 @@ kept_insert kind attributes items position place x old new kept free is labels m
   rule = (insert_rule kind attributes items position place x kept.rule free is labels).1;
   marked = λ q. more q ∙ ap (λ b. nat_eq q x.id.0 || b) (kept.marked q ∙ ap (λ zs. list_any (nat_eq q) (ids_of zs)) (sym (take-append-drop place items)))
       ∙ sym (any_id q (take place items) x (drop place items));
-}
-
--- ---- an item put last
-
-pub append_rule : (kind : LevelKind) (attributes : ℕ) (items : List Item) (x : Item) →
-    KeepsLevelRule (level_of kind attributes items) →
-    append_fault kind items x ≡ None →
-    are_labels_for attributes x.labels ≡ true →
-    KeepsLevelRule (level_of kind attributes (items ++ x ∷ []))
-append_rule kind attributes items x keeps free labels =
-    let first = id_free (list_any (nat_eq x.id.0) (ids_of items)) (rules.IdTaken x.id)
-    (or_else (time_fault kind x.time) (behind_fault kind (last_of items) x.time)) free in
-    let second = or_none (time_fault kind x.time) (behind_fault kind (last_of items) x.time) first.1 in
-    let time = time_free kind x.time second.0 in
-    let whole : items ++ [] ≡ items = append-nil items in
-    let rule = subst (λ zs. KeepsLevelRule (level_of kind attributes zs)) (sym whole) keeps in
-    let sides = ap (λ o. or_else o None) second.1 in
-    rule_with kind attributes items x [] rule (ap (λ zs. list_any (nat_eq x.id.0) (ids_of zs)) whole ∙ first.0)
-    (fit_of_parts kind attributes x time.0 time.1 labels)
-    (order_with kind items x [] rule.ordered sides)
-
-pub kept_append : (kind : LevelKind) (attributes : ℕ) (items : List Item) (x : Item) (old new : Marks) →
-    IsKept (level_of kind attributes items) old →
-    append_fault kind items x ≡ None →
-    are_labels_for attributes x.labels ≡ true →
-    ((q : ℕ) → is_marked new q ≡ (nat_eq q x.id.0 || is_marked old q)) →
-    IsKept (level_of kind attributes (items ++ x ∷ [])) new
-kept_append kind attributes items x old new kept free labels more = record {
-  rule = append_rule kind attributes items x kept.rule free labels;
-  marked = λ q. more q ∙ ap (λ b. nat_eq q x.id.0 || b) (kept.marked q ∙ ap (λ zs. list_any (nat_eq q) (ids_of zs)) (sym (append-nil items)))
-      ∙ sym (any_id q items x []);
 }
 
 -- ---- an item taken out

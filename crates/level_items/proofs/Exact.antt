@@ -3,7 +3,7 @@ use Rattle.std.proofs.Common.{◌≡◌, ℕ, suc, ◌+◌, ◌<◌, Bool, true,
 use Rattle.std.specs.List.{list_any, slice_get, filter, insert}
 use Rattle.std.specs.List.Sorted.{IsPartitionedBy}
 use Rattle.std.proofs.lemmas.Bool.{cond-true, cond-false, false_from_ne_true}
-use Rattle.std.proofs.lemmas.List.{append-nil, take-append-drop}
+use Rattle.std.proofs.lemmas.List.{take-append-drop}
 use Rattle.std.proofs.lemmas.List.Sums.{sum_by-cons}
 use Rattle.std.proofs.lemmas.List.Sorted.{IsPartitionedBy-ltb}
 use Rattle.emu_names.specs.declared.kinds.LevelKind.{LevelKind}
@@ -15,16 +15,17 @@ use Rattle.level_items.specs.declared.times.Time.{Time}
 use Rattle.level_items.specs.declared.items.Item.{Item}
 use Rattle.level_items.specs.Times.{first_sample, fits_kind, ends_in_time, is_before, starts_before}
 use Rattle.level_items.specs.Levels.{level_of, KeepsLevelRule, ids_of, is_before_first, are_apart, are_in_order, first_of, last_of, new_place, change_at, retimed}
-use Rattle.level_items.specs.Faults.{or_else, time_fault, position_fault, order_rule, order_fault, behind_fault, ahead_fault, neighbour_fault, append_fault, insert_fault, retime_fault}
-use Rattle.level_items.specs.Laws.{AppendRefusesExactly, InsertRefusesExactly, RetimeRefusesExactly, PlaceSplitsItems}
+use Rattle.level_items.specs.Faults.{time_fault, position_fault, order_rule, order_fault, behind_fault, ahead_fault, neighbour_fault, insert_fault, retime_fault}
+use Rattle.std.specs.Option.{option_or}
+use Rattle.level_items.specs.Laws.{InsertRefusesExactly, RetimeRefusesExactly, PlaceSplitsItems}
 use Rattle.level_items.proofs.Apart.{split, ends_before, starts_rise}
-use Rattle.level_items.proofs.Rules.{or_none, rule_without}
-use Rattle.level_items.proofs.Changes.{change_around, parts_of_fit, append_rule, insert_rule, retime_rule}
+use Rattle.level_items.proofs.Rules.{rule_without}
+use Rattle.level_items.proofs.Changes.{change_around, parts_of_fit, insert_rule, retime_rule}
 
 -- ---- no fault, from the rule
 
-or_nothing : (a b : Option Broken) → a ≡ None → b ≡ None → or_else a b ≡ None
-or_nothing a b p q = ap (λ o. or_else o b) p ∙ q
+or_nothing : (a b : Option Broken) → a ≡ None → b ≡ None → option_or a b ≡ None
+or_nothing a b p q = ap (λ o. option_or o b) p ∙ q
 
 id_none : (taken : Bool) (rule : Broken) (rest : Option Broken) → taken ≡ false → rest ≡ None → cond taken (Some rule) rest ≡ None
 id_none taken rule rest p q = cond-false taken (Some rule) rest p ∙ q
@@ -85,16 +86,6 @@ insert_free kind attributes items position item free rule =
     (or_nothing _ _ (time_none kind item.time fit.form fit.end)
     (or_nothing _ _ free (neighbours_none kind (take at items) item (drop at items) rule.ordered)))
 
-append_free : (kind : LevelKind) (attributes : ℕ) (items : List Item) (item : Item) →
-    KeepsLevelRule (level_of kind attributes (items ++ item ∷ [])) → append_fault kind items item ≡ None
-append_free kind attributes items item rule =
-    let without = rule_without kind attributes items item [] rule in
-    let fit = parts_of_fit kind attributes item without.fits in
-    id_none (list_any (nat_eq item.id.0) (ids_of items)) (rules.IdTaken item.id) _
-    (ap (λ zs. list_any (nat_eq item.id.0) (ids_of zs)) (sym (append-nil items)) ∙ without.fresh)
-    (or_nothing _ _ (time_none kind item.time fit.form fit.end)
-    (or_none (behind_fault kind (last_of items) item.time) None (neighbours_none kind items item [] rule.ordered)).0)
-
 retime_free : (kind : LevelKind) (attributes : ℕ) (items : List Item) (position : ℕ) (item : Item) (time : Time) → slice_get items position ≡ Some item →
     KeepsLevelRule (level_of kind attributes (change_at (retimed time) position items)) → retime_fault kind items position time ≡ None
 retime_free kind attributes items position item time at rule =
@@ -109,10 +100,6 @@ insert_exact kind attributes items position item rule labels = (
   λ free. insert_rule kind attributes items position (new_place kind items position item.time) item rule free refl labels,
   λ both. insert_free kind attributes items position item both.0 both.1,
 )
-
-pub append_exact : AppendRefusesExactly
-append_exact kind attributes items item rule labels =
-    (λ free. append_rule kind attributes items item rule free labels, λ keeps. append_free kind attributes items item keeps)
 
 pub retime_exact : RetimeRefusesExactly
 retime_exact kind attributes items position item time rule at =

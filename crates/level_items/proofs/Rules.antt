@@ -12,14 +12,15 @@ use Rattle.level_items.specs.declared.items.Item.{Item}
 use Rattle.level_items.specs.Times.{is_before}
 use Rattle.level_items.specs.Levels.{level_of, KeepsLevelRule, ids_of, are_different, fits_level, is_before_first, are_apart, are_in_order, first_of, last_of, change_at, relabelled}
 use Rattle.emu_names.specs.declared.rules.Fault.{Fault}
-use Rattle.emu_names.specs.Gives.{FindsFault}
-use Rattle.level_items.specs.Faults.{retime_fault, or_else, time_fault, order_rule, behind_fault, ahead_fault, neighbour_fault}
+use Rattle.emu_names.specs.Inner.Gives.{FindsFault}
+use Rattle.level_items.specs.Faults.{retime_fault, time_fault, order_rule, behind_fault, ahead_fault, neighbour_fault}
+use Rattle.std.specs.Option.{option_or}
 use Rattle.level_items.proofs.Lists.{any_parts, all_parts, different_with, different_without}
 use Rattle.level_items.proofs.Apart.{ends_before, split, halves, join, join_with, across}
 
 -- ---- no fault
 
-pub or_none : (a b : Option Broken) → or_else a b ≡ None → (a ≡ None) × (b ≡ None)
+pub or_none : (a b : Option Broken) → option_or a b ≡ None → (a ≡ None) × (b ≡ None)
 or_none None b h = (refl, h)
 or_none (Some rule) b h = absurd cc
 
@@ -166,7 +167,7 @@ retime_tested A kind items p time r fits h =
     take_all (length items - (p + 1)) (drop (p + 1) items) (omega (arith, length-drop (p + 1) items)) ∙ ap (λ n. drop n items) (add-one p) in
     let sides = ap (λ zs. neighbour_fault kind (take p items) time zs) rest in
     let whole : neighbour_fault kind (take p items) time (take (length items - (p + 1)) (drop (p + 1) items)) ≡ retime_fault kind items p time =
-    sides ∙ sym (ap (λ o. or_else o (neighbour_fault kind (take p items) time (drop (suc p) items))) fits) in
+    sides ∙ sym (ap (λ o. option_or o (neighbour_fault kind (take p items) time (drop (suc p) items))) fits) in
     subst (FindsFault r) whole h
 
 -- ---- the last item before a place

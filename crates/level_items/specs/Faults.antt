@@ -1,6 +1,7 @@
 -- The rule that a change of a level breaks first.
 use Rattle.std.specs.Prelude.{ℕ, suc, not, List, length, nat_eq, nat_le, if◌then◌else◌, Option, Some, None, take, drop}
 use Rattle.std.specs.List.{list_any}
+use Rattle.std.specs.Option.{option_or}
 use Rattle.emu_names.specs.declared.kinds.LevelKind.{LevelKind}
 use Rattle.emu_names.specs.declared.kinds.LevelKind.TheVariants as kinds
 use Rattle.emu_names.specs.declared.kinds.ItemId.{ItemId}
@@ -10,11 +11,6 @@ use Rattle.level_items.specs.declared.times.Time.{Time}
 use Rattle.level_items.specs.declared.items.Item.{Item}
 use Rattle.level_items.specs.Times.{fits_kind, ends_in_time, is_before}
 use Rattle.level_items.specs.Levels.{ids_of, first_of, last_of, new_place}
-
--- this rule, else that one
-abbrev pub or_else : Option Broken → Option Broken → Option Broken
-or_else (Some rule) later = Some rule
-or_else None later = later
 
 -- the form of the time is tested before its end
 abbrev pub time_fault : LevelKind → Time → Option Broken
@@ -55,24 +51,18 @@ ahead_fault kind time (Some next) = order_fault kind next.id time next.time
 -- a time between these two lists of items: its previous neighbour is named before its next one
 abbrev pub neighbour_fault : LevelKind → List Item → Time → List Item → Option Broken
 neighbour_fault kind before time behind =
-    or_else (behind_fault kind (last_of before) time) (ahead_fault kind time (first_of behind))
+    option_or (behind_fault kind (last_of before) time) (ahead_fault kind time (first_of behind))
 
 -- a new item, which was asked to be put at this position
 abbrev pub insert_fault : LevelKind → List Item → Option ℕ → Item → Option Broken
 insert_fault kind items position item =
     if list_any (nat_eq item.id.0) (ids_of items) then Some (rules.IdTaken item.id)
-    else or_else (time_fault kind item.time) (or_else (position_fault kind (length items) position)
+    else option_or (time_fault kind item.time) (option_or (position_fault kind (length items) position)
     (let place = new_place kind items position item.time in
     neighbour_fault kind (take place items) item.time (drop place items)))
-
--- a new item that is put last
-abbrev pub append_fault : LevelKind → List Item → Item → Option Broken
-append_fault kind items item =
-    if list_any (nat_eq item.id.0) (ids_of items) then Some (rules.IdTaken item.id)
-    else or_else (time_fault kind item.time) (behind_fault kind (last_of items) item.time)
 
 -- another time for the item at this position
 abbrev pub retime_fault : LevelKind → List Item → ℕ → Time → Option Broken
 retime_fault kind items position time =
-    or_else (time_fault kind time)
+    option_or (time_fault kind time)
     (neighbour_fault kind (take position items) time (drop (suc position) items))

@@ -1,17 +1,13 @@
 -- What the rules of changes come to, each said by itself.
-use Rattle.std.specs.Prelude.{◌≡◌, ◌≢◌, ℕ, not, ◌↔◌, List, [], ◌∷◌, ◌++◌, length, take, drop, insert, IsTrue, Option, Some, None}
+use Rattle.std.specs.Prelude.{◌≡◌, ◌≢◌, ℕ, not, ◌↔◌, List, length, take, drop, IsTrue, Option, Some, None}
 use Rattle.std.specs.List.{filter, slice_get}
 use Rattle.emu_names.specs.declared.kinds.LevelKind.{LevelKind}
 use Rattle.emu_names.specs.declared.kinds.LevelKind.TheVariants as kinds
 use Rattle.level_items.specs.declared.times.Time.{Time}
 use Rattle.level_items.specs.declared.items.Item.{Item}
 use Rattle.level_items.specs.Times.{starts_before}
-use Rattle.level_items.specs.Levels.{level_of, KeepsLevelRule, are_labels_for, are_in_order, new_place, change_at, retimed}
-use Rattle.level_items.specs.Faults.{position_fault, append_fault, insert_fault, retime_fault}
-
--- the items with a new one at its place
-abbrev pub put_at_place : LevelKind → List Item → Option ℕ → Item → List Item
-put_at_place kind items position item = insert items (new_place kind items position item.time) item
+use Rattle.level_items.specs.Levels.{level_of, KeepsLevelRule, are_labels_for, are_in_order, new_place, put_at_place, change_at, retimed}
+use Rattle.level_items.specs.Faults.{position_fault, insert_fault, retime_fault}
 
 -- a new item with whole labels is taken exactly where its position may be asked for and the level
 -- keeps the level rule with it
@@ -23,16 +19,6 @@ InsertRefusesExactly =
     insert_fault kind items position item ≡ None
     ↔ (position_fault kind (length items) position ≡ None)
     × KeepsLevelRule (level_of kind attributes (put_at_place kind items position item))
-
--- an item with whole labels is taken at the end exactly where the level keeps the level rule with
--- it
-abbrev pub AppendRefusesExactly : Type 0
-AppendRefusesExactly =
-    (kind : LevelKind) (attributes : ℕ) (items : List Item) (item : Item) →
-    KeepsLevelRule (level_of kind attributes items) →
-    IsTrue (are_labels_for attributes item.labels) →
-    append_fault kind items item ≡ None
-    ↔ KeepsLevelRule (level_of kind attributes (items ++ item ∷ []))
 
 -- another time of an item is taken exactly where the level keeps the level rule with it
 abbrev pub RetimeRefusesExactly : Type 0

@@ -1,7 +1,8 @@
 -- A level of a bundle, and the rule that it keeps (EMU-SDMS Manual, "The emuDB format": levels and
 -- items of an annotation; that gaps between segments are allowed is this project's choice).
-use Rattle.std.specs.Prelude.{ℕ, Bool, true, ◌&&◌, not, List, [], ◌∷◌, length, map, nat_eq, nat_le, ◌==◌, IsTrue, Option, Some, None, zero, suc, slice_set, count_by, unwrap_or}
-use Rattle.std.specs.List.{list_all, list_any}
+use Rattle.std.specs.Prelude.{ℕ, Bool, true, ◌&&◌, not, List, [], ◌∷◌, length, map, nat_eq, nat_le, ◌==◌, IsTrue, Option, Some, None, zero, suc, slice_set, insert, count_by, unwrap_or}
+use Rattle.std.specs.List.{list_all, list_any, slice_get}
+use Rattle.std.specs.Option.{option_map_or}
 use Rattle.emu_names.specs.declared.limits.TheConstants.{LABEL_BYTES}
 use Rattle.emu_names.specs.declared.kinds.LevelKind.{LevelKind}
 use Rattle.emu_names.specs.declared.kinds.LevelKind.TheVariants as kinds
@@ -22,6 +23,14 @@ level_of kind attributes items = record { kind = kind; attributes = attributes; 
 -- the level with other items
 abbrev pub with_items : Level → List Item → Level
 with_items level items = level_of level.kind level.attributes items
+
+-- the items of a level, by its number among these; none where there is no such level
+abbrev pub items_at : List Level → ℕ → List Item
+items_at levels number = option_map_or (λ level. level.items) (slice_get levels number) []
+
+-- the label of an item for an attribute of its level, by the attribute's number
+abbrev pub label_of : ℕ → Item → List ℕ
+label_of attribute item = unwrap_or (slice_get item.labels attribute) []
 
 -- the ids of items, in order
 abbrev pub ids_of : List Item → List ℕ
@@ -84,6 +93,10 @@ abbrev pub new_place : LevelKind → List Item → Option ℕ → Time → ℕ
 new_place kinds.Item items position time = unwrap_or position (length items)
 new_place kinds.Segment items position time = count_by (λ i. starts_before i.time time) items
 new_place kinds.Event items position time = count_by (λ i. starts_before i.time time) items
+
+-- the items with a new one at its place
+abbrev pub put_at_place : LevelKind → List Item → Option ℕ → Item → List Item
+put_at_place kind items position item = insert items (new_place kind items position item.time) item
 
 -- the item with another time
 abbrev pub retimed : Time → Item → Item

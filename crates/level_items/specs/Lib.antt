@@ -1,7 +1,5 @@
-pub mod Held
 pub mod Times
 pub mod Levels
 pub mod Faults
-pub mod Marked
-pub mod Kept
 pub mod Laws
+pub mod Inner

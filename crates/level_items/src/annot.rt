@@ -2,8 +2,7 @@
 ghost use Rattle.std.specs.Prelude.{◌≡◌, IfOk};
 
 use crate::times::Time;
-use emu_lists::{PlainData, Series};
-use emu_names::{ItemId, LevelKind, Memory, Text};
+use emu_names::{ItemId, LevelKind, Memory, PlainData, Series, Text};
 use std::alloc::Global;
 
 /// A label as it is given: the name of its attribute, and its text (EMU-SDMS Manual, "The emuDB

@@ -3,8 +3,7 @@ ghost use Rattle.std.specs.Prelude.{◌≡◌, IfOk};
 
 use crate::labels::Labels;
 use crate::times::Time;
-use emu_lists::PlainData;
-use emu_names::{ItemId, Memory};
+use emu_names::{ItemId, Memory, PlainData};
 use std::alloc::Global;
 
 /// An item of a level (EMU-SDMS Manual, "The emuDB format": `items` in `_annot.json`).

@@ -1,9 +1,8 @@
 //! The labels of an item, which contracts see as a list of texts.
 ghost use Rattle.std.specs.Prelude.{◌≡◌, ◌<◌, ◌==◌, [], ◌∷◌, ◌++◌, length, IfOk, OnOk, OnErr, slice_get, slice_set, Some};
-ghost use Rattle.level_items.specs.Held.{held_labels};
+ghost use Rattle.level_items.specs.Inner.Held.{held_labels};
 
-use emu_lists::{PlainData, Series, Shared};
-use emu_names::{Memory, Text};
+use emu_names::{Memory, PlainData, Series, Shared, Text};
 use std::alloc::Global;
 use std::marker::Model;
 
@@ -31,7 +30,7 @@ impl Model for Labels {
 
     ghost Value = { List (List ℕ) };
 
-    ghost use Rattle.level_items.specs.Held.{held_labels};
+    ghost use Rattle.level_items.specs.Inner.Held.{held_labels};
 
     ghost view = { λ l. held_labels l.held };
 }

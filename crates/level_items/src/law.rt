@@ -1,16 +1,10 @@
 //! Laws of the rules of changes, with nothing to run.
-ghost use Rattle.level_items.specs.Laws.{AppendRefusesExactly, InsertRefusesExactly, RetimeRefusesExactly, PlaceSplitsItems};
+ghost use Rattle.level_items.specs.Laws.{InsertRefusesExactly, RetimeRefusesExactly, PlaceSplitsItems};
 
 /// A new item with whole labels is refused exactly where its position is none, or where the level would
 /// not keep the level rule with it.
 pub fn insert_refuses_exactly()
     ensures { InsertRefusesExactly }
-{}
-
-/// An item with whole labels is refused at the end exactly where the level would not keep the level
-/// rule with it.
-pub fn append_refuses_exactly()
-    ensures { AppendRefusesExactly }
 {}
 
 /// Another time of an item is refused exactly where the level would not keep the level rule with it.

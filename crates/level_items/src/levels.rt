@@ -5,21 +5,20 @@
 //! items stand in the order of their first samples. An item is found by its mark: that of a segment or
 //! point is its first sample, by which the list is halved, and that of an item without time its place.
 //! Where an item without time is put in or taken out, those behind it are marked anew.
-ghost use Rattle.std.specs.Prelude.{◌≡◌, ℕ, ◌<◌, ◌≤◌, ◌++◌, ◌∷◌, [], length, nat_eq, insert, remove, position, slice_get, Some, IsTrue, ◌↔◌, IfOk, OnOk, OnErr};
+ghost use Rattle.std.specs.Prelude.{◌≡◌, ◌<◌, [], length, nat_eq, insert, remove, position, slice_get, Some, IsTrue, ◌↔◌, IfOk, OnOk, OnErr};
 ghost use Rattle.level_items.specs.Levels.{Level, KeepsLevelRule, are_labels_for, change_at, is_short, level_of, new_place, relabelled, retimed, with_items};
-ghost use Rattle.level_items.specs.Faults.{append_fault, insert_fault, retime_fault};
-ghost use Rattle.emu_names.specs.Gives.{FindsFault};
+ghost use Rattle.level_items.specs.Faults.{insert_fault, retime_fault};
+ghost use Rattle.emu_names.specs.Inner.Gives.{FindsFault};
 
 use crate::items::Item;
 use crate::marks::Marks;
 use crate::moves::{
-    copied, mark_behind, mark_of, marks_of, place_of_mark, position_near, put_in, put_last,
-    retime_passes, set_label_in, set_time_in,
+    copied, mark_behind, mark_of, marks_of, place_of_mark, position_near, put_in, retime_passes,
+    set_label_in, set_time_in,
 };
-use crate::places::{append_passes, place_for};
+use crate::places::place_for;
 use crate::times::Time;
-use emu_lists::PlainData;
-use emu_names::{Fault, ItemId, LevelKind, Memory, Text};
+use emu_names::{Fault, ItemId, LevelKind, Memory, PlainData, Text};
 use std::alloc::{AllocError, Global};
 use std::marker::Model;
 use std::sync::Arc;
@@ -45,7 +44,7 @@ impl Model for LevelList {
     ghost Value = { Level };
 
     ghost use Rattle.level_items.specs.Levels.{level_of};
-    ghost use Rattle.level_items.specs.Kept.{IsKept};
+    ghost use Rattle.level_items.specs.Inner.Kept.{IsKept};
 
     ghost view = { λ l. level_of l.kind l.attributes l.items.items };
 
@@ -147,26 +146,6 @@ impl LevelList {
         put_in(&mut self.items, place, item);
         mark_behind(marks, self.kind, &self.items, place);
         Ok(place)
-    }
-
-    /// Puts an item last, as a level is read in order.
-    ///
-    /// Refused are, in this order: an id that is there (`IdTaken`), a time of another form than the
-    /// level's (`TimeKind`), one that ends past sample 2^40 - 1 (`TimeOut`), and one that does not lie
-    /// past that of the last item (`Overlap` on a SEGMENT level, `NotRising` on an EVENT level), with
-    /// that item's id. A refusal, or want of memory, changes nothing.
-    pub fn append(&mut self, item: Item) -> Result<(), Fault>
-        requires { IsTrue (are_labels_for self.old.attributes item.labels) }
-        ensures fault { FindsFault result (append_fault self.old.kind self.old.items item) }
-        ensures appended { OnOk result (self.new ≡ with_items self.old (self.old.items ++ item ∷ [])) }
-        ensures kept { OnErr result (self.new ≡ self.old) }
-    {
-        append_passes(self.kind, &self.items, self.marks.as_ref(), &item)?;
-        self.items.reserve(1)?;
-        let marks = Arc::make_mut(&mut self.marks)?;
-        marks.put(item.id, mark_of(self.items.len(), item.time))?;
-        put_last(&mut self.items, item);
-        Ok(())
     }
 
     /// Takes the item at a position out, and closes up. The only refusal is want of memory, which changes

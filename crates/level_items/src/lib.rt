@@ -18,9 +18,7 @@ pub use annot::{
 };
 pub use items::Item;
 pub use labels::Labels;
-pub use law::{
-    append_refuses_exactly, insert_refuses_exactly, place_splits_items, retime_refuses_exactly,
-};
+pub use law::{insert_refuses_exactly, place_splits_items, retime_refuses_exactly};
 pub use levels::LevelList;
-pub use places::{behind_passes, time_passes};
+pub use places::{order_passes, time_passes};
 pub use times::Time;

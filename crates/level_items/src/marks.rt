@@ -1,6 +1,6 @@
 //! The ids of a level list, each with a mark by which its item is found.
 ghost use Rattle.std.specs.Prelude.{◌≡◌, ℕ, false, not, ◌&&◌, ◌||◌, nat_eq, is_some, OnOk, OnErr};
-ghost use Rattle.level_items.specs.Marked.{is_marked};
+ghost use Rattle.level_items.specs.Inner.Marked.{is_marked};
 
 use emu_names::{ItemId, Memory};
 use std::alloc::{AllocError, Global};
@@ -58,7 +58,7 @@ impl Marks {
 
 impl Clone for Marks {
     ghost use Rattle.std.specs.Prelude.{◌≡◌, ℕ};
-    ghost use Rattle.level_items.specs.Marked.{is_marked};
+    ghost use Rattle.level_items.specs.Inner.Marked.{is_marked};
 
     ghost is_clone = { λ s t. (q : ℕ) → is_marked t q ≡ is_marked s q };
 

@@ -1,10 +1,10 @@
 //! Work on the items of a level list, and the marks by which they are found.
-ghost use Rattle.std.specs.Prelude.{◌≡◌, ℕ, ◌+◌, ◌<◌, ◌≤◌, ◌++◌, ◌∷◌, [], length, nat_eq, insert, position, slice_get, Some, vec_len, vec_capacity, IfOk, OnOk, OnErr, IsTrue};
+ghost use Rattle.std.specs.Prelude.{◌≡◌, ℕ, ◌+◌, ◌<◌, ◌≤◌, length, nat_eq, insert, position, slice_get, Some, vec_len, vec_capacity, IfOk, OnOk, OnErr, IsTrue};
 ghost use Rattle.level_items.specs.Levels.{change_at, relabelled, retimed, are_different, ids_of};
 ghost use Rattle.level_items.specs.Faults.{retime_fault};
-ghost use Rattle.emu_names.specs.Gives.{FindsFault};
-ghost use Rattle.level_items.specs.Kept.{AreMarksOf};
-ghost use Rattle.level_items.specs.Marked.{is_marked};
+ghost use Rattle.emu_names.specs.Inner.Gives.{FindsFault};
+ghost use Rattle.level_items.specs.Inner.Kept.{AreMarksOf};
+ghost use Rattle.level_items.specs.Inner.Marked.{is_marked};
 ghost use Rattle.level_items.specs.declared.items.Item.{Item};
 
 use crate::items::Item;
@@ -76,14 +76,6 @@ pub(crate) fn put_in(items: &mut Vec<Item>, place: usize, item: Item)
     ensures { items.new.items ≡ insert items.old.items place item }
 {
     items.insert(place, item).unwrap();
-}
-
-/// Puts an item last, where there is room.
-pub(crate) fn put_last(items: &mut Vec<Item>, item: Item)
-    requires { vec_len items.old < vec_capacity items.old }
-    ensures { items.new.items ≡ items.old.items ++ item ∷ [] }
-{
-    items.push(item).unwrap();
 }
 
 /// Tests another time for the item at a position.

@@ -1,12 +1,10 @@
 //! Where an item may stand on a level: its place, its neighbours, and the rule that it breaks first.
-ghost use Rattle.std.specs.Prelude.{◌≡◌, ℕ, ◌≤◌, length, take, count_by, IsTrue, IfOk};
-ghost use Rattle.std.specs.List.{list_any};
-ghost use Rattle.std.specs.Option.{option_copied};
+ghost use Rattle.std.specs.Prelude.{◌≡◌, ◌≤◌, length, count_by, IsTrue, IfOk};
 ghost use Rattle.level_items.specs.Times.{starts_before};
 ghost use Rattle.level_items.specs.Levels.{are_apart, are_in_order, first_of, last_of, new_place};
-ghost use Rattle.level_items.specs.Faults.{time_fault, position_fault, order_fault, behind_fault, ahead_fault, neighbour_fault, append_fault, insert_fault};
-ghost use Rattle.emu_names.specs.Gives.{FindsFault};
-ghost use Rattle.level_items.specs.Kept.{AreMarksOf};
+ghost use Rattle.level_items.specs.Faults.{time_fault, position_fault, order_fault, behind_fault, ahead_fault, neighbour_fault, insert_fault};
+ghost use Rattle.emu_names.specs.Inner.Gives.{FindsFault};
+ghost use Rattle.level_items.specs.Inner.Kept.{AreMarksOf};
 
 use crate::items::Item;
 use crate::marks::Marks;
@@ -38,8 +36,10 @@ fn position_passes(kind: LevelKind, count: usize, position: Option<u32>) -> Resu
     }
 }
 
-/// Tests two neighbours, of which a fault names `named`.
-fn order_passes(kind: LevelKind, named: ItemId, earlier: Time, later: Time) -> Result<(), Fault>
+/// Tests the times of two neighbours on a level of this kind: a segment starts past the last sample of
+/// the one before it, else the fault is `Overlap`; a point lies past the one before it, else it is
+/// `NotRising`. The fault names `named`.
+pub fn order_passes(kind: LevelKind, named: ItemId, earlier: Time, later: Time) -> Result<(), Fault>
     ensures { FindsFault result (order_fault kind named earlier later) }
 {
     if earlier.is_before(later) {
@@ -52,10 +52,8 @@ fn order_passes(kind: LevelKind, named: ItemId, earlier: Time, later: Time) -> R
     }
 }
 
-/// Tests a time behind the last of these items: a segment starts past that item's last sample, else it
-/// is refused as `Overlap`, and a point lies past that item's, else it is `NotRising`, each with the
-/// id of that item.
-pub fn behind_passes(kind: LevelKind, before: &[Item], time: Time) -> Result<(), Fault>
+/// Tests a time behind the last of these items, which a fault names.
+fn behind_passes(kind: LevelKind, before: &[Item], time: Time) -> Result<(), Fault>
     ensures { FindsFault result (behind_fault kind (last_of before.now) time) }
 {
     match before.last() {
@@ -105,23 +103,6 @@ fn new_place(kind: LevelKind, items: &[Item], position: Option<u32>, time: Time)
         (LevelKind::Item, None) => items.len(),
         _ => place_in_time(items, time),
     }
-}
-
-/// Tests an item that is to be put last, whose id is tested by the marks of the items.
-pub(crate) fn append_passes(
-    kind: LevelKind,
-    items: &[Item],
-    marks: &Marks,
-    item: &Item,
-) -> Result<(), Fault>
-    requires { AreMarksOf items.now marks.now }
-    ensures { FindsFault result (append_fault kind items.now item.now) }
-{
-    if marks.get(item.id).is_some() {
-        return Err(Fault::Broken(Broken::IdTaken(item.id)));
-    }
-    time_passes(kind, item.time)?;
-    behind_passes(kind, items, item.time)
 }
 
 /// The place of a new item, whose id is tested by the marks of the items.

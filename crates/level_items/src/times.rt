@@ -2,9 +2,8 @@
 ghost use Rattle.std.specs.Prelude.{◌≡◌, ◌+◌, ◌^◌, ◌<◌, MatchOption, ◌≤◌};
 ghost use Rattle.level_items.specs.Times.{first_sample, last_sample, ends_in_time, fits_kind, is_before, starts_before};
 
-use emu_lists::PlainData;
 use emu_names::limits::SAMPLES;
-use emu_names::{LevelKind, Memory};
+use emu_names::{LevelKind, Memory, PlainData};
 use std::alloc::Global;
 
 /// When an item is, in samples of its bundle's rate, counted from 0 (EMU-SDMS Manual, "The emuDB

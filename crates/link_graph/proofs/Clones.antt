@@ -5,7 +5,7 @@ use Rattle.std.specs.Map.{lookup}
 use Rattle.std.specs.Ordering.{is_eq, nat_cmp}
 use Rattle.std.proofs.lemmas.Map.Entries.{lookup_clone}
 use Rattle.link_graph.specs.declared.item_links.ItemLinks.{ItemLinks}
-use Rattle.link_graph.specs.Index.{elements, links_of}
+use Rattle.link_graph.specs.Inner.Index.{elements, links_of}
 
 -- the links at an id, where each key is cloned as itself
 pub elements_same : (C : ℕ → ℕ → Type 0) (D : ItemLinks → ItemLinks → Type 0) (id : ℕ) (es fs : List (ℕ × ItemLinks)) →

@@ -11,7 +11,7 @@ use Rattle.std.proofs.Math.Seq.{take-append_seam}
 use Rattle.std.proofs.lemmas.List.Elements.{filter-append}
 use Rattle.emu_names.specs.declared.kinds.ItemId.{ItemId}
 use Rattle.link_graph.specs.declared.link.Link.{Link}
-use Rattle.link_graph.specs.Blocks.{joined}
+use Rattle.link_graph.specs.Inner.Blocks.{joined}
 use Rattle.link_graph.specs.Link.{ArePairsApart, joins}
 use Rattle.link_graph.proofs.Filters.{filter_all}
 

@@ -8,9 +8,9 @@ use Rattle.std.proofs.lemmas.Map.Keys.{IsDistinct-push}
 use Rattle.emu_names.specs.declared.limits.TheConstants.{BUNDLE_LINKS}
 use Rattle.link_graph.specs.declared.index.Index.{Index}
 use Rattle.link_graph.specs.declared.link.Link.{Link}
-use Rattle.link_graph.specs.Index.{Indexes}
+use Rattle.link_graph.specs.Inner.Index.{Indexes}
 use Rattle.link_graph.specs.Link.{joins}
-use Rattle.link_graph.specs.Links.{AreLinks}
+use Rattle.link_graph.specs.Inner.Links.{AreLinks}
 use Rattle.link_graph.proofs.Filters.{find_both}
 use Rattle.link_graph.proofs.Kept.{distinct_filter}
 

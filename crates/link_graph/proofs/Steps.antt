@@ -7,8 +7,10 @@ use Rattle.std.proofs.lemmas.List.Folds.{list_any-append, list_any_more}
 use Rattle.std.proofs.lemmas.Map.Views.{any-filter_same}
 use Rattle.emu_names.specs.declared.kinds.ItemId.{ItemId}
 use Rattle.link_graph.specs.declared.link.Link.{Link}
-use Rattle.link_graph.specs.Index.{forgotten, is_pair}
-use Rattle.link_graph.specs.Link.{is_among, joins, names_item}
+use Rattle.link_graph.specs.Index.{is_pair}
+use Rattle.link_graph.specs.Inner.Index.{forgotten}
+use Rattle.link_graph.specs.Link.{joins, names_item}
+use Rattle.link_graph.specs.Inner.Link.{is_among}
 use Rattle.link_graph.proofs.Filters.{filter_push, filter_swap, filter_off, filter_none, filter_off_none, filter_all}
 
 -- ---- a link is added

@@ -3,7 +3,7 @@ use Rattle.std.proofs.Common.{◌≡◌, ℕ, Bool, true, false, Option, None, S
 use Rattle.std.specs.Option.{is_some}
 use Rattle.std.specs.Ordering.{is_eq}
 use Rattle.std.proofs.lemmas.Bool.Decides.{nat_tests}
-use Rattle.link_graph.specs.Index.{pair_cmp}
+use Rattle.link_graph.specs.Inner.Index.{pair_cmp}
 
 tie : (a b x y : ℕ) → is_eq (pair_cmp (a, b) (x, y)) ≡ (eqb a x && eqb b y)
 tie a b x y = grind (arith, nat_tests)

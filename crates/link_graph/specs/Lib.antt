@@ -1,6 +1,4 @@
-pub mod Blocks
-pub mod Ends
 pub mod Index
 pub mod Kind
 pub mod Link
-pub mod Links
+pub mod Inner

@@ -23,17 +23,9 @@ joins from to link = (link.from.0 == from.0) && (link.to.0 == to.0)
 abbrev pub names_item : ItemId → Link → Bool
 names_item id link = (link.from.0 == id.0) || (link.to.0 == id.0)
 
--- whether a link has the pair of ids of one of these
-abbrev pub is_among : List Link → Link → Bool
-is_among ends link = list_any (λ e. joins e.from e.to link) ends
-
 -- no pair of ids stands twice
 abbrev pub ArePairsApart : List Link → Type 0
 ArePairsApart links = IsDistinct (λ a b. joins a.from a.to b) links
-
--- the items that link to an item, in the order of the list
-abbrev pub parents_of : ItemId → List Link → List ItemId
-parents_of id links = map (λ link. link.from) (filter (λ link. link.to.0 == id.0) links)
 
 -- the items that an item links to, in the order of the list
 abbrev pub children_of : ItemId → List Link → List ItemId

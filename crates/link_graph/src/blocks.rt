@@ -1,7 +1,7 @@
 //! A list of links in blocks, from which a link is taken out without moving all that follow.
 ghost use Rattle.std.specs.Prelude.{◌≡◌, ◌<◌, ◌≤◌, ◌++◌, ◌∷◌, ℕ, [], length, not, true, false, slice_get, slice_set, get_or, Some, IfOk, IfSome, IfNone, OnOk, OnErr};
 ghost use Rattle.std.specs.List.{filter, list_any};
-ghost use Rattle.link_graph.specs.Blocks.{joined};
+ghost use Rattle.link_graph.specs.Inner.Blocks.{joined};
 ghost use Rattle.link_graph.specs.Link.{ArePairsApart, joins};
 ghost use Rattle.link_graph.specs.declared.link.Link.{Link as OneLink};
 
@@ -29,7 +29,7 @@ impl Model for Blocks {
 
     ghost Value = { List Link };
 
-    ghost use Rattle.link_graph.specs.Blocks.{joined};
+    ghost use Rattle.link_graph.specs.Inner.Blocks.{joined};
 
     ghost view = { λ b. joined b.blocks.items };
 

@@ -1,7 +1,7 @@
 //! The links of each item, by the item's id, each list in the order in which it grew.
 ghost use Rattle.std.specs.Prelude.{◌≡◌, ◌==◌, ◌++◌, ◌∷◌, ℕ, [], IfOk, OnOk, OnErr, not, if◌then◌else◌};
 ghost use Rattle.std.specs.List.{filter};
-ghost use Rattle.link_graph.specs.Index.{links_at, links_of};
+ghost use Rattle.link_graph.specs.Inner.Index.{links_at, links_of};
 ghost use Rattle.link_graph.specs.Link.{joins, names_item};
 
 use crate::item_links::ItemLinks;

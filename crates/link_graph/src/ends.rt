@@ -27,7 +27,7 @@ impl<'a> Model for Ends<'a> {
 
     ghost Value = { List ItemId };
 
-    ghost use Rattle.link_graph.specs.Ends.{end_of};
+    ghost use Rattle.link_graph.specs.Inner.Ends.{end_of};
 
     ghost view = { λ ends. map (end_of ends.end) ends.links.now };
 }

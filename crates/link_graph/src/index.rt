@@ -2,7 +2,8 @@
 ghost use Rattle.std.specs.Prelude.{◌≡◌, ◌==◌, ◌&&◌, ◌++◌, ◌∷◌, ℕ, List, [], IfOk, OnOk, OnErr, not, false, length};
 ghost use Rattle.std.specs.List.{filter, list_any};
 ghost use Rattle.link_graph.specs.declared.link.Link.{Link};
-ghost use Rattle.link_graph.specs.Index.{Indexes, has_pair, is_pair, links_at, forgotten};
+ghost use Rattle.link_graph.specs.Index.{is_pair};
+ghost use Rattle.link_graph.specs.Inner.Index.{Indexes, has_pair, links_at, forgotten};
 ghost use Rattle.link_graph.specs.Link.{joins, names_item};
 
 use crate::blocks::Blocks;

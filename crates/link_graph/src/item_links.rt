@@ -1,7 +1,7 @@
 //! The links of one item.
 ghost use Rattle.std.specs.Prelude.{◌≡◌, ◌++◌, ◌∷◌, [], IfOk, OnOk, OnErr, not};
 ghost use Rattle.std.specs.List.{filter};
-ghost use Rattle.link_graph.specs.Index.{links_of};
+ghost use Rattle.link_graph.specs.Inner.Index.{links_of};
 ghost use Rattle.link_graph.specs.Link.{joins, names_item};
 
 use crate::link::Link;
@@ -82,7 +82,7 @@ impl ItemLinks {
 
 impl Clone for ItemLinks {
     ghost use Rattle.std.specs.Prelude.{◌≡◌};
-    ghost use Rattle.link_graph.specs.Index.{links_of};
+    ghost use Rattle.link_graph.specs.Inner.Index.{links_of};
 
     ghost is_clone = { λ s t. links_of t ≡ links_of s };
 

@@ -2,7 +2,8 @@
 ghost use Rattle.std.specs.Prelude.{◌≡◌, ◌<◌, ◌≤◌, ◌↔◌, ◌==◌, ◌++◌, ◌∷◌, [], length, slice_get, Some, None, not, true, false, IfOk, OnOk, OnErr, IsOk, IsErrOf, ◌+◌, vec_len, vec_capacity};
 ghost use Rattle.std.specs.List.{filter, find, list_any};
 ghost use Rattle.emu_names.specs.declared.rules.Broken.{Broken as Rule};
-ghost use Rattle.link_graph.specs.Link.{ArePairsApart, joins, names_item, parents_of, children_of, parent_fault, child_fault, add_fault, is_among, link_of};
+ghost use Rattle.link_graph.specs.Link.{ArePairsApart, joins, names_item, children_of, parent_fault, child_fault, add_fault, link_of};
+ghost use Rattle.link_graph.specs.Inner.Link.{parents_of, is_among};
 
 use crate::blocks::Blocks;
 use crate::ends::Ends;
@@ -27,7 +28,7 @@ impl Model for Links {
 
     ghost Value = { List Link };
 
-    ghost use Rattle.link_graph.specs.Links.{AreLinks};
+    ghost use Rattle.link_graph.specs.Inner.Links.{AreLinks};
 
     ghost view = { λ s. s.links };
 

@@ -1,6 +1,6 @@
 //! The pairs of ids that are linked, each with the block in which its link is looked for first.
 ghost use Rattle.std.specs.Prelude.{◌≡◌, ◌==◌, ◌&&◌, ◌||◌, ℕ, IfOk, OnOk, OnErr, false, true, not};
-ghost use Rattle.link_graph.specs.Index.{has_pair};
+ghost use Rattle.link_graph.specs.Inner.Index.{has_pair};
 
 use emu_names::{ItemId, Memory};
 use std::alloc::Global;

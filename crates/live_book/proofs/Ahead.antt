@@ -8,7 +8,8 @@ use Rattle.version_gate.proofs.Beginnings.{prefix_self}
 use Rattle.version_gate.proofs.Numbers.{same_start}
 use Rattle.live_book.specs.declared.fault.EditFault.{EditFault}
 use Rattle.live_book.specs.declared.published.Published.{Published}
-use Rattle.live_book.specs.Live.{EditsLive, Opened}
+use Rattle.live_book.specs.Live.{Opened}
+use Rattle.live_book.specs.Inner.Live.{EditsLive}
 use Rattle.live_book.proofs.Lists.{prefix_length}
 
 pub begins_on : {A : Type 0} (xs ys zs : List A) → IsPrefix xs ys → IsPrefix ys zs → IsPrefix xs zs

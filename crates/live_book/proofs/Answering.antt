@@ -1,6 +1,6 @@
 -- What a commit promises behind the try to store its entry.
 use Rattle.std.proofs.Common.{◌≡◌, ◌⊎◌, inl, inr, ⊎_elim, ℕ, ◌≤◌, List, [], ◌∷◌, ◌++◌, length, Option, None, Result, Ok, Err, IsErrOf, true, refl, sym, ◌∙◌, ap, subst, arith, length-append}
-use Rattle.fault_counts.specs.Count.{Rose}
+use Rattle.emu_names.specs.Count.{Rose}
 use Rattle.db_config.specs.declared.parts.ConfigParts.{ConfigParts}
 use Rattle.edit_rules.specs.declared.edit.Entry.{Entry}
 use Rattle.edit_journal.specs.declared.journal.Journal.{Journal}
@@ -11,7 +11,7 @@ use Rattle.live_book.specs.declared.fault.EditFault.TheVariants as edit_faults
 use Rattle.live_book.specs.declared.published.Published.{Published}
 use Rattle.live_book.specs.Kept.{BookParts, KeepsIn, IsAsBefore, CrashLeaves, faults_in}
 use Rattle.live_book.specs.Commits.{has_journal, IsWelcome, Reaches, DuringCommit, Commits}
-use Rattle.live_book.specs.Prepared.{MayFollowIn, ForStoreIn}
+use Rattle.live_book.specs.Inner.Prepared.{MayFollowIn, ForStoreIn}
 use Rattle.live_book.proofs.Committing.{crash_weaker, put_right, put_kept}
 
 -- a refusal, whatever an answer would be

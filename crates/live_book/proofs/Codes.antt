@@ -1,7 +1,7 @@
 -- What the code of an entry says of it.
 use Rattle.std.proofs.Common.{◌≡◌, ℕ, ◌<◌, List, length, subst, arith}
 use Rattle.edit_rules.specs.declared.edit.Entry.{Entry}
-use Rattle.code_forms.specs.Parts.{led, byte_in}
+use Rattle.byte_forms.specs.Parts.{led, byte_in}
 use Rattle.edit_code.specs.Codes.{entry_code, IsEntryCode}
 use Rattle.edit_code.specs.Edits.{entry_form}
 

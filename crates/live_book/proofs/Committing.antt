@@ -10,21 +10,24 @@ use Rattle.emu_names.specs.declared.rules.Fault.TheVariants as faults
 use Rattle.db_config.specs.declared.parts.ConfigParts.{ConfigParts}
 use Rattle.db_config.specs.Valid.{is_valid}
 use Rattle.edit_rules.specs.declared.edit.Entry.{Entry}
-use Rattle.edit_rules.specs.Effects.{effect, IsFirstFault}
+use Rattle.edit_rules.specs.Effects.{effect}
+use Rattle.edit_rules.specs.Inner.Effects.{IsFirstFault}
 use Rattle.emu_disk.proofs.Moments.{weaker}
 use Rattle.edit_journal.specs.declared.journal.Journal.{Journal}
 use Rattle.edit_journal.specs.Held.{disk_of}
 use Rattle.version_gate.specs.declared.entry.Entry.{Entry as Numbered}
-use Rattle.version_gate.specs.Lists.{Board, entry}
+use Rattle.version_gate.specs.Lists.{entry}
+use Rattle.version_gate.specs.Inner.Lists.{Board}
 use Rattle.version_tree.specs.Version.{VersionParts, state_of}
 use Rattle.live_book.specs.declared.commit.Ready.{Ready}
 use Rattle.live_book.specs.declared.fault.EditFault.{EditFault}
 use Rattle.live_book.specs.declared.fault.EditFault.TheVariants as edit_faults
 use Rattle.live_book.specs.declared.published.Published.{Published}
 use Rattle.live_book.specs.Published.{IsStateAfter, IsShown, AreShown}
-use Rattle.live_book.specs.Kept.{BookParts, KeepsIn, IsAsBefore, DuringStore, CrashLeaves, Holding, IsBookOf}
+use Rattle.live_book.specs.Kept.{BookParts, KeepsIn, IsAsBefore, CrashLeaves}
+use Rattle.live_book.specs.Inner.Kept.{DuringStore, Holding, IsBookOf}
 use Rattle.live_book.specs.Commits.{has_journal, HasRoom, BreaksNone, IsTooMuch, IsWelcome, IsAnswer, LeavesKept, DuringCommit, Commits}
-use Rattle.live_book.specs.Prepared.{MayFollowIn, HasRoomFor, HoldsSome, IsReady, refusal_of}
+use Rattle.live_book.specs.Inner.Prepared.{MayFollowIn, HasRoomFor, HoldsSome, IsReady, refusal_of}
 use Rattle.live_book.proofs.States.{edited_as}
 use Rattle.live_book.proofs.Storing.{quiet}
 use Rattle.live_book.proofs.Showing.{shown-push}

@@ -2,7 +2,7 @@
 use Rattle.std.proofs.Common.{◌≡◌, ℕ, ◌≤◌, List, [], ◌∷◌, ◌++◌, length, take, drop, Option, None, Result, Ok, Err, refl, sym, ◌∙◌, ap, subst, arith, append_assoc, length-append}
 use Rattle.std.proofs.lemmas.List.{append-nil}
 use mathlib.Core.List.{IsPrefix}
-use Rattle.fault_counts.specs.Count.{RoseBy}
+use Rattle.emu_names.specs.Count.{RoseBy}
 use Rattle.db_config.specs.declared.parts.ConfigParts.{ConfigParts}
 use Rattle.edit_rules.specs.declared.edit.Entry.{Entry}
 use Rattle.edit_journal.specs.declared.journal.Journal.{Journal}
@@ -14,7 +14,8 @@ use Rattle.live_book.specs.declared.published.Published.{Published}
 use Rattle.live_book.specs.Published.{AreShown}
 use Rattle.live_book.specs.Kept.{BookParts, KeepsIn, faults_in}
 use Rattle.live_book.specs.Commits.{IsAnswer, LeavesKept, history_behind, Commits}
-use Rattle.live_book.specs.Live.{Opened, EditsLive, HasGrown, Shows, accepted_behind, opening_of, refused_behind}
+use Rattle.live_book.specs.Live.{Opened, HasGrown, Shows, opening_of}
+use Rattle.live_book.specs.Inner.Live.{EditsLive, accepted_behind, refused_behind}
 use Rattle.live_book.specs.Laws.{BooksShow, OpeningsShow}
 
 -- the new entries behind an answer

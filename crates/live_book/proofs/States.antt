@@ -3,12 +3,13 @@ use Rattle.std.proofs.Common.{◌≡◌, List, [], ◌∷◌, ◌++◌, Result, 
 use Rattle.emu_names.specs.declared.rules.Broken.{Broken}
 use Rattle.db_config.specs.declared.parts.ConfigParts.{ConfigParts}
 use Rattle.db_config.specs.Valid.{is_valid}
-use Rattle.bundle_state.specs.Linked.{onward}
+use Rattle.emu_names.specs.Steps.{onward}
 use Rattle.edit_rules.specs.declared.edit.Entry.{Entry}
 use Rattle.edit_rules.specs.Database.{DatabaseParts, empty_database, KeepsDatabaseRules}
 use Rattle.edit_rules.specs.Effects.{effect, edited, found_or}
 use Rattle.edit_rules.proofs.Replay.{legal_keeps, replay_goes_on}
-use Rattle.version_tree.specs.Version.{VersionParts, state_of, next_number}
+use Rattle.version_tree.specs.Version.{VersionParts, state_of}
+use Rattle.version_tree.specs.Inner.Version.{next_number}
 use Rattle.live_book.specs.Published.{IsStateAfter}
 use Rattle.live_book.specs.Commits.{HasRoom}
 

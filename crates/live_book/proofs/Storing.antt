@@ -10,14 +10,16 @@ use Rattle.edit_code.specs.Codes.{entry_code, head_code}
 use Rattle.emu_disk.proofs.Moments.{started, weaker}
 use Rattle.edit_journal.specs.declared.journal.Journal.{Journal}
 use Rattle.edit_journal.specs.Store.{limit, StandsFor}
-use Rattle.edit_journal.specs.Held.{disk_of, ForHeld, Holds, IsHeld, MayHave, DuringAppend, LeavesIn}
-use Rattle.edit_journal.specs.Held.{PassesLimit as PassesJournal, IsAsBefore as IsJournalAsBefore}
+use Rattle.edit_journal.specs.Held.{disk_of, Holds, LeavesIn}
+use Rattle.edit_journal.specs.Inner.Held.{ForHeld, IsHeld, MayHave, DuringAppend}
+use Rattle.edit_journal.specs.Inner.Held.{PassesLimit as PassesJournal, IsAsBefore as IsJournalAsBefore}
 use Rattle.edit_journal.proofs.Kept.{stands_may}
 use Rattle.edit_journal.proofs.Walk.{length-start}
 use Rattle.live_book.specs.Histories.{codes_of, AreCoded, IsCoded, IsStorable, Stands, size, entry_size}
-use Rattle.live_book.specs.Kept.{MayFollow, LostMayFollow, Keeps, KeepsIn, IsAsBefore, StandsOrLost, DuringStore, CrashLeaves}
+use Rattle.live_book.specs.Kept.{MayFollow, LostMayFollow, Keeps, KeepsIn, IsAsBefore, StandsOrLost, CrashLeaves}
+use Rattle.live_book.specs.Inner.Kept.{DuringStore}
 use Rattle.live_book.specs.Commits.{has_journal, IsTooMuch}
-use Rattle.live_book.specs.Prepared.{ForStore, IsFrameOf, IsTest, HasRoomFor, HoldsSome}
+use Rattle.live_book.specs.Inner.Prepared.{ForStore, IsFrameOf, IsTest, HasRoomFor, HoldsSome}
 
 -- the codes of one entry more
 pub codes-push : (config : ConfigParts) (history : List Entry) (next : Entry) → codes_of config (history ++ next ∷ []) ≡ codes_of config history ++ entry_code next ∷ []

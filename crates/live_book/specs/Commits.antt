@@ -1,6 +1,6 @@
 -- The answers of a commit.
 use Rattle.std.specs.Prelude.{◌≡◌, ◌⊎◌, ℕ, suc, ◌<◌, ◌≤◌, List, [], ◌∷◌, ◌++◌, length, Bool, true, false, Option, None, Some, Result, Ok, Err, IsErrOf}
-use Rattle.fault_counts.specs.Count.{Rose}
+use Rattle.emu_names.specs.Count.{Rose}
 use Rattle.emu_names.specs.declared.limits.TheConstants.{HISTORY_EDITS}
 use Rattle.db_config.specs.declared.parts.ConfigParts.{ConfigParts}
 use Rattle.edit_rules.specs.declared.edit.Edit.{Edit}
@@ -15,7 +15,7 @@ use Rattle.version_gate.specs.declared.entry.Entry.{Entry as Numbered}
 use Rattle.version_gate.specs.Lists.{entry}
 use Rattle.live_book.specs.declared.published.Published.{Published}
 use Rattle.live_book.specs.Kept.{BookParts, KeepsIn, IsAsBefore, StandsOrLost, CrashLeaves, faults_in}
-pub use Rattle.version_steps.specs.Drafts.{entry_of}
+pub use Rattle.version_tree.specs.Drafts.{entry_of}
 
 -- there is a journal
 abbrev pub has_journal : {D : Type 0} → Option (Journal D) → Bool

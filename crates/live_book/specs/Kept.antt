@@ -1,22 +1,16 @@
 -- What a book keeps: its state is the replay of its history, and its journal holds the codes of the
 -- configuration and of the entries.
-use Rattle.std.specs.Prelude.{◌≡◌, ◌⊎◌, ℕ, ◌≤◌, List, [], ◌∷◌, ◌++◌, length, take, drop, Option, None, Some, IsTrue}
+use Rattle.std.specs.Prelude.{◌≡◌, ◌⊎◌, ℕ, List, [], ◌∷◌, ◌++◌, Option, None, Some}
 use Rattle.std.specs.Option.{option_map}
-use Rattle.std.specs.Arc.{arc_value}
-use Rattle.emu_names.specs.declared.limits.TheConstants.{HISTORY_EDITS}
 use Rattle.db_config.specs.declared.parts.ConfigParts.{ConfigParts}
-use Rattle.db_config.specs.Valid.{is_valid}
 use Rattle.edit_rules.specs.declared.edit.Entry.{Entry}
 use Rattle.edit_code.specs.Codes.{entry_code}
 use Rattle.edit_journal.specs.declared.journal.Journal.{Journal}
 use Rattle.edit_journal.specs.Held.{Holds, count_in, LeavesIn}
 use Rattle.logbook.specs.Pages.{Book as GateName}
 use Rattle.version_gate.specs.declared.entry.Entry.{Entry as Numbered}
-use Rattle.version_gate.specs.Lists.{Board, EndsIn, entry}
 use Rattle.live_book.specs.declared.published.Published.{Published}
-use Rattle.live_book.specs.declared.parts.Parts.{Parts}
 use Rattle.live_book.specs.Histories.{codes_of, IsHistory, IsCoded, IsStorable, Stands}
-use Rattle.live_book.specs.Published.{IsStateAfter, AreShown}
 
 -- an entry may follow a history in a store: it has a code, and with it the history breaks no rule and is
 -- not too long
@@ -55,12 +49,6 @@ abbrev pub StandsOrLost : ConfigParts → List Entry → Option Entry → List �
 StandsOrLost config history None c = Stands config history c
 StandsOrLost config history (Some next) c = Stands config history c ⊎ Stands config (history ++ next ∷ []) c
 
--- while an entry is stored, a crash leaves the history from before, or also the entry in doubt in the new
--- one's place, or the history with the new one
-abbrev pub DuringStore : ConfigParts → List Entry → Option Entry → Entry → List ℕ → Type 0
-DuringStore config history lost next c =
-    StandsOrLost config history lost c ⊎ Stands config (history ++ next ∷ []) c
-
 -- a crash at any moment since a journal was the old one leaves bytes that have P; without a journal there
 -- is no crash
 abbrev pub CrashLeaves : {D : Type 0} → (D → ℕ) → (D → ℕ → List ℕ → Type 0) → Option (Journal D)
@@ -74,34 +62,6 @@ abbrev pub faults_in : {D : Type 0} → (D → ℕ) → Option (Journal D) → �
 faults_in faults None = 0
 faults_in faults (Some journal) = count_in faults journal
 
--- the configuration of a book
-abbrev pub config_in : {D : Type 0} → Parts D → ConfigParts
-config_in parts = (arc_value parts.current).version.config
-
--- the journal of a book, if it has one, holds its configuration and history
-abbrev pub Holding : {D : Type 0} → (D → List ℕ → Type 0) → ConfigParts → List Entry
-    → Option (Journal D) → Type 0
-Holding may_leave config history journal =
-    (lost : Option Entry) × KeepsIn may_leave config history lost journal
-
--- What a book always keeps, of its version in force, its entries, how many of them stood at the opening,
--- what its publisher has, and its journal
-pub record IsBookOf {D : Type 0} (may_leave : D → List ℕ → Type 0) (current : Published) (entries : List Entry)
-    (opened : ℕ) (board : Board Published) (journal : Option (Journal D)) : Type 0 where
-  pub valid : IsTrue (is_valid current.version.config)
-  pub few : length entries ≤ HISTORY_EDITS
-  pub opened_some : opened ≤ length entries
-  pub number : board.number ≡ length entries
-  pub state : IsStateAfter current.version.config entries current.version
-  pub shown : AreShown current.version.config (take opened entries) (drop opened entries) board.list
-  pub last : EndsIn board.list (entry (length entries) current)
-  pub held : Holding may_leave current.version.config entries journal
-
--- what the fields of a book always keep
-abbrev pub IsBook : {D : Type 0} → (D → List ℕ → Type 0) → Parts D → Type 0
-IsBook may_leave parts =
-    IsBookOf may_leave (arc_value parts.current) parts.entries parts.opened parts.publisher parts.journal
-
 -- What contracts see of a book: its configuration, all entries and how many of them stood at the opening,
 -- its journal, its gate, and the published list
 pub record BookParts (D : Type 0) : Type 0 where
@@ -111,14 +71,3 @@ pub record BookParts (D : Type 0) : Type 0 where
   pub journal : Option (Journal D)
   pub gate : GateName
   pub list : List (Numbered Published)
-
--- what contracts see of a book's fields
-abbrev pub book_of : {D : Type 0} → Parts D → BookParts D
-book_of parts = record {
-  config = config_in parts;
-  history = parts.entries;
-  opened = parts.opened;
-  journal = parts.journal;
-  gate = parts.publisher.gate;
-  list = parts.publisher.list;
-}

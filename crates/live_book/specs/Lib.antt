@@ -2,7 +2,6 @@ pub mod Histories
 pub mod Published
 pub mod Kept
 pub mod Commits
-pub mod Prepared
 pub mod Live
 pub mod Laws
-pub mod Drafts
+pub mod Inner

@@ -1,13 +1,13 @@
 //! The book: its history, the version in force, who publishes, and the store.
-ghost use Rattle.std.specs.Prelude.{◌≡◌, ◌≤◌, length, take, drop, IsTrue, IfOk};
+ghost use Rattle.std.specs.Prelude.{◌≡◌, ◌≤◌, ◌<◌, ℕ, false, length, take, drop, IsTrue, IfOk};
 ghost use mathlib.Core.List.{IsPrefix};
 ghost use Rattle.std.specs.Arc.{arc_value};
 ghost use Rattle.version_gate.specs.Lists.{entry, front, EndsIn, Numbered};
 ghost use Rattle.live_book.specs.Histories.{IsHistory};
 ghost use Rattle.live_book.specs.Published.{IsStateAfter, AreShown};
-ghost use Rattle.live_book.specs.Kept.{IsBook, book_of, Holding};
+ghost use Rattle.live_book.specs.Inner.Kept.{IsBook, book_of, Holding};
 ghost use Rattle.live_book.specs.Commits.{entry_of, Commits};
-ghost use Rattle.version_steps.specs.Drafts.{IsAddedBy};
+ghost use Rattle.version_tree.specs.Inner.Drafts.{IsAddedBy};
 
 use crate::commit::commit_in;
 use crate::fault::EditFault;
@@ -21,7 +21,7 @@ use std::alloc::Global;
 use std::marker::Model;
 use std::sync::{Arc, Wait};
 use version_gate::{Note, Pass};
-use version_steps::Draft;
+use version_tree::Draft;
 
 /// A book: a configuration, a history of at most 100,000 entries, the version after all of them, the
 /// gate that publishes each version, and, if there is one, the journal that holds the codes of the
@@ -31,7 +31,8 @@ pub struct Book<D: Disk> {
 }
 
 impl<D: Disk> Model for Book<D> {
-    ghost use Rattle.live_book.specs.Kept.{BookParts, IsBook, book_of};
+    ghost use Rattle.live_book.specs.Kept.{BookParts};
+    ghost use Rattle.live_book.specs.Inner.Kept.{IsBook, book_of};
 
     ghost Value = { BookParts D };
 
@@ -130,7 +131,8 @@ impl<D: Disk> Book<D> {
     }
 
     /// Lets a pass learn the published list, and says whether its number is then that of the book. If so, the
-    /// pass has the whole list, and every list that it had before begins it.
+    /// pass has the whole list, and every list that it had before begins it; if not, the pass's number is the
+    /// greater.
     pub fn catch_up(&mut self, pass: &mut Pass<Published>) -> bool
         requires gate { self.old.gate ≡ pass.old.gate }
         ensures same { self.new ≡ self.old }
@@ -139,6 +141,8 @@ impl<D: Disk> Book<D> {
         ensures whole { IsPrefix self.old.list pass.new.list }
         ensures caught { IsTrue result →
             (pass.new.list ≡ self.old.list) × IsPrefix pass.old.list self.old.list }
+        ensures passed { result ≡ false → (k : ℕ) → Numbered k pass.new.list →
+            length self.old.history < k }
     {
         version_gate::law::catch_up(&mut self.parts.publisher, pass)
     }

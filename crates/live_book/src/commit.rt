@@ -1,7 +1,7 @@
 //! One commit: what it makes before it calls the disk, the entry in the store, and the new version.
 ghost use Rattle.std.specs.Prelude.{◌≡◌, ◌⊎◌, ◌+◌, ◌≤◌, ◌++◌, [], ◌∷◌, ℕ, suc, true, List, None, Some, Ok, Err, length, IfOk, IfErr, OnOk, OnErr, IsErrOf};
 ghost use Rattle.std.specs.Arc.{arc_value};
-ghost use Rattle.fault_counts.specs.Count.{Rose};
+ghost use Rattle.emu_names.specs.Count.{Rose};
 ghost use Rattle.emu_names.specs.declared.limits.TheConstants.{HISTORY_EDITS};
 ghost use Rattle.db_config.specs.declared.parts.ConfigParts.{ConfigParts};
 ghost use Rattle.edit_rules.specs.declared.edit.Entry.{Entry};
@@ -10,10 +10,11 @@ ghost use Rattle.edit_journal.specs.Store.{limit};
 ghost use Rattle.live_book.specs.Histories.{IsCoded, entry_size};
 ghost use Rattle.version_gate.specs.Lists.{entry};
 ghost use Rattle.live_book.specs.Published.{IsStateAfter};
-ghost use Rattle.live_book.specs.Kept.{IsBook, KeepsIn, IsAsBefore, CrashLeaves, book_of, config_in, faults_in};
+ghost use Rattle.live_book.specs.Kept.{KeepsIn, IsAsBefore, CrashLeaves, faults_in};
+ghost use Rattle.live_book.specs.Inner.Kept.{IsBook, book_of, config_in};
 ghost use Rattle.live_book.specs.Commits.{has_journal, IsAnswer, IsWelcome, DuringCommit, Commits};
-ghost use Rattle.version_steps.specs.Drafts.{IsAddedBy};
-ghost use Rattle.live_book.specs.Prepared.{IsFrameOf, IsReady, IsTest, HasRoomFor, HoldsSome, ForStoreIn, refusal_of, entries_behind};
+ghost use Rattle.version_tree.specs.Inner.Drafts.{IsAddedBy};
+ghost use Rattle.live_book.specs.Inner.Prepared.{IsFrameOf, IsReady, IsTest, HasRoomFor, HoldsSome, ForStoreIn, refusal_of, entries_behind};
 
 use crate::fault::EditFault;
 use crate::parts::Parts;
@@ -28,8 +29,7 @@ use emu_names::limits::HISTORY_EDITS;
 use emu_names::{Fault, Memory};
 use std::alloc::Global;
 use std::sync::{Arc, Wait};
-use version_steps::{Draft, next_drafted};
-use version_tree::Version;
+use version_tree::{Draft, Version, next_drafted};
 
 /// What a commit has ready before it calls the disk.
 #[derive(Drop)]

@@ -2,10 +2,12 @@
 ghost use Rattle.std.specs.Prelude.{◌≡◌, ◌<◌, ◌≤◌, ℕ, IfSome, None, drop, length, take};
 ghost use mathlib.Core.List.{IsPrefix};
 ghost use Rattle.live_book.specs.Commits.{Commits, entry_of};
-ghost use Rattle.live_book.specs.Drafts.{IsDraftAt};
-ghost use Rattle.version_steps.specs.Drafts.{IsDraftOf};
-ghost use Rattle.live_book.specs.Kept.{Holding, KeepsIn};
-ghost use Rattle.live_book.specs.Live.{EditsLive, HasGrown, Opened, accepted_behind, all_parts, count_behind, merged, no_opening, one_part, opening_of, refused_behind, whole_share, without_part};
+ghost use Rattle.live_book.specs.Inner.Drafts.{IsDraftAt};
+ghost use Rattle.version_tree.specs.Inner.Drafts.{IsDraftOf};
+ghost use Rattle.live_book.specs.Kept.{KeepsIn};
+ghost use Rattle.live_book.specs.Inner.Kept.{Holding};
+ghost use Rattle.live_book.specs.Live.{HasGrown, Opened, opening_of};
+ghost use Rattle.live_book.specs.Inner.Live.{EditsLive, accepted_behind, all_parts, count_behind, merged, no_opening, one_part, refused_behind, whole_share, without_part};
 ghost use Rattle.live_book.specs.Published.{AreShown};
 ghost use Rattle.version_gate.specs.Lists.{Numbered as IsNumbered};
 
@@ -20,7 +22,7 @@ use std::marker::{Brand, Model};
 use std::sync::ledger::{self, Blank, Ledger};
 use std::sync::{Mutex, MutexGuard, Wait};
 use version_gate::Pass;
-use version_steps::Draft;
+use version_tree::Draft;
 
 /// Which opening it is: the book as it is at the moment at which threads begin to edit it. It is also the ledger of
 /// the edits that are accepted. Its members are plain values, which contracts alone see.
@@ -43,7 +45,7 @@ pub struct Share<K: Opening, N: Ledger> {
 
 impl<K: Opening, N: Ledger> Model for Share<K, N> {
     ghost use Rattle.std.specs.Prelude.{◌≡◌};
-    ghost use Rattle.live_book.specs.Live.{Count};
+    ghost use Rattle.live_book.specs.Inner.Live.{Count};
 
     ghost Value = { Count };
 

@@ -1,13 +1,14 @@
 //! One entry more in the store of a book.
 ghost use Rattle.std.specs.Prelude.{◌≡◌, ◌≤◌, ◌++◌, [], ◌∷◌, List, Option, None, Some, true, false, Err, IfSome, OnOk, OnErr, IsErrOf};
-ghost use Rattle.fault_counts.specs.Count.{HasCause};
+ghost use Rattle.emu_names.specs.Count.{HasCause};
 ghost use Rattle.db_config.specs.declared.parts.ConfigParts.{ConfigParts};
 ghost use Rattle.edit_rules.specs.declared.edit.Entry.{Entry};
 ghost use Rattle.edit_code.specs.Codes.{entry_code};
 ghost use Rattle.edit_journal.specs.Held.{count_in, LeavesIn};
-ghost use Rattle.live_book.specs.Kept.{MayFollow, Keeps, KeepsIn, IsAsBefore, DuringStore, CrashLeaves, faults_in};
+ghost use Rattle.live_book.specs.Kept.{MayFollow, Keeps, KeepsIn, IsAsBefore, CrashLeaves, faults_in};
+ghost use Rattle.live_book.specs.Inner.Kept.{DuringStore};
 ghost use Rattle.live_book.specs.Commits.{has_journal, IsTooMuch};
-ghost use Rattle.live_book.specs.Prepared.{IsFrameOf, IsTest, ForStore, ForStoreIn, HasRoomFor, HoldsSome};
+ghost use Rattle.live_book.specs.Inner.Prepared.{IsFrameOf, IsTest, ForStore, ForStoreIn, HasRoomFor, HoldsSome};
 
 use edit_code::entry_len;
 use edit_journal::{Frame, Journal, JournalFault};

@@ -4,9 +4,9 @@ use Rattle.session_core.specs.declared.line.Reply.{Reply}
 use Rattle.session_core.specs.Steps.{session_places}
 use Rattle.session_core.specs.Worlds.{Each, Turn}
 use Rattle.session_core.specs.Legal.{IsNamed, lines_in, replies_in}
-use Rattle.lane_laws.specs.Lanes.{grouped}
+use Rattle.live_laws.specs.Lanes.{grouped}
 use Rattle.live_run.specs.Runs.{replies_from}
-use Rattle.live_run.specs.Grouping.{AreWithin, HasRooms, QueueParts, queued_from}
+use Rattle.live_run.specs.Inner.Grouping.{AreWithin, HasRooms, QueueParts, queued_from}
 use Rattle.live_run.proofs.Queues.{all_queued, replies_queued}
 use Rattle.live_run.proofs.Sessions.{grouped_count, grouped_replies, rooms_empty, rooms_within}
 

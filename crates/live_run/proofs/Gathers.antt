@@ -6,8 +6,8 @@ use Rattle.live_book.specs.Kept.{BookParts}
 use Rattle.live_book.specs.Live.{HasGrown, Opened, Shows}
 use Rattle.live_book.specs.Published.{AreShown}
 use Rattle.live_book.proofs.Living.{books_show}
-use Rattle.lane_laws.specs.Lanes.{Step}
-use Rattle.live_run.specs.Running.{HaveLanes, accepts_in, refuses_in}
+use Rattle.live_laws.specs.Lanes.{Step}
+use Rattle.live_run.specs.Inner.Running.{HaveLanes, accepts_in, refuses_in}
 
 -- the published list of a book shows its history
 abbrev pub ShowsAll : {D : Type 0} → BookParts D → Type 0

@@ -2,7 +2,7 @@
 use Rattle.std.proofs.Common.{◌≡◌, ℕ, ◌+◌, ◌-◌, ◌<◌, ◌≤◌, ◌%◌, min, List, [], ◌++◌, length, drop, Ok, sym, ◌∙◌, ap, subst, arith, length-append}
 use Rattle.std.proofs.Math.Seq.{drop-append_seam}
 use Rattle.emu_names.specs.declared.limits.TheConstants.{HISTORY_EDITS}
-use Rattle.fault_counts.specs.Count.{RoseBy}
+use Rattle.emu_names.specs.Count.{RoseBy}
 use Rattle.db_config.specs.declared.parts.ConfigParts.{ConfigParts}
 use Rattle.edit_rules.specs.declared.edit.Entry.{Entry}
 use Rattle.edit_rules.specs.Effects.{IsLegal}
@@ -10,7 +10,7 @@ use Rattle.version_gate.specs.declared.entry.Entry.{Entry as Numbered}
 use Rattle.session_core.specs.declared.line.Line.{Line}
 use Rattle.session_core.specs.declared.line.Reply.{Reply}
 use Rattle.session_core.specs.InOrder.{ComeInOrder}
-use Rattle.session_core.specs.Kept.{opened_in}
+use Rattle.session_core.specs.Inner.Kept.{opened_in}
 use Rattle.session_core.specs.Legal.{IsNamed, Legal, disk_replies, lines_in, replies_in}
 use Rattle.session_core.specs.Worlds.{Each}
 use Rattle.session_core.proofs.Turns.{each_map}
@@ -21,16 +21,17 @@ use Rattle.live_book.specs.Kept.{BookParts, faults_in}
 use Rattle.live_book.specs.Laws.{ShowsBeginning}
 use Rattle.live_book.specs.Live.{HasGrown, Opened, Shows, opening_of}
 use Rattle.live_book.proofs.Lists.{lists_begin}
-use Rattle.lane_laws.specs.Lanes.{Agrees, HasKept, Step, accepts, all_steps, all_turns, grouped}
-use Rattle.lane_laws.proofs.Grouping.{disks_grouped}
-use Rattle.lane_laws.proofs.Homes.{IsWhole, kept_whole}
-use Rattle.lane_laws.proofs.Joined.{lanes_legal}
+use Rattle.live_laws.specs.Lanes.{Agrees, HasKept, Step, accepts, all_steps, all_turns, grouped}
+use Rattle.live_laws.proofs.Grouping.{disks_grouped}
+use Rattle.live_laws.proofs.Homes.{IsWhole, kept_whole}
+use Rattle.live_laws.proofs.Joined.{lanes_legal}
 use Rattle.live_run.specs.declared.run.Ended.{Ended}
-use Rattle.live_run.specs.Grouping.{HasRooms, IsPlaced, QueueParts}
-use Rattle.live_run.specs.Running.{EndsOver, HasEnded, HaveLanes, accepts_in, refuses_in}
-use Rattle.live_run.specs.Runs.{AreGrouped, RunsLive}
+use Rattle.live_run.specs.Inner.Grouping.{HasRooms, IsPlaced, QueueParts}
+use Rattle.live_run.specs.Inner.Running.{EndsOver, HasEnded, HaveLanes, accepts_in, refuses_in}
+use Rattle.live_run.specs.Runs.{AreGrouped}
+use Rattle.live_run.specs.Inner.Runs.{RunsLive}
 use Rattle.live_seats.specs.Marks.{marks_from}
-use Rattle.live_seats.specs.Seats.{IsAsked, KeepsLane, lane_of}
+use Rattle.live_seats.specs.Inner.Seats.{IsAsked, KeepsLane, lane_of}
 use Rattle.live_run.proofs.Regrouped.{ordered}
 use Rattle.live_run.proofs.Wholes.{AreAlike, all_accepted, all_alike, all_named, all_placed, all_refused, each_line, few_accepted, rooms_alike}
 

@@ -10,10 +10,10 @@ use Rattle.live_seats.specs.declared.lane.Lane.{Lane}
 use Rattle.live_seats.specs.declared.lane.Lane.TheVariants as lanes
 use Rattle.session_core.specs.Legal.{disk_replies, lines_in, replies_in}
 use Rattle.session_core.specs.Worlds.{Each}
-use Rattle.lane_laws.specs.Lanes.{AreLanes, Step, accepts, is_in_lane, lane_lines, turns_of}
-use Rattle.live_seats.specs.Seats.{SeatParts, lines_of, lane_of, takes}
+use Rattle.live_laws.specs.Lanes.{AreLanes, Step, accepts, is_in_lane, lane_lines, turns_of}
+use Rattle.live_seats.specs.Inner.Seats.{SeatParts, lines_of, lane_of, takes}
 use Rattle.live_run.specs.declared.lanes.LaneOf.{LaneOf}
-use Rattle.live_run.specs.Running.{accepts_in, refuses_in, AreFree, AreIdle, IsFree, HasTaken, HaveTaken, HaveLanes, IsThread, parts_of, thread_lines}
+use Rattle.live_run.specs.Inner.Running.{accepts_in, refuses_in, AreFree, AreIdle, IsFree, HasTaken, HaveTaken, HaveLanes, IsThread, parts_of, thread_lines}
 
 -- two tests that agree give the same elements
 same_filter : (p q : Line → Bool) (xs : List Line) → ((x : Line) → p x ≡ q x) → filter p xs ≡ filter q xs

@@ -4,8 +4,8 @@ use Rattle.std.proofs.lemmas.List.{map-append}
 use Rattle.session_core.specs.declared.line.Reply.{Reply}
 use Rattle.session_core.specs.Worlds.{Each, Turn}
 use Rattle.session_core.specs.Legal.{replies_in}
-use Rattle.lane_laws.specs.Lanes.{Step, all_turns, turns_of}
-use Rattle.live_run.specs.Grouping.{AreWithin, HasPlace, QueueParts, queued_from}
+use Rattle.live_laws.specs.Lanes.{Step, all_turns, turns_of}
+use Rattle.live_run.specs.Inner.Grouping.{AreWithin, HasPlace, QueueParts, queued_from}
 use Rattle.live_run.proofs.Queues.{queued_append, queued_none, replies_queued, within_front}
 
 -- the replies of a lane

@@ -6,7 +6,7 @@ use Rattle.std.proofs.lemmas.List.Elements.{filter-append}
 use Rattle.session_core.specs.declared.line.Reply.{Reply}
 use Rattle.session_core.specs.Worlds.{Each}
 use Rattle.live_run.specs.Runs.{is_reply_of, replies_from}
-use Rattle.live_run.specs.Grouping.{AreWithin, IsWithin, QueueParts, appended, pushed, queued_from}
+use Rattle.live_run.specs.Inner.Grouping.{AreWithin, IsWithin, QueueParts, appended, pushed, queued_from}
 
 -- the replies of queues, one after another
 abbrev pub replies_queued : List QueueParts → List Reply

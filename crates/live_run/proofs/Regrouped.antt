@@ -3,10 +3,10 @@ use Rattle.std.proofs.Common.{◌≡◌, ℕ, zero, suc, ◌<◌, List, [], ◌�
 use Rattle.session_core.specs.Steps.{session_places}
 use Rattle.session_core.specs.Worlds.{Each, Turn}
 use Rattle.session_core.specs.Legal.{IsNamed, of_session, replies_in}
-use Rattle.lane_laws.specs.Lanes.{grouped, grouped_from}
-use Rattle.lane_laws.proofs.Grouping.{each_grouped, of_grouped}
+use Rattle.live_laws.specs.Lanes.{grouped, grouped_from}
+use Rattle.live_laws.proofs.Grouping.{each_grouped, of_grouped}
 use Rattle.live_run.specs.Runs.{AreGrouped}
-use Rattle.live_run.specs.Grouping.{HasPlace, IsPlaced}
+use Rattle.live_run.specs.Inner.Grouping.{HasPlace, IsPlaced}
 use Rattle.live_run.proofs.Sessions.{grouped_replies}
 
 -- replies are of the sessions of their lines

@@ -18,8 +18,8 @@ use Rattle.session_core.specs.Worlds.{Each}
 use Rattle.live_book.specs.declared.published.Published.{Published}
 use Rattle.live_book.proofs.Lists.{prefix_length}
 use Rattle.live_seats.specs.declared.lane.Lane.TheVariants as lanes
-use Rattle.live_seats.specs.Seats.{IsAsked, NamesCell, SeatParts, lines_of}
-use Rattle.live_run.specs.Running.{AreFree, HaveRoom, IsFresh, IsUnder}
+use Rattle.live_seats.specs.Inner.Seats.{IsAsked, NamesCell, SeatParts, lines_of}
+use Rattle.live_run.specs.Inner.Running.{AreFree, HaveRoom, IsFresh, IsUnder}
 use Rattle.live_run.proofs.Joins.{each_more}
 
 -- a longer list has no lower number

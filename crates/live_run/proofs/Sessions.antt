@@ -7,9 +7,9 @@ use Rattle.session_core.specs.declared.line.Line.{Line}
 use Rattle.session_core.specs.declared.line.Reply.{Reply}
 use Rattle.session_core.specs.Worlds.{Each, Turn}
 use Rattle.session_core.specs.Legal.{IsNamed, is_line_of, lines_in, lines_of_session, of_session, replies_in}
-use Rattle.lane_laws.specs.Lanes.{grouped_from}
+use Rattle.live_laws.specs.Lanes.{grouped_from}
 use Rattle.live_run.specs.Runs.{is_reply_of, replies_from}
-use Rattle.live_run.specs.Grouping.{AreWithin, HaveRooms, QueueParts, lines_from, queued_from}
+use Rattle.live_run.specs.Inner.Grouping.{AreWithin, HaveRooms, QueueParts, lines_from, queued_from}
 use Rattle.live_run.proofs.Queues.{AreEmpty}
 
 -- the turns of a session, and their replies

@@ -1,8 +1,8 @@
 -- What is known of the lanes when their shares are put together.
 use Rattle.std.proofs.Common.{◌≡◌, ℕ, List, sym, subst}
 use Rattle.session_core.specs.declared.line.Line.{Line}
-use Rattle.lane_laws.specs.Lanes.{Step}
-use Rattle.live_run.specs.Running.{HaveLanes}
+use Rattle.live_laws.specs.Lanes.{Step}
+use Rattle.live_run.specs.Inner.Running.{HaveLanes}
 
 -- all lanes have ended
 pub settled_lanes : (count seats : ℕ) (lines : List Line) (rests done : List (List Step)) → rests ≡ done → count ≡ seats

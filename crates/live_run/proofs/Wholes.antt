@@ -15,13 +15,13 @@ use Rattle.session_core.specs.Steps.{session_places}
 use Rattle.session_core.specs.Worlds.{Each, Turn}
 use Rattle.session_core.specs.Legal.{IsNamed, NumberedEntry, accepted, accepting, disk_replies, lines_in, lines_of_session, of_session, replies_in}
 use Rattle.session_core.proofs.Turns.{disk_of, each_filter, each_map, each_of_map}
-use Rattle.lane_laws.specs.Lanes.{Agrees, AreLanes, Step, accepts, all_steps, all_turns, grouped, grouped_from, is_in_lane, turns_of}
-use Rattle.lane_laws.proofs.Eaches.{each_append}
-use Rattle.lane_laws.proofs.Grouping.{accepts_grouped}
-use Rattle.lane_laws.proofs.Homes.{IsWhole, home, in_order}
-use Rattle.lane_laws.proofs.Rising.{come_placed}
-use Rattle.live_run.specs.Grouping.{HasRooms, HaveRooms, IsPlaced, QueueParts, lines_from}
-use Rattle.live_run.specs.Running.{accepts_in, refuses_in}
+use Rattle.live_laws.specs.Lanes.{Agrees, AreLanes, Step, accepts, all_steps, all_turns, grouped, grouped_from, is_in_lane, turns_of}
+use Rattle.live_laws.proofs.Eaches.{each_append}
+use Rattle.live_laws.proofs.Grouping.{accepts_grouped}
+use Rattle.live_laws.proofs.Homes.{IsWhole, home, in_order}
+use Rattle.live_laws.proofs.Rising.{come_placed}
+use Rattle.live_run.specs.Inner.Grouping.{HasRooms, HaveRooms, IsPlaced, QueueParts, lines_from}
+use Rattle.live_run.specs.Inner.Running.{accepts_in, refuses_in}
 use Rattle.live_run.proofs.Sessions.{few_lines, session_lines}
 
 -- What holds of each line and turn.

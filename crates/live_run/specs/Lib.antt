@@ -1,3 +1,2 @@
 pub mod Runs
-pub mod Running
-pub mod Grouping
+pub mod Inner

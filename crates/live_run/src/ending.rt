@@ -3,8 +3,8 @@ ghost use Rattle.std.specs.Prelude.{◌≡◌, ◌+◌, ◌<◌, ◌≤◌, [], 
 ghost use mathlib.Core.List.{IsPrefix};
 ghost use Rattle.session_core.specs.Legal.{disk_replies, replies_in};
 ghost use Rattle.session_core.specs.Worlds.{Each};
-ghost use Rattle.lane_laws.specs.Lanes.{accepts, turns_of};
-ghost use Rattle.live_run.specs.Running.{HasEnded, accepts_in, parts_of, refuses_in, with_seat};
+ghost use Rattle.live_laws.specs.Lanes.{accepts, turns_of};
+ghost use Rattle.live_run.specs.Inner.Running.{HasEnded, accepts_in, parts_of, refuses_in, with_seat};
 
 use emu_disk::Disk;
 use live_book::{Book, Opening, Published, Share};
@@ -24,8 +24,8 @@ pub(crate) struct Rest<'a, K: Opening + Row> {
 impl<'a, K: Opening + Row> Model for Rest<'a, K> {
     ghost use Rattle.std.specs.Prelude.{◌≡◌};
     ghost use Rattle.std.specs.Coded.{codes};
-    ghost use Rattle.eql_resolve.specs.Codes.{tree_code};
-    ghost use Rattle.live_run.specs.Running.{IsRest, RestParts, rest_of};
+    ghost use Rattle.eql_resolve.specs.Inner.Codes.{tree_code};
+    ghost use Rattle.live_run.specs.Inner.Running.{IsRest, RestParts, rest_of};
 
     ghost Value = { RestParts };
 

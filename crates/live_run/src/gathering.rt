@@ -3,9 +3,9 @@ ghost use Rattle.std.specs.Prelude.{◌≡◌, ◌≤◌, [], Ok, length, map, v
 ghost use Rattle.session_core.specs.InOrder.{ComeInOrder};
 ghost use Rattle.session_core.specs.Worlds.{Each};
 ghost use Rattle.live_book.specs.Live.{HasGrown};
-ghost use Rattle.live_run.specs.Grouping.{HasRooms};
-ghost use Rattle.live_run.specs.Running.{EndsOver, HaveLanes, accepts_in, refuses_in};
-ghost use Rattle.live_seats.specs.Seats.{IsAsked};
+ghost use Rattle.live_run.specs.Inner.Grouping.{HasRooms};
+ghost use Rattle.live_run.specs.Inner.Running.{EndsOver, HaveLanes, accepts_in, refuses_in};
+ghost use Rattle.live_seats.specs.Inner.Seats.{IsAsked};
 
 use crate::ending::{Rest, finish_all};
 use crate::room::Joint;

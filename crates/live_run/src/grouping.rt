@@ -2,14 +2,13 @@
 ghost use Rattle.std.specs.Prelude.{◌≡◌, ◌+◌, ◌<◌, ◌≤◌, [], ◌∷◌, ◌++◌, flat_map, length, map, IfOk};
 ghost use Rattle.session_core.specs.Legal.{IsNamed, lines_in, lines_of_session, replies_in};
 ghost use Rattle.session_core.specs.Worlds.{Each};
-ghost use Rattle.lane_laws.specs.Lanes.{all_turns, grouped, turns_of};
+ghost use Rattle.live_laws.specs.Lanes.{all_turns, grouped, turns_of};
 ghost use Rattle.session_core.specs.Steps.{session_places};
 ghost use Rattle.live_run.specs.Runs.{AreGrouped};
-ghost use Rattle.live_run.specs.Grouping.{AreWithin, HasPlace, HasRooms, HaveRooms, IsPlaced, appended, empty_queue, pushed, queued_from};
+ghost use Rattle.live_run.specs.Inner.Grouping.{AreWithin, HasPlace, HasRooms, HaveRooms, IsPlaced, appended, empty_queue, pushed, queued_from};
 
-use emu_lists::Series;
-use emu_names::Memory;
 use emu_names::limits::SESSIONS;
+use emu_names::{Memory, Series};
 use live_seats::{Answered, Row};
 use session_core::{Lines, Replies, Reply};
 use std::alloc::Global;
@@ -23,7 +22,7 @@ pub(crate) struct Queue {
 
 impl Model for Queue {
     ghost use Rattle.std.specs.Prelude.{vec_capacity};
-    ghost use Rattle.live_run.specs.Grouping.{QueueParts};
+    ghost use Rattle.live_run.specs.Inner.Grouping.{QueueParts};
 
     ghost Value = { QueueParts };
 

@@ -2,11 +2,11 @@
 ghost use Rattle.std.specs.Prelude.{◌≡◌, ℕ, get_or, ◌+◌, ◌<◌, ◌≤◌, [], length, map, vec_len, vec_capacity};
 ghost use Rattle.session_core.specs.Legal.{lines_in};
 ghost use Rattle.session_core.specs.Worlds.{Each};
-ghost use Rattle.lane_laws.specs.Lanes.{turns_of};
+ghost use Rattle.live_laws.specs.Lanes.{turns_of};
 ghost use Rattle.std.specs.Thread.{IsSend, IsSync};
-ghost use Rattle.live_seats.specs.Seats.{IsAsked, lines_of};
+ghost use Rattle.live_seats.specs.Inner.Seats.{IsAsked, lines_of};
 ghost use Rattle.live_seats.specs.declared.lane.Lane.TheVariants as lane_kinds;
-ghost use Rattle.live_run.specs.Running.{AreFree, AreIdle, HasTaken, HaveLanes, IsThread, IsFree, parts_of, thread_lines};
+ghost use Rattle.live_run.specs.Inner.Running.{AreFree, AreIdle, HasTaken, HaveLanes, IsThread, IsFree, parts_of, thread_lines};
 
 use emu_disk::Disk;
 use emu_io::Gate;

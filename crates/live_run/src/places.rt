@@ -1,7 +1,7 @@
 //! Places of lanes, which are made before the first line is run: want of memory comes then only.
 ghost use Rattle.std.specs.Prelude.{◌≡◌, ◌+◌, ◌<◌, ◌≤◌, [], All, IfOk, length, map, vec_capacity, vec_len};
 ghost use Rattle.session_core.specs.Worlds.{Each};
-ghost use Rattle.live_run.specs.Running.{HasSeen, HaveRoom, IsFresh};
+ghost use Rattle.live_run.specs.Inner.Running.{HasSeen, HaveRoom, IsFresh};
 
 use emu_disk::Disk;
 use emu_names::Memory;
@@ -25,7 +25,7 @@ pub(crate) struct Place<'a, K: Opening + Row> {
 impl<'a, K: Opening + Row> Model for Place<'a, K> {
     ghost use Rattle.std.specs.Prelude.{◌≡◌, ℕ, [], None, length, replicate, vec_capacity};
     ghost use Rattle.session_core.specs.Steps.{session_places};
-    ghost use Rattle.live_run.specs.Running.{HasSeen};
+    ghost use Rattle.live_run.specs.Inner.Running.{HasSeen};
 
     ghost Value = { ℕ };
 

@@ -1,7 +1,7 @@
 //! All that a run makes before its first line: want of memory comes then only.
 ghost use Rattle.std.specs.Prelude.{◌≡◌, ◌+◌, ◌<◌, ◌≤◌, [], All, IfOk, length, vec_capacity, vec_len};
-ghost use Rattle.live_run.specs.Grouping.{HasRooms};
-ghost use Rattle.live_run.specs.Running.{HaveRoom};
+ghost use Rattle.live_run.specs.Inner.Grouping.{HasRooms};
+ghost use Rattle.live_run.specs.Inner.Running.{HaveRoom};
 
 use crate::ending::Rest;
 use crate::grouping::Rooms;

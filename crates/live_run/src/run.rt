@@ -3,11 +3,12 @@ ghost use Rattle.std.specs.Prelude.{◌≡◌, ◌+◌, ◌≤◌, ◌<◌, [], 
 ghost use Rattle.session_core.specs.InOrder.{ComeInOrder};
 ghost use Rattle.session_core.specs.Worlds.{Each};
 ghost use Rattle.live_book.specs.Kept.{KeepsIn};
-ghost use Rattle.live_book.specs.Live.{all_parts, opening_of};
-ghost use Rattle.live_run.specs.Grouping.{HasRooms};
-ghost use Rattle.live_run.specs.Running.{HaveRoom, IsUnder};
-ghost use Rattle.live_run.specs.Runs.{EndsLive};
-ghost use Rattle.live_seats.specs.Seats.{AreCells, IsAsked};
+ghost use Rattle.live_book.specs.Live.{opening_of};
+ghost use Rattle.live_book.specs.Inner.Live.{all_parts};
+ghost use Rattle.live_run.specs.Inner.Grouping.{HasRooms};
+ghost use Rattle.live_run.specs.Inner.Running.{HaveRoom, IsUnder};
+ghost use Rattle.live_run.specs.Inner.Runs.{EndsLive};
+ghost use Rattle.live_seats.specs.Inner.Seats.{AreCells, IsAsked};
 
 use crate::ending::leave_all;
 use crate::gathering::gather;

@@ -8,6 +8,8 @@ use Rattle.eql_resolve.specs.declared.faults.PrepareFault.{PrepareFault}
 use Rattle.eql_resolve.specs.Asked.{AskedParts}
 use Rattle.eql_resolve.specs.Prepared.{PreparedParts}
 use Rattle.eql_resolve.specs.Resolve.{asked}
+use Rattle.eql_model.specs.declared.row.Row.{Row}
+use Rattle.eql_model.specs.Rows.{segment_list, any_has_too_many}
 use Rattle.session_core.specs.declared.line.Answer.{Answer}
 use Rattle.session_core.specs.declared.line.Answer.TheVariants.{Done, Refused}
 use Rattle.session_core.specs.declared.line.Ask.{Ask}
@@ -17,17 +19,17 @@ use Rattle.session_core.specs.declared.line.Reply.{Reply}
 use Rattle.session_core.specs.declared.line.Request.{Request}
 use Rattle.session_core.specs.declared.line.Request.TheVariants as requests
 use Rattle.session_core.specs.declared.slots.Held.{Held}
-use Rattle.session_core.specs.Answers.{answer_over, grid_answer, grid_number, matched_answer, memory, prepare_answer, prepared_answer, reply_to, resolved_answer}
-use Rattle.session_core.specs.Kept.{held_answer, look_answer, look_closed}
+use Rattle.session_core.specs.Answers.{answer_over, grid_answer, grid_number, listed_answer, memory, prepare_answer, prepared_answer, reply_to, resolved_answer}
+use Rattle.session_core.specs.Inner.Kept.{held_answer, look_answer, look_closed}
 use Rattle.session_core.specs.Legal.{accepting, is_disk}
-use Rattle.session_core.specs.Queries.{any_has_too_many, is_memory_of, lacks_memory}
+use Rattle.session_core.specs.Queries.{is_memory_of, lacks_memory}
 use Rattle.session_core.proofs.Turns.{disk_of, disks_push}
 use Rattle.session_core.specs.Worlds.{Turn}
 use Rattle.live_book.specs.declared.fault.EditFault.{EditFault}
 use Rattle.live_book.specs.declared.fault.EditFault.TheVariants as faults
-use Rattle.live_book.specs.Live.{Count, count_behind}
-use Rattle.session_run.specs.Orders.{commit_reply}
-use Rattle.live_seats.specs.Seats.{accepts_at, counted_by, disk_at}
+use Rattle.live_book.specs.Inner.Live.{Count, count_behind}
+use Rattle.session_run.specs.Inner.Orders.{commit_reply}
+use Rattle.live_seats.specs.Inner.Seats.{accepts_at, counted_by, disk_at}
 
 -- a turn of a line
 abbrev pub turn_of : Line → Reply → Turn
@@ -66,13 +68,14 @@ disk_at_is t = let push : disk_at t ≡ 0 + disk_of t.reply.answer = disks_push 
 no_disk : (l : Line) (n : Option ℕ) (answer : Answer) → is_disk answer ≡ false → disk_at (turn_of l (reply_to l n answer)) ≡ 0
 no_disk l n answer calm = disk_at_is (turn_of l (reply_to l n answer)) ∙ ap (λ b. cond b 1 0) calm
 
-matched_calm : (database : DatabaseParts) (a : AskedParts) (b : Bool) → is_disk (matched_answer database a b) ≡ false
-matched_calm database a true = refl
-matched_calm database a false = refl
+listed_calm : (rows : List Row) (b : Bool) → is_disk (listed_answer rows b) ≡ false
+listed_calm rows true = refl
+listed_calm rows false = refl
 
 resolved_calm : (database : DatabaseParts) (r : Result AskedParts AskFault) → is_disk (resolved_answer database r) ≡ false
 resolved_calm database (Err fault) = refl
-resolved_calm database (Ok a) = matched_calm database a (any_has_too_many database.config database.bundles a)
+resolved_calm database (Ok a) =
+    listed_calm (segment_list database.config database.bundles a) (any_has_too_many database.config database.bundles a)
 
 prepare_calm : (fault : PrepareFault) (b : Bool) → is_disk (prepare_answer fault b) ≡ false
 prepare_calm fault true = refl

@@ -16,7 +16,7 @@ use Rattle.session_core.specs.declared.line.Reply.{Reply}
 use Rattle.session_core.specs.declared.line.Request.TheVariants as requests
 use Rattle.session_core.specs.declared.slots.Held.{Held}
 use Rattle.session_core.specs.Answers.{entry_of, reply_to}
-use Rattle.session_core.specs.Kept.{opened_in}
+use Rattle.session_core.specs.Inner.Kept.{opened_in}
 use Rattle.session_core.specs.Legal.{IsRightRefusal}
 use Rattle.session_core.specs.Steps.{session_places}
 use Rattle.session_core.specs.Worlds.{passes_store}
@@ -24,13 +24,14 @@ use Rattle.live_book.specs.declared.fault.EditFault.{EditFault}
 use Rattle.live_book.specs.declared.fault.EditFault.TheVariants as faults
 use Rattle.live_book.specs.declared.published.Published.{Published}
 use Rattle.live_book.specs.Commits.{IsAnswer, history_behind}
-use Rattle.live_book.specs.Live.{Count, Opened}
-use Rattle.session_run.specs.Orders.{commit_reply}
+use Rattle.live_book.specs.Live.{Opened}
+use Rattle.live_book.specs.Inner.Live.{Count}
+use Rattle.session_run.specs.Inner.Orders.{commit_reply}
 use Rattle.session_run.proofs.Sizes.{passes_so}
-use Rattle.lane_laws.specs.Lanes.{IsStep}
-use Rattle.lane_laws.proofs.Replies.{accepted_step, disk_step, refused_step, want_of_memory_step}
-use Rattle.live_seats.specs.Replies.{IsEdited, RepliesTo}
-use Rattle.live_seats.specs.Seats.{SeesMore, answered_step, counted_by}
+use Rattle.live_laws.specs.Lanes.{IsStep}
+use Rattle.live_laws.proofs.Replies.{accepted_step, disk_step, refused_step, want_of_memory_step}
+use Rattle.live_seats.specs.Inner.Replies.{IsEdited, RepliesTo}
+use Rattle.live_seats.specs.Inner.Seats.{SeesMore, answered_step, counted_by}
 use Rattle.live_seats.proofs.Counts.{edit_count, turn_of}
 use Rattle.live_seats.proofs.Replying.{Steps, from, held_now, on}
 use Rattle.live_seats.proofs.Shown.{goes_on, number_is}

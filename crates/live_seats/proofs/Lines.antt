@@ -12,16 +12,17 @@ use Rattle.session_core.specs.declared.line.Reply.{Reply}
 use Rattle.session_core.specs.declared.line.Request.TheVariants as requests
 use Rattle.session_core.specs.declared.slots.Held.{Held}
 use Rattle.session_core.specs.Answers.{is_want_of_memory, memory, reply_to}
-use Rattle.session_core.specs.Kept.{look_answer, look_closed, opened_in}
+use Rattle.session_core.specs.Inner.Kept.{look_answer, look_closed, opened_in}
 use Rattle.session_core.specs.Queries.{lacks_memory}
 use Rattle.session_core.specs.Steps.{session_places, slot}
 use Rattle.session_core.proofs.SlotPlaces.{length_put_slot}
 use Rattle.live_book.specs.declared.published.Published.{Published}
-use Rattle.live_book.specs.Live.{Count, Opened}
-use Rattle.session_run.specs.Taken.{head_of, or_memory}
-use Rattle.lane_laws.specs.Lanes.{IsStep}
-use Rattle.live_seats.specs.Replies.{Finishes, GoesOn, IsGridRefused, IsQueried, LooksAt, RepliesTo, look_held}
-use Rattle.live_seats.specs.Seats.{TakesLine, answered_step, counted_by}
+use Rattle.live_book.specs.Live.{Opened}
+use Rattle.live_book.specs.Inner.Live.{Count}
+use Rattle.session_run.specs.Inner.Taken.{head_of, or_memory}
+use Rattle.live_laws.specs.Lanes.{IsStep}
+use Rattle.live_seats.specs.Inner.Replies.{Finishes, GoesOn, IsGridRefused, IsQueried, LooksAt, RepliesTo, look_held}
+use Rattle.live_seats.specs.Inner.Seats.{TakesLine, answered_step, counted_by}
 use Rattle.live_seats.proofs.Counts.{after_count, closed_count, grid_count, look_count, memory_count, open_count, query_count, turn_of}
 use Rattle.live_seats.proofs.Replying.{Steps, after_steps, finish_steps, grid_steps, look_steps, memory_steps, query_steps}
 use Rattle.live_seats.proofs.Shown.{number_is}

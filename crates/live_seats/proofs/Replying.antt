@@ -20,19 +20,19 @@ use Rattle.session_core.specs.declared.line.Reply.{Reply}
 use Rattle.session_core.specs.declared.line.Request.TheVariants as requests
 use Rattle.session_core.specs.declared.slots.Held.{Held}
 use Rattle.session_core.specs.Answers.{answer_at, answer_over, grid_answer, grid_number, is_want_of_memory, memory, reply_to}
-use Rattle.session_core.specs.Kept.{AreHeld, IsHeld, IsMoment, held_answer, look_answer, look_closed, opened_by, opened_in}
+use Rattle.session_core.specs.Inner.Kept.{AreHeld, IsHeld, IsMoment, held_answer, look_answer, look_closed, opened_by, opened_in}
 use Rattle.session_core.specs.Queries.{lacks_memory}
 use Rattle.session_core.specs.Steps.{Opened as Look, put_slot, session_places, slot}
 use Rattle.session_core.proofs.Keeping.{looked_kept, slots_longer}
 use Rattle.session_core.proofs.SlotPlaces.{length_put_slot, put_slot_map, slot_map, slot_put}
 use Rattle.live_book.specs.declared.published.Published.{Published}
 use Rattle.live_book.specs.Live.{Opened}
-use Rattle.session_run.specs.Taken.{head_of}
-use Rattle.lane_laws.specs.Lanes.{IsStep}
-use Rattle.lane_laws.proofs.Replies.{after_step, finish_step, grid_step, look_open_step, look_step, no_look_step, query_step, want_of_memory_step}
-use Rattle.lane_laws.proofs.Steps.{begins_length}
-use Rattle.live_seats.specs.Replies.{Finishes, GoesOn, IsGridRefused, IsOpenAlready, IsQueried, LooksAt, Opens, look_held}
-use Rattle.live_seats.specs.Seats.{SeesMore, answered_step}
+use Rattle.session_run.specs.Inner.Taken.{head_of}
+use Rattle.live_laws.specs.Lanes.{IsStep}
+use Rattle.live_laws.proofs.Replies.{after_step, finish_step, grid_step, look_open_step, look_step, no_look_step, query_step, want_of_memory_step}
+use Rattle.live_laws.proofs.Steps.{begins_length}
+use Rattle.live_seats.specs.Inner.Replies.{Finishes, GoesOn, IsGridRefused, IsOpenAlready, IsQueried, LooksAt, Opens, look_held}
+use Rattle.live_seats.specs.Inner.Seats.{SeesMore, answered_step}
 use Rattle.live_seats.proofs.Shown.{goes_on, last_is}
 
 -- What is held, beside a history that goes on.

@@ -8,17 +8,18 @@ use Rattle.version_gate.specs.Lists.{Numbered as IsNumbered}
 use Rattle.version_gate.proofs.Numbers.{same_start}
 use Rattle.session_core.specs.declared.line.Line.{Line}
 use Rattle.session_core.specs.declared.slots.Held.{Held}
-use Rattle.session_core.specs.Kept.{opened_in}
+use Rattle.session_core.specs.Inner.Kept.{opened_in}
 use Rattle.session_core.specs.Legal.{accepted, accepting, disk_replies, replies_in}
 use Rattle.session_core.specs.Steps.{Opened as Look, session_places}
 use Rattle.session_core.specs.Worlds.{Turn}
 use Rattle.session_core.proofs.Keeping.{slots_empty}
 use Rattle.session_core.proofs.Turns.{accepted_push, disks_push}
 use Rattle.live_book.specs.declared.published.Published.{Published}
-use Rattle.live_book.specs.Live.{Count, Opened, Shows}
-use Rattle.lane_laws.specs.Lanes.{IsLane, Step, accepts, turns_of}
-use Rattle.lane_laws.proofs.Steps.{begins, begins_length, takes_step, turns_push}
-use Rattle.live_seats.specs.Seats.{IsSeat, KeepsLane, SeatParts, TakesLine, accepts_at, disk_at, seat_of}
+use Rattle.live_book.specs.Live.{Opened, Shows}
+use Rattle.live_book.specs.Inner.Live.{Count}
+use Rattle.live_laws.specs.Lanes.{IsLane, Step, accepts, turns_of}
+use Rattle.live_laws.proofs.Steps.{begins, begins_length, takes_step, turns_push}
+use Rattle.live_seats.specs.Inner.Seats.{IsSeat, KeepsLane, SeatParts, TakesLine, accepts_at, disk_at, seat_of}
 use Rattle.live_seats.proofs.Counts.{disk_at_is}
 use Rattle.live_seats.proofs.Shown.{shows_before}
 

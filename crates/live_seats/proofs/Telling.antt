@@ -12,11 +12,11 @@ use Rattle.session_core.specs.Legal.{lines_in}
 use Rattle.session_core.proofs.Places.{put_length, slot_other, slot_put}
 use Rattle.session_core.proofs.SlotPlaces.{put_slot_set, slot_get_or, slot_map}
 use Rattle.session_core.proofs.Turns.{each_map, each_of_map}
-use Rattle.lane_laws.proofs.Eaches.{each_flat, each_left, each_right}
-use Rattle.lane_laws.specs.Lanes.{Agrees, Step, all_steps, all_turns, turns_of}
-use Rattle.live_seats.specs.Notes.{IsTold, Note, note, noted_in, noted_of, number_or_none}
-use Rattle.live_seats.specs.Seats.{IsAsked, NamesCell}
-use Rattle.live_seats.specs.Tables.{AreInPlace, KeepsTelling, TellsStep}
+use Rattle.live_laws.proofs.Eaches.{each_flat, each_left, each_right}
+use Rattle.live_laws.specs.Lanes.{Agrees, Step, all_steps, all_turns, turns_of}
+use Rattle.live_seats.specs.Inner.Notes.{IsTold, Note, note, noted_in, noted_of, number_or_none}
+use Rattle.live_seats.specs.Inner.Seats.{IsAsked, NamesCell}
+use Rattle.live_seats.specs.Inner.Tables.{AreInPlace, KeepsTelling, TellsStep}
 
 -- Notes at the places of their lines.
 

@@ -1,5 +1,2 @@
-pub mod Notes
-pub mod Seats
-pub mod Replies
-pub mod Tables
 pub mod Marks
+pub mod Inner

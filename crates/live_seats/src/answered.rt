@@ -2,8 +2,8 @@
 ghost use Rattle.std.specs.Prelude.{◌≡◌, IfSome, IsNone, None, Some};
 ghost use Rattle.std.specs.Option.{option_map};
 ghost use Rattle.session_core.specs.declared.line.Request.TheVariants as requests;
-ghost use Rattle.live_seats.specs.Notes.{IsHeardFor, note, noted_of};
-ghost use Rattle.live_seats.specs.Seats.{answered_step};
+ghost use Rattle.live_seats.specs.Inner.Notes.{IsHeardFor, note, noted_of};
+ghost use Rattle.live_seats.specs.Inner.Seats.{answered_step};
 
 use crate::notes::{Row, Told};
 use session_core::{Line, Reply};
@@ -22,10 +22,10 @@ impl<'a, K: Row> Model for Answered<'a, K> {
     ghost use Rattle.std.specs.Prelude.{◌≡◌};
     ghost use Rattle.std.specs.Coded.{codes};
     ghost use Rattle.std.specs.Option.{option_map};
-    ghost use Rattle.eql_resolve.specs.Codes.{tree_code};
-    ghost use Rattle.lane_laws.specs.Lanes.{Step};
-    ghost use Rattle.live_seats.specs.Notes.{IsHeardFor, noted_of};
-    ghost use Rattle.live_seats.specs.Seats.{answered_step};
+    ghost use Rattle.eql_resolve.specs.Inner.Codes.{tree_code};
+    ghost use Rattle.live_laws.specs.Lanes.{Step};
+    ghost use Rattle.live_seats.specs.Inner.Notes.{IsHeardFor, noted_of};
+    ghost use Rattle.live_seats.specs.Inner.Seats.{answered_step};
 
     ghost Value = { Step };
 

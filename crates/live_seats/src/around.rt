@@ -1,6 +1,6 @@
 //! What the lanes of a run have in common.
 ghost use Rattle.std.specs.Prelude.{◌≡◌, ◌≤◌, map};
-ghost use Rattle.live_seats.specs.Seats.{AreCells};
+ghost use Rattle.live_seats.specs.Inner.Seats.{AreCells};
 
 use crate::notes::Row;
 use emu_disk::Disk;

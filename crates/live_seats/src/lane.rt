@@ -1,6 +1,6 @@
 //! Which lines a lane answers.
 ghost use Rattle.std.specs.Prelude.{◌≡◌, ◌%◌, length};
-ghost use Rattle.live_seats.specs.Seats.{lines_of, takes};
+ghost use Rattle.live_seats.specs.Inner.Seats.{lines_of, takes};
 
 use session_core::{Line, Lines};
 

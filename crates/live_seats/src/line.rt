@@ -8,12 +8,12 @@ ghost use Rattle.session_core.specs.declared.line.Request.TheVariants as request
 ghost use Rattle.session_core.specs.declared.slots.Held.{Held};
 ghost use Rattle.session_core.specs.Answers.{answer_over, reply_to};
 ghost use Rattle.session_core.specs.Steps.{session_places, slot};
-ghost use Rattle.session_run.specs.Taken.{head_of};
+ghost use Rattle.session_run.specs.Inner.Taken.{head_of};
 ghost use Rattle.version_gate.specs.Lists.{EndsIn, entry};
-ghost use Rattle.live_book.specs.Live.{Count};
-ghost use Rattle.live_seats.specs.Notes.{IsHeardFor, noted_of};
-ghost use Rattle.live_seats.specs.Replies.{Finishes, GoesOn, IsEdited, IsGridRefused, IsQueried, LooksAt, RepliesTo};
-ghost use Rattle.live_seats.specs.Seats.{IsAsked, TakesLine};
+ghost use Rattle.live_book.specs.Inner.Live.{Count};
+ghost use Rattle.live_seats.specs.Inner.Notes.{IsHeardFor, noted_of};
+ghost use Rattle.live_seats.specs.Inner.Replies.{Finishes, GoesOn, IsEdited, IsGridRefused, IsQueried, LooksAt, RepliesTo};
+ghost use Rattle.live_seats.specs.Inner.Seats.{IsAsked, TakesLine};
 
 use crate::answered::Answered;
 use crate::around::Around;
@@ -24,11 +24,12 @@ use emu_disk::Disk;
 use emu_io::{Gate, Moment};
 use emu_names::Memory;
 use live_book::{Opening, Published, Share};
+use query_workers::answer_over;
 use session_core::{
     Answer, Ask, Head, Line, Refusal, Reply, Request, Slots, lacks_memory, memory_reply,
     refuse_grid,
 };
-use session_run::{answer_over, commit_reply, or_memory};
+use session_run::{commit_reply, or_memory};
 use std::sync::Wait;
 use std::sync::ledger::Ledger;
 use std::thread::Threads;

@@ -3,8 +3,7 @@ ghost use Rattle.std.specs.Prelude.{◌≡◌, ◌≤◌, ◌+◌, ◌-◌, drop
 ghost use Rattle.live_seats.specs.Marks.{marks_from};
 
 use edit_rules::Entries;
-use emu_lists::Series;
-use emu_names::{Memory, SessionNo};
+use emu_names::{Memory, Series, SessionNo};
 use std::alloc::Global;
 
 /// Where an entry stands in the history, and the line that it came from.

@@ -1,7 +1,7 @@
 //! Numbers that are noted for lines, each once, and that other threads hear.
 ghost use Rattle.std.specs.Prelude.{◌≡◌, ◌<◌, ℕ, List, [], length, map};
-ghost use Rattle.live_seats.specs.Notes.{note};
-ghost use Rattle.live_seats.specs.Seats.{AreCells};
+ghost use Rattle.live_seats.specs.Inner.Notes.{note};
+ghost use Rattle.live_seats.specs.Inner.Seats.{AreCells};
 
 use std::marker::{Brand, Model, PhantomData};
 use std::sync::{OnceLock, OnceToken, Wait};
@@ -26,7 +26,7 @@ pub(crate) struct Told<'a, K: Row> {
 
 impl<'a, K: Row> Model for Told<'a, K> {
     ghost use Rattle.std.specs.Prelude.{◌≡◌, get_or};
-    ghost use Rattle.live_seats.specs.Notes.{Note, note};
+    ghost use Rattle.live_seats.specs.Inner.Notes.{Note, note};
 
     ghost Value = { Note };
 

@@ -1,11 +1,11 @@
 //! A seat: a pass, a share, the looks that are open in its sessions, and the lines that it answered.
 ghost use Rattle.std.specs.Prelude.{◌≡◌, ℕ, ◌<◌, ◌≤◌, [], length, replicate, vec_capacity, None};
 ghost use Rattle.version_gate.specs.Lists.{Numbered};
-ghost use Rattle.lane_laws.specs.Lanes.{turns_of};
+ghost use Rattle.live_laws.specs.Lanes.{turns_of};
 ghost use Rattle.session_core.specs.Legal.{lines_in};
 ghost use Rattle.session_core.specs.Steps.{session_places};
 ghost use Rattle.session_core.specs.Worlds.{Each};
-ghost use Rattle.live_seats.specs.Seats.{IsAsked, IsBehindLine, IsSeat, lines_of};
+ghost use Rattle.live_seats.specs.Inner.Seats.{IsAsked, IsBehindLine, IsSeat, lines_of};
 
 use crate::answered::Answered;
 use crate::around::Around;
@@ -35,8 +35,8 @@ pub struct Seat<'a, K: Opening + Row, N: Ledger> {
 impl<'a, K: Opening + Row, N: Ledger> Model for Seat<'a, K, N> {
     ghost use Rattle.std.specs.Prelude.{◌≡◌, ◌-◌, vec_capacity, vec_len};
     ghost use Rattle.std.specs.Coded.{codes};
-    ghost use Rattle.eql_resolve.specs.Codes.{tree_code};
-    ghost use Rattle.live_seats.specs.Seats.{IsSeat, SeatParts, seat_of};
+    ghost use Rattle.eql_resolve.specs.Inner.Codes.{tree_code};
+    ghost use Rattle.live_seats.specs.Inner.Seats.{IsSeat, SeatParts, seat_of};
 
     ghost Value = { SeatParts };
 

@@ -3,10 +3,10 @@ ghost use Rattle.std.specs.Prelude.{◌≡◌, ◌<◌, None, Some, true, false,
 ghost use Rattle.session_core.specs.Legal.{lines_in};
 ghost use Rattle.session_core.specs.Steps.{put_slot, slot};
 ghost use Rattle.session_core.specs.Worlds.{Each};
-ghost use Rattle.lane_laws.specs.Lanes.{Agrees, all_steps, all_turns, turns_of};
-ghost use Rattle.live_seats.specs.Notes.{IsTold, Note, noted_in};
-ghost use Rattle.live_seats.specs.Seats.{IsAsked};
-ghost use Rattle.live_seats.specs.Tables.{KeepsTelling, TellsStep};
+ghost use Rattle.live_laws.specs.Lanes.{Agrees, all_steps, all_turns, turns_of};
+ghost use Rattle.live_seats.specs.Inner.Notes.{IsTold, Note, noted_in};
+ghost use Rattle.live_seats.specs.Inner.Seats.{IsAsked};
+ghost use Rattle.live_seats.specs.Inner.Tables.{KeepsTelling, TellsStep};
 
 use crate::answered::Answered;
 use crate::notes::{Row, Told};
@@ -23,8 +23,8 @@ pub struct Table<'a, K: Row> {
 impl<'a, K: Row> Model for Table<'a, K> {
     ghost use Rattle.std.specs.Prelude.{ℕ, List, Option, map};
     ghost use Rattle.std.specs.Option.{option_map};
-    ghost use Rattle.live_seats.specs.Notes.{noted_of};
-    ghost use Rattle.live_seats.specs.Tables.{AreInPlace};
+    ghost use Rattle.live_seats.specs.Inner.Notes.{noted_of};
+    ghost use Rattle.live_seats.specs.Inner.Tables.{AreInPlace};
 
     ghost Value = { List (Option ℕ) };
 

@@ -1,2 +1,0 @@
-mod Backwards
-mod Bundles

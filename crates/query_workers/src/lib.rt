@@ -1,7 +1,8 @@
-//! The segment list of a query over all bundles of a version.
+//! The answer to a query over all bundles of a version.
 #![tactic(auto)]
 
-mod moving;
+mod answers;
 mod walk;
 
+pub use answers::answer_over;
 pub use walk::answer;

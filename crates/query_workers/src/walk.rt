@@ -1,18 +1,17 @@
 //! The rows of a query in each bundle of a version, bundle by bundle.
 ghost use Rattle.std.specs.Prelude.{◌≤◌};
 ghost use Rattle.bundle_state.specs.Built.{FitsConfig};
-ghost use Rattle.eql_resolve.specs.Sound.{IsResolvedBy};
-ghost use Rattle.eql_model.specs.Rows.{Answers};
-ghost use Rattle.version_tree.specs.Version.{state_of};
-ghost use Rattle.query_workers.specs.Lists.{AddsRows, ListsRows};
+ghost use Rattle.eql_resolve.specs.Inner.Sound.{IsResolvedBy};
+ghost use Rattle.eql_model.specs.Meaning.{has_too_many};
+ghost use Rattle.eql_model.specs.Rows.{rows};
+ghost use Rattle.eql_model.specs.Inner.Rows.{AddsRows, Answers, ListsRows};
+ghost use Rattle.version_tree.specs.Version.{bundles_of};
 
-use crate::moving::move_rows;
 use bundle_index::Indexed;
 use db_config::Config;
 use emu_io::{Gate, Moment};
-use emu_lists::Series;
 use eql_match::match_bundle;
-use eql_model::{MatchFault, Row, SegmentList};
+use eql_model::{MatchFault, SegmentList};
 use eql_resolve::Asked;
 use segment_list::rows_of;
 use std::alloc::Global;
@@ -45,20 +44,21 @@ fn rows_in(
 /// exactly where the bundle has too many. The only other refusal is want of memory.
 fn add_bundle(
     alloc: Global,
-    rows: &mut Vec<Row>,
+    list: &mut SegmentList,
     config: &Config,
     indexed: &Indexed,
     asked: &Asked,
 ) -> Result<(), MatchFault>
     requires resolved { IsResolvedBy config.now asked.now }
     requires fits { FitsConfig config.now indexed.now.bundle }
-    ensures { AddsRows result config.now indexed.now.bundle asked.now rows.old.items rows.new.items }
+    ensures { AddsRows result (rows config.now indexed.now.bundle asked.now)
+        (has_too_many config.now indexed.now.bundle asked.now.query) list.old list.new }
 {
     let more = match rows_in(alloc, config, indexed, asked) {
         Ok(more) => more,
         Err(fault) => return Err(fault),
     };
-    match move_rows(alloc, rows, more) {
+    match list.append(more) {
         Ok(()) => Ok(()),
         Err(_) => Err(MatchFault::Memory),
     }
@@ -83,17 +83,17 @@ pub fn answer<R: Threads + Sync, G: Gate + Sync>(
 ) -> Result<SegmentList, MatchFault>
     requires workers { (1 ≤ workers) × (workers ≤ 8) }
     requires resolved { IsResolvedBy version.now.config asked.now }
-    ensures { ListsRows result (state_of version.now) asked.now }
+    ensures { ListsRows result version.now.config (bundles_of version.now.bundles) asked.now }
 {
     let config = version.config();
-    let mut rows = Vec::new(alloc);
+    let mut list = SegmentList::new(alloc);
     for place in 0..version.len() {
         gate.at(line, Moment::Piece(place as u32));
         let indexed = version.at(place);
-        match add_bundle(alloc, &mut rows, config, indexed, asked) {
+        match add_bundle(alloc, &mut list, config, indexed, asked) {
             Ok(()) => {}
             Err(fault) => return Err(fault),
         }
     }
-    Ok(Series::from_vec(rows))
+    Ok(list)
 }

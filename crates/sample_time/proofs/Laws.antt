@@ -5,7 +5,8 @@ use Rattle.std.proofs.lemmas.Grind.{div_ceil_times}
 use Rattle.std.proofs.Math.Nat.{div-mul-le_self, lt-div-mul-add}
 use Rattle.sample_time.specs.declared.decimal.Decimal.{Decimal}
 use Rattle.sample_time.specs.declared.sample.TimeFault.{TimeFault}
-use Rattle.sample_time.specs.Sample.{is_negative, ten_below, samples_above, samples_below, first_sample, nearest_sample, IsFirstSample, IsNearestSample}
+use Rattle.sample_time.specs.Sample.{is_negative, ten_below, samples_above, samples_below, first_sample, nearest_sample}
+use Rattle.sample_time.specs.Inner.Sample.{IsFirstSample, IsNearestSample}
 use Rattle.sample_time.proofs.Powers.{ten_positive}
 
 -- what holds of the sample holds of the answer that has it
@@ -14,7 +15,7 @@ if_given P true small s early late holds = tt
 if_given P false true s early late holds = holds
 if_given P false false s early late holds = tt
 
-below_positive : (e : ℤ) → 0 < ten_below e
+pub below_positive : (e : ℤ) → 0 < ten_below e
 below_positive (pos n) = omega arith
 below_positive (negsuc n) = ten_positive _
 

@@ -2,6 +2,7 @@ mod Digits
 mod Laws
 mod Powers
 mod Quotients
+mod ReadBack
 mod Readings
 mod Spelled
 mod Unique

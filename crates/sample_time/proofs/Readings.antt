@@ -8,12 +8,13 @@ use Rattle.sample_time.specs.declared.decimal.Decimal.{Decimal}
 use Rattle.sample_time.specs.declared.decimal.NumberFault.{NumberFault}
 use Rattle.sample_time.specs.declared.decimal.NumberFault.TheVariants.{NotANumber, TooManyDigits}
 use Rattle.sample_time.specs.declared.significand.Significand.{Significand}
-use Rattle.sample_time.specs.Spelling.{DecimalText, number_of, power_size, power_of, IsTrimmed, IsValue, IsFraction, IsReading, Spells}
+use Rattle.sample_time.specs.Spelling.{DecimalText, power_size, power_of}
+use Rattle.sample_time.specs.Inner.Spelling.{number_of, IsTrimmed, IsValue, IsFraction, IsReading, Spells}
 use Rattle.sample_time.specs.Reading.{push_all, no_digits, with_exponent, value_of, value_at, parts_at, decimal_of}
 use Rattle.sample_time.proofs.Spelled.{parts_spelled, parts_read}
 use Rattle.sample_time.proofs.Values.{IsKept, Keeps, all_kept, then_kept}
 
-after-append : (n : ℕ) (xs ys : List ℕ) → digits_value_after 10 n (xs ++ ys) ≡ digits_value_after 10 (digits_value_after 10 n xs) ys
+pub after-append : (n : ℕ) (xs ys : List ℕ) → digits_value_after 10 n (xs ++ ys) ≡ digits_value_after 10 (digits_value_after 10 n xs) ys
 after-append n [] ys = refl
 after-append n (x ∷ xs) ys = after-append (n * 10 + digit_value x) xs ys
 

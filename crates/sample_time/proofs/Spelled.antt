@@ -8,7 +8,8 @@ use Rattle.std.proofs.lemmas.List.{take_at, drop_at, take-append-drop}
 use Rattle.std.proofs.lemmas.List.Folds.{prefix_len-append, length-prefix_len}
 use Rattle.std.proofs.lemmas.Option.{option_and_then_some}
 use Rattle.sample_time.proofs.Digits.{all_digits_taken, all_digits}
-use Rattle.sample_time.specs.Spelling.{DecimalText, IsSign, IsFraction, IsPower, Spells}
+use Rattle.sample_time.specs.Spelling.{DecimalText}
+use Rattle.sample_time.specs.Inner.Spelling.{IsSign, IsFraction, IsPower, Spells}
 use Rattle.sample_time.specs.Reading.{has_minus, after_sign, digit_count, numeral_at, fraction_at, after_fraction, power_at, with_power, parts_behind, parts_at}
 
 -- digits are neither signs nor points nor markers

@@ -6,7 +6,8 @@ use Rattle.sample_time.proofs.Powers.{ten_positive}
 use Rattle.sample_time.specs.declared.decimal.Decimal.{Decimal}
 use Rattle.sample_time.specs.declared.decimal.NumberFault.{NumberFault}
 use Rattle.sample_time.specs.declared.decimal.NumberFault.TheVariants.{NotANumber, TooManyDigits}
-use Rattle.sample_time.specs.Spelling.{DecimalText, Spells, IsTrimmed, IsValue, IsReading, number_of, power_of}
+use Rattle.sample_time.specs.Spelling.{DecimalText, power_of}
+use Rattle.sample_time.specs.Inner.Spelling.{Spells, IsTrimmed, IsValue, IsReading, number_of}
 use Rattle.sample_time.proofs.Spelled.{parts_spelled}
 
 pub one_spelling : (text : List ℕ) (p q : DecimalText) → Spells text p → Spells text q → p ≡ q

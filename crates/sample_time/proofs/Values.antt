@@ -8,7 +8,7 @@ use Rattle.std.proofs.Common.{add-one}
 use Rattle.std.proofs.Math.Nat.{pow-suc}
 use Rattle.sample_time.proofs.Powers.{ten_positive}
 use Rattle.sample_time.specs.declared.significand.Significand.{Significand}
-use Rattle.sample_time.specs.Spelling.{IsTrimmed}
+use Rattle.sample_time.specs.Inner.Spelling.{IsTrimmed}
 use Rattle.sample_time.specs.Reading.{push_digit, push_all}
 
 -- n is some digits of 10 ^ 20 or more and zeros behind them

@@ -7,7 +7,6 @@ use Rattle.std.specs.Char.{digit_value, is_ascii_digit}
 use Rattle.sample_time.specs.declared.decimal.Decimal.{Decimal}
 use Rattle.sample_time.specs.declared.decimal.NumberFault.{NumberFault}
 use Rattle.sample_time.specs.declared.decimal.NumberFault.TheVariants.{NotANumber, TooManyDigits}
-use Rattle.sample_time.specs.declared.reading.Parts.{Parts}
 use Rattle.sample_time.specs.declared.significand.Significand.{Significand}
 use Rattle.sample_time.specs.Spelling.{DecimalText, power_size, power_of}
 
@@ -117,13 +116,3 @@ value_at bytes (Some parts) = value_of bytes parts
 -- the decimal of a text
 unfoldable pub decimal_of : List ℕ → Result Decimal NumberFault
 decimal_of text = value_at (length text) (parts_at text)
-
--- what the parts in the program's memory spell
-abbrev pub text_of : Parts → DecimalText
-text_of parts = record {
-  negative = parts.negative;
-  whole = parts.whole.now;
-  fraction = parts.fraction.now;
-  shrinks = parts.shrinks;
-  power = parts.power.now;
-}

@@ -1,7 +1,8 @@
 -- The samples at the times of a TextGrid, which are decimals of seconds (Praat manual, "TextGrid
 -- file formats"). A recording has `rate` samples a second, and sample s stands at s / rate seconds.
-use Rattle.std.specs.Prelude.{ℕ, suc, ◌+◌, ◌*◌, ◌/◌, ◌^◌, ◌<◌, ◌≤◌, Bool, ◌&&◌, nat_lt, nat_le, if◌then◌else◌, ℤ, pos, negsuc, Result, Ok, Err}
+use Rattle.std.specs.Prelude.{ℕ, suc, ◌+◌, ◌*◌, ◌/◌, ◌^◌, Bool, ◌&&◌, nat_lt, nat_le, if◌then◌else◌, ℤ, pos, negsuc, Result, Ok, Err}
 use Rattle.std.specs.Int.{div_ceil}
+use Rattle.emu_names.specs.declared.limits.TheConstants.{SAMPLES}
 use Rattle.sample_time.specs.declared.decimal.Decimal.{Decimal}
 use Rattle.sample_time.specs.declared.sample.TimeFault.{TimeFault}
 use Rattle.sample_time.specs.declared.sample.TimeFault.TheVariants.{NegativeTime, TimeTooLarge}
@@ -28,28 +29,16 @@ samples_below time = ten_below time.exponent
 abbrev pub is_negative : Decimal → Bool
 is_negative time = time.negative && nat_lt 0 time.digits
 
--- s is the first sample at or behind the time: s - 1 < time * rate and time * rate <= s, each side
--- multiplied by the power of ten that makes both whole
-pub record IsFirstSample (time : Decimal) (rate s : ℕ) : Type 0 where
-  pub behind : samples_above time rate ≤ s * samples_below time
-  pub first : s * samples_below time < samples_above time rate + samples_below time
-
--- s is the sample nearest to the time, and of two the later: 2 * s - 1 <= 2 * time * rate and
--- 2 * time * rate < 2 * s + 1, multiplied in the same way
-pub record IsNearestSample (time : Decimal) (rate s : ℕ) : Type 0 where
-  pub not_late : 2 * s * samples_below time ≤ 2 * samples_above time rate + samples_below time
-  pub not_early : 2 * samples_above time rate < (2 * s + 1) * samples_below time
-
 -- time * rate, rounded up, where that is at most 2^40
 abbrev pub first_sample : Decimal → ℕ → Result ℕ TimeFault
 first_sample time rate =
     let s = div_ceil (samples_above time rate) (samples_below time) in
     if is_negative time then Err NegativeTime
-    else (if nat_le s (2 ^ 40) then Ok s else Err TimeTooLarge)
+    else (if nat_le s SAMPLES then Ok s else Err TimeTooLarge)
 
 -- time * rate + 1/2, rounded down, where that is below 2^40
 abbrev pub nearest_sample : Decimal → ℕ → Result ℕ TimeFault
 nearest_sample time rate =
     let s = (2 * samples_above time rate + samples_below time) / (2 * samples_below time) in
     if is_negative time then Err NegativeTime
-    else (if nat_lt s (2 ^ 40) then Ok s else Err TimeTooLarge)
+    else (if nat_lt s SAMPLES then Ok s else Err TimeTooLarge)

@@ -2,8 +2,10 @@
 
 ghost use Rattle.std.specs.Prelude.{◌≡◌, ◌≢◌, ℕ, ◌+◌, ◌^◌, ◌<◌, ◌≤◌, length, Some, Err, if◌then◌else◌, pos, neg_ℤ, ◌+ℤ◌, ◌≤ℤ◌, List, Result, IfOk};
 ghost use Rattle.std.specs.Str.Parse.{AllDigits, digits_value};
-ghost use Rattle.sample_time.specs.Reading.{decimal_of, value_of, with_exponent, text_of};
-ghost use Rattle.sample_time.specs.Spelling.{DecimalText, Spells, IsReading, power_of};
+ghost use Rattle.sample_time.specs.Reading.{decimal_of, value_of, with_exponent};
+ghost use Rattle.sample_time.specs.Inner.Reading.{text_of};
+ghost use Rattle.sample_time.specs.Spelling.{DecimalText, power_of};
+ghost use Rattle.sample_time.specs.Inner.Spelling.{Spells, IsReading};
 
 use crate::reading::{Parts, power_size, read_parts};
 use crate::significand::{Significand, with_digits};

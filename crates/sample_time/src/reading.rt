@@ -3,7 +3,8 @@
 ghost use Rattle.std.specs.Prelude.{◌≡◌, ℕ, ◌+◌, ◌≤◌, ◌<◌, Bool, None, Some, MatchOption, IfSome, length};
 ghost use Rattle.std.specs.Option.{option_copied, SomeIff};
 ghost use Rattle.std.specs.Str.Parse.{AllDigits, digits_value};
-ghost use Rattle.sample_time.specs.Reading.{has_minus, after_sign, digit_count, numeral_at, fraction_at, after_fraction, power_at, parts_at, text_of};
+ghost use Rattle.sample_time.specs.Reading.{has_minus, after_sign, digit_count, numeral_at, fraction_at, after_fraction, power_at, parts_at};
+ghost use Rattle.sample_time.specs.Inner.Reading.{text_of};
 
 /// The parts of the text of a decimal. A part that is missing has no digit and no minus.
 #[derive(Clone, Copy)]

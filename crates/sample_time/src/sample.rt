@@ -3,14 +3,13 @@
 ghost use Rattle.std.specs.Prelude.{◌≡◌, ℕ, ◌+◌, ◌*◌, ◌/◌, ◌^◌, ◌<◌, ◌≤◌, IfOk};
 ghost use Rattle.std.specs.Option.{SomeIff};
 ghost use Rattle.std.specs.Int.{div_ceil};
+ghost use Rattle.emu_names.specs.declared.limits.TheConstants.{SAMPLES, TOP_RATE};
 ghost use Rattle.sample_time.specs.Sample.{is_negative, first_sample, nearest_sample};
-ghost use Rattle.sample_time.specs.Sample.{IsFirstSample, IsNearestSample};
+ghost use Rattle.sample_time.specs.Inner.Sample.{IsFirstSample, IsNearestSample};
 
 use crate::decimal::Decimal;
+use emu_names::limits::SAMPLES;
 use thiserror::Error;
-
-/// The greatest sample that a time may be rounded up to.
-const MOST_SAMPLES: u128 = 1 << 40;
 
 /// Why a time has no sample.
 #[derive(Clone, Copy, Debug, PartialEq, Eq, Error)]
@@ -33,7 +32,7 @@ fn is_below_zero(time: &Decimal) -> bool
 /// `count * 10^places`, where that is at most 2^40.
 fn multiplied(count: u128, places: u32) -> Option<u64>
     requires { count < 10 ^ 26 }
-    ensures { SomeIff result (count * 10 ^ places ≤ 2 ^ 40) (count * 10 ^ places) }
+    ensures { SomeIff result (count * 10 ^ places ≤ SAMPLES) (count * 10 ^ places) }
 {
     if count == 0 {
         return Some(0);
@@ -42,7 +41,7 @@ fn multiplied(count: u128, places: u32) -> Option<u64>
         return None;
     }
     let product = count * 10u128.pow(places);
-    if product <= MOST_SAMPLES {
+    if product <= SAMPLES as u128 {
         Some(product as u64)
     } else {
         None
@@ -53,13 +52,13 @@ fn multiplied(count: u128, places: u32) -> Option<u64>
 fn divided_up(count: u128, places: u32) -> Option<u64>
     requires { count < 10 ^ 26 }
     ensures { let quotient = div_ceil count (10 ^ places)
-        in SomeIff result (quotient ≤ 2 ^ 40) quotient }
+        in SomeIff result (quotient ≤ SAMPLES) quotient }
 {
     if places > 26 {
         return Some(if count == 0 { 0 } else { 1 });
     }
     let quotient = count.div_ceil(10u128.pow(places));
-    if quotient <= MOST_SAMPLES {
+    if quotient <= SAMPLES as u128 {
         Some(quotient as u64)
     } else {
         None
@@ -70,14 +69,14 @@ fn divided_up(count: u128, places: u32) -> Option<u64>
 fn divided_nearest(count: u128, places: u32) -> Option<u64>
     requires { count < 10 ^ 26 }
     ensures { let quotient = (2 * count + 10 ^ places) / (2 * 10 ^ places)
-        in SomeIff result (quotient < 2 ^ 40) quotient }
+        in SomeIff result (quotient < SAMPLES) quotient }
 {
     if places > 26 {
         return Some(0);
     }
     let power = 10u128.pow(places);
     let quotient = (2 * count + power) / (2 * power);
-    if quotient < MOST_SAMPLES {
+    if quotient < SAMPLES as u128 {
         Some(quotient as u64)
     } else {
         None
@@ -91,7 +90,7 @@ fn divided_nearest(count: u128, places: u32) -> Option<u64>
 pub fn first_sample_from(time: &Decimal, rate: u32) -> Result<u64, TimeFault>
     requires digits { time.now.digits < 10 ^ 20 }
     requires rate_above { 1 ≤ rate }
-    requires rate_below { rate ≤ 1000000 }
+    requires rate_below { rate ≤ TOP_RATE }
     ensures answer { result ≡ first_sample time.now rate }
     ensures between { IfOk result (IsFirstSample time.now rate) }
 {
@@ -116,7 +115,7 @@ pub fn first_sample_from(time: &Decimal, rate: u32) -> Result<u64, TimeFault>
 pub fn nearest_sample(time: &Decimal, rate: u32) -> Result<u64, TimeFault>
     requires digits { time.now.digits < 10 ^ 20 }
     requires rate_above { 1 ≤ rate }
-    requires rate_below { rate ≤ 1000000 }
+    requires rate_below { rate ≤ TOP_RATE }
     ensures answer { result ≡ nearest_sample time.now rate }
     ensures between { IfOk result (IsNearestSample time.now rate) }
 {
@@ -128,7 +127,7 @@ pub fn nearest_sample(time: &Decimal, rate: u32) -> Result<u64, TimeFault>
     let sample = if time.exponent < 0 {
         divided_nearest(count, places)
     } else {
-        multiplied(count, places).filter(|sample| *sample < 1 << 40)
+        multiplied(count, places).filter(|sample| *sample < SAMPLES)
     };
     sample.ok_or(TimeFault::TimeTooLarge)
 }

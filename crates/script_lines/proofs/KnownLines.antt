@@ -10,13 +10,14 @@ use Rattle.json_view.specs.Seen.{Seen, seen}
 use Rattle.json_view.specs.Paths.{root_path}
 use Rattle.json_view.specs.Parts.{shape, member_of, whole_at, whole_in, at_most}
 use Rattle.json_view.specs.Steps.{◌>>=◌}
+use Rattle.emu_names.specs.declared.limits.TheConstants.{TOP_ID, TOP_WHOLE}
 use Rattle.emu_names.specs.declared.kinds.SessionNo.{SessionNo}
 use Rattle.emu_names.specs.declared.names.BundleKey.{BundleKey}
 use Rattle.level_items.specs.declared.annot.Annot.{Annot}
-use Rattle.db_config.specs.declared.faults.ConfigFault.{ConfigFault}
-use Rattle.db_config.specs.Forms.{or_shape, text_member}
-use Rattle.db_config.specs.Names.{same_text}
-use Rattle.db_config.specs.Read.{config_of}
+use Rattle.config_json.specs.declared.faults.ConfigFault.{ConfigFault}
+use Rattle.config_json.specs.Forms.{or_shape, text_member}
+use Rattle.emu_names.specs.Texts.{same_text}
+use Rattle.config_json.specs.Read.{config_of}
 use Rattle.annot_json.specs.Forms.{whole_member}
 use Rattle.annot_json.specs.Read.{annot_of, labels_in}
 use Rattle.edit_rules.specs.declared.edit.Edit.TheVariants as edits
@@ -34,11 +35,11 @@ use Rattle.script_lines.specs.declared.faults.LineFault.TheVariants as faults
 use Rattle.script_lines.specs.declared.faults.ReadLine.{ReadLine}
 use Rattle.script_lines.specs.declared.faults.ReadLine.TheVariants as reads
 use Rattle.script_lines.specs.Faults.{form, config_form}
-use Rattle.script_lines.specs.Forms.{id_limit, sample_limit, session_at, session_in, if_session, key_at, id_at, position_at, rate_at, time_at}
+use Rattle.script_lines.specs.Forms.{session_at, session_in, if_session, key_at, id_at, position_at, rate_at, time_at}
 use Rattle.script_lines.specs.Edits.{asks, grid_edit, grid_annot, bundle_request, textgrid_request, drop_request, item_request, remove_request, label_request, segment_request, boundary_request, point_request, split_request, merge_request, link_request, unlink_request}
 use Rattle.script_lines.specs.Values.{is_blank, json_of, word_of_line}
 use Rattle.script_lines.specs.Questions.{Question, question_at, question_command, time_name_at}
-use Rattle.script_lines.specs.Made.{Made}
+use Rattle.eql_resolve.specs.Made.{Made}
 use Rattle.script_lines.specs.Lines.{request_of, blank_line, json_line, value_line, told_line, asking_line, question_request, placed_line, config_line, line_in, if_command, command_named, members_of, after_request, if_earlier}
 use Rattle.script_lines.specs.Known.{Known, NamesOneOf}
 use Rattle.script_lines.proofs.Taken.{taken}
@@ -199,8 +200,8 @@ unfolding segment_request
 segment_made earlier s =
     goes_on commands.SetSegment earlier (key_at s) _ (λ key.
     goes_on commands.SetSegment earlier (id_at (codes "id") s) _ (λ id.
-    goes_on commands.SetSegment earlier (whole_member (codes "sampleStart") sample_limit s) _ (λ start.
-    goes_on commands.SetSegment earlier (whole_member (codes "sampleDur") sample_limit s) _ (λ dur.
+    goes_on commands.SetSegment earlier (whole_member (codes "sampleStart") TOP_WHOLE s) _ (λ start.
+    goes_on commands.SetSegment earlier (whole_member (codes "sampleDur") TOP_WHOLE s) _ (λ dur.
     ends commands.SetSegment earlier (asks (edits.SetSegment key id start dur)) (record { command = refl; names = tt })))))
 
 boundary_made : (earlier : List ℕ) (s : Seen) → Makes commands.MoveBoundary earlier (boundary_request s)
@@ -208,7 +209,7 @@ unfolding boundary_request
 boundary_made earlier s =
     goes_on commands.MoveBoundary earlier (key_at s) _ (λ key.
     goes_on commands.MoveBoundary earlier (id_at (codes "id") s) _ (λ id.
-    goes_on commands.MoveBoundary earlier (whole_member (codes "sampleStart") sample_limit s) _ (λ start.
+    goes_on commands.MoveBoundary earlier (whole_member (codes "sampleStart") TOP_WHOLE s) _ (λ start.
     ends commands.MoveBoundary earlier (asks (edits.MoveBoundary key id start)) (record { command = refl; names = tt }))))
 
 point_made : (earlier : List ℕ) (s : Seen) → Makes commands.SetPoint earlier (point_request s)
@@ -216,7 +217,7 @@ unfolding point_request
 point_made earlier s =
     goes_on commands.SetPoint earlier (key_at s) _ (λ key.
     goes_on commands.SetPoint earlier (id_at (codes "id") s) _ (λ id.
-    goes_on commands.SetPoint earlier (whole_member (codes "samplePoint") sample_limit s) _ (λ at.
+    goes_on commands.SetPoint earlier (whole_member (codes "samplePoint") TOP_WHOLE s) _ (λ at.
     ends commands.SetPoint earlier (asks (edits.SetPoint key id at)) (record { command = refl; names = tt }))))
 
 split_made : (earlier : List ℕ) (s : Seen) → Makes commands.Split earlier (split_request s)
@@ -225,7 +226,7 @@ split_made earlier s =
     goes_on commands.Split earlier (key_at s) _ (λ key.
     goes_on commands.Split earlier (id_at (codes "id") s) _ (λ id.
     goes_on commands.Split earlier (id_at (codes "newId") s) _ (λ new_id.
-    goes_on commands.Split earlier (whole_member (codes "sampleStart") sample_limit s) _ (λ start.
+    goes_on commands.Split earlier (whole_member (codes "sampleStart") TOP_WHOLE s) _ (λ start.
     ends commands.Split earlier (asks (edits.Split key id new_id start)) (record { command = refl; names = tt })))))
 
 merge_made : (earlier : List ℕ) (s : Seen) → Makes commands.Merge earlier (merge_request s)
@@ -261,7 +262,7 @@ line_made earlier (Err e) r h = absurd (cc)
 
 after_made : (earlier : List ℕ) (s : Seen) (r : Request) → after_request earlier s ≡ Ok r → IsRequestOf commands.After earlier r
 unfolding after_request
-after_made earlier s r h = line_made earlier (form (whole_member (codes "line") id_limit s)) r h
+after_made earlier s r h = line_made earlier (form (whole_member (codes "line") TOP_ID s)) r h
 
 members_made : (command : Command) (earlier : List ℕ) (s : Seen) (r : Request) → members_of command earlier s ≡ Ok r → IsRequestOf command earlier r
 members_made commands.AddBundle earlier s r h = bundle_made earlier s r (form_ok (bundle_request s) r h)

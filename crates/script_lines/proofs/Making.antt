@@ -2,24 +2,28 @@
 use Rattle.std.proofs.Common.{◌≡◌, ◌≢◌, ℕ, ◌≤◌, Bool, true, false, List, Option, None, refl, subst, arith, codes}
 use Rattle.std.specs.Prelude.{Result, Ok, Err}
 use Rattle.std.specs.Result.{IsErrAnd}
-use Rattle.fault_counts.specs.Count.{RoseBy}
+use Rattle.emu_names.specs.Count.{RoseBy}
 use Rattle.serde_json.specs.Data.{Data}
 use Rattle.json_view.specs.declared.faults.Shape.{Shape}
 use Rattle.json_view.specs.declared.faults.ViewFault.{ViewFault}
 use Rattle.json_view.specs.declared.faults.ViewFault.TheVariants as views
 use Rattle.json_view.specs.Seen.{Seen}
 use Rattle.json_view.specs.Steps.{◌>>=◌}
-use Rattle.db_config.specs.Names.{same_text}
+use Rattle.emu_names.specs.Texts.{same_text}
 use Rattle.session_core.specs.declared.line.Command.{Command}
 use Rattle.script_lines.specs.declared.faults.LineFault.{LineFault}
 use Rattle.script_lines.specs.declared.faults.LineFault.TheVariants as faults
 use Rattle.script_lines.specs.declared.faults.ReadLine.{ReadLine}
 use Rattle.script_lines.specs.declared.faults.ReadLine.TheVariants as reads
-use Rattle.script_lines.specs.Faults.{Reads, as_line_fault, misread, form}
+use Rattle.script_lines.specs.Faults.{form}
+use Rattle.script_lines.specs.Inner.Faults.{Reads, as_line_fault, misread}
 use Rattle.script_lines.specs.Values.{is_blank, word_of_line}
 use Rattle.script_lines.specs.Questions.{Question, question_command}
-use Rattle.script_lines.specs.Made.{Made, no_question, eql_read, eql_told, eql_in, eql_of}
-use Rattle.script_lines.specs.Lines.{ReadsBy, ReadsMade, asking_line, told_line, placed_line, value_line, json_line, request_of}
+use Rattle.script_lines.specs.Made.{eql_read, eql_told, eql_in, eql_of}
+use Rattle.eql_resolve.specs.Made.{Made}
+use Rattle.script_lines.specs.Inner.Made.{no_question}
+use Rattle.script_lines.specs.Lines.{asking_line, told_line, placed_line, value_line, json_line, request_of}
+use Rattle.script_lines.specs.Inner.Lines.{ReadsBy, ReadsMade}
 
 -- an answer that goes so in each case goes so
 pub reads_made : (result : Result ReadLine LineFault) (asked : Option (List ℕ)) (there : Made → Result ReadLine LineFault) (before now : ℕ)

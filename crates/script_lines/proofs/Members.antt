@@ -3,7 +3,8 @@ use Rattle.std.proofs.Common.{◌≡◌, ◌≤◌, ◌<◌, ℕ, refl, arith, s
 use Rattle.std.specs.Prelude.{Ok, Err, codes, nat_le, true, false}
 use Rattle.json_view.specs.declared.wants.Wanted.TheVariants as wanted
 use Rattle.json_view.specs.declared.faults.Shape.{Shape}
-use Rattle.json_view.specs.Parts.{shape, whole_at, whole_member_as}
+use Rattle.json_view.specs.Parts.{shape, whole_at}
+use Rattle.json_view.specs.Inner.Parts.{whole_member_as}
 use Rattle.json_view.specs.Paths.{member_path}
 use Rattle.json_view.specs.Seen.{Seen}
 use Rattle.json_view.proofs.Members.{whole_was_read, no_whole_was_read}

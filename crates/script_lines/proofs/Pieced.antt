@@ -4,14 +4,15 @@ use Rattle.json.specs.Print.{escape_byte}
 use Rattle.serde_json.specs.Data.{string, no_members, member}
 use Rattle.serde_json.specs.Written.{compact_text, members_text}
 use Rattle.eql_model.specs.declared.row.Row.{Row}
-use Rattle.segment_list.specs.Texts.{rows_data, rows_text}
+use Rattle.segment_list.specs.Texts.{rows_data}
+use Rattle.segment_list.specs.Inner.Texts.{rows_text}
 use Rattle.session_core.specs.declared.line.Command.{Command}
 use Rattle.session_core.specs.declared.line.Command.TheVariants as commands
 use Rattle.session_core.specs.declared.line.Refusal.{Refusal}
 use Rattle.session_core.specs.declared.line.Answer.{Answer}
 use Rattle.session_core.specs.declared.line.Answer.TheVariants.{Done, Segments, Refused}
 use Rattle.session_core.specs.declared.line.Reply.{Reply}
-use Rattle.script_lines.specs.Pieces.{answer_piece, done_piece, edits_piece, head_piece, refused_piece}
+use Rattle.script_lines.specs.Inner.Pieces.{answer_piece, done_piece, edits_piece, head_piece, refused_piece}
 use Rattle.script_lines.specs.Texts.{answer_members, command_word, line_text, numbered_members, refusal_data, reply_text}
 use Rattle.script_lines.proofs.Pushed.{three}
 

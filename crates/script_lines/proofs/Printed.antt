@@ -14,8 +14,8 @@ use Rattle.session_core.specs.declared.line.Refusal.{Refusal}
 use Rattle.session_core.specs.declared.line.Refusal.TheVariants as refusals
 use Rattle.textgrid.specs.declared.fault.GridFault.{GridFault}
 use Rattle.textgrid.specs.declared.fault.GridFault.TheVariants as grid_faults
-use Rattle.db_config.specs.declared.faults.ConfigFault.{ConfigFault}
-use Rattle.db_config.specs.declared.faults.ConfigFault.TheVariants as config_faults
+use Rattle.config_json.specs.declared.faults.ConfigFault.{ConfigFault}
+use Rattle.config_json.specs.declared.faults.ConfigFault.TheVariants as config_faults
 use Rattle.script_lines.specs.declared.faults.LineFault.{LineFault}
 use Rattle.script_lines.specs.declared.faults.LineFault.TheVariants as faults
 use Rattle.script_lines.specs.Texts.{line_text, rule_data, grid_fault_data, query_fault_data, prepare_fault_data, ask_fault_data, refusal_data, config_fault_data, fault_data, fault_text}

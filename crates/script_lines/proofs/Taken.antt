@@ -3,8 +3,8 @@ use Rattle.std.proofs.Common.{◌≡◌, refl}
 use Rattle.std.specs.Prelude.{Result, Ok, Err}
 use Rattle.json_view.specs.declared.faults.Shape.{Shape}
 use Rattle.json_view.specs.Steps.{◌>>=◌}
-use Rattle.db_config.specs.declared.faults.ConfigFault.{ConfigFault}
-use Rattle.db_config.specs.Faults as config
+use Rattle.config_json.specs.declared.faults.ConfigFault.{ConfigFault}
+use Rattle.config_json.specs.Faults as config
 
 -- a reading that goes on to the end was taken at its first step
 pub record Taken {A B E : Type 0} (first : Result A E) (rest : A → Result B E) (end : B) : Type 0 where

@@ -14,22 +14,24 @@ use Rattle.json_view.specs.Parts.{shape, member_of, optional_of, elements_at, li
 use Rattle.json_view.specs.Lists.{readings, each_from}
 use Rattle.json_view.specs.Steps.{◌>>=◌, with_front}
 use Rattle.emu_names.specs.declared.limits.TheConstants.{LEVELS, LINK_DEFINITIONS, TRACKS}
-use Rattle.db_config.specs.declared.faults.ConfigFault.{ConfigFault}
-use Rattle.db_config.specs.declared.faults.ConfigFault.TheVariants.{TooMany, UnknownLevel, DoubleLink, LevelCycle}
-use Rattle.db_config.specs.declared.faults.ConfigWhat.{ConfigWhat}
-use Rattle.db_config.specs.declared.faults.ConfigWhat.TheVariants as whats
+use Rattle.config_json.specs.declared.faults.ConfigFault.{ConfigFault}
+use Rattle.config_json.specs.declared.faults.ConfigFault.TheVariants.{TooMany, UnknownLevel, DoubleLink, LevelCycle}
+use Rattle.config_json.specs.declared.faults.ConfigWhat.{ConfigWhat}
+use Rattle.config_json.specs.declared.faults.ConfigWhat.TheVariants as whats
 use Rattle.db_config.specs.declared.parts.LevelDef.{LevelDef}
 use Rattle.db_config.specs.declared.parts.LinkDef.{LinkDef}
 use Rattle.db_config.specs.declared.parts.ConfigParts.{ConfigParts}
-use Rattle.db_config.specs.Faults.{form}
-use Rattle.db_config.specs.Forms.{object_of, name_at, optional_text}
-use Rattle.db_config.specs.Names.{all_names, are_distinct, first_double, same_text}
+use Rattle.config_json.specs.Faults.{form}
+use Rattle.config_json.specs.Forms.{object_of, name_at, optional_text}
+use Rattle.db_config.specs.Names.{all_names, are_distinct, first_double}
+use Rattle.emu_names.specs.Texts.{same_text}
 use Rattle.db_config.specs.Lookups.{level_named}
 use Rattle.db_config.specs.Above.{leads_round}
 use Rattle.db_config.specs.Valid.{is_in_range, are_apart, keeps_rules, is_valid}
-use Rattle.db_config.specs.Read.{limited, track_in, level_in, link_in, tracks_member, listed_tracks, tracks_or_none, levels_member, listed_levels, links_member, listed_links, links_or_none, groups_member, named_parts, AreBounded, unless_double, level_of_name, placed, all_placed, parts_with, unless_cycle, sound_links, linked_parts, sound_parts, config_of}
+use Rattle.config_json.specs.Read.{limited, track_in, level_in, link_in, tracks_member, listed_tracks, tracks_or_none, levels_member, listed_levels, links_member, listed_links, links_or_none, groups_member, named_parts, unless_double, level_of_name, placed, all_placed, parts_with, unless_cycle, sound_links, linked_parts, sound_parts, config_of}
+use Rattle.config_json.specs.Inner.Read.{AreBounded}
 use Rattle.db_config.proofs.Doubles.{no_double}
-use Rattle.db_config.proofs.Sound.{kept_rules}
+use Rattle.config_json.proofs.Sound.{kept_rules}
 use Rattle.script_lines.proofs.Taken.{taken, config_form_ok, config_same, ok_config}
 
 -- ---- limits

@@ -6,9 +6,10 @@ use Rattle.json_view.specs.declared.faults.Shape.{Shape}
 use Rattle.json_view.specs.Seen.{Seen}
 use Rattle.json_view.specs.Parts.{member_of}
 use Rattle.json_view.specs.Steps.{◌>>=◌}
+use Rattle.emu_names.specs.declared.limits.TheConstants.{TOP_WHOLE}
 use Rattle.emu_names.specs.declared.names.BundleKey.{BundleKey}
 use Rattle.level_items.specs.declared.annot.Annot.{Annot}
-use Rattle.db_config.specs.Forms.{text_member}
+use Rattle.config_json.specs.Forms.{text_member}
 use Rattle.annot_json.specs.Forms.{whole_member}
 use Rattle.annot_json.specs.Read.{annot_of, labels_in}
 use Rattle.textgrid.specs.declared.fault.GridFault.{GridFault}
@@ -18,7 +19,7 @@ use Rattle.edit_rules.specs.declared.edit.Edit.{Edit}
 use Rattle.edit_rules.specs.declared.edit.Edit.TheVariants as edits
 use Rattle.session_core.specs.declared.line.Request.{Request}
 use Rattle.session_core.specs.declared.line.Request.TheVariants as requests
-use Rattle.script_lines.specs.Forms.{sample_limit, key_at, id_at, position_at, rate_at, time_at}
+use Rattle.script_lines.specs.Forms.{key_at, id_at, position_at, rate_at, time_at}
 
 -- the request of an edit
 abbrev pub asks : Edit → Request
@@ -87,8 +88,8 @@ unfoldable pub segment_request : Seen → Result Request Shape
 segment_request s = do
   key ← key_at s
   id ← id_at (codes "id") s
-  start ← whole_member (codes "sampleStart") sample_limit s
-  dur ← whole_member (codes "sampleDur") sample_limit s
+  start ← whole_member (codes "sampleStart") TOP_WHOLE s
+  dur ← whole_member (codes "sampleDur") TOP_WHOLE s
   Ok (asks (edits.SetSegment key id start dur))
 
 -- `move_boundary`
@@ -96,7 +97,7 @@ unfoldable pub boundary_request : Seen → Result Request Shape
 boundary_request s = do
   key ← key_at s
   id ← id_at (codes "id") s
-  start ← whole_member (codes "sampleStart") sample_limit s
+  start ← whole_member (codes "sampleStart") TOP_WHOLE s
   Ok (asks (edits.MoveBoundary key id start))
 
 -- `set_point`
@@ -104,7 +105,7 @@ unfoldable pub point_request : Seen → Result Request Shape
 point_request s = do
   key ← key_at s
   id ← id_at (codes "id") s
-  at ← whole_member (codes "samplePoint") sample_limit s
+  at ← whole_member (codes "samplePoint") TOP_WHOLE s
   Ok (asks (edits.SetPoint key id at))
 
 -- `split`
@@ -113,7 +114,7 @@ split_request s = do
   key ← key_at s
   id ← id_at (codes "id") s
   new_id ← id_at (codes "newId") s
-  start ← whole_member (codes "sampleStart") sample_limit s
+  start ← whole_member (codes "sampleStart") TOP_WHOLE s
   Ok (asks (edits.Split key id new_id start))
 
 -- `merge`

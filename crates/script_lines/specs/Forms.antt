@@ -1,6 +1,6 @@
 -- Members that the lines of a script have (RFC 8259), each read as what it has to be, or the fault that
 -- says at which path which form was wanted.
-use Rattle.std.specs.Prelude.{ℕ, ◌-◌, ◌^◌, List, Option, Some, None, Result, Ok, Err, if◌then◌else◌, nat_le, codes}
+use Rattle.std.specs.Prelude.{ℕ, List, Option, Some, None, Result, Ok, Err, if◌then◌else◌, nat_le, codes}
 use Rattle.json_view.specs.declared.wants.Wanted.TheVariants as wanted
 use Rattle.json_view.specs.declared.faults.Shape.{Shape}
 use Rattle.json_view.specs.Seen.{Seen}
@@ -8,21 +8,13 @@ use Rattle.json_view.specs.Parts.{shape, member_of, optional_of, whole_at}
 use Rattle.json_view.specs.Steps.{◌>>=◌}
 use Rattle.emu_names.specs.declared.kinds.ItemId.{ItemId}
 use Rattle.emu_names.specs.declared.kinds.SessionNo.{SessionNo}
-use Rattle.emu_names.specs.declared.limits.TheConstants.{SESSIONS, TOP_RATE}
+use Rattle.emu_names.specs.declared.limits.TheConstants.{SESSIONS, TOP_ID, TOP_RATE}
 use Rattle.emu_names.specs.declared.names.BundleKey.{BundleKey}
 use Rattle.level_items.specs.declared.times.Time.{Time}
 use Rattle.level_items.specs.declared.times.Time.TheVariants.{NoTime}
-use Rattle.db_config.specs.Forms.{or_shape, name_at}
+use Rattle.config_json.specs.Forms.{or_shape, name_at}
 use Rattle.annot_json.specs.Forms.{whole_member}
 use Rattle.annot_json.specs.Read.{span_in, point_in}
-
--- ids, positions and numbers of lines are below 2^32
-abbrev pub id_limit : ℕ
-id_limit = 2 ^ 32 - 1
-
--- samples and durations are below 2^63
-abbrev pub sample_limit : ℕ
-sample_limit = 2 ^ 63 - 1
 
 -- a number that has to be a session's, from 1 on
 abbrev pub if_session : Seen → ℕ → Result SessionNo Shape
@@ -46,13 +38,13 @@ key_at s = do
 -- the id of an item
 unfoldable pub id_at : List ℕ → Seen → Result ItemId Shape
 id_at name s = do
-  id ← whole_member name id_limit s
+  id ← whole_member name TOP_ID s
   Ok (record { 0 = id })
 
 -- a position, or none
 abbrev pub position_there : Option Seen → Result (Option ℕ) Shape
 position_there None = Ok None
-position_there (Some m) = whole_at id_limit m >>= λ n. Ok (Some n)
+position_there (Some m) = whole_at TOP_ID m >>= λ n. Ok (Some n)
 
 -- the position of an item, which may be missing
 unfoldable pub position_at : Seen → Result (Option ℕ) Shape

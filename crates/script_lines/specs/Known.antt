@@ -10,7 +10,7 @@ use Rattle.session_core.specs.Steps.{session_places}
 use Rattle.session_core.specs.Commands.{is_command_of}
 use Rattle.script_lines.specs.declared.faults.ReadLine.{ReadLine}
 use Rattle.script_lines.specs.declared.faults.ReadLine.TheVariants as reads
-use Rattle.script_lines.specs.Made.{Made}
+use Rattle.eql_resolve.specs.Made.{Made}
 use Rattle.script_lines.specs.Lines.{request_of}
 
 -- an `after` names one of the earlier requests

@@ -8,4 +8,4 @@ pub mod Lines
 pub mod Texts
 pub mod LastLines
 pub mod Known
-pub mod Pieces
+pub mod Inner

@@ -1,7 +1,6 @@
 -- The request that a line of a script stands for, or its first fault.
-use Rattle.std.specs.Prelude.{ℕ, ◌≤◌, Bool, true, false, List, Option, Some, None, Result, Ok, Err, nat_eq, if◌then◌else◌, codes}
+use Rattle.std.specs.Prelude.{ℕ, Bool, true, false, List, Option, Some, None, Result, Ok, Err, nat_eq, if◌then◌else◌, codes}
 use Rattle.std.specs.List.{list_any}
-use Rattle.fault_counts.specs.Count.{RoseBy}
 use Rattle.serde_json.specs.Data.{Data}
 use Rattle.json_view.specs.declared.wants.Wanted.TheVariants as wanted
 use Rattle.json_view.specs.declared.faults.Shape.{Shape}
@@ -14,19 +13,20 @@ use Rattle.session_core.specs.declared.line.Command.{Command}
 use Rattle.session_core.specs.declared.line.Command.TheVariants as commands
 use Rattle.session_core.specs.declared.line.Request.{Request}
 use Rattle.session_core.specs.declared.line.Request.TheVariants as requests
-use Rattle.db_config.specs.Names.{same_text}
-use Rattle.db_config.specs.Read.{config_of}
+use Rattle.emu_names.specs.declared.limits.TheConstants.{TOP_ID}
+use Rattle.emu_names.specs.Texts.{same_text}
+use Rattle.config_json.specs.Read.{config_of}
 use Rattle.annot_json.specs.Forms.{whole_member}
 use Rattle.script_lines.specs.declared.faults.LineFault.{LineFault}
 use Rattle.script_lines.specs.declared.faults.LineFault.TheVariants as faults
 use Rattle.script_lines.specs.declared.faults.ReadLine.{ReadLine}
 use Rattle.script_lines.specs.declared.faults.ReadLine.TheVariants as reads
-use Rattle.script_lines.specs.Faults.{Reads, form, config_form}
-use Rattle.script_lines.specs.Forms.{id_limit, session_at}
+use Rattle.script_lines.specs.Faults.{form, config_form}
+use Rattle.script_lines.specs.Forms.{session_at}
 use Rattle.script_lines.specs.Edits.{bundle_request, textgrid_request, drop_request, item_request, remove_request, label_request, segment_request, boundary_request, point_request, split_request, merge_request, link_request, unlink_request}
 use Rattle.script_lines.specs.Values.{is_blank, json_of, word_of_line}
 use Rattle.script_lines.specs.Questions.{Question, question_at, question_command}
-use Rattle.script_lines.specs.Made.{Made, times_too_large, eql_of, IsMadeOf}
+use Rattle.eql_resolve.specs.Made.{Made}
 
 -- The commands and their members.
 
@@ -61,7 +61,7 @@ if_earlier earlier line = if list_any (nat_eq line) earlier then Ok (requests.Af
 
 -- the member `line` of an `after`
 unfoldable pub after_request : List ℕ → Seen → Result Request LineFault
-after_request earlier s = form (whole_member (codes "line") id_limit s) >>= if_earlier earlier
+after_request earlier s = form (whole_member (codes "line") TOP_ID s) >>= if_earlier earlier
 
 -- the members of a request, by its command; a configuration and questions have lines of their own
 abbrev pub members_of : Command → List ℕ → Seen → Result Request LineFault
@@ -153,23 +153,3 @@ blank_line false = Ok reads.Blank
 unfoldable pub request_of : List ℕ → ℕ → Bool → List ℕ → Made → Result ReadLine LineFault
 request_of line number wants earlier made =
     if is_blank line then blank_line wants else json_line number wants earlier made (json_of line)
-
--- how an answer goes with a reading that uses what was made of a query: some `made` is that of the
--- query, where there is one, and the maker's refusals, which were and are so many, count it
-pub record ReadsBy (result : Result ReadLine LineFault) (asked : Option (List ℕ))
-    (there : Made → Result ReadLine LineFault) (before now : ℕ) : Type 0 where
-  pub made : Made
-  pub of_line : IsMadeOf asked made
-  pub rose : RoseBy (times_too_large made) before now
-  pub read : Reads result (there made)
-
--- the same, but where memory ran out: then the refusals did not fall
-abbrev pub ReadsMade : Result ReadLine LineFault → Option (List ℕ) → (Made → Result ReadLine LineFault) → ℕ → ℕ → Type 0
-ReadsMade (Err faults.Memory) asked there before now = before ≤ now
-ReadsMade result asked there before now = ReadsBy result asked there before now
-
--- the answer is the request of the line, or its first fault, by what a maker made of its query whose
--- refusals were and are so many
-abbrev pub IsReadAs : Result ReadLine LineFault → List ℕ → ℕ → Bool → List ℕ → ℕ → ℕ → Type 0
-IsReadAs result bytes number wants earlier before now =
-    ReadsMade result (eql_of bytes) (λ made. request_of bytes number wants earlier made) before now

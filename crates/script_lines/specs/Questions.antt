@@ -5,8 +5,8 @@ use Rattle.json_view.specs.Seen.{Seen}
 use Rattle.json_view.specs.Parts.{optional_of, text_there}
 use Rattle.json_view.specs.Steps.{◌>>=◌}
 use Rattle.emu_names.specs.declared.kinds.SessionNo.{SessionNo}
-use Rattle.db_config.specs.Forms.{text_member}
-use Rattle.db_config.specs.Names.{same_text}
+use Rattle.config_json.specs.Forms.{text_member}
+use Rattle.emu_names.specs.Texts.{same_text}
 use Rattle.session_core.specs.declared.line.Command.{Command}
 use Rattle.session_core.specs.declared.line.Command.TheVariants as commands
 use Rattle.script_lines.specs.Forms.{session_at}

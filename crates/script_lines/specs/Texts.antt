@@ -24,10 +24,10 @@ use Rattle.session_core.specs.declared.line.Refusal.TheVariants as refusals
 use Rattle.session_core.specs.declared.line.Answer.{Answer}
 use Rattle.session_core.specs.declared.line.Answer.TheVariants.{Done, Segments, Refused}
 use Rattle.session_core.specs.declared.line.Reply.{Reply}
-use Rattle.db_config.specs.Faults.{what_word}
-use Rattle.db_config.specs.declared.faults.ConfigFault.{ConfigFault}
-use Rattle.db_config.specs.declared.faults.ConfigFault.TheVariants as config_faults
-use Rattle.db_config.specs.declared.faults.ConfigWhat.{ConfigWhat}
+use Rattle.config_json.specs.Faults.{what_word}
+use Rattle.config_json.specs.declared.faults.ConfigFault.{ConfigFault}
+use Rattle.config_json.specs.declared.faults.ConfigFault.TheVariants as config_faults
+use Rattle.config_json.specs.declared.faults.ConfigWhat.{ConfigWhat}
 use Rattle.textgrid.specs.Words as grid_words
 use Rattle.textgrid.specs.declared.fault.GridWhat.{GridWhat}
 use Rattle.textgrid.specs.declared.fault.GridFault.{GridFault}
@@ -106,6 +106,11 @@ rule_data rules.LinkExists = plain_rule (word_of rules.LinkExists)
 rule_data rules.NoLink = plain_rule (word_of rules.NoLink)
 rule_data (rules.OneParent id) = rule_with_id id (word_of (rules.OneParent id))
 rule_data (rules.OneChild id) = rule_with_id id (word_of (rules.OneChild id))
+rule_data (rules.DoubleName name) = rule_with_name name (word_of (rules.DoubleName name))
+rule_data (rules.UnknownLevel name) = rule_with_name name (word_of (rules.UnknownLevel name))
+rule_data rules.DoubleLink = plain_rule (word_of rules.DoubleLink)
+rule_data rules.LevelCycle = plain_rule (word_of rules.LevelCycle)
+rule_data rules.NothingToLink = plain_rule (word_of rules.NothingToLink)
 
 -- a refusal that names a place of a text, or the number of a pattern
 abbrev pub rule_at : ℕ → List ℕ → Data

@@ -8,7 +8,7 @@ use Rattle.json_view.specs.declared.faults.Shape.{Shape}
 use Rattle.json_view.specs.Seen.{Seen}
 use Rattle.json_view.specs.Parts.{optional_of}
 use Rattle.json_view.specs.Steps.{◌>>=◌}
-use Rattle.db_config.specs.Forms.{text_member}
+use Rattle.config_json.specs.Forms.{text_member}
 
 -- white space (RFC 8259, section 2)
 abbrev pub is_space : ℕ → Bool

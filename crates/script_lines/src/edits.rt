@@ -1,7 +1,7 @@
 //! The requests for edits of bundles and of links.
 ghost use Rattle.std.specs.Prelude.{◌≡◌};
-ghost use Rattle.json_view.specs.Gives.{Gives};
-ghost use Rattle.json_view.specs.Seen.{seen_at};
+ghost use Rattle.json_view.specs.Inner.Gives.{Gives};
+ghost use Rattle.json_view.specs.Inner.Seen.{seen_at};
 ghost use Rattle.script_lines.specs.Edits.{asks, bundle_request, drop_request, link_request, unlink_request};
 
 use crate::forms::{id_at, key_at};

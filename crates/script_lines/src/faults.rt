@@ -1,5 +1,6 @@
 //! What a line of a script may be, and why it may be none.
-use db_config::{Config, ConfigFault};
+use config_json::ConfigFault;
+use db_config::Config;
 use json_view::{Shape, ViewFault};
 use session_core::Line;
 use std::alloc::{AllocError, AllocFailed};
@@ -37,7 +38,7 @@ pub enum LineFault {
 
 impl From<ViewFault> for LineFault {
     ghost use Rattle.std.specs.Prelude.{◌≡◌};
-    ghost use Rattle.script_lines.specs.Faults.{as_line_fault};
+    ghost use Rattle.script_lines.specs.Inner.Faults.{as_line_fault};
 
     ghost from_gives = { λ v e. e ≡ as_line_fault v };
 

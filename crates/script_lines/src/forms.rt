@@ -1,23 +1,16 @@
 //! The members that a script's lines have, each read as what it has to be.
 ghost use Rattle.std.specs.Prelude.{◌≡◌, ◌≤◌, ◌++◌, ◌∷◌, [], IfOk, IfErr, OnOk};
-ghost use Rattle.json_view.specs.Gives.{Gives};
-ghost use Rattle.json_view.specs.Seen.{seen_at};
+ghost use Rattle.json_view.specs.Inner.Gives.{Gives};
+ghost use Rattle.json_view.specs.Inner.Seen.{seen_at};
 ghost use Rattle.emu_names.specs.declared.limits.TheConstants.{TOP_RATE as MOST};
-ghost use Rattle.db_config.specs.Forms.{name_at, text_member};
+ghost use Rattle.config_json.specs.Forms.{name_at, text_member};
 ghost use Rattle.annot_json.specs.Forms.{whole_member};
 ghost use Rattle.script_lines.specs.Forms.{session_at, key_at, id_at, position_at, rate_in, rate_at};
 
-use emu_lists::Series;
-use emu_names::limits::{SESSIONS, TOP_RATE};
-use emu_names::{BundleKey, ItemId, Name, NameFault, SessionNo, Text};
+use emu_names::limits::{SESSIONS, TOP_ID, TOP_RATE};
+use emu_names::{BundleKey, ItemId, Name, NameFault, Series, SessionNo, Text};
 use json_view::{View, ViewFault, Wanted};
 use std::alloc::Global;
-
-/// Ids of items, positions and numbers of lines are at most this.
-pub(crate) const ID_LIMIT: u64 = 4_294_967_295;
-
-/// Samples and durations are at most this when they are read.
-pub(crate) const SAMPLE_LIMIT: u64 = 9_223_372_036_854_775_807;
 
 /// Sessions are numbered from 1 to this.
 const LAST_SESSION: u64 = SESSIONS as u64;
@@ -45,7 +38,7 @@ pub(crate) fn put_last<T: Drop>(list: &mut Series<T>, item: T) -> Result<(), Vie
 }
 
 // The member of this name, which has to be a name; a value that is no text is no name either.
-#[tactic(auto, using(db_config::proofs::Members::names_read))]
+#[tactic(auto, using(config_json::proofs::Members::names_read))]
 fn name_at(alloc: Global, view: &View, name: &str) -> Result<Name, ViewFault>
     ensures { Gives (λ n. n) result (name_at name.now (seen_at view.now)) }
 {
@@ -68,7 +61,7 @@ pub(crate) fn key_at(alloc: Global, view: &View) -> Result<BundleKey, ViewFault>
 }
 
 /// The member of this name, which has to be a text.
-#[tactic(auto, unfolding(db_config::specs::Forms::text_member))]
+#[tactic(auto, unfolding(config_json::specs::Forms::text_member))]
 pub(crate) fn text_member(alloc: Global, view: &View, name: &str) -> Result<Text, ViewFault>
     ensures { Gives (λ t. t) result (text_member name.now (seen_at view.now)) }
 {
@@ -89,7 +82,7 @@ pub(crate) fn whole_member(view: &View, name: &str, most: u64) -> Result<u64, Vi
 pub(crate) fn id_at(view: &View, name: &str) -> Result<ItemId, ViewFault>
     ensures { Gives (λ i. i) result (id_at name.now (seen_at view.now)) }
 {
-    Ok(ItemId(whole_member(view, name, ID_LIMIT)? as u32))
+    Ok(ItemId(whole_member(view, name, TOP_ID)? as u32))
 }
 
 /// The member `position`, which has to be a whole number below 2^32 where it is there.
@@ -98,7 +91,7 @@ pub(crate) fn position_at(view: &View) -> Result<Option<u32>, ViewFault>
     ensures { Gives (λ p. p) result (position_at (seen_at view.now)) }
 {
     match view.optional("position")? {
-        Some(part) => Ok(Some(part.whole(ID_LIMIT)? as u32)),
+        Some(part) => Ok(Some(part.whole(TOP_ID)? as u32)),
         None => Ok(None),
     }
 }

@@ -1,10 +1,10 @@
 //! The bundle that a line brings as a TextGrid.
 ghost use Rattle.std.specs.Prelude.{◌≡◌, ◌≤◌, IfOk, Ok, codes};
-ghost use Rattle.json_view.specs.Gives.{Gives};
-ghost use Rattle.json_view.specs.Seen.{seen_at};
+ghost use Rattle.json_view.specs.Inner.Gives.{Gives};
+ghost use Rattle.json_view.specs.Inner.Seen.{seen_at};
 ghost use Rattle.emu_names.specs.declared.limits.TheConstants.{TOP_RATE};
 ghost use Rattle.session_core.specs.declared.line.Request.TheVariants as requests;
-ghost use Rattle.textgrid.specs.Told.{TellsFault};
+ghost use Rattle.textgrid.specs.Inner.Told.{TellsFault};
 ghost use Rattle.script_lines.specs.Edits.{grid_annot, grid_edit, textgrid_request};
 
 use crate::forms::{key_at, rate_at};
@@ -48,7 +48,7 @@ fn grid_request(alloc: Global, key: BundleKey, rate: u32, text: &str) -> Result<
 }
 
 /// `add_textgrid`: the names of the session and the bundle, the sample rate, and the TextGrid's text.
-#[tactic(auto, unfolding(crate::specs::Edits::textgrid_request, db_config::specs::Forms::text_member))]
+#[tactic(auto, unfolding(crate::specs::Edits::textgrid_request, config_json::specs::Forms::text_member))]
 pub(crate) fn textgrid_request(alloc: Global, view: &View) -> Result<Request, ViewFault>
     ensures { Gives (λ r. r) result (textgrid_request (seen_at view.now)) }
 {

@@ -1,13 +1,14 @@
 //! The requests for edits of items.
 ghost use Rattle.std.specs.Prelude.{◌≡◌};
-ghost use Rattle.json_view.specs.Gives.{Gives};
-ghost use Rattle.json_view.specs.Seen.{seen_at};
+ghost use Rattle.json_view.specs.Inner.Gives.{Gives};
+ghost use Rattle.json_view.specs.Inner.Seen.{seen_at};
 ghost use Rattle.script_lines.specs.Edits.{item_request, remove_request, label_request, segment_request, boundary_request, point_request, split_request, merge_request};
 
 use crate::edits::asks;
-use crate::forms::{SAMPLE_LIMIT, id_at, key_at, position_at, text_member, whole_member};
+use crate::forms::{id_at, key_at, position_at, text_member, whole_member};
 use crate::labels::{labels_in, time_at};
 use edit_rules::Edit;
+use emu_names::limits::TOP_WHOLE;
 use json_view::{View, ViewFault};
 use level_items::AnnotItem;
 use session_core::Request;
@@ -67,8 +68,8 @@ pub(crate) fn segment_request(alloc: Global, view: &View) -> Result<Request, Vie
 {
     let key = key_at(alloc, view)?;
     let id = id_at(view, "id")?;
-    let start = whole_member(view, "sampleStart", SAMPLE_LIMIT)?;
-    let dur = whole_member(view, "sampleDur", SAMPLE_LIMIT)?;
+    let start = whole_member(view, "sampleStart", TOP_WHOLE)?;
+    let dur = whole_member(view, "sampleDur", TOP_WHOLE)?;
     Ok(asks(Edit::SetSegment {
         key,
         id,
@@ -84,7 +85,7 @@ pub(crate) fn boundary_request(alloc: Global, view: &View) -> Result<Request, Vi
 {
     let key = key_at(alloc, view)?;
     let id = id_at(view, "id")?;
-    let start = whole_member(view, "sampleStart", SAMPLE_LIMIT)?;
+    let start = whole_member(view, "sampleStart", TOP_WHOLE)?;
     Ok(asks(Edit::MoveBoundary { key, id, start }))
 }
 
@@ -95,7 +96,7 @@ pub(crate) fn point_request(alloc: Global, view: &View) -> Result<Request, ViewF
 {
     let key = key_at(alloc, view)?;
     let id = id_at(view, "id")?;
-    let at = whole_member(view, "samplePoint", SAMPLE_LIMIT)?;
+    let at = whole_member(view, "samplePoint", TOP_WHOLE)?;
     Ok(asks(Edit::SetPoint { key, id, at }))
 }
 
@@ -107,7 +108,7 @@ pub(crate) fn split_request(alloc: Global, view: &View) -> Result<Request, ViewF
     let key = key_at(alloc, view)?;
     let id = id_at(view, "id")?;
     let new_id = id_at(view, "newId")?;
-    let start = whole_member(view, "sampleStart", SAMPLE_LIMIT)?;
+    let start = whole_member(view, "sampleStart", TOP_WHOLE)?;
     Ok(asks(Edit::Split {
         key,
         id,

@@ -1,12 +1,13 @@
 //! The time and the labels of an item that a line gives.
 ghost use Rattle.std.specs.Prelude.{◌≡◌, None};
-ghost use Rattle.json_view.specs.Gives.{Gives};
+ghost use Rattle.json_view.specs.Inner.Gives.{Gives};
 ghost use Rattle.json_view.specs.Lists.{each_of};
-ghost use Rattle.json_view.specs.Seen.{seen_at};
+ghost use Rattle.json_view.specs.Inner.Seen.{seen_at};
 ghost use Rattle.annot_json.specs.Read.{label_in, labels_in, span_in, point_in};
 ghost use Rattle.script_lines.specs.Forms.{span_or_point, time_at};
 
-use crate::forms::{SAMPLE_LIMIT, put_last, text_member, whole_member};
+use crate::forms::{put_last, text_member, whole_member};
+use emu_names::limits::TOP_WHOLE;
 use json_view::{View, ViewFault};
 use level_items::{AnnotLabel, AnnotLabels, Time};
 use std::alloc::Global;
@@ -56,8 +57,8 @@ pub(crate) fn labels_in(alloc: Global, view: &View) -> Result<AnnotLabels, ViewF
 fn span_in(view: &View) -> Result<Time, ViewFault>
     ensures { Gives (λ t. t) result (span_in (seen_at view.now)) }
 {
-    let start = whole_member(view, "sampleStart", SAMPLE_LIMIT)?;
-    let dur = whole_member(view, "sampleDur", SAMPLE_LIMIT)?;
+    let start = whole_member(view, "sampleStart", TOP_WHOLE)?;
+    let dur = whole_member(view, "sampleDur", TOP_WHOLE)?;
     Ok(Time::Span { start, dur })
 }
 
@@ -66,7 +67,7 @@ fn span_in(view: &View) -> Result<Time, ViewFault>
 fn point_in(view: &View) -> Result<Time, ViewFault>
     ensures { Gives (λ t. t) result (point_in (seen_at view.now)) }
 {
-    let at = whole_member(view, "samplePoint", SAMPLE_LIMIT)?;
+    let at = whole_member(view, "samplePoint", TOP_WHOLE)?;
     Ok(Time::Point { at })
 }
 

@@ -5,7 +5,7 @@ ghost use Rattle.script_lines.specs.LastLines.{last_data};
 ghost use Rattle.script_lines.specs.Texts.{fault_of_line, shape_of_line, name_of_line, too_many_of_line, config_fault_data, fault_data};
 
 use crate::faults::LineFault;
-use db_config::{ConfigFault, ConfigWhat};
+use config_json::{ConfigFault, ConfigWhat};
 use emu_names::{Memory, Text};
 use json_view::Shape;
 use serde_json::{Map, Value, json};

@@ -1,19 +1,18 @@
 //! The lines that ask a question: `query` and `look`.
-ghost use Rattle.std.specs.Prelude.{◌≡◌, ◌≤◌, Ok, Some, IfOk};
-ghost use Rattle.fault_counts.specs.Count.{RoseBy};
-ghost use Rattle.json_view.specs.Gives.{Gives};
-ghost use Rattle.json_view.specs.Seen.{seen_at};
-ghost use Rattle.script_lines.specs.Faults.{misread};
-ghost use Rattle.script_lines.specs.Lines.{ReadsMade, asking_line, question_request};
-ghost use Rattle.script_lines.specs.Made.{IsMade, times_too_large, eql_read};
+ghost use Rattle.std.specs.Prelude.{◌≡◌, Ok, Some};
+ghost use Rattle.json_view.specs.Inner.Gives.{Gives};
+ghost use Rattle.json_view.specs.Inner.Seen.{seen_at};
+ghost use Rattle.script_lines.specs.Inner.Faults.{misread};
+ghost use Rattle.script_lines.specs.Lines.{asking_line, question_request};
+ghost use Rattle.script_lines.specs.Inner.Lines.{ReadsMade};
+ghost use Rattle.script_lines.specs.Made.{eql_read};
 ghost use Rattle.script_lines.specs.Questions.{question_command, question_at, time_name_at};
 
 use crate::faults::{LineFault, ReadLine};
 use crate::forms::{owned, session_at, text_member};
 use crate::place::Place;
-use emu_names::{Memory, SessionNo, Text};
-use eql_resolve::{PrepareFault, Prepared, prepare};
-use eql_syntax::QueryFault;
+use emu_names::{SessionNo, Text};
+use eql_resolve::made_of;
 use json_view::{View, ViewFault};
 use label_match::PatternMaker;
 use session_core::{Ask, Command, Line, Request};
@@ -63,26 +62,6 @@ fn question_at(alloc: Global, view: &View) -> Result<Question, ViewFault>
     Ok(Question { session, eql, time })
 }
 
-// The query of a text with its patterns, or the fault of the text or of a pattern. The only refusal
-// is want of memory.
-fn made_of<P: PatternMaker>(
-    alloc: Global,
-    text: &str,
-    maker: &mut P,
-) -> Result<Result<Prepared, PrepareFault>, Memory>
-    ensures made { IfOk result (λ made. IsMade text.now made) }
-    ensures rose { IfOk result (λ made. RoseBy (times_too_large made)
-        (P.refusals maker.old) (P.refusals maker.new)) }
-    ensures later { P.refusals maker.old ≤ P.refusals maker.new }
-{
-    match prepare(alloc, maker, text) {
-        Ok(prepared) => Ok(Ok(prepared)),
-        Err(PrepareFault::Memory) => Err(Memory),
-        Err(PrepareFault::Query(QueryFault::Memory)) => Err(Memory),
-        Err(fault) => Ok(Err(fault)),
-    }
-}
-
 // What a question asks for.
 fn question_request(command: Command, ask: Ask) -> Request
     ensures { result ≡ question_request command ask }
@@ -106,7 +85,7 @@ fn asked_line<P: PatternMaker>(
         (Ok (record { session = question.session; eql = question.eql; time = question.time })))
         (P.refusals maker.old) (P.refusals maker.new) }
 {
-    let Ok(prepared) = made_of(alloc, question.eql.as_str(), maker) else {
+    let Ok(prepared) = made_of(alloc, maker, question.eql.as_str()) else {
         return Err(LineFault::Memory);
     };
     if place.wants_config {

@@ -1,13 +1,15 @@
 //! One line of a script.
 ghost use Rattle.std.specs.Prelude.{◌≡◌, ◌≢◌, Bool, IfOk, IfErr, None, Some};
 ghost use Rattle.serde_json.specs.View.{view};
-ghost use Rattle.json_view.specs.Gives.{Gives};
+ghost use Rattle.json_view.specs.Inner.Gives.{Gives};
 ghost use Rattle.json_view.specs.Paths.{root_path};
-ghost use Rattle.json_view.specs.Seen.{seen, seen_at};
-ghost use Rattle.script_lines.specs.Faults.{Reads};
+ghost use Rattle.json_view.specs.Seen.{seen};
+ghost use Rattle.json_view.specs.Inner.Seen.{seen_at};
+ghost use Rattle.script_lines.specs.Inner.Faults.{Reads};
 ghost use Rattle.script_lines.specs.Values.{is_space, is_blank, json_of, word_of_line};
 ghost use Rattle.script_lines.specs.Made.{eql_told, eql_in};
-ghost use Rattle.script_lines.specs.Lines.{ReadsMade, IsReadAs, json_line, line_in, config_line, placed_line, value_line};
+ghost use Rattle.script_lines.specs.Lines.{json_line, line_in, config_line, placed_line, value_line};
+ghost use Rattle.script_lines.specs.Inner.Lines.{ReadsMade, IsReadAs};
 
 use crate::faults::{LineFault, ReadLine};
 use crate::forms::session_at;
@@ -15,7 +17,7 @@ use crate::line_set::LineSet;
 use crate::place::Place;
 use crate::questions::{asking_line, question_command};
 use crate::requests::{command_named, members_of};
-use db_config::read_config;
+use config_json::read_config;
 use json_view::{View, ViewFault, Wanted};
 use label_match::PatternMaker;
 use serde_json::Value;
@@ -104,7 +106,7 @@ fn placed_line(
 }
 
 // What a line does: an object whose `do` is a text.
-#[tactic(auto, unfolding(crate::specs::Values::word_of_line, db_config::specs::Forms::text_member, json_view::specs::Parts::object_of, json_view::specs::Parts::optional_of))]
+#[tactic(auto, unfolding(crate::specs::Values::word_of_line, config_json::specs::Forms::text_member, json_view::specs::Parts::object_of, json_view::specs::Parts::optional_of))]
 fn word_of_line<'a>(view: &View<'a>) -> Result<&'a str, ViewFault>
     ensures { Gives (λ t. t.now) result (word_of_line (seen_at view.now)) }
 {

@@ -50,7 +50,9 @@ fn rule_value(alloc: Global, broken: &Broken) -> Result<Value, Memory>
         | Broken::TwoLevels(name)
         | Broken::LevelKind(name)
         | Broken::NoAttribute(name)
-        | Broken::TwoLabels(name) => name_value(alloc, name, word),
+        | Broken::TwoLabels(name)
+        | Broken::DoubleName(name)
+        | Broken::UnknownLevel(name) => name_value(alloc, name, word),
         Broken::IdTaken(id)
         | Broken::NoItem(id)
         | Broken::Overlap(id)
@@ -69,7 +71,10 @@ fn rule_value(alloc: Global, broken: &Broken) -> Result<Value, Memory>
         | Broken::CutOut
         | Broken::NoLinkDefinition
         | Broken::LinkExists
-        | Broken::NoLink => plain_value(alloc, word),
+        | Broken::NoLink
+        | Broken::DoubleLink
+        | Broken::LevelCycle
+        | Broken::NothingToLink => plain_value(alloc, word),
     }
 }
 

@@ -1,7 +1,7 @@
 //! The text of a reply, put together from its pieces.
 ghost use Rattle.std.specs.Prelude.{◌≡◌, ◌++◌, OnOk, codes, string_bytes};
-ghost use Rattle.segment_list.specs.Texts.{rows_text};
-ghost use Rattle.script_lines.specs.Pieces.{answer_piece, done_piece, edits_piece, head_piece, number_behind, refused_piece};
+ghost use Rattle.segment_list.specs.Inner.Texts.{rows_text};
+ghost use Rattle.script_lines.specs.Inner.Pieces.{answer_piece, done_piece, edits_piece, head_piece, number_behind, refused_piece};
 ghost use Rattle.script_lines.specs.Texts.{command_word};
 
 use crate::refusals::refusal_value;

@@ -1,18 +1,19 @@
 //! The members of a request, by its command.
 ghost use Rattle.std.specs.Prelude.{◌≡◌, true};
-ghost use Rattle.json_view.specs.Seen.{seen_at};
-ghost use Rattle.script_lines.specs.Faults.{Reads};
+ghost use Rattle.json_view.specs.Inner.Seen.{seen_at};
+ghost use Rattle.script_lines.specs.Inner.Faults.{Reads};
 ghost use Rattle.script_lines.specs.Lines.{command_named, after_request, members_of};
 
 use crate::edits::{bundle_request, drop_request, link_request, unlink_request};
 use crate::faults::LineFault;
-use crate::forms::{ID_LIMIT, whole_member};
+use crate::forms::whole_member;
 use crate::grids::textgrid_request;
 use crate::items::{
     boundary_request, item_request, label_request, merge_request, point_request, remove_request,
     segment_request, split_request,
 };
 use crate::line_set::LineSet;
+use emu_names::limits::TOP_ID;
 use json_view::View;
 use session_core::{Command, Request};
 use std::alloc::Global;
@@ -46,7 +47,7 @@ pub(crate) fn command_named(word: &str) -> Option<Command>
 fn after_request(view: &View, earlier: &LineSet) -> Result<Request, LineFault>
     ensures { Reads result (after_request earlier.now (seen_at view.now)) }
 {
-    let line = whole_member(view, "line", ID_LIMIT)? as u32;
+    let line = whole_member(view, "line", TOP_ID)? as u32;
     if !earlier.contains(line) {
         return Err(LineFault::BadAfter);
     }

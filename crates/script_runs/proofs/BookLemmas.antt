@@ -1,24 +1,26 @@
 -- A run over a book: how it begins, and how it ends where there is why book.
 use Rattle.std.proofs.Common.{◌≡◌, ℕ, ◌≤◌, Bool, true, false, List, [], ◌∷◌, Option, Some, None, Result, Ok, refl, sym, ◌∙◌, ap, subst, arith}
-use Rattle.fault_counts.specs.Count.{Rose}
+use Rattle.emu_names.specs.Count.{Rose}
 use Rattle.db_config.specs.declared.parts.ConfigParts.{ConfigParts}
 use Rattle.edit_rules.specs.declared.edit.Entry.{Entry}
 use Rattle.emu_disk.specs.Disk.{LeavesOnly}
 use Rattle.edit_journal.specs.declared.journal.Journal.{Journal}
 use Rattle.edit_journal.specs.Held.{disk_of}
-use Rattle.store_opening.specs.declared.fault.OpenFault.{OpenFault}
-use Rattle.store_opening.specs.declared.fault.OpenFault.TheVariants as opens
+use Rattle.book_opening.specs.declared.fault.OpenFault.{OpenFault}
+use Rattle.book_opening.specs.declared.fault.OpenFault.TheVariants as opens
 use Rattle.live_book.specs.Kept.{BookParts, KeepsIn, CrashLeaves, faults_in}
 use Rattle.live_book.specs.Commits.{has_journal}
-use Rattle.store_opening.specs.Opens.{IsEmpty, IsNew, IsNoBookFor, DuringNew, DuringNoBook}
-use Rattle.script_lines.specs.Made.{times_too_large}
+use Rattle.book_opening.specs.Opens.{IsNoBookFor, DuringNew}
+use Rattle.book_opening.specs.Inner.Opens.{IsEmpty, IsNew, DuringNoBook}
+use Rattle.eql_resolve.specs.Made.{times_too_large}
 use Rattle.script_lines.specs.declared.faults.ReadLine.TheVariants as reads
-use Rattle.run_output.specs.declared.ended.Ended.{Ended}
-use Rattle.run_output.specs.declared.ended.Ended.TheVariants as ends
+use Rattle.program_output.specs.declared.ended.Ended.{Ended}
+use Rattle.program_output.specs.declared.ended.Ended.TheVariants as ends
 use Rattle.script_runs.specs.Scripts.{read_from}
-use Rattle.script_runs.specs.Bases.{Base, bare_store, store_of, counted, fresh_base, EachOf}
-use Rattle.script_runs.specs.Turns.{IsLineRead}
-use Rattle.script_runs.specs.Reached.{IsKept, IsFailed, IsBeginOf, IsEndFor, RunsScript, EndsScript}
+use Rattle.script_runs.specs.Bases.{Base, bare_store, store_of, counted, EachOf}
+use Rattle.script_runs.specs.Inner.Bases.{fresh_base}
+use Rattle.script_runs.specs.Inner.Turns.{IsLineRead}
+use Rattle.script_runs.specs.Inner.Reached.{IsKept, IsFailed, IsBeginOf, IsEndFor, RunsScript, EndsScript}
 use Rattle.std.proofs.KnownBytes.{Appends-nil}
 use Rattle.script_runs.proofs.ReadLemmas.{read_none}
 use Rattle.script_runs.proofs.KeptLemmas.{kept_none, kept_store}

@@ -16,7 +16,7 @@ use Rattle.script_lines.specs.Lines.{request_of}
 use Rattle.script_lines.specs.Known.{Known, NamesOneOf}
 use Rattle.script_lines.proofs.KnownLines.{known}
 use Rattle.script_runs.specs.Scripts.{AskedLine, Parsed, read_from, with_read, parse, parse_line, line_at, unless_over, as_stop, passes_limit, numbers_of, Stop, ◌>>=◌}
-use Rattle.script_runs.specs.Reads.{GivesConfig}
+use Rattle.script_runs.specs.Inner.Reads.{GivesConfig}
 
 -- an `after` among the numbers is one among the lines
 same_number : (a b : ℕ) → nat_eq a b ≡ nat_eq b a

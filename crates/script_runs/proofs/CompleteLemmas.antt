@@ -1,13 +1,13 @@
 -- Where nothing is wrong outside or in the script, a run ends well or for want of memory.
 use Rattle.std.proofs.Common.{◌≡◌, ◌⊎◌, inl, inr, ℕ, ◌<◌, ◌-◌, ◌^◌, Bool, true, false, List, [], ◌∷◌, Option, Some, None, Result, Ok, refl, sym, ◌∙◌, subst, arith}
-use Rattle.fault_counts.specs.Count.{Rose}
+use Rattle.emu_names.specs.Count.{Rose}
 use Rattle.emu_io.specs.Fronts.{Tells}
 use Rattle.db_config.specs.declared.parts.ConfigParts.{ConfigParts}
 use Rattle.edit_rules.specs.declared.edit.Entry.{Entry}
 use Rattle.edit_journal.specs.declared.body.Body.{Body}
 use Rattle.live_book.specs.Histories.{OfRead, IsBare, Stands, IsDamagedAt}
-use Rattle.run_output.specs.declared.status.Status.{Status}
-use Rattle.run_output.specs.declared.status.Status.TheVariants as statuses
+use Rattle.program_output.specs.declared.status.Status.{Status}
+use Rattle.program_output.specs.declared.status.Status.TheVariants as statuses
 use Rattle.script_runs.specs.Scripts.{IsSound, Stop, limit, at_fault}
 use Rattle.script_runs.specs.Bases.{Base, no_store, bare_store, store_of, wants_by, is_stored, IsBaseOf}
 use Rattle.script_runs.specs.Says.{Call, Says, EndedEarly, TooLong, IsDamage, IsFaultless, IsSoundFor, IsStoreTold}

@@ -1,6 +1,7 @@
 -- The first line of bytes, and the lines behind it.
 use Rattle.std.proofs.Common.{◌≡◌, ℕ, suc, ◌<◌, Bool, true, false, cond, ◌==◌, List, [], ◌∷◌, length, take, drop, refl, ◌∙◌, ap, arith}
-use Rattle.script_runs.specs.Cuts.{cut, put_front, line_len}
+use Rattle.script_runs.specs.Cuts.{cut, put_front}
+use Rattle.script_runs.specs.Inner.Cuts.{line_len}
 
 cut_at_head : (past feed : Bool) (b : ℕ) (bs : List ℕ) → (line_len bs < length bs → cut past bs ≡ take (line_len bs) bs ∷ cut past (drop 1 (drop (line_len bs) bs))) → cond feed 0 (suc (line_len bs)) < suc (length bs) → cond feed ([] ∷ cut past bs) (put_front past b (cut past bs)) ≡ take (cond feed 0 (suc (line_len bs))) (b ∷ bs) ∷ cut past (drop 1 (drop (cond feed 0 (suc (line_len bs))) (b ∷ bs)))
 cut_at_head past true b bs later h = refl

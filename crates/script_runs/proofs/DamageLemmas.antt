@@ -8,7 +8,7 @@ use Rattle.edit_rules.specs.declared.edit.Entry.{Entry}
 use Rattle.edit_rules.specs.Database.{DatabaseParts}
 use Rattle.edit_rules.specs.Effects.{IsLegal, edited}
 use Rattle.edit_rules.proofs.Replay.{prefixes_are_legal, replay_goes_on}
-use Rattle.code_forms.specs.Forms.{Form, IsCode, IsForm}
+use Rattle.byte_forms.specs.Forms.{Form, IsCode, IsForm}
 use Rattle.edit_code.specs.Codes.{entry_code, IsEntryCode, IsHeadCode}
 use Rattle.edit_code.proofs.EditLaws.{entry_law}
 use Rattle.edit_code.proofs.HeadLaws.{head_law}

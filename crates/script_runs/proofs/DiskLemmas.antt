@@ -1,6 +1,6 @@
 -- The disk behind a run: its count, and its images.
 use Rattle.std.proofs.Common.{◌≡◌, ℕ, Bool, true, false, List, [], Option, Some, None, refl, sym, ap, subst, arith}
-use Rattle.fault_counts.specs.Count.{Rose, RoseBy}
+use Rattle.emu_names.specs.Count.{Rose, RoseBy}
 use Rattle.db_config.specs.declared.parts.ConfigParts.{ConfigParts}
 use Rattle.edit_rules.specs.declared.edit.Entry.{Entry}
 use Rattle.session_core.specs.declared.line.Line.{Line}
@@ -11,13 +11,14 @@ use Rattle.edit_journal.specs.Held.{disk_of}
 use Rattle.edit_journal.proofs.Kept.{stands_may}
 use Rattle.live_book.specs.Kept.{faults_in}
 use Rattle.live_book.specs.Commits.{has_journal}
-use Rattle.store_opening.specs.Opens.{DuringNew}
+use Rattle.book_opening.specs.Opens.{DuringNew}
 use Rattle.live_book.proofs.Storing.{images}
 use Rattle.script_runs.specs.Scripts.{Parsed}
 use Rattle.script_runs.specs.Bases.{Base, no_store, bare_store, store_of, is_stored, config_by, counted, EachOf, LeavesStore}
-use Rattle.script_runs.specs.Runs.{replies_by, history_by}
-use Rattle.script_runs.specs.Reached.{IsKept, IsDone, IsFailed, IsBeginOf, KeepsStore, KeepsHistory}
-use Rattle.script_runs.specs.Ran.{HasDisk, BeginsBefore}
+use Rattle.script_runs.specs.Runs.{replies_by}
+use Rattle.script_runs.specs.Inner.Runs.{history_by}
+use Rattle.script_runs.specs.Inner.Reached.{IsKept, IsDone, IsFailed, IsBeginOf, KeepsStore, KeepsHistory}
+use Rattle.script_runs.specs.Inner.Ran.{HasDisk, BeginsBefore}
 
 -- the disk's count rose, and each image is bare or has the configuration alone
 pub record FailedBy (begin now : ℕ) (images : List ℕ → Type 0) (config : ConfigParts) : Type 0 where

@@ -2,25 +2,25 @@
 use Rattle.std.proofs.Common.{◌≡◌, ◌≢◌, inl, inr, ℕ, ◌≤◌, Bool, true, List, [], Option, Some, None, Result, Ok, Err, IfErr, refl, sym, subst, arith}
 use Rattle.std.specs.Io.KnownBytes.{Appends}
 use Rattle.std.proofs.KnownBytes.{Appends-nil}
-use Rattle.fault_counts.specs.Count.{Rose}
+use Rattle.emu_names.specs.Count.{Rose}
 use Rattle.emu_io.specs.declared.whole.Front.{Front}
 use Rattle.emu_io.specs.declared.faults.ReadFault.{ReadFault}
 use Rattle.emu_io.specs.declared.faults.ReadFault.TheVariants as read_faults
 use Rattle.edit_journal.specs.declared.journal.Journal.{Journal}
-use Rattle.store_opening.specs.declared.fault.OpenFault.{OpenFault}
-use Rattle.store_opening.specs.declared.fault.OpenFault.TheVariants as opens
+use Rattle.book_opening.specs.declared.fault.OpenFault.{OpenFault}
+use Rattle.book_opening.specs.declared.fault.OpenFault.TheVariants as opens
 use Rattle.live_book.specs.Kept.{faults_in}
-use Rattle.store_opening.specs.Opens.{IsNoStoreFor}
-use Rattle.store_commands.specs.Texts.{damaged_text}
-use Rattle.run_output.specs.declared.ended.Ended.{Ended}
-use Rattle.run_output.specs.declared.ended.Ended.TheVariants as ends
-use Rattle.run_output.specs.declared.status.Status.{Status}
+use Rattle.book_opening.specs.Inner.Opens.{IsNoStoreFor}
+use Rattle.store_texts.specs.Texts.{damaged_text}
+use Rattle.program_output.specs.declared.ended.Ended.{Ended}
+use Rattle.program_output.specs.declared.ended.Ended.TheVariants as ends
+use Rattle.program_output.specs.declared.status.Status.{Status}
 use Rattle.script_runs.specs.Scripts.{read_from}
 use Rattle.script_runs.specs.Bases.{Base, wants_by, IsBaseOf, EachOf}
 use Rattle.script_runs.specs.Says.{Call, call_of, Says}
-use Rattle.script_runs.specs.Reached.{IsDone}
-use Rattle.run_output.specs.Written.{EndHasCause, IsTold}
-use Rattle.script_runs.specs.Ran.{IsUnread, BeginsBefore, SaysUnopened}
+use Rattle.script_runs.specs.Inner.Reached.{IsDone}
+use Rattle.program_output.specs.Inner.Written.{EndHasCause, IsTold}
+use Rattle.script_runs.specs.Inner.Ran.{IsUnread, BeginsBefore, SaysUnopened}
 use Rattle.script_runs.proofs.SaysLemmas.{says_unread, says_unopened}
 
 -- an end that has its cause has a fault that is told

@@ -6,18 +6,19 @@ use Rattle.db_config.specs.declared.parts.ConfigParts.{ConfigParts}
 use Rattle.edit_journal.specs.declared.journal.Journal.{Journal}
 use Rattle.live_book.specs.Kept.{KeepsIn}
 use Rattle.live_book.specs.Commits.{has_journal}
-use Rattle.store_opening.specs.Opens.{IsEmpty}
+use Rattle.book_opening.specs.Inner.Opens.{IsEmpty}
 use Rattle.script_lines.specs.declared.faults.LineFault.TheVariants as faults_of
 use Rattle.script_lines.specs.declared.faults.ReadLine.TheVariants as reads
 use Rattle.script_lines.specs.Texts.{reply_text}
-use Rattle.run_output.specs.declared.ended.Ended.{Ended}
-use Rattle.run_output.specs.declared.ended.Ended.TheVariants as ends
+use Rattle.program_output.specs.declared.ended.Ended.{Ended}
+use Rattle.program_output.specs.declared.ended.Ended.TheVariants as ends
 use Rattle.script_runs.specs.declared.running.Running.{Running}
-use Rattle.script_runs.specs.Bases.{Base, fresh_base}
-use Rattle.run_output.specs.Texts.{config_reply}
-use Rattle.script_runs.specs.Turns.{IsLineRead, ReadsNext}
-use Rattle.script_runs.specs.Reached.{IsBegun, IsKept, IsFailed, IsBeginOf, Reached, EndsScript}
-use Rattle.run_output.specs.Written.{WritesText}
+use Rattle.script_runs.specs.Bases.{Base}
+use Rattle.script_runs.specs.Inner.Bases.{fresh_base}
+use Rattle.program_output.specs.Texts.{config_reply}
+use Rattle.script_runs.specs.Inner.Turns.{IsLineRead, ReadsNext}
+use Rattle.script_runs.specs.Inner.Reached.{IsBegun, IsKept, IsFailed, IsBeginOf, Reached, EndsScript}
+use Rattle.program_output.specs.Inner.Written.{WritesText}
 use Rattle.script_runs.proofs.RunLemmas.{begun, ends_unbegun, broke_config, ends_first, no_lines}
 
 module _ {D : Type 0} (may_leave : D → List ℕ → Type 0) (faults : D → ℕ) (begin : ℕ) (base : Base) (journal : Option (Journal D))

@@ -1,28 +1,29 @@
 -- What the status of a run says that has the disk of its journal.
 use Rattle.std.proofs.Common.{◌≡◌, ℕ, ◌≤◌, Bool, true, false, List, [], Option, None, Result, Ok, Err, IfErr, refl, sym, ◌∙◌, ap, subst}
-use Rattle.fault_counts.specs.Count.{Rose}
+use Rattle.emu_names.specs.Count.{Rose}
 use Rattle.emu_names.specs.declared.limits.TheConstants.{SCRIPT_BYTES}
 use Rattle.emu_io.specs.declared.faults.ReadFault.{ReadFault}
 use Rattle.emu_io.specs.declared.faults.ReadFault.TheVariants as read_faults
-use Rattle.emu_io.specs.Fronts.{TakesFront, IsFrontOf}
+use Rattle.emu_io.specs.Inner.Fronts.{TakesFront, IsFrontOf}
 use Rattle.db_config.specs.declared.parts.ConfigParts.{ConfigParts}
 use Rattle.edit_rules.specs.declared.edit.Entry.{Entry}
 use Rattle.session_core.specs.InOrder.{Outage}
 use Rattle.edit_journal.specs.declared.journal.Journal.{Journal}
 use Rattle.live_book.specs.Kept.{KeepsIn}
 use Rattle.live_book.specs.Commits.{has_journal}
-use Rattle.store_opening.specs.Opens.{IsEmpty}
-use Rattle.run_output.specs.declared.ended.Ended.{Ended}
-use Rattle.run_output.specs.declared.ended.Ended.TheVariants as ends
-use Rattle.run_output.specs.declared.status.Status.{Status}
+use Rattle.book_opening.specs.Inner.Opens.{IsEmpty}
+use Rattle.program_output.specs.declared.ended.Ended.{Ended}
+use Rattle.program_output.specs.declared.ended.Ended.TheVariants as ends
+use Rattle.program_output.specs.declared.status.Status.{Status}
 use Rattle.script_runs.specs.Cuts.{cut}
 use Rattle.script_runs.specs.Scripts.{Parsed, read_from}
-use Rattle.script_runs.specs.Bases.{Base, store_of, wants_by, is_stored, fresh_base, IsBaseOf}
+use Rattle.script_runs.specs.Bases.{Base, store_of, wants_by, is_stored, IsBaseOf}
+use Rattle.script_runs.specs.Inner.Bases.{fresh_base}
 use Rattle.script_runs.specs.Says.{call_of, Says}
-use Rattle.script_runs.specs.Reached.{IsKept, IsDone, IsFailed, IsBeginOf, RunsScript, EndsScript}
-use Rattle.run_output.specs.Written.{EndHasCause}
-use Rattle.script_runs.specs.Ran.{HasDisk, BeginsBefore, IsUnread}
-use Rattle.run_output.specs.Statuses.{Closes}
+use Rattle.script_runs.specs.Inner.Reached.{IsKept, IsDone, IsFailed, IsBeginOf, RunsScript, EndsScript}
+use Rattle.program_output.specs.Inner.Written.{EndHasCause}
+use Rattle.script_runs.specs.Inner.Ran.{HasDisk, BeginsBefore, IsUnread}
+use Rattle.program_output.specs.Inner.Statuses.{Closes}
 use Rattle.script_runs.proofs.KeptLemmas.{kept_none, kept_store}
 use Rattle.script_runs.proofs.DiskLemmas.{FailedBy, done_of, failed_of, begin_of}
 use Rattle.script_runs.proofs.SaysLemmas.{says_ended}

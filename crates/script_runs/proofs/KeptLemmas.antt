@@ -1,7 +1,7 @@
 -- What a run leaves in its journal, one line more.
 use Rattle.std.proofs.Common.{◌≡◌, ◌⊎◌, inl, inr, ℕ, ◌+◌, ◌≤◌, Bool, true, false, ◌&&◌, cond, List, [], ◌∷◌, ◌++◌, length, Option, Some, None, refl, sym, ◌∙◌, ap, subst, arith, length-append}
 use Rattle.std.proofs.lemmas.List.Sums.{sum_by-append}
-use Rattle.fault_counts.specs.Count.{RoseBy}
+use Rattle.emu_names.specs.Count.{RoseBy}
 use Rattle.db_config.specs.declared.parts.ConfigParts.{ConfigParts}
 use Rattle.edit_rules.specs.declared.edit.Entry.{Entry}
 use Rattle.session_core.specs.declared.line.Line.{Line}
@@ -11,15 +11,18 @@ use Rattle.session_core.specs.InOrder.{Outage, is_disk_outage, disk_outages, one
 use Rattle.edit_journal.specs.declared.journal.Journal.{Journal}
 use Rattle.live_book.specs.Kept.{KeepsIn, faults_in}
 use Rattle.live_book.specs.Commits.{has_journal}
-use Rattle.store_opening.specs.Opens.{IsEmpty}
-use Rattle.session_run.specs.Orders.{IsDiskRefused, LeftBehind, state_of}
+use Rattle.book_opening.specs.Inner.Opens.{IsEmpty}
+use Rattle.session_run.specs.Orders.{IsDiskRefused}
+use Rattle.session_run.specs.Inner.Orders.{LeftBehind, state_of}
 use Rattle.script_lines.specs.declared.faults.ReadLine.TheVariants as reads
 use Rattle.script_runs.specs.declared.running.Running.{Running}
 use Rattle.script_runs.specs.Scripts.{Parsed, read_from, with_read}
-use Rattle.script_runs.specs.Bases.{Base, is_stored, opening_by, config_by, counted, fresh_base, store_of, WasRefused, IfRefused}
-use Rattle.script_runs.specs.Runs.{replies_by, history_by}
-use Rattle.script_runs.specs.Taken.{TakesLine}
-use Rattle.script_runs.specs.Reached.{IsAt, IsKept, KeepsStore, KeepsHistory}
+use Rattle.script_runs.specs.Bases.{Base, is_stored, opening_by, config_by, counted, store_of, WasRefused, IfRefused}
+use Rattle.script_runs.specs.Inner.Bases.{fresh_base}
+use Rattle.script_runs.specs.Runs.{replies_by}
+use Rattle.script_runs.specs.Inner.Runs.{history_by}
+use Rattle.script_runs.specs.Inner.Taken.{TakesLine}
+use Rattle.script_runs.specs.Inner.Reached.{IsAt, IsKept, KeepsStore, KeepsHistory}
 use Rattle.script_runs.proofs.ReadLemmas.{rose_both}
 use Rattle.script_runs.proofs.TextLemmas.{turns_push, turns_count, begun_in, replies_begun, history_begun}
 

@@ -2,38 +2,41 @@
 use Rattle.std.proofs.Common.{◌≡◌, inl, inr, ℕ, ◌≤◌, Bool, true, false, List, [], Option, Some, None, Err, refl, sym, ◌∙◌, ap, subst, arith}
 use Rattle.std.specs.Io.KnownBytes.{Appends}
 use Rattle.std.proofs.KnownBytes.{Appends-nil}
-use Rattle.fault_counts.specs.Count.{Rose}
+use Rattle.emu_names.specs.Count.{Rose}
 use Rattle.emu_names.specs.declared.limits.TheConstants.{SCRIPT_BYTES}
 use Rattle.emu_io.specs.declared.faults.ReadFault.{ReadFault}
 use Rattle.emu_io.specs.declared.faults.ReadFault.TheVariants as read_faults
-use Rattle.emu_io.specs.Fronts.{IsFrontOf, WritesFront}
+use Rattle.emu_io.specs.Fronts.{WritesFront}
+use Rattle.emu_io.specs.Inner.Fronts.{IsFrontOf}
 use Rattle.db_config.specs.declared.parts.ConfigParts.{ConfigParts}
 use Rattle.db_config.specs.Valid.{is_valid}
 use Rattle.edit_journal.specs.declared.journal.Journal.{Journal}
 use Rattle.session_core.specs.declared.line.Line.{Line}
-use Rattle.store_opening.specs.declared.fault.OpenFault.{OpenFault}
-use Rattle.store_opening.specs.declared.fault.OpenFault.TheVariants as opens
+use Rattle.book_opening.specs.declared.fault.OpenFault.{OpenFault}
+use Rattle.book_opening.specs.declared.fault.OpenFault.TheVariants as opens
 use Rattle.live_book.specs.Histories.{OfRead, IsBare}
 use Rattle.live_book.specs.Kept.{BookParts, KeepsIn, CrashLeaves, faults_in}
 use Rattle.live_book.specs.Commits.{has_journal}
-use Rattle.store_opening.specs.Opens.{IsEmpty, IsNoBookFor, IsNoStoreFor, IsNew, DuringNew, DuringNoBook}
+use Rattle.book_opening.specs.Opens.{IsNoBookFor, DuringNew}
+use Rattle.book_opening.specs.Inner.Opens.{IsEmpty, IsNoStoreFor, IsNew, DuringNoBook}
 use Rattle.script_lines.specs.declared.faults.ReadLine.TheVariants as reads
-use Rattle.store_commands.specs.Texts.{damaged_text}
-use Rattle.run_output.specs.declared.ended.Ended.{Ended}
-use Rattle.run_output.specs.declared.status.Status.{Status}
-use Rattle.run_output.specs.declared.status.Status.TheVariants as statuses
+use Rattle.store_texts.specs.Texts.{damaged_text}
+use Rattle.program_output.specs.declared.ended.Ended.{Ended}
+use Rattle.program_output.specs.declared.status.Status.{Status}
+use Rattle.program_output.specs.declared.status.Status.TheVariants as statuses
 use Rattle.script_runs.specs.Cuts.{cut}
 use Rattle.script_runs.specs.Scripts.{Parsed, read_from, with_read}
-use Rattle.script_runs.specs.Bases.{Base, no_store, bare_store, store_of, wants_by, is_stored, opening_by, config_by, counted, fresh_base, IsBaseOf, EachOf, LeavesStore}
-use Rattle.run_output.specs.Texts.{limit_text}
+use Rattle.script_runs.specs.Bases.{Base, no_store, bare_store, store_of, wants_by, is_stored, opening_by, config_by, counted, IsBaseOf, EachOf, LeavesStore}
+use Rattle.script_runs.specs.Inner.Bases.{fresh_base}
+use Rattle.program_output.specs.Texts.{limit_text}
 use Rattle.script_runs.specs.Says.{Call, call_of, TooLong}
-use Rattle.run_output.specs.Statuses.{WritesLast}
-use Rattle.script_runs.specs.Reached.{IsDone, IsKept, IsBeginOf, IsEndFor}
-use Rattle.script_runs.specs.Ran.{HasDisk, BeginsBefore, IsUnread, SaysUnopened}
-use Rattle.run_output.specs.Statuses.{Closes}
-use Rattle.script_runs.specs.Reads.{GivesConfig, ReadsScript}
+use Rattle.program_output.specs.Statuses.{WritesLast}
+use Rattle.script_runs.specs.Inner.Reached.{IsDone, IsKept, IsBeginOf, IsEndFor}
+use Rattle.script_runs.specs.Inner.Ran.{HasDisk, BeginsBefore, IsUnread, SaysUnopened}
+use Rattle.program_output.specs.Inner.Statuses.{Closes}
+use Rattle.script_runs.specs.Inner.Reads.{GivesConfig, ReadsScript}
 use Rattle.script_runs.specs.Lives.{LivesNot, SaysLive}
-use Rattle.script_runs.specs.Answered.{EndsOver, WasRead}
+use Rattle.script_runs.specs.Inner.Answered.{EndsOver, WasRead}
 use Rattle.script_runs.proofs.DiskLemmas.{done_of, failed_of, begin_of}
 use Rattle.script_runs.proofs.KeptLemmas.{kept_none, kept_config, kept_store}
 use Rattle.script_runs.proofs.BookLemmas.{crash_leaves}

@@ -3,10 +3,11 @@ use Rattle.std.proofs.Common.{◌≡◌, inl, inr, ℕ, zero, suc, ◌+◌, Bool
 use Rattle.std.proofs.lemmas.List.Elements.{All-push}
 use Rattle.std.specs.Io.KnownBytes.{Appends}
 use Rattle.std.proofs.KnownBytes.{Appends-nil}
-use Rattle.fault_counts.specs.Count.{RoseBy}
+use Rattle.emu_names.specs.Count.{RoseBy}
 use Rattle.emu_names.specs.declared.limits.TheConstants.{SCRIPT_BYTES}
 use Rattle.emu_names.specs.declared.shortage.Memory.{Memory}
-use Rattle.emu_io.specs.Fronts.{TakesFront, IsFrontOf, WritesFront}
+use Rattle.emu_io.specs.Fronts.{WritesFront}
+use Rattle.emu_io.specs.Inner.Fronts.{TakesFront, IsFrontOf}
 use Rattle.db_config.specs.declared.parts.ConfigParts.{ConfigParts}
 use Rattle.edit_rules.specs.declared.edit.Entry.{Entry}
 use Rattle.edit_rules.proofs.Replay.{states_keep_rules}
@@ -15,29 +16,30 @@ use Rattle.session_core.specs.declared.line.Line.{Line}
 use Rattle.session_core.specs.declared.line.Reply.{Reply}
 use Rattle.session_core.specs.InOrder.{ComeInOrder}
 use Rattle.session_core.specs.Legal.{Legal, disk_replies}
-use Rattle.live_book.specs.Kept.{BookParts, KeepsIn, Holding, faults_in}
+use Rattle.live_book.specs.Kept.{BookParts, KeepsIn, faults_in}
+use Rattle.live_book.specs.Inner.Kept.{Holding}
 use Rattle.live_book.specs.Commits.{IsSameBook, has_journal}
 use Rattle.live_run.specs.declared.run.Ended.{Ended as LiveEnded}
-use Rattle.live_run.specs.Runs.{EndsLive, RunsLive}
+use Rattle.live_run.specs.Inner.Runs.{EndsLive, RunsLive}
 use Rattle.script_lines.specs.declared.faults.ReadLine.{ReadLine}
 use Rattle.script_lines.specs.declared.faults.ReadLine.TheVariants as reads
 use Rattle.script_lines.specs.declared.faults.LineFault.{LineFault}
 use Rattle.script_lines.specs.Lines.{request_of}
 use Rattle.script_lines.specs.Known.{Known}
-use Rattle.script_lines.specs.Made.{times_too_large}
+use Rattle.eql_resolve.specs.Made.{times_too_large}
 use Rattle.script_lines.proofs.KnownLines.{known}
-use Rattle.run_output.specs.declared.status.Status.{Status}
+use Rattle.program_output.specs.declared.status.Status.{Status}
 use Rattle.script_runs.specs.declared.reading.Reading.{Reading}
 use Rattle.script_runs.specs.Cuts.{cut}
 use Rattle.script_runs.specs.Scripts.{AskedLine, IsAnswered, AreRead, too_large_in, Parsed, read_from, with_read, parse, parse_line, line_at, unless_over, as_stop, passes_limit, numbers_of, if_configured, end_behind, end_from, is_past, lines_of, Stop, ◌>>=◌}
-use Rattle.script_runs.specs.Turns.{IsUnreadFor}
-use Rattle.run_output.specs.Written.{IsTold}
-use Rattle.run_output.specs.declared.ended.Ended.{Ended}
-use Rattle.run_output.specs.declared.ended.Ended.TheVariants as ends
-use Rattle.script_runs.specs.Reads.{GivesConfig, IsWhole}
-use Rattle.run_output.specs.Texts.{live_text}
-use Rattle.run_output.specs.Statuses.{AnswersLive}
-use Rattle.script_runs.specs.Answered.{EndsOver, KeepsLive, LivesOver, WasRead}
+use Rattle.script_runs.specs.Inner.Turns.{IsUnreadFor}
+use Rattle.program_output.specs.Inner.Written.{IsTold}
+use Rattle.program_output.specs.declared.ended.Ended.{Ended}
+use Rattle.program_output.specs.declared.ended.Ended.TheVariants as ends
+use Rattle.script_runs.specs.Inner.Reads.{GivesConfig, IsWhole}
+use Rattle.script_runs.specs.LiveTexts.{live_text}
+use Rattle.script_runs.specs.Inner.LiveTexts.{AnswersLive}
+use Rattle.script_runs.specs.Inner.Answered.{EndsOver, KeepsLive, LivesOver, WasRead}
 use Rattle.script_runs.proofs.SaysLemmas.{script_read, script_is, read_whole, end_of, not_over}
 use Rattle.script_runs.proofs.ComeLemmas.{parse_keeps}
 

@@ -2,11 +2,12 @@
 use Rattle.std.proofs.Common.{◌≡◌, inl, inr, ℕ, ◌≤◌, Bool, true, false, IsTrue, List, [], Option, Some, None, Err, refl, sym, ◌∙◌, subst, arith}
 use Rattle.std.specs.Io.KnownBytes.{Appends}
 use Rattle.std.proofs.KnownBytes.{Appends-nil}
-use Rattle.fault_counts.specs.Count.{Rose, RoseBy}
+use Rattle.emu_names.specs.Count.{Rose, RoseBy}
 use Rattle.emu_names.specs.declared.limits.TheConstants.{SCRIPT_BYTES}
 use Rattle.emu_io.specs.declared.faults.ReadFault.{ReadFault}
 use Rattle.emu_io.specs.declared.faults.ReadFault.TheVariants as read_faults
-use Rattle.emu_io.specs.Fronts.{IsFrontOf, WritesFront}
+use Rattle.emu_io.specs.Fronts.{WritesFront}
+use Rattle.emu_io.specs.Inner.Fronts.{IsFrontOf}
 use Rattle.db_config.specs.declared.parts.ConfigParts.{ConfigParts}
 use Rattle.db_config.specs.Valid.{is_valid}
 use Rattle.edit_rules.specs.declared.edit.Entry.{Entry}
@@ -19,23 +20,23 @@ use Rattle.live_book.specs.Kept.{BookParts, StandsOrLost, faults_in}
 use Rattle.live_book.specs.Commits.{has_journal}
 use Rattle.live_book.proofs.Storing.{images}
 use Rattle.live_run.specs.declared.run.Ended.{Ended as LiveEnded}
-use Rattle.run_output.specs.declared.ended.Ended.{Ended}
-use Rattle.run_output.specs.declared.ended.Ended.TheVariants as ends
-use Rattle.run_output.specs.declared.status.Status.{Status}
-use Rattle.run_output.specs.declared.status.Status.TheVariants as statuses
+use Rattle.program_output.specs.declared.ended.Ended.{Ended}
+use Rattle.program_output.specs.declared.ended.Ended.TheVariants as ends
+use Rattle.program_output.specs.declared.status.Status.{Status}
+use Rattle.program_output.specs.declared.status.Status.TheVariants as statuses
 use Rattle.script_runs.specs.Cuts.{cut}
 use Rattle.script_runs.specs.Scripts.{Parsed, read_from, Stop, limit, at_fault}
 use Rattle.script_runs.specs.Bases.{Base, no_store, bare_store, store_of, wants_by, is_stored, opening_by, config_by, counted, IsBaseOf, EachOf, LeavesStore}
 use Rattle.script_runs.specs.Runs.{Setting, setting_by, stop_text}
 use Rattle.script_runs.specs.Says.{Call, call_of, Gives}
-use Rattle.run_output.specs.Statuses.{WritesLast}
-use Rattle.script_runs.specs.Reached.{IsDone}
-use Rattle.script_runs.specs.Ran.{HasDisk, IsUnread}
-use Rattle.run_output.specs.Statuses.{Closes}
-use Rattle.script_runs.specs.Reads.{IsStopped, ReadsScript}
+use Rattle.program_output.specs.Statuses.{WritesLast}
+use Rattle.script_runs.specs.Inner.Reached.{IsDone}
+use Rattle.script_runs.specs.Inner.Ran.{HasDisk, IsUnread}
+use Rattle.program_output.specs.Inner.Statuses.{Closes}
+use Rattle.script_runs.specs.Inner.Reads.{IsStopped, ReadsScript}
 use Rattle.script_runs.specs.Lives.{LivesUnder, LivesWhole, LivesNot, LeavesLive, StoppedFirst, SaysLive}
-use Rattle.run_output.specs.Texts.{live_text}
-use Rattle.script_runs.specs.Answered.{EndsOver, KeepsLive, LivesOver, WasRead, over_book}
+use Rattle.script_runs.specs.LiveTexts.{live_text}
+use Rattle.script_runs.specs.Inner.Answered.{EndsOver, KeepsLive, LivesOver, WasRead, over_book}
 use Rattle.script_runs.proofs.DiskLemmas.{counted_is}
 use Rattle.script_runs.proofs.SaysLemmas.{script_read, script_is, read_first, says_unopened}
 use Rattle.script_runs.proofs.LiveLemmas.{first_read}

@@ -6,9 +6,10 @@ use Rattle.script_lines.specs.declared.faults.LineFault.{LineFault}
 use Rattle.script_lines.specs.declared.faults.LineFault.TheVariants as faults
 use Rattle.script_lines.specs.declared.faults.ReadLine.{ReadLine}
 use Rattle.script_lines.specs.Made.{eql_of}
-use Rattle.script_lines.specs.Lines.{request_of, ReadsBy, IsReadAs}
+use Rattle.script_lines.specs.Lines.{request_of}
+use Rattle.script_lines.specs.Inner.Lines.{ReadsBy, IsReadAs}
 use Rattle.script_runs.specs.Scripts.{at_fault, passes_limit, as_stop, unless_over}
-use Rattle.script_runs.specs.Turns.{IsLineRead}
+use Rattle.script_runs.specs.Inner.Turns.{IsLineRead}
 
 -- a line within its limits
 pub within : (number : ℕ) (line : List ℕ) → number ≤ SCRIPT_LINES → length line ≤ LINE_BYTES → passes_limit number line ≡ false

@@ -6,8 +6,8 @@ use Rattle.live_book.specs.declared.published.Published.{Published}
 use Rattle.live_book.specs.Histories.{OfRead, IsBare, Stands}
 use Rattle.live_book.specs.Kept.{BookParts, KeepsIn, faults_in}
 use Rattle.live_book.specs.Commits.{has_journal}
-use Rattle.store_opening.specs.Opens.{AreAtFront, IsEmpty, IsOpenedAs, journal_in}
-use Rattle.script_runs.specs.Ran.{BeginsBefore}
+use Rattle.book_opening.specs.Inner.Opens.{AreAtFront, IsEmpty, IsOpenedAs, journal_in}
+use Rattle.script_runs.specs.Inner.Ran.{BeginsBefore}
 use Rattle.script_runs.proofs.EndLemmas.{begins_before}
 
 abbrev some_book : {D : Type 0} → BookParts D → Option (BookParts D)

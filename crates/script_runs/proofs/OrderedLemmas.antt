@@ -11,8 +11,8 @@ use Rattle.edit_rules.specs.Database.{empty_database}
 use Rattle.edit_rules.specs.Effects.{IsLegal}
 use Rattle.edit_rules.specs.declared.edit.Entry.{Entry}
 use Rattle.emu_names.specs.declared.limits.TheConstants.{HISTORY_EDITS}
-use Rattle.fault_counts.specs.Count.{RoseBy}
-use Rattle.edit_code.specs.Names.{is_made}
+use Rattle.emu_names.specs.Count.{RoseBy}
+use Rattle.db_config.specs.Made.{is_made}
 use Rattle.edit_rules.proofs.Replay.{states_keep_rules}
 use Rattle.session_core.proofs.Ordered.{in_turn_is_in_order}
 use Rattle.live_book.specs.Histories.{Stands}
@@ -21,8 +21,9 @@ use Rattle.script_lines.specs.declared.faults.ReadLine.TheVariants as reads
 use Rattle.script_lines.specs.Known.{Known}
 use Rattle.script_runs.specs.Scripts.{AskedLine, Parsed, read_from, with_read, parse, numbers_of}
 use Rattle.script_runs.specs.Bases.{Base, no_store, bare_store, store_of, wants_by, opening_by, config_by, IsBaseOf}
-use Rattle.script_runs.specs.Runs.{Setting, setting_by, IsRunFrom, Runs, run_from, history_in, history_by}
-use Rattle.script_runs.specs.Reached.{IsDone}
+use Rattle.script_runs.specs.Runs.{Setting, setting_by, IsRunFrom, Runs, run_from, history_in}
+use Rattle.script_runs.specs.Inner.Runs.{history_by}
+use Rattle.script_runs.specs.Inner.Reached.{IsDone}
 use Rattle.script_runs.proofs.ComeLemmas.{come_push, names_earlier, parse_keeps}
 
 -- a configuration that was given keeps its rules

@@ -3,9 +3,10 @@ use Rattle.std.proofs.Common.{◌≡◌, ℕ, ◌+◌, ◌≤◌, Bool, List, []
 use Rattle.std.proofs.lemmas.List.{map-append, length-map}
 use Rattle.std.proofs.lemmas.List.Elements.{All-push}
 use Rattle.std.proofs.Math.Seq.{take-append_seam, drop-append_seam}
-use Rattle.fault_counts.specs.Count.{RoseBy}
-use Rattle.script_lines.specs.Made.{Made, times_too_large}
-use Rattle.script_runs.specs.Scripts.{AskedLine, asked_line, lines_in, IsAnswered, too_large_in, AreRead, Parsed, read_from, parse, Stop, end_from, script_from}
+use Rattle.emu_names.specs.Count.{RoseBy}
+use Rattle.eql_resolve.specs.Made.{Made, times_too_large}
+use Rattle.script_runs.specs.Scripts.{AskedLine, lines_in, IsAnswered, too_large_in, AreRead, Parsed, read_from, parse, Stop, end_from, script_from}
+use Rattle.script_runs.specs.Inner.Scripts.{asked_line}
 
 too_large_push : (lines : List AskedLine) (l : AskedLine) → too_large_in (lines ++ l ∷ []) ≡ too_large_in lines + times_too_large l.made
 too_large_push [] l = omega arith

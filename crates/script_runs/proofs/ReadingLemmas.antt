@@ -2,20 +2,21 @@
 use Rattle.std.proofs.Common.{◌≡◌, ℕ, ◌+◌, ◌≤◌, Bool, true, false, List, [], ◌∷◌, ◌++◌, Some, Result, Ok, Err, All, OnOk, IfErr, refl, sym, ◌∙◌, ap, subst, arith, append_assoc, append-nil}
 use Rattle.std.proofs.lemmas.List.{map-append}
 use Rattle.std.proofs.lemmas.List.Elements.{All-push}
-use Rattle.fault_counts.specs.Count.{RoseBy}
+use Rattle.emu_names.specs.Count.{RoseBy}
 use Rattle.db_config.specs.declared.parts.ConfigParts.{ConfigParts}
 use Rattle.session_core.specs.declared.line.Line.{Line}
 use Rattle.script_lines.specs.declared.faults.LineFault.TheVariants as faults
 use Rattle.script_lines.specs.declared.faults.ReadLine.{ReadLine}
 use Rattle.script_lines.specs.declared.faults.ReadLine.TheVariants as reads
-use Rattle.script_lines.specs.Made.{times_too_large}
+use Rattle.eql_resolve.specs.Made.{times_too_large}
 use Rattle.script_lines.specs.Known.{Known}
-use Rattle.run_output.specs.declared.ended.Ended.{Ended}
-use Rattle.run_output.specs.declared.ended.Ended.TheVariants as ends
+use Rattle.program_output.specs.declared.ended.Ended.{Ended}
+use Rattle.program_output.specs.declared.ended.Ended.TheVariants as ends
 use Rattle.script_runs.specs.declared.reading.Reading.{Reading}
-use Rattle.script_runs.specs.Scripts.{AskedLine, asked_line, AreRead, too_large_in, Parsed, read_from, with_read, parse, parse_line, line_at, numbers_of, passes_limit, end_behind, if_over, if_configured, Stop, limit, at_fault, ◌>>=◌}
-use Rattle.script_runs.specs.Turns.{IsLineRead, ReadsNext}
-use Rattle.script_runs.specs.Reads.{IsReading, HasRead, IsOverNext, IsStoppedNext, ReadsLine, InReading, IsWhole, IsStopped, ReadsScript, ReadsLines, read_end}
+use Rattle.script_runs.specs.Scripts.{AskedLine, AreRead, too_large_in, Parsed, read_from, with_read, parse, parse_line, line_at, numbers_of, passes_limit, end_behind, if_over, if_configured, Stop, limit, at_fault, ◌>>=◌}
+use Rattle.script_runs.specs.Inner.Scripts.{asked_line}
+use Rattle.script_runs.specs.Inner.Turns.{IsLineRead, ReadsNext}
+use Rattle.script_runs.specs.Inner.Reads.{IsReading, HasRead, IsOverNext, IsStoppedNext, ReadsLine, InReading, IsWhole, IsStopped, ReadsScript, ReadsLines, read_end}
 use Rattle.script_runs.proofs.ParseLemmas.{parse_push, parse_stop}
 use Rattle.script_runs.proofs.ReadLemmas.{read_none, read_push, read_later, read_front, script_behind}
 use Rattle.script_runs.proofs.ComeLemmas.{comes, gives_config}

@@ -2,7 +2,7 @@
 use Rattle.std.proofs.Common.{◌≡◌, ◌⊎◌, inl, inr, ℕ, ◌+◌, ◌≤◌, Bool, true, false, cond, List, [], ◌∷◌, ◌++◌, length, Option, Some, None, Result, Ok, Err, refl, sym, ◌∙◌, ap, subst, arith, append_assoc, append-nil}
 use Rattle.std.proofs.lemmas.List.{map-append}
 use Rattle.std.proofs.Math.Seq.{take-length, take-append_seam}
-use Rattle.fault_counts.specs.Count.{RoseBy}
+use Rattle.emu_names.specs.Count.{RoseBy}
 use Rattle.std.specs.Io.KnownBytes.{Appends}
 use Rattle.std.proofs.KnownBytes.{Appends-nil}
 use Rattle.emu_io.specs.Fronts.{WritesFront}
@@ -15,28 +15,30 @@ use Rattle.session_core.specs.InOrder.{Outage}
 use Rattle.edit_journal.specs.declared.journal.Journal.{Journal}
 use Rattle.live_book.specs.Kept.{KeepsIn, faults_in}
 use Rattle.live_book.specs.Commits.{has_journal}
-use Rattle.store_opening.specs.Opens.{IsEmpty}
-use Rattle.session_run.specs.Orders.{state_of}
+use Rattle.book_opening.specs.Inner.Opens.{IsEmpty}
+use Rattle.session_run.specs.Inner.Orders.{state_of}
 use Rattle.script_lines.specs.declared.faults.LineFault.TheVariants as faults_of
 use Rattle.script_lines.specs.declared.faults.ReadLine.{ReadLine}
 use Rattle.script_lines.specs.declared.faults.ReadLine.TheVariants as reads
 use Rattle.script_lines.specs.Texts.{reply_text}
-use Rattle.run_output.specs.declared.ended.Ended.{Ended}
-use Rattle.run_output.specs.declared.ended.Ended.TheVariants as ends
+use Rattle.program_output.specs.declared.ended.Ended.{Ended}
+use Rattle.program_output.specs.declared.ended.Ended.TheVariants as ends
 use Rattle.script_runs.specs.declared.running.Running.{Running}
-use Rattle.script_lines.specs.Made.{Made}
-use Rattle.script_runs.specs.Scripts.{AskedLine, asked_line, AreRead, Parsed, read_from, with_read, parse, parse_line, parsed_front, line_at, numbers_of, passes_limit, end_behind, if_over, if_configured, Stop, limit, at_fault, ◌>>=◌}
-use Rattle.script_runs.specs.Bases.{Base, wants_by, is_stored, opening_by, config_by, counted, fresh_base, store_of}
+use Rattle.eql_resolve.specs.Made.{Made}
+use Rattle.script_runs.specs.Scripts.{AskedLine, AreRead, Parsed, read_from, with_read, parse, parse_line, parsed_front, line_at, numbers_of, passes_limit, end_behind, if_over, if_configured, Stop, limit, at_fault, ◌>>=◌}
+use Rattle.script_runs.specs.Inner.Scripts.{asked_line}
+use Rattle.script_runs.specs.Bases.{Base, wants_by, is_stored, opening_by, config_by, counted, store_of}
+use Rattle.script_runs.specs.Inner.Bases.{fresh_base}
 use Rattle.script_runs.specs.Runs.{run_text}
-use Rattle.run_output.specs.Texts.{config_reply}
-use Rattle.script_runs.specs.Turns.{IsLineRead, ReadsNext}
-use Rattle.script_runs.specs.Taken.{TakesLine}
-use Rattle.script_runs.specs.Reached.{IsAt, IsBegun, IsKept, Reached, Broke, IsOver, Stopped, EndsOnLine, RanAll, BrokeIn, EndsScript, InLines, RunsLine, RanScript, StoppedScript, GaveConfig}
-use Rattle.run_output.specs.Written.{WritesText}
+use Rattle.program_output.specs.Texts.{config_reply}
+use Rattle.script_runs.specs.Inner.Turns.{IsLineRead, ReadsNext}
+use Rattle.script_runs.specs.Inner.Taken.{TakesLine}
+use Rattle.script_runs.specs.Inner.Reached.{IsAt, IsBegun, IsKept, Reached, Broke, IsOver, Stopped, EndsOnLine, RanAll, BrokeIn, EndsScript, InLines, RunsLine, RanScript, StoppedScript, GaveConfig}
+use Rattle.program_output.specs.Inner.Written.{WritesText}
 use Rattle.script_runs.proofs.ParseLemmas.{parse_push, parse_stop, front_stop, front_whole}
 use Rattle.script_runs.proofs.ReadLemmas.{read_none, read_push, read_later, read_more, read_same, read_front, script_behind}
 use Rattle.script_runs.proofs.TextLemmas.{text_begun, begun_push}
-use Rattle.run_output.proofs.FrontLemmas.{front_all, front_more, whole_more}
+use Rattle.program_output.proofs.FrontLemmas.{front_all, front_more, whole_more}
 use Rattle.script_runs.proofs.KeptLemmas.{kept_blank, kept_request, kept_none, kept_config, kept_store, here, pushed}
 
 module _ {D : Type 0} (may_leave : D → List ℕ → Type 0) (faults : D → ℕ) (base : Base) (begin : ℕ) where

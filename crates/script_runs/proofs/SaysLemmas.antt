@@ -4,28 +4,30 @@ use Rattle.std.proofs.lemmas.Bool.{ltb-true, ltb-false}
 use Rattle.std.specs.Io.KnownBytes.{Appends, IsAtEnd}
 use Rattle.std.proofs.KnownBytes.{Appends-nil}
 use Rattle.std.proofs.Math.Seq.{take-length}
-use Rattle.fault_counts.specs.Count.{Rose}
+use Rattle.emu_names.specs.Count.{Rose}
 use Rattle.emu_names.specs.declared.limits.TheConstants.{SCRIPT_BYTES}
-use Rattle.emu_io.specs.Fronts.{Tells, TakesFront, IsFrontOf, WritesFront}
+use Rattle.emu_io.specs.Fronts.{Tells, WritesFront}
+use Rattle.emu_io.specs.Inner.Fronts.{TakesFront, IsFrontOf}
 use Rattle.db_config.specs.declared.parts.ConfigParts.{ConfigParts}
 use Rattle.session_core.specs.InOrder.{Outage}
 use Rattle.live_book.specs.Histories.{OfRead, IsBare}
-use Rattle.run_output.specs.declared.ended.Ended.{Ended}
-use Rattle.run_output.specs.declared.ended.Ended.TheVariants as ends
-use Rattle.run_output.specs.declared.status.Status.{Status}
-use Rattle.run_output.specs.declared.status.Status.TheVariants as statuses
+use Rattle.program_output.specs.declared.ended.Ended.{Ended}
+use Rattle.program_output.specs.declared.ended.Ended.TheVariants as ends
+use Rattle.program_output.specs.declared.status.Status.{Status}
+use Rattle.program_output.specs.declared.status.Status.TheVariants as statuses
 use Rattle.script_runs.specs.Cuts.{cut}
 use Rattle.script_runs.specs.Scripts.{AskedLine, AreRead, Parsed, read_from, parse, end_behind, end_from, if_over, passes_limit, is_past, lines_of, script_from, script_of, front_of, Stop, limit, at_fault}
 use Rattle.script_runs.specs.Bases.{Base, no_store, bare_store, store_of, wants_by, is_stored, opening_by, config_by, IsBaseOf, EachOf, LeavesStore}
-use Rattle.script_runs.specs.Runs.{run_text, replies_by, history_by, setting_by, IsRunFrom, stop_text}
-use Rattle.run_output.specs.Texts.{limit_text}
+use Rattle.script_runs.specs.Runs.{run_text, replies_by, setting_by, IsRunFrom, stop_text}
+use Rattle.script_runs.specs.Inner.Runs.{history_by}
+use Rattle.program_output.specs.Texts.{limit_text}
 use Rattle.script_runs.specs.Says.{Call, call_of, Leaves, Gives, TooLong, Says, EndedEarly, BrokeOff}
-use Rattle.run_output.specs.Statuses.{WritesLast}
-use Rattle.script_runs.specs.Reached.{IsDone, BrokeIn, RanScript, StoppedScript, IsTooLong, IsUnwritten, GaveConfig, RunsScript}
-use Rattle.run_output.specs.Written.{EndHasCause}
-use Rattle.run_output.specs.Statuses.{Closes}
+use Rattle.program_output.specs.Statuses.{WritesLast}
+use Rattle.script_runs.specs.Inner.Reached.{IsDone, BrokeIn, RanScript, StoppedScript, IsTooLong, IsUnwritten, GaveConfig, RunsScript}
+use Rattle.program_output.specs.Inner.Written.{EndHasCause}
+use Rattle.program_output.specs.Inner.Statuses.{Closes}
 use Rattle.script_runs.proofs.ReadLemmas.{read_none, read_same}
-use Rattle.run_output.proofs.FrontLemmas.{front_more, whole_more}
+use Rattle.program_output.proofs.FrontLemmas.{front_more, whole_more}
 use Rattle.script_runs.proofs.DiskLemmas.{FailedBy}
 use Rattle.script_runs.proofs.OrderedLemmas.{IsLegalBase, legal_base, legal_run}
 

@@ -52,11 +52,6 @@ IsBaseOf true reads bare_store = OfRead reads IsBare
 IsBaseOf true reads (store_of config history) = OfRead reads (Stands config history)
 IsBaseOf store reads base = ⊥
 
--- before a script's configuration a run has no store, or a bare one
-abbrev pub fresh_base : Bool → Base
-fresh_base false = no_store
-fresh_base true = bare_store
-
 -- What a run leaves in its store. An image is what a crash may leave there.
 
 -- each image has P

@@ -1,5 +1,5 @@
 -- How a script is cut into lines, as far as it was read.
-use Rattle.std.specs.Prelude.{ℕ, suc, Bool, true, false, List, [], ◌∷◌, ◌==◌, if◌then◌else◌}
+use Rattle.std.specs.Prelude.{ℕ, Bool, true, false, List, [], ◌∷◌, ◌==◌, if◌then◌else◌}
 
 -- a byte before the lines that follow it; where the script goes on past what was read, a last line
 -- without its line feed is left out
@@ -12,8 +12,3 @@ put_front true b [] = []
 abbrev pub cut : Bool → List ℕ → List (List ℕ)
 cut past [] = []
 cut past (b ∷ bs) = if b == 10 then [] ∷ cut past bs else put_front past b (cut past bs)
-
--- how many bytes come before the first line feed
-abbrev pub line_len : List ℕ → ℕ
-line_len [] = 0
-line_len (b ∷ bs) = if b == 10 then 0 else suc (line_len bs)

@@ -1,13 +1,9 @@
+pub mod LiveTexts
 pub mod Cuts
 pub mod Scripts
 pub mod Bases
 pub mod Runs
 pub mod Says
-pub mod Turns
-pub mod Taken
-pub mod Reached
-pub mod Ran
-pub mod Reads
 pub mod Lives
 pub mod Told
-pub mod Answered
+pub mod Inner

@@ -1,7 +1,7 @@
 -- The live run of a script: its sessions at once, and what each status says of it.
-use Rattle.std.specs.Prelude.{IsTrue, ◌≡◌, ◌⊎◌, ◌<◌, ◌≤◌, ◌+◌, ℕ, Bool, true, false, List, [], ◌++◌, length, take, Option, Some, None, Ok, Err}
+use Rattle.std.specs.Prelude.{IsTrue, ◌≡◌, ◌⊎◌, ◌<◌, ◌+◌, ℕ, Bool, true, false, List, [], ◌++◌, length, take, Option, Some, None, Ok, Err}
 use Rattle.std.specs.Io.KnownBytes.{Appends, IsAtEnd}
-use Rattle.fault_counts.specs.Count.{Rose}
+use Rattle.emu_names.specs.Count.{Rose}
 use Rattle.emu_io.specs.Fronts.{Tells, WritesFront}
 use Rattle.db_config.specs.declared.parts.ConfigParts.{ConfigParts}
 use Rattle.db_config.specs.Valid.{is_valid}
@@ -16,20 +16,14 @@ use Rattle.live_book.specs.Kept.{LostMayFollow, StandsOrLost}
 use Rattle.live_run.specs.declared.run.Ended.{Ended as LiveEnded}
 use Rattle.live_run.specs.Runs.{AreGrouped}
 use Rattle.live_seats.specs.Marks.{marks_from}
-use Rattle.script_runs.specs.declared.spread.Spread.{Spread}
-use Rattle.run_output.specs.declared.status.Status.{Status}
-use Rattle.run_output.specs.declared.status.Status.TheVariants as statuses
-use Rattle.run_output.specs.Texts.{live_text}
+use Rattle.program_output.specs.declared.status.Status.{Status}
+use Rattle.program_output.specs.declared.status.Status.TheVariants as statuses
+use Rattle.script_runs.specs.LiveTexts.{live_text}
 use Rattle.script_runs.specs.Scripts.{AskedLine, AreRead, Parsed, lines_of, script_of, Stop, limit, at_fault}
 use Rattle.script_runs.specs.Bases.{Base, wants_by, is_stored, opening_by, config_by, IsBaseOf, EachOf, LeavesStore}
 use Rattle.script_runs.specs.Runs.{Setting, setting_by, stop_text}
 use Rattle.script_runs.specs.Says.{Call, DiskFailed, FoundDamage, Gives, ReadFailed, TooLong, Unopened}
 use Rattle.script_lines.specs.declared.faults.LineFault.{LineFault}
-
--- a live run can be spread so: over 1 to 16 passes, with 1 to 8 workers for a query
-pub record IsSpread (spread : Spread) : Type 0 where
-  pub readers : (1 ≤ spread.readers) × (spread.readers ≤ 16)
-  pub workers : (1 ≤ spread.workers) × (spread.workers ≤ 8)
 
 -- A live run under a configuration: what it answered to these requests, beside the history that it leaves. It holds in
 -- whatever order the sessions got on, and whatever the disk did.

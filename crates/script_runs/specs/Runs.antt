@@ -12,7 +12,7 @@ use Rattle.session_core.specs.InOrder.{Outage, in_turn, ComeInOrder}
 use Rattle.session_core.specs.Readings.{IsInOrder}
 use Rattle.session_core.specs.Legal.{Legal}
 use Rattle.script_lines.specs.Texts.{reply_text, fault_text}
-use Rattle.run_output.specs.Texts.{config_reply, limit_text}
+use Rattle.program_output.specs.Texts.{config_reply, limit_text}
 use Rattle.script_runs.specs.Scripts.{Parsed, Stop, limit, at_fault}
 use Rattle.script_runs.specs.Bases.{Base, config_by, opening_by, is_stored, counted}
 
@@ -96,10 +96,6 @@ setting_by base p faults faults_after = record {
 -- the replies to the requests
 abbrev pub replies_by : Base → Parsed → List Outage → List Reply
 replies_by base p outages = replies_from (setting_by base p 0 0) p outages
-
--- the history that a run leaves
-abbrev pub history_by : Base → Parsed → List Outage → List Entry
-history_by base p outages = history_from (setting_by base p 0 0) p outages
 
 -- what a run writes
 abbrev pub run_text : Base → Parsed → List Outage → List ℕ

@@ -1,7 +1,7 @@
 -- What the status of a run says.
 use Rattle.std.specs.Prelude.{◌≡◌, ◌⊎◌, ◌<◌, ◌-◌, ◌^◌, ℕ, Bool, true, false, List, [], ◌∷◌, ◌++◌, length, take, Option, Some, Ok, Err}
 use Rattle.std.specs.Io.KnownBytes.{Appends, IsAtEnd}
-use Rattle.fault_counts.specs.Count.{Rose}
+use Rattle.emu_names.specs.Count.{Rose}
 use Rattle.emu_io.specs.Fronts.{Tells, WritesFront}
 use Rattle.db_config.specs.declared.parts.ConfigParts.{ConfigParts}
 use Rattle.edit_rules.specs.declared.edit.Entry.{Entry}
@@ -9,14 +9,14 @@ use Rattle.session_core.specs.InOrder.{Outage}
 use Rattle.script_lines.specs.declared.faults.LineFault.{LineFault}
 use Rattle.script_lines.specs.declared.faults.ReadLine.TheVariants as reads
 use Rattle.live_book.specs.Histories.{OfRead, IsBare, IsDamagedAt, HeadPassesLimit}
-use Rattle.store_opening.specs.Opens.{DuringNew}
-use Rattle.store_commands.specs.Texts.{damaged_text}
-use Rattle.run_output.specs.declared.status.Status.{Status}
-use Rattle.run_output.specs.declared.status.Status.TheVariants as statuses
+use Rattle.book_opening.specs.Opens.{DuringNew}
+use Rattle.store_texts.specs.Texts.{damaged_text}
+use Rattle.program_output.specs.declared.status.Status.{Status}
+use Rattle.program_output.specs.declared.status.Status.TheVariants as statuses
 use Rattle.script_runs.specs.Scripts.{AskedLine, AreRead, Parsed, read_from, with_read, parse, parse_line, lines_of, script_of, front_of, IsSound, Stop, limit, at_fault}
 use Rattle.script_runs.specs.Bases.{Base, wants_by, is_stored, opening_by, config_by, IsBaseOf, EachOf, LeavesStore}
 use Rattle.script_runs.specs.Runs.{run_text, replies_by, setting_by, IsRunFrom, stop_text}
-use Rattle.run_output.specs.Texts.{limit_text}
+use Rattle.program_output.specs.Texts.{limit_text}
 
 -- Of a call that runs a script: whether it has a store, and what a read of the disk gives before it; what the source
 -- had left before and after it, what the sink held before and after it, and before and after it the counts of

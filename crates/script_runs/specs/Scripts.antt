@@ -1,6 +1,6 @@
 -- A script: its configuration and its requests, or the limit or the line at fault that ends it.
 use Rattle.std.specs.Prelude.{◌≡◌, ℕ, ◌+◌, Bool, true, false, ◌||◌, List, [], ◌∷◌, ◌++◌, length, map, take, drop, All, Option, Some, None, Result, Ok, Err, nat_lt}
-use Rattle.fault_counts.specs.Count.{RoseBy}
+use Rattle.emu_names.specs.Count.{RoseBy}
 use Rattle.emu_names.specs.declared.limits.TheConstants.{LINE_BYTES, SCRIPT_BYTES, SCRIPT_LINES}
 use Rattle.db_config.specs.declared.parts.ConfigParts.{ConfigParts}
 use Rattle.session_core.specs.declared.line.Line.{Line}
@@ -8,7 +8,8 @@ use Rattle.script_lines.specs.declared.faults.LineFault.{LineFault}
 use Rattle.script_lines.specs.declared.faults.LineFault.TheVariants as faults
 use Rattle.script_lines.specs.declared.faults.ReadLine.{ReadLine}
 use Rattle.script_lines.specs.declared.faults.ReadLine.TheVariants as reads
-use Rattle.script_lines.specs.Made.{Made, times_too_large, eql_of, IsMadeOf}
+use Rattle.script_lines.specs.Made.{eql_of, IsMadeOf}
+use Rattle.eql_resolve.specs.Made.{Made, times_too_large}
 use Rattle.script_lines.specs.Lines.{request_of}
 use Rattle.script_runs.specs.Cuts.{cut}
 
@@ -16,10 +17,6 @@ use Rattle.script_runs.specs.Cuts.{cut}
 pub record AskedLine : Type 0 where
   pub line : List ℕ
   pub made : Made
-
--- a line beside what was made of its query
-abbrev pub asked_line : List ℕ → Made → AskedLine
-asked_line line made = record { line = line; made = made }
 
 -- the bytes of lines that were read
 abbrev pub lines_in : List AskedLine → List (List ℕ)

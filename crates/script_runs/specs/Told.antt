@@ -4,10 +4,10 @@ use Rattle.emu_io.specs.declared.traits.Source as sources
 use Rattle.emu_io.specs.declared.traits.Sink as sinks
 use Rattle.emu_disk.specs.declared.disk.Disk as disks
 use Rattle.label_match.specs.declared.maker.PatternMaker as makers
-use Rattle.store_calls.specs.declared.ending.Ending.{Ending}
-use Rattle.run_output.specs.declared.status.Status.{Status}
+use Rattle.program_output.specs.declared.ending.Ending.{Ending}
+use Rattle.program_output.specs.declared.status.Status.{Status}
 use Rattle.script_runs.specs.Says.{Call, call_of, Completes, Says}
-use Rattle.run_output.specs.Statuses.{Finishes}
+use Rattle.program_output.specs.Statuses.{Finishes}
 use Rattle.script_runs.specs.Lives.{SaysLive}
 
 -- what a source tells: what it had left before a call and after it, and how often it had failed

@@ -1,22 +1,25 @@
 //! The command `live`: the store is opened, if there is one, the script is read whole, its sessions are run at once,
 //! and what they were answered is written when all have ended.
 ghost use Rattle.std.specs.Prelude.{◌≡◌, ◌≢◌, ◌≤◌, ℕ, List, [], Bool, true, false, Some, None, Option};
-ghost use Rattle.emu_io.specs.Fronts.{IsFrontOf, TakesFront};
+ghost use Rattle.emu_io.specs.Inner.Fronts.{IsFrontOf, TakesFront};
 ghost use Rattle.live_book.specs.Kept.{KeepsIn, faults_in};
 ghost use Rattle.live_book.specs.Commits.{has_journal};
-ghost use Rattle.store_opening.specs.Opens.{AreAtFront, IsEmpty, IsOpenedAs, journal_in};
+ghost use Rattle.book_opening.specs.Inner.Opens.{AreAtFront, IsEmpty, IsOpenedAs, journal_in};
 ghost use Rattle.session_core.specs.InOrder.{ComeInOrder};
-ghost use Rattle.script_runs.specs.Bases.{fresh_base, store_of};
-ghost use Rattle.script_runs.specs.Ran.{RunsOver};
+ghost use Rattle.script_runs.specs.Bases.{store_of};
+ghost use Rattle.script_runs.specs.Inner.Bases.{fresh_base};
+ghost use Rattle.script_runs.specs.Inner.Ran.{RunsOver};
 ghost use Rattle.script_runs.specs.Scripts.{Parsed};
-ghost use Rattle.script_runs.specs.Lives.{IsSpread};
-ghost use Rattle.script_runs.specs.Answered.{EndsOver, WasRead};
+ghost use Rattle.script_runs.specs.Inner.Lives.{IsSpread};
+ghost use Rattle.script_runs.specs.Inner.Answered.{EndsOver, WasRead};
 ghost use Rattle.script_runs.specs.Told.{SaysLiveBy, SaysLiveTold, SourceTold};
 
+use crate::answers::answer;
 use crate::in_order::{Left, Ran, give_back, unopened, unread};
 use crate::reading::{Reading, read_script};
 use crate::script::no_book;
 use crate::spread::Spread;
+use book_opening::{MadeBook, NoBook, NoStore, Opened, new_book, open_store};
 use db_config::Config;
 use edit_journal::Journal;
 use emu_disk::Disk;
@@ -25,12 +28,11 @@ use emu_names::limits::SCRIPT_BYTES;
 use label_match::PatternMaker;
 use live_book::{Book, Published};
 use live_run::{LiveEnd, run_live};
-use run_output::{answer, close_run};
+use program_output::close_run;
 use session_core::Lines;
 use std::alloc::Global;
 use std::sync::Wait;
 use std::thread::Threads;
-use store_opening::{MadeBook, NoBook, NoStore, Opened, new_book, open_store};
 use version_gate::Passes;
 
 /// Runs the sessions of a script over a book, and writes what they were answered.

@@ -1,6 +1,7 @@
 //! The lines of a script, one after another.
 ghost use Rattle.std.specs.Prelude.{◌≡◌, ◌<◌, ◌≤◌, ◌∷◌, [], length, MatchOption};
-ghost use Rattle.script_runs.specs.Cuts.{cut, line_len};
+ghost use Rattle.script_runs.specs.Cuts.{cut};
+ghost use Rattle.script_runs.specs.Inner.Cuts.{line_len};
 
 /// How many bytes come before the first line feed, or how many there are.
 fn line_len(bytes: &[u8]) -> usize

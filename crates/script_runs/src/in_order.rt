@@ -3,23 +3,24 @@
 ghost use Rattle.std.specs.Prelude.{◌≡◌, ◌≢◌, ◌≤◌, ℕ, List, Bool, true, false, None, Option};
 ghost use Rattle.live_book.specs.Kept.{KeepsIn, faults_in};
 ghost use Rattle.live_book.specs.Commits.{has_journal};
-ghost use Rattle.store_opening.specs.Opens.{AreAtFront, IsEmpty, IsOpenedAs, journal_in};
-ghost use Rattle.script_runs.specs.Bases.{fresh_base, store_of};
-ghost use Rattle.script_runs.specs.Ran.{HasDisk, IsUnread, RunsOver, SaysUnopened};
+ghost use Rattle.book_opening.specs.Inner.Opens.{AreAtFront, IsEmpty, IsOpenedAs, journal_in};
+ghost use Rattle.script_runs.specs.Bases.{store_of};
+ghost use Rattle.script_runs.specs.Inner.Bases.{fresh_base};
+ghost use Rattle.script_runs.specs.Inner.Ran.{HasDisk, IsUnread, RunsOver, SaysUnopened};
 ghost use Rattle.script_runs.specs.Told.{SaysBy};
 
 use crate::script::{READERS, RunEnd, run_over, run_script};
+use book_opening::{NoStore, OpenFault, Opened, open_store};
 use edit_journal::Journal;
 use emu_disk::Disk;
 use emu_io::{ReadFault, Sink, Source, read_front};
 use emu_names::limits::SCRIPT_BYTES;
 use label_match::PatternMaker;
 use live_book::{Book, Published};
-use run_output::{Status, close_run, damaged};
+use program_output::{Status, close_run, damaged};
 use std::alloc::Global;
 use std::sync::Wait;
 use std::thread::Threads;
-use store_opening::{NoStore, OpenFault, Opened, open_store};
 use version_gate::Passes;
 
 /// How a run ended, and its disk.

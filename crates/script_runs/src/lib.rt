@@ -1,6 +1,7 @@
 //! Runs of a script: it is cut into lines, read and run over a book, in order or its sessions at once.
 #![tactic(auto)]
 
+mod answers;
 mod at_once;
 mod cut;
 mod in_order;

@@ -2,14 +2,14 @@
 ghost use Rattle.std.specs.Prelude.{◌≡◌, ◌≤◌, ◌++◌, ℕ, Bool, List, All, IfErr, OnOk};
 ghost use Rattle.emu_names.specs.declared.limits.TheConstants.{SCRIPT_LINES};
 ghost use Rattle.script_runs.specs.Cuts.{cut};
-ghost use Rattle.script_runs.specs.Reads.{HasRead, ReadsLines, ReadsScript, read_end};
-ghost use Rattle.script_runs.specs.Turns.{IsUnreadFor};
+ghost use Rattle.script_runs.specs.Inner.Reads.{HasRead, ReadsLines, ReadsScript, read_end};
+ghost use Rattle.script_runs.specs.Inner.Turns.{IsUnreadFor};
 
 use crate::cut::next_line;
 use crate::running::read_next;
 use db_config::Config;
 use label_match::PatternMaker;
-use run_output::Ended;
+use program_output::Ended;
 use script_lines::{LineFault, LineSet, ReadLine};
 use session_core::{Line, Lines};
 use std::alloc::Global;
@@ -32,10 +32,10 @@ pub(crate) struct Reading {
 impl Reading {
     ghost use Rattle.std.specs.Prelude.{◌≡◌, ◌≤◌, ◌<◌, ◌+◌, ◌∷◌, ◌++◌, [], ℕ, Bool, List, All, IfErr, OnErr, OnOk};
     ghost use Rattle.emu_names.specs.declared.limits.TheConstants.{SCRIPT_LINES};
-    ghost use Rattle.script_runs.specs.Reads.{HasRead, IsReading, ReadsLine};
+    ghost use Rattle.script_runs.specs.Inner.Reads.{HasRead, IsReading, ReadsLine};
     ghost use Rattle.script_runs.specs.Scripts.{read_from};
-    ghost use Rattle.script_runs.specs.Turns.{IsUnreadFor};
-    ghost use Rattle.run_output.specs.declared.ended.Ended.TheVariants.{Memory as OutOfMemory};
+    ghost use Rattle.script_runs.specs.Inner.Turns.{IsUnreadFor};
+    ghost use Rattle.program_output.specs.declared.ended.Ended.TheVariants.{Memory as OutOfMemory};
 
     /// Nothing is read; the script has to give a configuration, or not.
     fn new(alloc: Global, wants: bool) -> Reading

@@ -2,10 +2,10 @@
 ghost use Rattle.std.specs.Prelude.{◌≡◌, ◌+◌, ◌<◌, [], None, IfOk, IfErr, OnOk};
 ghost use Rattle.emu_names.specs.declared.limits.TheConstants.{SCRIPT_LINES};
 ghost use Rattle.live_book.specs.Kept.{KeepsIn};
-ghost use Rattle.store_opening.specs.Opens.{AreAtFront};
+ghost use Rattle.book_opening.specs.Inner.Opens.{AreAtFront};
 ghost use Rattle.script_lines.specs.Known.{Known};
-ghost use Rattle.script_runs.specs.Reached.{IsBegun};
-ghost use Rattle.script_runs.specs.Turns.{IsUnreadFor, ReadsNext};
+ghost use Rattle.script_runs.specs.Inner.Reached.{IsBegun};
+ghost use Rattle.script_runs.specs.Inner.Turns.{IsUnreadFor, ReadsNext};
 
 use edit_journal::Journal;
 use emu_disk::Disk;
@@ -13,7 +13,7 @@ use emu_names::Memory;
 use emu_names::limits::{LINE_BYTES, SCRIPT_LINES};
 use label_match::PatternMaker;
 use live_book::{Book, Published};
-use run_output::Ended;
+use program_output::Ended;
 use script_lines::{LineFault, LineSet, ReadLine, read_line};
 use session_core::{Line, Reply};
 use session_run::{InOrder, new_in_order};
@@ -102,7 +102,7 @@ pub(crate) fn close<R: Wait, D: Disk>(rt: &R, running: Running<D>) -> Option<Jou
 impl<D: Disk> Running<D> {
     ghost use Rattle.std.specs.Prelude.{◌≡◌, ◌<◌, All, IfOk, OnErr};
     ghost use Rattle.emu_names.specs.declared.limits.TheConstants.{SCRIPT_LINES};
-    ghost use Rattle.script_runs.specs.Taken.{TakesLine};
+    ghost use Rattle.script_runs.specs.Inner.Taken.{TakesLine};
     ghost use Rattle.session_core.specs.Steps.{session_places};
 
     /// Answers a request. The only refusal is want of memory before the request is done, which

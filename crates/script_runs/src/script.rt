@@ -3,27 +3,28 @@ ghost use Rattle.std.specs.Prelude.{◌≡◌, ◌≤◌, ℕ, List, [], true, �
 ghost use Rattle.db_config.specs.declared.parts.ConfigParts.{ConfigParts as Configuration};
 ghost use Rattle.live_book.specs.Kept.{KeepsIn};
 ghost use Rattle.live_book.specs.Commits.{has_journal};
-ghost use Rattle.store_opening.specs.Opens.{AreAtFront, IsEmpty};
-ghost use Rattle.script_runs.specs.Bases.{Base, fresh_base, store_of};
+ghost use Rattle.book_opening.specs.Inner.Opens.{AreAtFront, IsEmpty};
+ghost use Rattle.script_runs.specs.Bases.{Base, store_of};
+ghost use Rattle.script_runs.specs.Inner.Bases.{fresh_base};
 ghost use Rattle.script_runs.specs.Cuts.{cut};
-ghost use Rattle.run_output.specs.Written.{EndHasCause};
-ghost use Rattle.script_runs.specs.Reached.{IsBeginOf, IsBegun, IsEndFor, IsFailed, IsKept, Reached, RunsLine, RunsLines, RunsScript};
-ghost use Rattle.script_runs.specs.Turns.{IsLineRead, IsUnreadFor, ReadsConfig};
+ghost use Rattle.program_output.specs.Inner.Written.{EndHasCause};
+ghost use Rattle.script_runs.specs.Inner.Reached.{IsBeginOf, IsBegun, IsEndFor, IsFailed, IsKept, Reached, RunsLine, RunsLines, RunsScript};
+ghost use Rattle.script_runs.specs.Inner.Turns.{IsLineRead, IsUnreadFor, ReadsConfig};
 
 use crate::cut::next_line;
 use crate::running::{Running, begin, close, read_next};
+use book_opening::{MadeBook, NoBook, OpenFault, new_book};
 use db_config::Config;
 use edit_journal::Journal;
 use emu_disk::Disk;
 use emu_io::Sink;
 use label_match::PatternMaker;
 use live_book::{Book, Published};
-use run_output::{Ended, write_config, write_reply};
+use program_output::{Ended, write_config, write_reply};
 use script_lines::{LineFault, LineSet, ReadLine};
 use std::alloc::Global;
 use std::sync::Wait;
 use std::thread::Threads;
-use store_opening::{MadeBook, NoBook, OpenFault, new_book};
 use version_gate::Passes;
 
 /// How many passes a run asks for.

@@ -20,7 +20,8 @@ use Rattle.emu_names.specs.declared.names.BundleKey.{BundleKey}
 use Rattle.emu_names.specs.Order.{key_cmp}
 use Rattle.emu_names.proofs.KeyOrder.{keys_total}
 use Rattle.segment_list.specs.declared.parts.Part.{Part}
-use Rattle.segment_list.specs.Merged.{AreApart, RiseByKey, keys_of, rows_in_turn}
+use Rattle.segment_list.specs.Merged.{RiseByKey, keys_of, rows_in_turn}
+use Rattle.segment_list.specs.Inner.Merged.{AreApart}
 use Rattle.segment_list.specs.Laws.{MergesAreOne}
 
 abbrev key_of : Part → BundleKey

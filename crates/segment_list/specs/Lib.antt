@@ -1,4 +1,4 @@
 pub mod Laws
 pub mod Merged
-pub mod Pieces
 pub mod Texts
+pub mod Inner

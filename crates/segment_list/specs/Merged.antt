@@ -1,8 +1,7 @@
 -- Segment lists of several bundles as one list, in the order of the bundles' keys.
 use Rattle.std.specs.Prelude.{◌≡◌, List, map}
-use Rattle.std.specs.List.{IsDistinct, flat_map}
+use Rattle.std.specs.List.{flat_map}
 use Rattle.std.specs.List.Sorted.{IsPermutation, IsStrictlySortedBy}
-use Rattle.std.specs.Ordering.{eq_by_cmp}
 use Rattle.emu_names.specs.declared.names.BundleKey.{BundleKey}
 use Rattle.emu_names.specs.Order.{key_cmp}
 use Rattle.eql_model.specs.declared.row.Row.{Row}
@@ -11,10 +10,6 @@ use Rattle.segment_list.specs.declared.parts.Part.{Part}
 -- the keys of the bundles
 abbrev pub keys_of : List Part → List BundleKey
 keys_of parts = map (λ p. p.key) parts
-
--- no bundle has two parts
-abbrev pub AreApart : List Part → Type 0
-AreApart parts = IsDistinct (eq_by_cmp key_cmp) (keys_of parts)
 
 -- the key of each part stands before those of all parts behind it
 abbrev pub RiseByKey : List Part → Type 0

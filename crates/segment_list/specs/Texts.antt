@@ -2,7 +2,6 @@
 -- members stand in the order of their names' bytes.
 use Rattle.std.specs.Prelude.{ℕ, List, [], ◌∷◌, Option, Some, None, codes}
 use Rattle.serde_json.specs.Data.{Data, null, number, string, array, object, unsigned, Items, no_items, item, no_members, member}
-use Rattle.serde_json.specs.Written.{compact_text}
 use Rattle.eql_model.specs.declared.row.Row.{Row}
 
 -- a whole number
@@ -41,7 +40,3 @@ rows_items (r ∷ rs) = item (row_data r) (rows_items rs)
 -- the list of the rows
 abbrev pub rows_data : List Row → Data
 rows_data rows = array (rows_items rows)
-
--- the text of a segment list
-unfoldable pub rows_text : List Row → List ℕ
-rows_text rows = compact_text (rows_data rows)

@@ -14,4 +14,4 @@ pub use laws::merges_are_one;
 pub use merge::merge_in_order;
 pub use parts::{Part, Parts};
 pub use print::print_rows;
-pub use rows::rows_of;
+pub use rows::{rows_at, rows_of};

@@ -1,10 +1,10 @@
 //! Rows of many bundles as one segment list.
 ghost use Rattle.std.specs.Prelude.{IfOk};
-ghost use Rattle.segment_list.specs.Merged.{AreApart, IsMergeOf};
+ghost use Rattle.segment_list.specs.Merged.{IsMergeOf};
+ghost use Rattle.segment_list.specs.Inner.Merged.{AreApart};
 
 use crate::parts::Parts;
-use emu_lists::Series;
-use emu_names::Memory;
+use emu_names::{Memory, Series};
 use eql_model::SegmentList;
 use std::alloc::Global;
 

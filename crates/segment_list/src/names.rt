@@ -1,8 +1,8 @@
 //! The pieces of a row's text that are the same for all rows of one bundle, level and attribute.
 ghost use Rattle.std.specs.Prelude.{◌≡◌, ◌++◌, ◌&&◌, IfOk, OnOk, IsTrue, codes, string_bytes};
-ghost use Rattle.db_config.specs.Names.{same_text};
+ghost use Rattle.emu_names.specs.Texts.{same_text};
 ghost use Rattle.json.specs.Print.{quoted};
-ghost use Rattle.segment_list.specs.Pieces.{are_same_names, head_text, level_text, names_of, session_text};
+ghost use Rattle.segment_list.specs.Inner.Pieces.{are_same_names, head_text, level_text, names_of, session_text};
 
 use crate::pieces::push_quoted;
 use emu_names::{Memory, Text};
@@ -20,7 +20,7 @@ pub(crate) struct NamePieces<'a> {
 }
 
 impl<'a> Model for NamePieces<'a> {
-    ghost use Rattle.segment_list.specs.Pieces.{ArePieces, Names, names_of};
+    ghost use Rattle.segment_list.specs.Inner.Pieces.{ArePieces, Names, names_of};
 
     ghost Value = { Names };
 

@@ -1,7 +1,8 @@
 //! The rows of several bundles, bundle by bundle.
 ghost use Rattle.std.specs.Prelude.{◌≡◌, ◌<◌, ◌==◌, ◌++◌, ◌∷◌, [], length, slice_get, Some, OnErr, OnOk, reverse, IfOk};
 ghost use Rattle.std.specs.List.Sorted.{IsPermutation};
-ghost use Rattle.segment_list.specs.Merged.{AreApart, RiseByKey, rows_in_turn};
+ghost use Rattle.segment_list.specs.Merged.{RiseByKey, rows_in_turn};
+ghost use Rattle.segment_list.specs.Inner.Merged.{AreApart};
 
 use emu_names::{BundleKey, Memory};
 use eql_model::{Row, SegmentList};

@@ -3,7 +3,7 @@ ghost use Rattle.std.specs.Prelude.{◌≡◌, ◌++◌, IfOk, OnOk, IsTrue, str
 ghost use Rattle.std.specs.List.{list_all};
 ghost use Rattle.json.specs.Print.{quoted};
 ghost use Rattle.serde_json.specs.Written.{comma_if};
-ghost use Rattle.segment_list.specs.Pieces.{is_plain, number_behind, number_or_null};
+ghost use Rattle.segment_list.specs.Inner.Pieces.{is_plain, number_behind, number_or_null};
 
 use emu_names::Memory;
 use itoa::Buffer;

@@ -1,8 +1,8 @@
 //! The text of a segment list.
 ghost use Rattle.std.specs.Prelude.{◌≡◌, ◌++◌, IfOk, OnOk, false, string_bytes};
 ghost use Rattle.serde_json.specs.Written.{comma_if};
-ghost use Rattle.segment_list.specs.Pieces.{back_text, front_text, names_of, row_text, row_texts, samples_text};
-ghost use Rattle.segment_list.specs.Texts.{rows_text};
+ghost use Rattle.segment_list.specs.Inner.Pieces.{back_text, front_text, names_of, row_text, row_texts, samples_text};
+ghost use Rattle.segment_list.specs.Inner.Texts.{rows_text};
 
 use crate::names::NamePieces;
 use crate::pieces::{push_comma, push_number, push_or_null, push_quoted};

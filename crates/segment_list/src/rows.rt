@@ -1,8 +1,8 @@
 //! The rows of results in an indexed bundle.
-ghost use Rattle.std.specs.Prelude.{◌≡◌, IfOk, map};
+ghost use Rattle.std.specs.Prelude.{◌≡◌, ◌<◌, IfOk, IfSome, length, map};
 ghost use Rattle.bundle_state.specs.Built.{FitsConfig};
 ghost use Rattle.eql_resolve.specs.Asked.{result_level};
-ghost use Rattle.eql_resolve.specs.Sound.{IsResolvedBy};
+ghost use Rattle.eql_resolve.specs.Inner.Sound.{IsResolvedBy, IsTimeLevel};
 ghost use Rattle.eql_model.specs.Results.{AreThere};
 ghost use Rattle.eql_model.specs.Rows.{row_of};
 
@@ -12,6 +12,29 @@ use emu_names::Memory;
 use eql_model::{SegmentList, Span};
 use eql_resolve::Asked;
 use std::alloc::Global;
+
+/// The rows of some results on a level of an indexed bundle, in their order (EMU-SDMS Manual, "The EMU Query
+/// Language (EQL)": segment lists). Times are whole microseconds. The only refusal is want of memory.
+///
+/// The bundle has the configuration's levels and link definitions, and each result lies on the level. On an
+/// ITEM level the rows have their times from the SEGMENT level `time`, where there is one.
+pub fn rows_at(
+    alloc: Global,
+    config: &Config,
+    indexed: &Indexed,
+    level: usize,
+    time: Option<usize>,
+    spans: &[Span],
+) -> Result<SegmentList, Memory>
+    requires fits { FitsConfig config.now indexed.now.bundle }
+    requires level { level < length config.now.levels }
+    requires time { IfSome time (IsTimeLevel config.now) }
+    requires spans { AreThere config.now indexed.now.bundle level spans.now }
+    ensures { IfOk result (λ rows. rows
+        ≡ map (row_of config.now indexed.now.bundle time) spans.now) }
+{
+    eql_model::rows_at(alloc, config, indexed.bundle(), level, time, spans)
+}
 
 /// The rows of results of a query in an indexed bundle, in their order (EMU-SDMS Manual, "The EMU Query
 /// Language (EQL)": segment lists). Times are whole microseconds. The only refusal is want of memory.

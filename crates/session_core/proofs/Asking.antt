@@ -9,24 +9,25 @@ use Rattle.eql_resolve.specs.Prepared.{PreparedParts}
 use Rattle.eql_resolve.specs.Asked.{AskedParts}
 use Rattle.eql_resolve.specs.Resolve.{asked}
 use Rattle.eql_model.specs.declared.row.Row.{Row}
-use Rattle.eql_model.specs.Rows.{segment_list}
+use Rattle.eql_model.specs.Rows.{segment_list, any_has_too_many}
 use Rattle.session_core.specs.declared.line.Ask.{Ask}
 use Rattle.session_core.specs.declared.line.Answer.{Answer}
 use Rattle.session_core.specs.declared.line.Answer.TheVariants.{Segments, Refused}
 use Rattle.session_core.specs.declared.line.Refusal.TheVariants as refusals
-use Rattle.session_core.specs.Queries.{is_memory_of, is_memory_in, lacks_memory, any_has_too_many}
-use Rattle.session_core.specs.Answers.{prepare_answer, matched_answer, resolved_answer, prepared_answer, answer_over}
+use Rattle.session_core.specs.Queries.{is_memory_of, is_memory_in, lacks_memory}
+use Rattle.session_core.specs.Answers.{prepare_answer, listed_answer, resolved_answer, prepared_answer, answer_over}
 
 module _ (P : Answer → Type 0) (database : DatabaseParts) (rows : (found : List Row) → P (Segments found))
     (prepare : (fault : PrepareFault) → P (Refused (refusals.Prepare fault)))
     (resolve : (fault : AskFault) → P (Refused (refusals.Resolve fault)))
     (too_many : P (Refused refusals.TooManyTuples)) where
-  matched : (a : AskedParts) (many : Bool) → P (matched_answer database a many)
-  matched a true = too_many
-  matched a false = rows (segment_list database.config database.bundles a)
+  listed : (found : List Row) (many : Bool) → P (listed_answer found many)
+  listed found true = too_many
+  listed found false = rows found
 
   resolved : (found : Result AskedParts AskFault) → P (resolved_answer database found)
-  resolved (Ok a) = matched a (any_has_too_many database.config database.bundles a)
+  resolved (Ok a) =
+      listed (segment_list database.config database.bundles a) (any_has_too_many database.config database.bundles a)
   resolved (Err fault) = resolve fault
 
   text : (fault : PrepareFault) (short : Bool) → short ≡ false → P (prepare_answer fault short)

@@ -24,7 +24,7 @@ use Rattle.edit_rules.specs.Effects.{after, effect, edited}
 use Rattle.edit_rules.proofs.Replay.{replay_goes_on, after_config}
 use Rattle.session_core.specs.Queries.{lacks_memory}
 use Rattle.session_core.specs.Steps.{State, slot, put_slot, is_full, session_places, start, edit_event, look_event, edit_step, look_step, finish_step, look_answered, query_step, way_answered, with_query, opened_at, query_fails}
-use Rattle.session_core.specs.Kept.{head_line, head_reply, opened_by, opened_in, state_of, IsMoment, IsHeld, AreHeld, IsKept, head_entry, held_at, edit_tried, edit_tried_step, given_tried, looked, look_closed, look_answer, query_closed, query_reply, query_dropped}
+use Rattle.session_core.specs.Inner.Kept.{head_line, head_reply, opened_by, opened_in, state_of, IsMoment, IsHeld, AreHeld, IsKept, head_entry, held_at, edit_tried, edit_tried_step, given_tried, looked, look_closed, look_answer, query_closed, query_reply, query_dropped}
 use Rattle.session_core.proofs.SlotPlaces.{slot_put, length_put_slot, slot_map, put_slot_map}
 
 -- A history that grows.

@@ -28,7 +28,7 @@ use Rattle.session_core.specs.Legal.{lines_in, replies_in, Legal}
 use Rattle.session_core.specs.InOrder.{Outage, fine, at_first, at_last, disk_fails, is_disk_outage, disk_outages, given, replied, query_begun, stored_trouble, made_trouble, edit_trouble, trouble_at, edit_outcome, request_turn, one_turn, in_turn, NamesEarlier, IsBelow, ComesNext, ComeInOrder}
 use Rattle.session_core.specs.Answers.{entry_of}
 use Rattle.emu_names.specs.declared.limits.TheConstants.{HISTORY_EDITS}
-use Rattle.fault_counts.specs.Count.{RoseBy}
+use Rattle.emu_names.specs.Count.{RoseBy}
 use Rattle.session_core.specs.Readings.{IsInOrder}
 use Rattle.session_core.proofs.OfCommand.{query_is, finish_is}
 use Rattle.session_core.proofs.Turns.{each_map, lines_push}

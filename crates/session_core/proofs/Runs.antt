@@ -25,7 +25,7 @@ use Rattle.session_core.specs.Steps.{Opened, State, start, slot, session_places,
 use Rattle.session_core.specs.Worlds.{Turn, Trouble, untroubled, no_memory, store_full, disk_failed, is_disk_failed, Occurrence, World, edit_kept_out, outcome_of, query_line, finish_line, query_answered, answered_by, answered, turns_of, happens, run, opening_world, Each, AllFit, disk_failures, is_waiting, is_done, lines_done}
 use Rattle.session_core.specs.Legal.{of_session, lines_of_session, is_of, is_line_of, lines_in, replies_in, with_number, HasSeenTurn, disk_replies, Legal}
 use Rattle.emu_names.specs.declared.limits.TheConstants.{HISTORY_EDITS}
-use Rattle.fault_counts.specs.Count.{RoseBy}
+use Rattle.emu_names.specs.Count.{RoseBy}
 use Rattle.session_core.specs.Laws.{IsLegalWorld, taken}
 use Rattle.session_core.proofs.Turns.{each_map, each_kept, each_to_map, replies_more, low_of, HasSeenStill, still_seen}
 use Rattle.session_core.proofs.Places.{slot_none}

@@ -3,8 +3,9 @@ use Rattle.std.proofs.Common.{◌≡◌, ◌⊎◌, inl, inr, ◌<◌, ℕ, suc,
 use Rattle.std.specs.List.{All}
 use Rattle.session_core.specs.declared.event.Event.{Event}
 use Rattle.session_core.specs.declared.line.Reply.{Reply}
-use Rattle.session_core.specs.Steps.{State, core_step, core_fails, option_list, place_of, session_places, steps}
-use Rattle.session_core.specs.Stops.{state_at, FailsAt, StopsAt}
+use Rattle.session_core.specs.Steps.{State, core_step, core_fails, option_list, session_places, steps}
+use Rattle.session_core.specs.Inner.Steps.{place_of}
+use Rattle.session_core.specs.Inner.Stops.{state_at, FailsAt, StopsAt}
 
 -- the replies that are there already, before those that follow
 abbrev pub behind : List Reply → List Reply × State → List Reply × State

@@ -1,8 +1,8 @@
 -- The example's run, worked out.
 use Rattle.std.proofs.Common.{[], refl, arith}
-use Rattle.code_forms.specs.Lists.{list_of, times}
-use Rattle.code_forms.specs.Parts.{byte_in, imaged, just, led, option_of, pair, shaped, u32_form, u64_form}
-use Rattle.code_forms.specs.Utf8.{text_form, utf8_form}
+use Rattle.byte_forms.specs.Lists.{list_of, times}
+use Rattle.byte_forms.specs.Parts.{byte_in, imaged, just, led, option_of, pair, shaped, u32_form, u64_form}
+use Rattle.byte_forms.specs.Utf8.{text_form, utf8_form}
 use Rattle.edit_code.specs.Annots.{annot_form, id_form, item_form, key_form, label_form, level_form, level_kind_form, time_form}
 use Rattle.edit_code.specs.Codes.{entry_code, head_code}
 use Rattle.edit_code.specs.Edits.{body_form, edit_form, entry_form, keyed_form, session_form}

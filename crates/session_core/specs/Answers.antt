@@ -12,14 +12,15 @@ use Rattle.eql_resolve.specs.declared.faults.PrepareFault.{PrepareFault}
 use Rattle.eql_resolve.specs.Prepared.{PreparedParts}
 use Rattle.eql_resolve.specs.Asked.{AskedParts}
 use Rattle.eql_resolve.specs.Resolve.{asked}
-use Rattle.eql_model.specs.Rows.{segment_list}
+use Rattle.eql_model.specs.declared.row.Row.{Row}
+use Rattle.eql_model.specs.Rows.{segment_list, any_has_too_many}
 use Rattle.session_core.specs.declared.line.Ask.{Ask}
 use Rattle.session_core.specs.declared.line.Answer.{Answer}
 use Rattle.session_core.specs.declared.line.Answer.TheVariants.{Segments, Refused}
 use Rattle.session_core.specs.declared.line.Refusal.TheVariants as refusals
 use Rattle.session_core.specs.declared.line.Line.{Line}
 use Rattle.session_core.specs.declared.line.Reply.{Reply}
-use Rattle.session_core.specs.Queries.{is_memory_of, any_has_too_many}
+use Rattle.session_core.specs.Queries.{is_memory_of}
 
 -- want of memory, which is an answer to every request
 abbrev pub memory : Answer
@@ -33,17 +34,18 @@ abbrev pub prepare_answer : PrepareFault → Bool → Answer
 prepare_answer fault true = memory
 prepare_answer fault false = Refused (refusals.Prepare fault)
 
--- a query whose names were found is answered by the rows of one bundle after another, in the order of
--- their keys; the flag says that some bundle has too many tuples
-abbrev pub matched_answer : DatabaseParts → AskedParts → Bool → Answer
-matched_answer database a true = Refused refusals.TooManyTuples
-matched_answer database a false = Segments (segment_list database.config database.bundles a)
+-- the answer is these rows, unless some part of the query has too many tuples
+abbrev pub listed_answer : List Row → Bool → Answer
+listed_answer rows true = Refused refusals.TooManyTuples
+listed_answer rows false = Segments rows
 
--- a query without a meaning under the configuration is refused for the first fault of its names
+-- a query without a meaning under the configuration is refused for the first fault of its names; any other
+-- one is answered by the rows of one bundle after another, in the order of their keys
 abbrev pub resolved_answer : DatabaseParts → Result AskedParts AskFault → Answer
 resolved_answer database (Err fault) = Refused (refusals.Resolve fault)
 resolved_answer database (Ok a) =
-    matched_answer database a (any_has_too_many database.config database.bundles a)
+    listed_answer (segment_list database.config database.bundles a)
+    (any_has_too_many database.config database.bundles a)
 
 -- what was prepared, and the name of the level of the times where it is given
 abbrev pub prepared_answer : DatabaseParts → Result PreparedParts PrepareFault → Option (List ℕ) → Answer

@@ -10,7 +10,7 @@ use Rattle.session_core.specs.Worlds.{Occurrence, untroubled, World, run, openin
 use Rattle.session_core.specs.Sizes.{head_size, entry_size}
 use Rattle.session_core.specs.Legal.{Legal, replies_in}
 use Rattle.emu_names.specs.declared.limits.TheConstants.{HISTORY_EDITS}
-use Rattle.fault_counts.specs.Count.{RoseBy}
+use Rattle.emu_names.specs.Count.{RoseBy}
 use Rattle.session_core.specs.Example.{add_line, replies_with, no_memory_reply, example_row, example_config, example_events, example_lines, adding, example_history, example_replies, removing}
 
 -- the replies of a run are legal beside the history that it leaves

@@ -19,7 +19,7 @@ use Rattle.edit_rules.specs.Effects.{IsLegal, edited}
 use Rattle.session_core.specs.Queries.{lacks_memory}
 use Rattle.session_core.specs.Answers.{answer_at, memory, is_want_of_memory, entry_of}
 use Rattle.session_core.specs.Worlds.{Turn, Each, passes_store}
-use Rattle.fault_counts.specs.Count.{RoseBy}
+use Rattle.emu_names.specs.Count.{RoseBy}
 use Rattle.emu_names.specs.declared.limits.TheConstants.{HISTORY_EDITS}
 
 -- 1. Lines and replies. Each line has one reply, and the replies of each session stand in the order

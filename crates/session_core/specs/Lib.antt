@@ -10,5 +10,4 @@ pub mod Example
 pub mod Laws
 pub mod OrderLaws
 pub mod Readings
-pub mod Kept
-pub mod Stops
+pub mod Inner

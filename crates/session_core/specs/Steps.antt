@@ -220,10 +220,3 @@ option_list (Some reply) = reply ∷ []
 abbrev pub steps : State → List Event → List Reply × State
 steps st [] = ([], st)
 steps st (e ∷ es) = (option_list (core_step st e).0 ++ (steps (core_step st e).1 es).0, (steps (core_step st e).1 es).1)
-
--- the place of an event's session
-abbrev pub place_of : Event → ℕ
-place_of (events.Edit l) = l.session.0
-place_of (events.Look l) = l.session.0
-place_of (events.Piece s) = s.0
-place_of (events.Finish line s command) = s.0

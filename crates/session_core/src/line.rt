@@ -1,7 +1,6 @@
 //! The lines of a script as the core takes them, and the replies that it gives.
 use edit_rules::Edit;
-use emu_lists::Series;
-use emu_names::{Broken, SessionNo, Text};
+use emu_names::{Broken, Series, SessionNo, Text};
 use eql_model::SegmentList;
 use eql_resolve::{AskFault, PrepareFault, Prepared};
 use textgrid::GridFault;
@@ -98,19 +97,19 @@ pub enum Refusal {
     Prepare(PrepareFault),
     /// The query has no meaning under the configuration.
     Resolve(AskFault),
-    /// A part of the query has over 1,000,000 tuples in some bundle.
+    /// Rule 38: a part of the query has over 1,000,000 tuples in some bundle.
     TooManyTuples,
-    /// The session has no open look.
+    /// Rule 39: the session has no open look.
     NoLook,
-    /// The session has an open look already.
+    /// Rule 40: the session has an open look already.
     LookOpen,
-    /// The history has 100,000 entries.
+    /// Rule 41: the history has 100,000 entries.
     HistoryFull,
-    /// The store would pass its limit.
+    /// Rule 42: the store would pass its limit.
     StoreFull,
-    /// The disk failed.
+    /// Rule 43: the disk failed.
     Disk,
-    /// Memory ran out.
+    /// Rule 44: memory ran out.
     Memory,
 }
 

@@ -1,10 +1,12 @@
 //! The core: a database, the history that made it, and what each session holds, changed by one event at a time.
 ghost use Rattle.emu_names.specs.declared.limits.TheConstants.{HISTORY_EDITS};
 ghost use Rattle.emu_names.specs.declared.rules.Fault.{Fault};
-ghost use Rattle.edit_rules.specs.Effects.{after, IsFirstFault, IsLegal};
-ghost use Rattle.session_core.specs.Kept.{head_line};
-ghost use Rattle.session_core.specs.Steps.{core_fails, core_step, edit_event, finish_step, look_event, option_list, place_of, query_fails, query_step, session_places, slot, start, steps};
-ghost use Rattle.session_core.specs.Stops.{StopsAt};
+ghost use Rattle.edit_rules.specs.Effects.{after, IsLegal};
+ghost use Rattle.edit_rules.specs.Inner.Effects.{IsFirstFault};
+ghost use Rattle.session_core.specs.Inner.Kept.{head_line};
+ghost use Rattle.session_core.specs.Steps.{core_fails, core_step, edit_event, finish_step, look_event, option_list, query_fails, query_step, session_places, slot, start, steps};
+ghost use Rattle.session_core.specs.Inner.Steps.{place_of};
+ghost use Rattle.session_core.specs.Inner.Stops.{StopsAt};
 ghost use Rattle.std.specs.Prelude.{◌≡◌, ◌⊎◌, ◌++◌, ◌<◌, ◌≤◌, All, IfErr, IfOk, OnErr, OnOk, Some, length};
 
 use crate::event::{Event, Events};
@@ -34,13 +36,13 @@ pub struct Core {
 impl Model for Core {
     ghost use Rattle.session_core.specs.Steps.{State};
     ghost use Rattle.std.specs.Coded.{codes};
-    ghost use Rattle.eql_resolve.specs.Codes.{tree_code};
+    ghost use Rattle.eql_resolve.specs.Inner.Codes.{tree_code};
 
     ghost Value = { State };
 
     ghost coded = { Prim.hlevel (codes, tree_code) };
 
-    ghost use Rattle.session_core.specs.Kept.{IsKept, state_of};
+    ghost use Rattle.session_core.specs.Inner.Kept.{IsKept, state_of};
 
     ghost view = { λ a. state_of a.database.config a.entries a.looks a.queries };
 

@@ -1,7 +1,7 @@
 //! What one event does to the parts of the core, each part on its own.
 ghost use Rattle.edit_rules.specs.Effects.{after};
-ghost use Rattle.emu_names.specs.Gives.{GivesOrBroken};
-ghost use Rattle.session_core.specs.Kept.{edit_tried, given_tried, grid_told, head_reply, held_answer, held_at, look_closed, looked, query_closed, query_dropped, query_reply};
+ghost use Rattle.emu_names.specs.Inner.Gives.{GivesOrBroken};
+ghost use Rattle.session_core.specs.Inner.Kept.{edit_tried, given_tried, grid_told, head_reply, held_answer, held_at, look_closed, looked, query_closed, query_dropped, query_reply};
 ghost use Rattle.session_core.specs.Answers.{memory};
 ghost use Rattle.session_core.specs.Queries.{lacks_memory};
 ghost use Rattle.session_core.specs.Steps.{is_full as is_full_list, put_slot, reply_of, slot};

@@ -1,22 +1,22 @@
 //! The answer to a query over a database.
-ghost use Rattle.std.specs.Prelude.{◌≡◌, ◌++◌, false, IfOk, OnOk};
+ghost use Rattle.std.specs.Prelude.{◌≡◌, Bool, List, IfOk};
 ghost use Rattle.std.specs.Option.{option_copied};
 ghost use Rattle.bundle_state.specs.Built.{FitsConfig};
-ghost use Rattle.edit_rules.specs.Database.{DatabaseParts};
-ghost use Rattle.eql_resolve.specs.Asked.{AskedParts};
 ghost use Rattle.eql_resolve.specs.Resolve.{asked as asked_of};
-ghost use Rattle.eql_resolve.specs.Sound.{IsResolvedBy};
-ghost use Rattle.eql_model.specs.Rows.{Answers};
-ghost use Rattle.session_core.specs.Answers.{answer_over, matched_answer, prepare_answer, resolved_answer};
-ghost use Rattle.session_core.specs.Queries.{AddsRows, ListsRows, any_has_too_many, is_memory_of, is_memory_of_text, lacks_memory};
+ghost use Rattle.eql_resolve.specs.Inner.Sound.{IsResolvedBy};
+ghost use Rattle.eql_model.specs.declared.row.Row.{Row};
+ghost use Rattle.eql_model.specs.Meaning.{has_too_many};
+ghost use Rattle.eql_model.specs.Rows.{rows, segment_list, any_has_too_many};
+ghost use Rattle.eql_model.specs.Inner.Rows.{AddsRows, GivesRows, ListsRows};
+ghost use Rattle.session_core.specs.Answers.{answer_over, listed_answer, prepare_answer, resolved_answer};
+ghost use Rattle.session_core.specs.Queries.{is_memory_of, is_memory_of_text, lacks_memory};
 
 use crate::line::{Answer, Ask, Refusal};
 use bundle_state::Bundle;
 use db_config::Config;
 use edit_rules::Database;
-use emu_lists::PlainData;
 use emu_names::{Memory, Text};
-use eql_model::{MatchFault, Row, SegmentList, answer_plain};
+use eql_model::{MatchFault, SegmentList, answer_plain};
 use eql_resolve::{AskFault, Asked, PrepareFault, Prepared, resolve};
 use eql_syntax::QueryFault;
 use std::alloc::Global;
@@ -66,31 +66,22 @@ pub fn refuse_text(fault: PrepareFault) -> Answer
     Answer::Refused(Refusal::Prepare(fault))
 }
 
-/// Puts copies of rows behind a list. The only refusal is want of memory.
-fn add_rows(alloc: Global, rows: &mut SegmentList, more: &[Row]) -> Result<(), Memory>
-    ensures { OnOk result (rows.new ≡ rows.old ++ more.now) }
-{
-    for row in more {
-        rows.push(row.copy(alloc)?)?;
-    }
-    Ok(())
-}
-
 /// Puts the rows of a query in one bundle behind those of the bundles before it. `TooManyTuples` comes
 /// exactly where the bundle has too many.
 fn add_bundle(
     alloc: Global,
-    rows: &mut SegmentList,
+    list: &mut SegmentList,
     config: &Config,
     bundle: &Bundle,
     asked: &Asked,
 ) -> Result<(), MatchFault>
     requires resolved { IsResolvedBy config.now asked.now }
     requires fits { FitsConfig config.now bundle.now }
-    ensures { AddsRows result config.now bundle.now asked.now rows.old rows.new }
+    ensures { AddsRows result (rows config.now bundle.now asked.now)
+        (has_too_many config.now bundle.now asked.now.query) list.old list.new }
 {
     match answer_plain(alloc, config, bundle, asked) {
-        Ok(more) => match add_rows(alloc, rows, more.as_slice()) {
+        Ok(more) => match list.append(more) {
             Ok(()) => Ok(()),
             Err(_) => Err(MatchFault::Memory),
         },
@@ -102,25 +93,24 @@ fn add_bundle(
 /// `TooManyTuples` comes exactly where some bundle has too many. The only other refusal is want of memory.
 fn list_rows(alloc: Global, database: &Database, asked: &Asked) -> Result<SegmentList, MatchFault>
     requires { IsResolvedBy database.now.config asked.now }
-    ensures { ListsRows result database.now asked.now }
+    ensures { ListsRows result database.now.config database.now.bundles asked.now }
 {
     let config = database.config();
-    let mut rows = SegmentList::new(alloc);
+    let mut list = SegmentList::new(alloc);
     for place in 0..database.len() {
-        match add_bundle(alloc, &mut rows, config, database.at(place), asked) {
+        match add_bundle(alloc, &mut list, config, database.at(place), asked) {
             Ok(()) => {}
             Err(fault) => return Err(fault),
         }
     }
-    Ok(rows)
+    Ok(list)
 }
 
 /// The answer to a query, of what the listing of its rows gave. The only failure is want of memory.
 #[tactic(auto, using(crate::proofs::RowLists::answer_of_rows, crate::proofs::RowLists::answer_of_too_many))]
 pub fn answer_listed(listed: Result<SegmentList, MatchFault>) -> Result<Answer, Memory>
-    ensures { (database : DatabaseParts) (asked : AskedParts) → ListsRows listed database asked
-        → IfOk result (λ given. given ≡ matched_answer database asked
-        (any_has_too_many database.config database.bundles asked)) }
+    ensures { (rows : List Row) (too_many : Bool) → GivesRows listed rows too_many
+        → IfOk result (λ given. given ≡ listed_answer rows too_many) }
 {
     match listed {
         Ok(rows) => Ok(Answer::Segments(rows)),
@@ -132,7 +122,8 @@ pub fn answer_listed(listed: Result<SegmentList, MatchFault>) -> Result<Answer, 
 /// The answer to a query whose names were found.
 fn answer_asked(alloc: Global, database: &Database, asked: &Asked) -> Result<Answer, Memory>
     requires { IsResolvedBy database.now.config asked.now }
-    ensures { IfOk result (λ given. given ≡ matched_answer database.now asked.now
+    ensures { IfOk result (λ given. given
+        ≡ listed_answer (segment_list database.now.config database.now.bundles asked.now)
         (any_has_too_many database.now.config database.now.bundles asked.now)) }
 {
     answer_listed(list_rows(alloc, database, asked))

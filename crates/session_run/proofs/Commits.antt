@@ -1,7 +1,7 @@
 -- The line of an edit: what a commit answers is what the core's turn gives.
 use Rattle.std.proofs.Common.{◌≡◌, ℕ, ◌+◌, Bool, true, false, List, [], ◌∷◌, ◌++◌, length, Option, None, Some, Result, Ok, Err, inl, inr, ⊎_elim, refl, sym, ap, ◌∙◌, subst, arith}
 use Rattle.std.proofs.lemmas.Bool.Decides.{nat_tests}
-use Rattle.fault_counts.specs.Count.{RoseBy}
+use Rattle.emu_names.specs.Count.{RoseBy}
 use Rattle.emu_names.specs.declared.limits.TheConstants.{HISTORY_EDITS}
 use Rattle.emu_names.specs.declared.rules.Broken.{Broken}
 use Rattle.db_config.specs.declared.parts.ConfigParts.{ConfigParts}
@@ -20,7 +20,7 @@ use Rattle.session_core.specs.declared.moves.Head.{Head}
 use Rattle.session_core.specs.declared.slots.Held.{Held}
 use Rattle.session_core.specs.Answers.{entry_of, memory, reply_to}
 use Rattle.session_core.specs.InOrder.{Outage, fine, at_first, disk_fails, disk_outages, edit_outcome, edit_trouble, edit_turn, made_trouble, one_turn, replied, request_turn, stored_trouble, trouble_at}
-use Rattle.session_core.specs.Kept.{AreHeld}
+use Rattle.session_core.specs.Inner.Kept.{AreHeld}
 use Rattle.session_core.specs.Steps.{State, edit_made, edit_step, is_full}
 use Rattle.session_core.specs.Worlds.{Trouble, untroubled, store_full, disk_failed, passes_store}
 use Rattle.session_core.proofs.Keeping.{slots_longer}
@@ -28,8 +28,8 @@ use Rattle.live_book.specs.declared.fault.EditFault.{EditFault}
 use Rattle.live_book.specs.declared.fault.EditFault.TheVariants as faults
 use Rattle.live_book.specs.Commits.{Commits, HasRoom, IsSameBook, IsTooMuch, LeavesKept, has_journal, history_behind}
 use Rattle.live_book.specs.Kept.{BookParts, KeepsIn, faults_in}
-use Rattle.session_run.specs.Orders.{ChangesBook, IsCommitted, LeftBehind, commit_reply}
-use Rattle.session_run.specs.Taken.{EditsBook, IsTaken, head_of, line_of}
+use Rattle.session_run.specs.Inner.Orders.{ChangesBook, IsCommitted, LeftBehind, commit_reply}
+use Rattle.session_run.specs.Inner.Taken.{EditsBook, IsTaken, head_of, line_of}
 use Rattle.session_run.proofs.Others.{at, calm, quiet_at, taken_so}
 use Rattle.session_run.proofs.Sizes.{fits_so, passes_so}
 

@@ -1,5 +1,4 @@
 mod Commits
-mod Listing
 mod Others
 mod Showing
 pub mod Sizes

@@ -1,6 +1,6 @@
 -- The lines that are no edits: what the code does is what the core's turn gives.
 use Rattle.std.proofs.Common.{◌≡◌, ℕ, zero, suc, ◌≤◌, ◌<◌, Bool, true, false, List, [], ◌∷◌, length, replicate, Option, None, Some, Result, Ok, Err, IfOk, OnErr, inl, inr, refl, sym, ap, ◌∙◌, subst, arith}
-use Rattle.fault_counts.specs.Count.{RoseBy}
+use Rattle.emu_names.specs.Count.{RoseBy}
 use Rattle.emu_names.specs.declared.shortage.Memory.{Memory}
 use Rattle.db_config.specs.declared.parts.ConfigParts.{ConfigParts}
 use Rattle.edit_rules.specs.Database.{DatabaseParts}
@@ -15,14 +15,14 @@ use Rattle.session_core.specs.declared.line.Request.TheVariants as requests
 use Rattle.session_core.specs.declared.slots.Held.{Held}
 use Rattle.session_core.specs.Answers.{memory, reply_to}
 use Rattle.session_core.specs.InOrder.{Outage, fine, at_first, disk_outages, one_turn, query_turn, replied, request_turn}
-use Rattle.session_core.specs.Kept.{AreHeld, IsKept, held_at, head_reply, look_closed, looked, opened_in, query_closed, query_reply, state_of}
+use Rattle.session_core.specs.Inner.Kept.{AreHeld, IsKept, held_at, head_reply, look_closed, looked, opened_in, query_closed, query_reply, state_of}
 use Rattle.session_core.specs.Queries.{lacks_memory}
 use Rattle.session_core.specs.Steps.{State, put_slot, query_step, session_places, slot}
 use Rattle.session_core.proofs.Keeping.{answered_step, begun_step, closed_kept, closed_step, kept_begun, looked_kept, looked_step, slots_empty}
 use Rattle.live_book.specs.Commits.{has_journal}
 use Rattle.live_book.specs.Kept.{BookParts, faults_in}
-use Rattle.session_run.specs.Orders.{ChangesBook}
-use Rattle.session_run.specs.Taken.{IsAnsweredAt, IsLookedAt, IsTaken, head_of, or_memory}
+use Rattle.session_run.specs.Inner.Orders.{ChangesBook}
+use Rattle.session_run.specs.Inner.Taken.{IsAnsweredAt, IsLookedAt, IsTaken, head_of, or_memory}
 
 -- no query is under way
 abbrev none_asked : List (Option Held)

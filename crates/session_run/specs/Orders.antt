@@ -1,65 +1,13 @@
 -- A run in order over a book, as the core's laws see it, and what the answer to one line says.
-use Rattle.std.specs.Prelude.{◌≡◌, ◌⊎◌, ◌≤◌, ℕ, List, [], ◌∷◌, replicate, Option, None, Some, Result, Ok, Err}
-use Rattle.fault_counts.specs.Count.{RoseBy}
+use Rattle.std.specs.Prelude.{◌≡◌, Ok}
 use Rattle.edit_rules.specs.declared.edit.Edit.{Edit}
 use Rattle.edit_rules.specs.declared.edit.Entry.{Entry}
-use Rattle.session_core.specs.declared.line.Answer.TheVariants.{Done, Refused}
+use Rattle.session_core.specs.declared.line.Answer.TheVariants.{Refused}
 use Rattle.session_core.specs.declared.line.Line.{Line}
 use Rattle.session_core.specs.declared.line.Refusal.TheVariants as refusals
 use Rattle.session_core.specs.declared.line.Reply.{Reply}
-use Rattle.session_core.specs.declared.line.Request.{Request}
 use Rattle.session_core.specs.declared.line.Request.TheVariants as requests
-use Rattle.session_core.specs.Answers.{entry_of, memory, reply_to}
-use Rattle.session_core.specs.InOrder.{Outage, one_turn, disk_outages}
-use Rattle.session_core.specs.Steps.{Opened, State, session_places}
-use Rattle.live_book.specs.declared.fault.EditFault.{EditFault}
-use Rattle.live_book.specs.declared.fault.EditFault.TheVariants as faults
-use Rattle.live_book.specs.Kept.{BookParts, KeepsIn, faults_in}
-use Rattle.live_book.specs.Commits.{Commits, ForKept, IsSameBook, has_journal}
-
--- what contracts see of a run in order: its book, and the open look of each session
-pub record OrderParts (D : Type 0) : Type 0 where
-  pub book : BookParts D
-  pub looks : List (Option Opened)
-
--- a run as a state of the core; between two lines no query is under way
-abbrev pub state_of : {D : Type 0} → OrderParts D → State
-state_of run = record {
-  config = run.book.config;
-  entries = run.book.history;
-  looks = run.looks;
-  queries = replicate session_places None;
-}
-
--- The line of an edit.
-
--- the reply to a line whose edit was committed with this answer
-abbrev pub commit_reply : Line → Result ℕ EditFault → Reply
-commit_reply l (Ok n) = reply_to l (Some n) (Done l.command)
-commit_reply l (Err (faults.HistoryFull n)) = reply_to l (Some n) (Refused refusals.HistoryFull)
-commit_reply l (Err (faults.Broken rule n)) = reply_to l (Some n) (Refused (refusals.Rule rule))
-commit_reply l (Err (faults.StoreFull n)) = reply_to l (Some n) (Refused refusals.StoreFull)
-commit_reply l (Err faults.Disk) = reply_to l None (Refused refusals.Disk)
-commit_reply l (Err faults.Memory) = reply_to l None memory
-
--- the edit of a line was committed, and the reply tells the commit's answer
-pub record IsCommitted {D : Type 0} (may_leave : D → List ℕ → Type 0) (moment : D → ℕ)
-    (left_since : D → ℕ → List ℕ → Type 0) (faults : D → ℕ) (old : BookParts D) (l : Line) (edit : Edit)
-    (reply : Reply) (new : BookParts D) : Type 0 where
-  pub made : Result ℕ EditFault
-  pub commits : Commits may_leave moment left_since faults old (entry_of l edit) made new
-  pub told : reply ≡ commit_reply l made
-
--- what the request of a line does to the book: the commit of its edit, and nothing else
-abbrev pub ChangesBook : {D : Type 0} → (D → List ℕ → Type 0) → (D → ℕ) → (D → ℕ → List ℕ → Type 0) → (D → ℕ)
-    → BookParts D → Line → Request → Reply → BookParts D → Type 0
-ChangesBook may_leave moment left_since faults old l (requests.Edit (Ok edit)) reply new =
-    IsCommitted may_leave moment left_since faults old l edit reply new
-ChangesBook may_leave moment left_since faults old l (requests.Edit (Err fault)) reply new = new ≡ old
-ChangesBook may_leave moment left_since faults old l (requests.Query ask) reply new = new ≡ old
-ChangesBook may_leave moment left_since faults old l (requests.Look ask) reply new = new ≡ old
-ChangesBook may_leave moment left_since faults old l requests.Finish reply new = new ≡ old
-ChangesBook may_leave moment left_since faults old l (requests.After earlier) reply new = new ≡ old
+use Rattle.session_core.specs.Answers.{entry_of}
 
 -- the disk refused the edit of the line, which would be this entry
 pub record IsDiskRefused (l : Line) (reply : Reply) (next : Entry) : Type 0 where
@@ -67,27 +15,3 @@ pub record IsDiskRefused (l : Line) (reply : Reply) (next : Entry) : Type 0 wher
   pub asks : l.request ≡ requests.Edit (Ok edit)
   pub entry : next ≡ entry_of l edit
   pub refused : reply.answer ≡ Refused refusals.Disk
-
--- What a line leaves in the journal: the book's configuration and history. In doubt is nothing, or what was in
--- doubt before, or the entry of the line, where the disk refused it
-pub record LeftBehind {D : Type 0} (may_leave : D → List ℕ → Type 0) (l : Line) (reply : Reply)
-    (lost : Option Entry) (book : BookParts D) : Type 0 where
-  pub left : Option Entry
-  pub keeps : KeepsIn may_leave book.config book.history left book.journal
-  pub which : (left ≡ None) ⊎ (left ≡ lost) ⊎ ((next : Entry) × (left ≡ Some next) × IsDiskRefused l reply next)
-
--- The answer to a line. Its reply and the state behind it are those of the core's turn, in which perhaps memory
--- ran out or the disk failed, and the disk's count rose where it failed; the book is changed by the commit of the
--- line's edit alone
-pub record Answers {D : Type 0} (may_leave : D → List ℕ → Type 0) (moment : D → ℕ)
-    (left_since : D → ℕ → List ℕ → Type 0) (faults : D → ℕ) (old : OrderParts D) (l : Line)
-    (reply : Reply) (new : OrderParts D) : Type 0 where
-  pub outage : Outage
-  pub turn : one_turn (has_journal old.book.journal) (state_of old) l outage ≡ (reply, state_of new)
-  pub same : IsSameBook old.book new.book
-  pub change : ChangesBook may_leave moment left_since faults old.book l l.request reply new.book
-  pub kept : ForKept may_leave old.book.config old.book.history old.book.journal (λ lost.
-      LeftBehind may_leave l reply lost new.book)
-  pub rose : RoseBy (disk_outages (has_journal old.book.journal) (outage ∷ []))
-      (faults_in faults old.book.journal) (faults_in faults new.book.journal)
-  pub later : faults_in faults old.book.journal ≤ faults_in faults new.book.journal

@@ -2,7 +2,7 @@
 ghost use Rattle.std.specs.Prelude.{◌≡◌, ◌<◌, None, IfOk, IfErr, replicate};
 ghost use Rattle.session_core.specs.Steps.{session_places, start};
 ghost use Rattle.live_book.specs.Histories.{IsHistory};
-ghost use Rattle.session_run.specs.Orders.{Answers, state_of};
+ghost use Rattle.session_run.specs.Inner.Orders.{Answers, state_of};
 
 use crate::looks::Look;
 use crate::turns::take_line;
@@ -28,10 +28,10 @@ pub struct InOrder<D: Disk> {
 impl<D: Disk> Model for InOrder<D> {
     ghost use Rattle.std.specs.Prelude.{◌≡◌};
     ghost use Rattle.std.specs.Coded.{codes};
-    ghost use Rattle.eql_resolve.specs.Codes.{tree_code};
-    ghost use Rattle.session_core.specs.Kept.{AreHeld};
-    ghost use Rattle.session_run.specs.Orders.{OrderParts};
-    ghost use Rattle.session_run.specs.Taken.{run_of};
+    ghost use Rattle.eql_resolve.specs.Inner.Codes.{tree_code};
+    ghost use Rattle.session_core.specs.Inner.Kept.{AreHeld};
+    ghost use Rattle.session_run.specs.Inner.Orders.{OrderParts};
+    ghost use Rattle.session_run.specs.Inner.Taken.{run_of};
 
     ghost Value = { OrderParts D };
 

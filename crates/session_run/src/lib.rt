@@ -3,10 +3,8 @@
 
 mod in_order;
 mod looks;
-mod queries;
 mod shown;
 mod turns;
 
 pub use in_order::{InOrder, new_in_order};
-pub use queries::answer_over;
 pub use turns::{commit_reply, or_memory};

@@ -2,14 +2,14 @@
 ghost use Rattle.std.specs.Prelude.{◌≡◌, Some, IfOk};
 ghost use Rattle.std.specs.Arc.{arc_value};
 ghost use Rattle.version_tree.specs.Version.{state_of};
-ghost use Rattle.session_core.specs.Kept.{held_answer, held_at, query_reply};
+ghost use Rattle.session_core.specs.Inner.Kept.{held_answer, held_at, query_reply};
 ghost use Rattle.session_core.specs.Queries.{lacks_memory};
 ghost use Rattle.session_core.specs.Steps.{reply_of};
 
-use crate::queries::answer_over;
 use emu_io::OpenGate;
 use emu_names::{Memory, SessionNo};
 use live_book::Published;
+use query_workers::answer_over;
 use session_core::{Ask, Head, Reply, lacks_memory, memory_reply};
 use std::alloc::Global;
 use std::marker::Model;
@@ -28,7 +28,7 @@ pub struct Look {
 impl Model for Look {
     ghost use Rattle.std.specs.Arc.{arc_value};
     ghost use Rattle.std.specs.Coded.{codes};
-    ghost use Rattle.eql_resolve.specs.Codes.{tree_code};
+    ghost use Rattle.eql_resolve.specs.Inner.Codes.{tree_code};
     ghost use Rattle.version_tree.specs.Version.{state_of};
     ghost use Rattle.session_core.specs.declared.slots.Held.{Held};
 

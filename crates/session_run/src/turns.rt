@@ -2,10 +2,10 @@
 ghost use Rattle.std.specs.Prelude.{◌≡◌, ◌<◌, length, Ok, IfOk, OnErr};
 ghost use Rattle.edit_rules.specs.Effects.{after};
 ghost use Rattle.session_core.specs.declared.line.Request.{Request};
-ghost use Rattle.session_core.specs.Kept.{AreHeld, held_at, look_closed};
+ghost use Rattle.session_core.specs.Inner.Kept.{AreHeld, held_at, look_closed};
 ghost use Rattle.session_core.specs.Steps.{session_places, slot};
-ghost use Rattle.session_run.specs.Orders.{commit_reply};
-ghost use Rattle.session_run.specs.Taken.{EditsBook, IsAnsweredAt, IsLookedAt, IsTaken, line_of, or_memory};
+ghost use Rattle.session_run.specs.Inner.Orders.{commit_reply};
+ghost use Rattle.session_run.specs.Inner.Taken.{EditsBook, IsAnsweredAt, IsLookedAt, IsTaken, line_of, or_memory};
 
 use crate::looks::Look;
 use crate::shown::look_at;

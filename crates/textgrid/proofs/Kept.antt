@@ -14,8 +14,9 @@ use Rattle.textgrid.specs.declared.grid.Grid.{Grid}
 use Rattle.textgrid.specs.declared.tiers.TierHead.{TierHead}
 use Rattle.textgrid.specs.declared.tiers.GridHead.{GridHead}
 use Rattle.textgrid.specs.Counts.{at_most, whole_of}
-use Rattle.textgrid.specs.Levels.{entry_count, entry_total}
-use Rattle.textgrid.specs.Short.{IsShort, IsShortValue, IsShortPlaced, IsShortSpan, IsShortPoint, AreShort, IsShortTier, IsShortGrid}
+use Rattle.textgrid.specs.Levels.{entry_count}
+use Rattle.textgrid.specs.Inner.Levels.{entry_total}
+use Rattle.textgrid.specs.Inner.Short.{IsShort, IsShortValue, IsShortPlaced, IsShortSpan, IsShortPoint, AreShort, IsShortTier, IsShortGrid}
 use Rattle.textgrid.specs.Reading.{Answer, and_then, times_at, given, taken, number_in, text_in, flag_in, count_in, header_in, title_in, class_in, number_at, text_at, flag_at, count_at, header_at, title_at, class_at, end_at, interval_at, point_at, tier_head_at, entries_at, tier_at, grid_head_at, grid_at}
 
 All-head : {A : Type 0} (P : A → Type 0) (x : A) (xs : List A) → All P (x ∷ xs) → P x

@@ -1,5 +1,5 @@
 mod Powers
-mod Skips
+pub mod Skips
 mod Quotes
 mod Faults
 mod Times

@@ -5,7 +5,8 @@ use Rattle.std.proofs.lemmas.Bool.{eqb-true}
 use Rattle.std.proofs.lemmas.Bool.Decides.{nat_tests}
 use Rattle.std.proofs.lemmas.List.Sums.{prefix_len_stops}
 use Rattle.std.proofs.lemmas.Str.{IsCharBoundary-before_ascii, IsCharBoundary-after_ascii, IsUtf8-drop}
-use Rattle.textgrid.specs.Quoted.{is_unquoted, quoted_len, longer, quoted}
+use Rattle.textgrid.specs.Quoted.{longer, quoted}
+use Rattle.textgrid.specs.Inner.Quoted.{is_unquoted, quoted_len}
 use Rattle.emu_names.specs.declared.shortage.Memory.{Memory}
 use Rattle.std.specs.Prelude.{encode_utf8, Result, Ok, Err, IfOk}
 use Rattle.textgrid.specs.declared.scan.Piece.{Piece}

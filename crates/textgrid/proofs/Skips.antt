@@ -6,8 +6,10 @@ use Rattle.textgrid.specs.declared.fault.GridFault.{GridFault}
 use Rattle.textgrid.specs.declared.fault.GridFault.TheVariants.{BadEncoding}
 use Rattle.textgrid.specs.declared.values.Placed.{Placed}
 use Rattle.textgrid.specs.declared.scan.Piece.{Piece}
-use Rattle.textgrid.specs.Encodings.{char_at, with_char, utf16_from, with_text}
-use Rattle.textgrid.specs.Values.{piece_at, found, values_from, joined}
+use Rattle.textgrid.specs.Encodings.{char_at, with_char, utf16_from}
+use Rattle.textgrid.specs.Inner.Encodings.{with_text}
+use Rattle.textgrid.specs.Values.{piece_at, found, values_from}
+use Rattle.textgrid.specs.Inner.Values.{joined}
 
 skipped_text : (big : Bool) (bs : List ℕ) (n place : ℕ) → n ≤ length bs → utf16_from big bs n place ≡ utf16_from big (drop n bs) 0 (place + n)
 skipped_text big bs zero place within = let same : place + 0 ≡ place = omega arith in ap (λ (p : ℕ). utf16_from big bs 0 p) (sym same)

@@ -5,7 +5,8 @@ use Rattle.textgrid.specs.declared.fault.GridWhat.{GridWhat}
 use Rattle.std.specs.Result.{IsErrAnd}
 use Rattle.textgrid.specs.declared.entries.Halt.{Halt}
 use Rattle.textgrid.specs.declared.entries.Halt.TheVariants.{Stopped, Memory}
-use Rattle.textgrid.specs.Reading.{Reads, Answer, and_then, times_at, behind}
+use Rattle.textgrid.specs.Reading.{Answer, and_then, times_at}
+use Rattle.textgrid.specs.Inner.Reading.{Reads, behind}
 
 behind_more : {A : Type 0} (done : List A) (a : A) (r : Answer (List A)) → behind done (and_then r (λ more after. Ok (a ∷ more, after))) ≡ behind (done ++ a ∷ []) r
 behind_more done a (Ok r) = ap (λ xs. Ok (xs, r.1)) (sym (append_assoc done (a ∷ []) r.0))

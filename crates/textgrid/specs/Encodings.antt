@@ -83,8 +83,3 @@ text_behind Utf16LittleEndian mark bs = utf16_of false bs
 -- the text of the bytes of a file
 unfoldable pub text_of : List ℕ → Result (List ℕ) GridFault
 text_of bs = text_behind (mark_of bs).0 (mark_of bs).1 (drop (mark_of bs).1 bs)
-
--- text that was read, in front of more
-abbrev pub with_text : List ℕ → Result (List ℕ) GridFault → Result (List ℕ) GridFault
-with_text before (Ok text) = Ok (before ++ text)
-with_text before (Err fault) = Err fault

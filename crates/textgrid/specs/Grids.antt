@@ -1,10 +1,10 @@
 -- The grid that the bytes of a file hold, or the first fault.
-use Rattle.std.specs.Prelude.{ℕ, Bool, List, length, unwrap_or, Result, Ok, Err}
+use Rattle.std.specs.Prelude.{ℕ, List, length, unwrap_or, Result, Ok, Err}
 use Rattle.textgrid.specs.declared.fault.GridFault.{GridFault}
 use Rattle.textgrid.specs.declared.fault.GridFault.TheVariants.{Expected}
 use Rattle.textgrid.specs.declared.values.Placed.{Placed}
 use Rattle.textgrid.specs.declared.grid.Grid.{Grid}
-use Rattle.textgrid.specs.Encodings.{text_of, utf16_of}
+use Rattle.textgrid.specs.Encodings.{text_of}
 use Rattle.textgrid.specs.Values.{values_of}
 use Rattle.textgrid.specs.Reading.{Answer, grid_at}
 
@@ -26,10 +26,6 @@ grid_of_text text = grid_of_values (length text) (values_of text)
 abbrev pub grid_of_decoded : Result (List ℕ) GridFault → Result Grid GridFault
 grid_of_decoded (Ok text) = grid_of_text text
 grid_of_decoded (Err fault) = Err fault
-
--- the grid of a text in UTF-16
-abbrev pub grid_of_utf16 : Bool → List ℕ → Result Grid GridFault
-grid_of_utf16 big bs = grid_of_decoded (utf16_of big bs)
 
 -- the grid of the bytes of a file
 unfoldable pub grid_of : List ℕ → Result Grid GridFault

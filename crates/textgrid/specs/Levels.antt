@@ -1,6 +1,6 @@
 -- The annotation that a grid gives, or the first fault of its times. (Praat manual, "TextGrid file
 -- formats"; EMU-SDMS Manual, "The emuDB format".)
-use Rattle.std.specs.Prelude.{ℕ, ◌+◌, ◌-◌, nat_lt, List, [], ◌∷◌, ◌++◌, length, if◌then◌else◌, Result, Ok, Err}
+use Rattle.std.specs.Prelude.{ℕ, ◌+◌, ◌-◌, nat_lt, List, [], ◌∷◌, length, if◌then◌else◌, Result, Ok, Err}
 use Rattle.emu_names.specs.declared.kinds.LevelKind.TheVariants.{Segment, Event}
 use Rattle.emu_names.specs.declared.kinds.LevelKind.{LevelKind}
 use Rattle.level_items.specs.declared.times.Time.{Time}
@@ -77,11 +77,6 @@ abbrev pub entry_count : GridEntries → ℕ
 entry_count (Intervals list) = length list
 entry_count (Points list) = length list
 
--- how many entries tiers have together
-abbrev pub entry_total : List GridTier → ℕ
-entry_total [] = 0
-entry_total (t ∷ ts) = entry_count t.entries + entry_total ts
-
 -- a level with its items, or their first fault
 abbrev pub level_with : List ℕ → LevelKind → Result (List AnnotItem) GridFault → Result AnnotLevel GridFault
 level_with name kind (Ok items) = Ok (record { name = name; kind = kind; items = items })
@@ -118,13 +113,3 @@ annot_with rate (Ok levels) = Ok (record { annotates = []; rate = rate; levels =
 -- the annotation of a grid
 abbrev pub annot_of : ℕ → Grid → Result Annot GridFault
 annot_of rate grid = annot_with rate (levels_from rate 0 0 grid.tiers)
-
--- items that were made, in front of more
-abbrev pub items_before : List AnnotItem → Result (List AnnotItem) GridFault → Result (List AnnotItem) GridFault
-items_before made (Ok items) = Ok (made ++ items)
-items_before made (Err fault) = Err fault
-
--- levels that were made, in front of more
-abbrev pub levels_before : List AnnotLevel → Result (List AnnotLevel) GridFault → Result (List AnnotLevel) GridFault
-levels_before made (Ok levels) = Ok (made ++ levels)
-levels_before made (Err fault) = Err fault

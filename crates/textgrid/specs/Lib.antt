@@ -4,8 +4,7 @@ pub mod Grids
 pub mod Levels
 pub mod Quoted
 pub mod Reading
-pub mod Short
-pub mod Told
 pub mod Values
 pub mod Words
 pub mod Written
+pub mod Inner

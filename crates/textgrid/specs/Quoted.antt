@@ -1,14 +1,5 @@
 -- Texts between quotes, in which two quotes stand for one. (Praat manual, "TextGrid file formats".)
-use Rattle.std.specs.Prelude.{ℕ, ◌+◌, ◌==◌, not, Bool, true, false, List, [], ◌∷◌, ◌++◌, if◌then◌else◌, Option, Some, None}
-use Rattle.std.specs.List.{prefix_len}
-
--- the byte is no quote
-abbrev pub is_unquoted : ℕ → Bool
-is_unquoted b = not (b == 34)
-
--- how many bytes stand before the next quote
-abbrev pub quoted_len : List ℕ → ℕ
-quoted_len bs = prefix_len is_unquoted bs
+use Rattle.std.specs.Prelude.{ℕ, ◌+◌, ◌==◌, Bool, true, false, List, [], ◌∷◌, ◌++◌, if◌then◌else◌, Option, Some, None}
 
 -- more text in front, which takes so many bytes more
 abbrev pub longer : List ℕ → ℕ → Option (List ℕ × ℕ) → Option (List ℕ × ℕ)

@@ -1,6 +1,6 @@
 -- The reading of a grid from its values, or the place at which something else has to stand. (Praat
 -- manual, "TextGrid file formats".)
-use Rattle.std.specs.Prelude.{◌≡◌, ℕ, zero, suc, ◌||◌, nat_eq, Bool, true, false, List, [], ◌∷◌, ◌++◌, if◌then◌else◌, Option, Some, None, Result, Ok, Err, codes}
+use Rattle.std.specs.Prelude.{ℕ, zero, suc, ◌||◌, nat_eq, Bool, true, false, List, [], ◌∷◌, if◌then◌else◌, Option, Some, None, Result, Ok, Err, codes}
 use Rattle.std.specs.Cmp.Lexicographic.{pointwise}
 use Rattle.sample_time.specs.declared.decimal.Decimal.{Decimal}
 use Rattle.textgrid.specs.declared.fault.GridWhat.{GridWhat}
@@ -8,8 +8,6 @@ use Rattle.textgrid.specs.declared.fault.GridWhat.TheVariants as whats
 use Rattle.textgrid.specs.declared.values.Value.{Value}
 use Rattle.textgrid.specs.declared.values.Value.TheVariants.{Number, Quoted, Flag}
 use Rattle.textgrid.specs.declared.values.Placed.{Placed}
-use Rattle.textgrid.specs.declared.entries.Halt.{Halt}
-use Rattle.textgrid.specs.declared.entries.Halt.TheVariants.{Stopped, Memory}
 use Rattle.textgrid.specs.declared.grid.GridInterval.{GridInterval}
 use Rattle.textgrid.specs.declared.grid.GridPoint.{GridPoint}
 use Rattle.textgrid.specs.declared.grid.GridEntries.{GridEntries}
@@ -116,11 +114,6 @@ title_at = taken title_in whats.Header
 abbrev pub class_at : List Placed → Answer Bool
 class_at = taken class_in whats.TierClass
 
--- any value
-abbrev pub next_at : GridWhat → List Placed → Answer Placed
-next_at what [] = Err (None, what)
-next_at what (p ∷ ps) = Ok (p, ps)
-
 -- nothing more
 abbrev pub end_at : List Placed → Answer (Unit {0})
 end_at [] = Ok (tt, [])
@@ -181,14 +174,3 @@ grid_at vs =
     and_then (times_at tier_at head.count v1) (λ tiers v2.
     and_then (end_at v2) (λ _ v3.
     Ok (record { xmin = head.xmin; xmax = head.xmax; tiers = tiers }, v3))))
-
--- what a call answers is what is told of the values, and these are left
-abbrev pub Reads : {A : Type 0} → Result A Halt → Answer A → List Placed → Type 0
-Reads (Ok a) told left = told ≡ Ok (a, left)
-Reads (Err (Stopped place what)) told left = told ≡ Err (place, what)
-Reads (Err Memory) told left = Unit {0}
-
--- list elements that were read, in front of others
-abbrev pub behind : {A : Type 0} → List A → Answer (List A) → Answer (List A)
-behind done (Ok r) = Ok (done ++ r.0, r.1)
-behind done (Err e) = Err e

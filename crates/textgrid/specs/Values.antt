@@ -1,6 +1,6 @@
 -- The values of a text with their places, or its first fault. (Praat manual, "TextGrid file formats":
 -- what is no number, text or flag is not read; `!` begins a comment.)
-use Rattle.std.specs.Prelude.{ℕ, zero, suc, ◌+◌, ◌-◌, ◌==◌, ◌||◌, ◌&&◌, not, nat_eq, Bool, false, List, [], ◌∷◌, ◌++◌, take, drop, if◌then◌else◌, Option, Some, None, Result, Ok, Err, codes}
+use Rattle.std.specs.Prelude.{ℕ, zero, suc, ◌+◌, ◌-◌, ◌==◌, ◌||◌, ◌&&◌, not, nat_eq, Bool, false, List, [], ◌∷◌, take, drop, if◌then◌else◌, Option, Some, None, Result, Ok, Err, codes}
 use Rattle.std.specs.List.{prefix_len}
 use Rattle.std.specs.Cmp.Lexicographic.{pointwise}
 use Rattle.sample_time.specs.declared.decimal.Decimal.{Decimal}
@@ -101,8 +101,3 @@ values_from (b ∷ bs) zero place =
 -- the values of a text
 unfoldable pub values_of : List ℕ → Result (List Placed) GridFault
 values_of text = values_from text 0 0
-
--- values that were read, in front of others
-abbrev pub joined : List Placed → Result (List Placed) GridFault → Result (List Placed) GridFault
-joined before (Ok values) = Ok (before ++ values)
-joined before (Err fault) = Err fault

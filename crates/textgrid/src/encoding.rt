@@ -1,6 +1,6 @@
 //! The text that the bytes of a file are: UTF-8, with or without a mark, or UTF-16 with one.
 ghost use Rattle.std.specs.Prelude.{◌≡◌, ◌≢◌, ◌≤◌, ◌<◌, ◌*◌, IfOk, IfErr, IfSome, MatchOption, None, Some, Ok, Err, length, encode_utf8, string_bytes, string_len};
-ghost use Rattle.textgrid.specs.Told.{TellsFault};
+ghost use Rattle.textgrid.specs.Inner.Told.{TellsFault};
 ghost use Rattle.textgrid.specs.Encodings.{mark_of, unit, pair_at, char_at, utf8_of, utf16_of};
 
 use crate::fault::GridFault;

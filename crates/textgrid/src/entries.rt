@@ -1,7 +1,8 @@
 //! Single values, and the entries of tiers, read from the values that are left.
 ghost use Rattle.emu_names.specs.declared.limits.TheConstants.{GRID_ENTRIES};
 ghost use Rattle.std.specs.Prelude.{◌≡◌, ◌≤◌, IfOk, IfSome};
-ghost use Rattle.textgrid.specs.Reading.{Reads, next_at, number_in, text_in, flag_in, count_in, header_in, title_in, class_in, taken, number_at, text_at, flag_at, count_at, header_at, title_at, class_at, end_at, interval_at, point_at, times_at, behind};
+ghost use Rattle.textgrid.specs.Reading.{number_in, text_in, flag_in, count_in, header_in, title_in, class_in, taken, number_at, text_at, flag_at, count_at, header_at, title_at, class_at, end_at, interval_at, point_at, times_at};
+ghost use Rattle.textgrid.specs.Inner.Reading.{Reads, next_at, behind};
 
 use crate::counts::count_of;
 use crate::fault::GridWhat;

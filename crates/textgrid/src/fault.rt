@@ -51,18 +51,18 @@ impl GridWhat {
 /// Why bytes hold no TextGrid, or a TextGrid gives no annotation. Tiers and entries are counted from 1.
 #[derive(Clone, Copy, Debug, PartialEq, Eq, Error)]
 pub enum GridFault {
-    /// At this byte of the file, counted from 0 with its mark, begins the first unit or sequence that
-    /// is not well formed.
+    /// Rule 45: at this byte of the file, counted from 0 with its mark, begins the first unit or
+    /// sequence that is not well formed.
     #[error("not UTF-8 or UTF-16 at byte {0}")]
     BadEncoding(u64),
-    /// The quote at this byte of the text begins a text that does not end.
+    /// Rule 46: the quote at this byte of the text begins a text that does not end.
     #[error("the text at byte {0} does not end")]
     BadText(u64),
-    /// The number at this byte of the text has too many digits.
+    /// Rule 47: the number at this byte of the text has too many digits.
     #[error("too many digits at byte {0}")]
     TooManyDigits(u64),
-    /// At this byte of the text stands a value that a TextGrid does not have there; or the text ends
-    /// there too early.
+    /// Rule 48: at this byte of the text stands a value that a TextGrid does not have there; or the
+    /// text ends there too early.
     #[error("not what a TextGrid has at byte {at}")]
     Expected {
         /// The byte of the text in UTF-8, counted from 0 without its mark.
@@ -70,7 +70,7 @@ pub enum GridFault {
         /// What a TextGrid has there.
         what: GridWhat,
     },
-    /// A time of the entry is below 0.
+    /// Rule 49: a time of the entry is below 0.
     #[error("a time below 0 in entry {entry} of tier {tier}")]
     NegativeTime {
         /// The tier.
@@ -78,7 +78,7 @@ pub enum GridFault {
         /// The entry of the tier.
         entry: u32,
     },
-    /// A time of the entry is past the last sample that an annotation may have.
+    /// Rule 50: a time of the entry is past the last sample that an annotation may have.
     #[error("a time past the last sample in entry {entry} of tier {tier}")]
     TimeTooLarge {
         /// The tier.
@@ -86,7 +86,7 @@ pub enum GridFault {
         /// The entry of the tier.
         entry: u32,
     },
-    /// The interval has no sample.
+    /// Rule 51: the interval has no sample.
     #[error("no sample in entry {entry} of tier {tier}")]
     EmptyInterval {
         /// The tier.
@@ -94,7 +94,7 @@ pub enum GridFault {
         /// The entry of the tier.
         entry: u32,
     },
-    /// Memory ran out.
+    /// Rule 44: memory ran out.
     #[error("out of memory")]
     Memory,
 }

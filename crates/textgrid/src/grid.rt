@@ -1,8 +1,7 @@
 //! A TextGrid as it is read, before it is made an annotation.
 ghost use Rattle.std.specs.Prelude.{◌≡◌, IfOk};
 
-use emu_lists::{PlainData, Series};
-use emu_names::{Memory, Text};
+use emu_names::{Memory, PlainData, Series, Text};
 use sample_time::Decimal;
 use std::alloc::Global;
 

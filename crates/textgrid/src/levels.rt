@@ -1,9 +1,10 @@
 //! The annotation that a grid gives.
 ghost use Rattle.emu_names.specs.declared.limits.TheConstants.{TOP_RATE};
 ghost use Rattle.std.specs.Prelude.{◌≡◌, ◌≢◌, ◌+◌, ◌≤◌, ◌<◌, ◌^◌, IfOk, IfErr, Ok, Err, length, All, ◌∷◌, []};
-ghost use Rattle.textgrid.specs.Told.{TellsFault};
-ghost use Rattle.textgrid.specs.Levels.{time_fault, span_of, point_of, item_of, segments_from, events_from, entry_count, entry_total, level_of, levels_from, annot_of};
-ghost use Rattle.textgrid.specs.Short.{IsShort, IsShortSpan, IsShortPoint, AreShort, IsShortTier, IsShortGrid};
+ghost use Rattle.textgrid.specs.Inner.Told.{TellsFault};
+ghost use Rattle.textgrid.specs.Levels.{time_fault, span_of, point_of, item_of, segments_from, events_from, entry_count, level_of, levels_from, annot_of};
+ghost use Rattle.textgrid.specs.Inner.Levels.{entry_total};
+ghost use Rattle.textgrid.specs.Inner.Short.{IsShort, IsShortSpan, IsShortPoint, AreShort, IsShortTier, IsShortGrid};
 
 use crate::fault::GridFault;
 use crate::grid::{Grid, GridEntries, GridInterval, GridPoint, GridTier};

@@ -1,6 +1,7 @@
 //! Texts between quotes, in which two quotes stand for one.
 ghost use Rattle.std.specs.Prelude.{◌≡◌, ◌≤◌, ◌<◌, ◌+◌, IfOk, IfSome, MatchOption, None, Some, true, false, length, string_bytes};
-ghost use Rattle.textgrid.specs.Quoted.{is_unquoted, quoted_len, quoted};
+ghost use Rattle.textgrid.specs.Quoted.{quoted};
+ghost use Rattle.textgrid.specs.Inner.Quoted.{is_unquoted, quoted_len};
 ghost use Rattle.textgrid.specs.Values.{front};
 
 use crate::scan::front;

@@ -1,11 +1,12 @@
 //! The grid that the bytes of a file hold.
 ghost use Rattle.emu_names.specs.declared.limits.TheConstants.{GRID_ENTRIES};
 ghost use Rattle.std.specs.Prelude.{◌≡◌, ◌≢◌, IfOk, IfErr, Ok, Err, ◌*◌, ◌≤◌, length};
-ghost use Rattle.textgrid.specs.Told.{TellsFault};
-ghost use Rattle.textgrid.specs.Levels.{entry_total};
-ghost use Rattle.textgrid.specs.Short.{IsShortGrid};
+ghost use Rattle.textgrid.specs.Inner.Told.{TellsFault};
+ghost use Rattle.textgrid.specs.Inner.Levels.{entry_total};
+ghost use Rattle.textgrid.specs.Inner.Short.{IsShortGrid};
 ghost use Rattle.textgrid.specs.Encodings.{text_behind};
-ghost use Rattle.textgrid.specs.Grids.{grid_of_text, grid_of_utf16, grid_of_decoded, grid_of};
+ghost use Rattle.textgrid.specs.Grids.{grid_of_text, grid_of_decoded, grid_of};
+ghost use Rattle.textgrid.specs.Inner.Grids.{grid_of_utf16};
 
 use crate::encoding::{Encoding, encoding_of, utf8_text, utf16_text};
 use crate::entries::Halt;

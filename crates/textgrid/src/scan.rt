@@ -1,10 +1,11 @@
 //! The values that stand in a text.
 ghost use Rattle.std.specs.Prelude.{◌≡◌, ◌≢◌, ◌≤◌, ◌<◌, ◌+◌, IfOk, IfErr, Ok, Err, List, Result, All, false, length, drop};
-ghost use Rattle.textgrid.specs.Told.{TellsFault};
+ghost use Rattle.textgrid.specs.Inner.Told.{TellsFault};
 ghost use Rattle.textgrid.specs.Quoted.{quoted};
 ghost use Rattle.textgrid.specs.declared.values.Placed.{Placed as PlacedValue};
-ghost use Rattle.textgrid.specs.Short.{IsShortPlaced, IsShortPiece};
-ghost use Rattle.textgrid.specs.Values.{front, is_space, is_inside, in_comment, in_flag, comment_len, flag_len, word_len, flag_at, word_at, piece_at, text_piece, values_from, values_of, joined, found};
+ghost use Rattle.textgrid.specs.Inner.Short.{IsShortPlaced, IsShortPiece};
+ghost use Rattle.textgrid.specs.Values.{front, is_space, is_inside, in_comment, in_flag, comment_len, flag_len, word_len, flag_at, word_at, piece_at, text_piece, values_from, values_of, found};
+ghost use Rattle.textgrid.specs.Inner.Values.{joined};
 
 use crate::fault::GridFault;
 use crate::quoted::quoted_text;

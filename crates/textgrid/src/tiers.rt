@@ -1,6 +1,7 @@
 //! Tiers and the whole grid, read from the values that are left.
 ghost use Rattle.std.specs.Prelude.{◌≡◌, ◌≤◌, IfOk};
-ghost use Rattle.textgrid.specs.Reading.{Reads, tier_head_at, entries_at, tier_at, times_at, grid_head_at, grid_at};
+ghost use Rattle.textgrid.specs.Reading.{tier_head_at, entries_at, tier_at, times_at, grid_head_at, grid_at};
+ghost use Rattle.textgrid.specs.Inner.Reading.{Reads};
 
 use crate::entries::{
     Halt, class, count, end, flag, header, intervals, number, points, text, title,

@@ -7,7 +7,7 @@ use prog.Atomic.{either}
 use Rattle.logbook.specs.Pages.{Cell, cell, keeps, no_nib, step, Moves, Goes}
 use Rattle.version_gate.specs.declared.entry.Entry.{Entry}
 use Rattle.version_gate.specs.Lists.{Rises}
-use Rattle.version_gate.specs.Law.{IsKept, Adds}
+use Rattle.version_gate.specs.Inner.Law.{IsKept, Adds}
 use Rattle.version_gate.proofs.Beginnings.{prefix_whole}
 use Rattle.version_gate.proofs.Numbers.{rises_more}
 

@@ -7,7 +7,7 @@ use Rattle.atomic_table.proofs.Lists.{at_set, at_snoc}
 use Rattle.logbook.specs.Pages.{Book}
 use Rattle.version_gate.specs.declared.rule.Known.{Known}
 use Rattle.version_gate.specs.Lists.{Front}
-use Rattle.version_gate.specs.Seats.{stranger, told_of, Fits, Agree, Enters, Shows, Teaches}
+use Rattle.version_gate.specs.Inner.Seats.{stranger, told_of, Fits, Agree, Enters, Shows, Teaches}
 
 -- a stranger fits each gate
 pub stranger_fits : (gate : Book) → Fits gate stranger

@@ -1,5 +1,5 @@
 -- Numbers of entries that rise by one.
-use Rattle.std.proofs.Common.{◌≡◌, ℕ, suc, nat_eq, IsTrue, ◌+◌, ◌<◌, ◌≤◌, List, [], ◌∷◌, ◌++◌, length, refl, ap, sym, ◌∙◌, subst, arith, length-append}
+use Rattle.std.proofs.Common.{◌≡◌, ◌≢◌, ℕ, suc, false, nat_eq, IsTrue, ◌+◌, ◌<◌, ◌≤◌, List, [], ◌∷◌, ◌++◌, length, refl, ap, sym, ◌∙◌, subst, arith, length-append, append-nil}
 use Rattle.std.proofs.lemmas.Bool.Decides.{nat_tests}
 use mathlib.Core.List.{IsPrefix}
 use Rattle.version_gate.specs.declared.entry.Entry.{Entry}
@@ -57,6 +57,15 @@ module _ {T : Type 0} where
       let is : k ≡ m = grind (arith, nat_tests) in
       let whole : published ≡ now = same_number m published now b (subst (λ (i : ℕ). Numbered i now) is a) p in
       (sym whole, subst (IsPrefix before) (sym whole) q)
+
+  -- a list with another number than the published list's, which begins it: its number is the greater
+  pub went_past : (k m n : ℕ) (published now : List (Entry T)) → nat_eq k m ≡ false → Numbered k now → Numbered m published → IsPrefix published now → Numbered n now → m < n
+  went_past k m n published now other a b p own =
+      let start = same_start b.0 a.0 published now now b.3 a.3 p ([], append-nil now) b.1 a.1 in
+      let same = numbered_once n k now own a in
+      let long : length published + length p.0 ≡ length now = sym (length-append published p.0) ∙ ap length p.1 in
+      let differ : k ≢ m = grind (arith, nat_tests) in
+      omega (arith, start, a.2, b.2, same, long, differ)
 
   pub numbered_one : (e : Entry T) → Numbered e.number (e ∷ [])
   numbered_one e = (e.number, (refl, tt), refl, omega arith)

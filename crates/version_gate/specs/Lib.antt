@@ -1,4 +1,2 @@
-pub mod Law
 pub mod Lists
-pub mod Seats
-pub mod Snapshots
+pub mod Inner

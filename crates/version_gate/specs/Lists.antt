@@ -1,6 +1,6 @@
 -- Lists of versions with their numbers, and what contracts see of a pass, of a note and of a
 -- publisher.
-use Rattle.std.specs.Prelude.{◌≡◌, ℕ, suc, ◌+◌, ◌<◌, List, [], ◌∷◌, ◌++◌, length, Option}
+use Rattle.std.specs.Prelude.{◌≡◌, ℕ, suc, ◌+◌, ◌<◌, List, [], ◌∷◌, ◌++◌, length}
 use Rattle.logbook.specs.Pages.{Book}
 use Rattle.version_gate.specs.declared.entry.Entry.{Entry}
 
@@ -9,14 +9,6 @@ use Rattle.version_gate.specs.declared.entry.Entry.{Entry}
 pub record Front (T : Type 0) : Type 0 where
   pub gate : Book
   pub list : List (Entry T)
-
--- What a publisher has: its gate, the published list, the number of the last version there, and the
--- version that is staged
-pub record Board (T : Type 0) : Type 0 where
-  pub gate : Book
-  pub list : List (Entry T)
-  pub number : ℕ
-  pub staged : Option (Entry T)
 
 module _ {T : Type 0} where
   -- a version under its number

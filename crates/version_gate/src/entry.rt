@@ -1,7 +1,7 @@
 //! A version with its number.
 ghost use Rattle.std.specs.Prelude.{◌≡◌, IfOk};
 ghost use Rattle.version_gate.specs.Lists.{entry};
-ghost use Rattle.version_gate.specs.Snapshots.{entry_of};
+ghost use Rattle.version_gate.specs.Inner.Snapshots.{entry_of};
 
 use crate::fault::Memory;
 use std::sync::Arc;

@@ -2,9 +2,10 @@
 ghost use Rattle.std.specs.Prelude.{◌≡◌, ◌<◌, ◌≤◌, [], ◌∷◌, length, drop, All, None, IfOk};
 ghost use Rattle.std.specs.Arc.{arc_value};
 ghost use Rattle.left_right.specs.Sides.{view as seat_view};
-ghost use Rattle.version_gate.specs.Lists.{Front, Board, Numbered, entry, front};
-ghost use Rattle.version_gate.specs.Seats.{Knows};
-ghost use Rattle.version_gate.specs.Snapshots.{entry_of};
+ghost use Rattle.version_gate.specs.Lists.{Front, Numbered, entry, front};
+ghost use Rattle.version_gate.specs.Inner.Lists.{Board};
+ghost use Rattle.version_gate.specs.Inner.Seats.{Knows};
+ghost use Rattle.version_gate.specs.Inner.Snapshots.{entry_of};
 
 use crate::entry::Snapshot;
 use crate::fault::Memory;

@@ -4,8 +4,8 @@ ghost use Rattle.std.specs.Arc.{arc_value};
 ghost use mathlib.Core.List.{IsPrefix};
 ghost use Rattle.logbook.specs.Pages.{Book};
 ghost use Rattle.version_gate.specs.Lists.{Front, Numbered, EndsIn, entry};
-ghost use Rattle.version_gate.specs.Snapshots.{entry_of};
-ghost use Rattle.version_gate.specs.Seats.{Knows};
+ghost use Rattle.version_gate.specs.Inner.Snapshots.{entry_of};
+ghost use Rattle.version_gate.specs.Inner.Seats.{Knows};
 ghost use Rattle.left_right.specs.Sides.{view as seat_view};
 
 use crate::entry::Snapshot;
@@ -32,7 +32,7 @@ impl<T: Drop> Model for Pass<T> {
     ghost use Rattle.std.specs.Prelude.{◌≡◌, [], IsSomeAnd};
     ghost use Rattle.left_right.specs.Sides.{view as seat_view};
     ghost use Rattle.version_gate.specs.Lists.{Front, Numbered};
-    ghost use Rattle.version_gate.specs.Seats.{Knows};
+    ghost use Rattle.version_gate.specs.Inner.Seats.{Knows};
 
     ghost Value = { Front T };
 

@@ -2,8 +2,8 @@
 ghost use Rattle.std.specs.Prelude.{◌≡◌, ℕ, ◌+◌, ◌<◌, ◌≤◌, ◌^◌, ◌++◌, [], ◌∷◌, length};
 ghost use mathlib.Core.List.{IsPrefix};
 ghost use Rattle.version_gate.specs.Lists.{Rises, Numbered};
-ghost use Rattle.version_gate.specs.Law.{word_of};
-ghost use Rattle.version_gate.specs.Snapshots.{entry_of};
+ghost use Rattle.version_gate.specs.Inner.Law.{word_of};
+ghost use Rattle.version_gate.specs.Inner.Snapshots.{entry_of};
 
 use crate::entry::{Entry, Snapshot};
 use logbook::{Gain, Offer, Opening, Plain, Play, Rule, Seen, Start, Word};
@@ -15,7 +15,7 @@ pub struct Law;
 impl<T> Rule<Entry<T>, u64> for Law {
     ghost use Rattle.std.specs.Prelude.{[]};
     ghost use base.Fml.{ftrue};
-    ghost use Rattle.version_gate.specs.Law.{IsKept};
+    ghost use Rattle.version_gate.specs.Inner.Law.{IsKept};
 
     ghost holds = { λ cells log. IsKept cells log };
 
@@ -50,14 +50,14 @@ impl<T> Gain<Entry<T>, u64> for Nothing {
 pub struct Add;
 
 impl<T> Play<Entry<T>, u64> for Add {
-    ghost use Rattle.version_gate.specs.Law.{Adds};
+    ghost use Rattle.version_gate.specs.Inner.Law.{Adds};
 
     ghost then = { Adds };
 }
 
 impl<T: Drop> Plain<Snapshot<T>, Entry<T>, u64> for Add {
     ghost use Rattle.std.specs.Prelude.{None};
-    ghost use Rattle.version_gate.specs.Snapshots.{entry_of};
+    ghost use Rattle.version_gate.specs.Inner.Snapshots.{entry_of};
 
     ghost ask = { entry_of };
 
@@ -69,7 +69,7 @@ pub struct Begin;
 
 impl<T: Drop> Opening<Snapshot<T>, Entry<T>> for Begin {
     ghost use Rattle.std.specs.Prelude.{[], ◌∷◌};
-    ghost use Rattle.version_gate.specs.Snapshots.{entry_of};
+    ghost use Rattle.version_gate.specs.Inner.Snapshots.{entry_of};
 
     ghost log = { λ count opening. entry_of opening ∷ [] };
 }

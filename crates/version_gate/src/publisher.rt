@@ -1,8 +1,9 @@
 //! The publisher: one version is staged, and then published.
 ghost use Rattle.std.specs.Prelude.{◌≡◌, ◌+◌, ◌<◌, ◌^◌, ◌++◌, ◌∷◌, [], length, Ok, Some, None, IsSome, IfSome};
 ghost use Rattle.std.specs.Arc.{arc_value};
-ghost use Rattle.version_gate.specs.Lists.{Front, Board, Numbered, entry, front};
-ghost use Rattle.version_gate.specs.Law.{word_of};
+ghost use Rattle.version_gate.specs.Lists.{Front, Numbered, entry, front};
+ghost use Rattle.version_gate.specs.Inner.Lists.{Board};
+ghost use Rattle.version_gate.specs.Inner.Law.{word_of};
 
 use crate::entry::Snapshot;
 use crate::fault::Memory;
@@ -30,9 +31,10 @@ pub struct Publisher<T: Drop> {
 
 impl<T: Drop> Model for Publisher<T> {
     ghost use Rattle.std.specs.Prelude.{◌≡◌, ◌+◌, [], length, Some, IfSome, option_map};
-    ghost use Rattle.version_gate.specs.Lists.{Board, Numbered, front};
-    ghost use Rattle.version_gate.specs.Law.{word_of};
-    ghost use Rattle.version_gate.specs.Snapshots.{entry_of};
+    ghost use Rattle.version_gate.specs.Lists.{Numbered, front};
+    ghost use Rattle.version_gate.specs.Inner.Lists.{Board};
+    ghost use Rattle.version_gate.specs.Inner.Law.{word_of};
+    ghost use Rattle.version_gate.specs.Inner.Snapshots.{entry_of};
 
     ghost Value = { Board T };
 

@@ -17,7 +17,7 @@ pub struct Known {
 pub struct Gates;
 
 impl<T: Drop> Protocol<Shown<T>, Known> for Gates {
-    ghost use Rattle.version_gate.specs.Seats.{Agree, stranger};
+    ghost use Rattle.version_gate.specs.Inner.Seats.{Agree, stranger};
 
     ghost holds = { λ x views. Agree x.gate views };
 
@@ -28,7 +28,7 @@ impl<T: Drop> Protocol<Shown<T>, Known> for Gates {
 pub struct Enter;
 
 impl<T: Drop> Outcome<Shown<T>, Known> for Enter {
-    ghost use Rattle.version_gate.specs.Seats.{Enters};
+    ghost use Rattle.version_gate.specs.Inner.Seats.{Enters};
 
     ghost then = { Enters };
 }
@@ -37,7 +37,7 @@ impl<T: Drop> Outcome<Shown<T>, Known> for Enter {
 pub struct Show;
 
 impl<T: Drop> Outcome<Shown<T>, Known> for Show {
-    ghost use Rattle.version_gate.specs.Seats.{Shows};
+    ghost use Rattle.version_gate.specs.Inner.Seats.{Shows};
 
     ghost then = { Shows };
 }
@@ -46,7 +46,7 @@ impl<T: Drop> Outcome<Shown<T>, Known> for Show {
 pub struct Teach;
 
 impl<T: Drop> Outcome<Shown<T>, Known> for Teach {
-    ghost use Rattle.version_gate.specs.Seats.{Teaches};
+    ghost use Rattle.version_gate.specs.Inner.Seats.{Teaches};
 
     ghost then = { Teaches };
 }
@@ -64,7 +64,7 @@ impl Split<Known> for Copies {
 pub struct Takes;
 
 impl Join<Known> for Takes {
-    ghost use Rattle.version_gate.specs.Seats.{stranger};
+    ghost use Rattle.version_gate.specs.Inner.Seats.{stranger};
 
     ghost both = { λ v w. w };
 

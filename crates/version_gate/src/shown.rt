@@ -1,7 +1,7 @@
 //! The value that lies in the two copies: a version, with the list that it ends.
 ghost use Rattle.std.specs.Prelude.{◌≡◌, [], IfOk};
 ghost use Rattle.version_gate.specs.Lists.{EndsIn, Numbered, Front};
-ghost use Rattle.version_gate.specs.Snapshots.{entry_of};
+ghost use Rattle.version_gate.specs.Inner.Snapshots.{entry_of};
 
 use crate::entry::Snapshot;
 use crate::fault::Memory;
@@ -20,7 +20,7 @@ pub struct Shown<T: Drop> {
 impl<T: Drop> Model for Shown<T> {
     ghost use Rattle.std.specs.Prelude.{◌≡◌, []};
     ghost use Rattle.version_gate.specs.Lists.{Front, EndsIn, Numbered};
-    ghost use Rattle.version_gate.specs.Snapshots.{entry_of};
+    ghost use Rattle.version_gate.specs.Inner.Snapshots.{entry_of};
 
     ghost Value = { Front T };
 

@@ -4,9 +4,9 @@ use Rattle.std.proofs.lemmas.Bool.{false≢true}
 use Rattle.emu_names.specs.declared.names.BundleKey.{BundleKey}
 use Rattle.bundle_index.specs.Index.{IndexParts}
 use Rattle.version_tree.specs.declared.change.Change.{Change}
-use Rattle.version_tree.specs.Version.{indexed_with, others, put_indexed}
-use Rattle.version_tree.specs.Pages.{Each, AreRising, IsPage, KeepPages, IsChangeOf, bundles_on, bundles_behind, pages_behind}
-use Rattle.version_tree.specs.Places.{IsPageFor, IsAtMostOneMore, AreOneLess, bundles_but, has_room}
+use Rattle.version_tree.specs.Inner.Version.{indexed_with, others, put_indexed}
+use Rattle.version_tree.specs.Inner.Pages.{Each, AreRising, IsPage, KeepPages, IsChangeOf, bundles_on, bundles_behind, pages_behind}
+use Rattle.version_tree.specs.Inner.Places.{IsPageFor, IsAtMostOneMore, AreOneLess, bundles_but, has_room}
 use Rattle.version_tree.proofs.Elements.{each_at, has_one, is_there, some_same}
 use Rattle.version_tree.proofs.Orders.{rising_put, rising_others}
 use Rattle.version_tree.proofs.Leaves.{change_holds, change_sized, joined_before, joined_behind, put_on, others_on}

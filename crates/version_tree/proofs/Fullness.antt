@@ -1,8 +1,8 @@
 -- Neighbouring pages have more than 64 bundles together, also behind a change.
 use Rattle.std.proofs.Common.{◌≡◌, ℕ, zero, suc, ◌-◌, ◌+◌, ◌<◌, ◌≤◌, Bool, true, false, nat_le, List, [], ◌∷◌, ◌++◌, length, take, drop, slice_get, Option, Some, None, refl, sym, ◌∙◌, ap, subst, arith, append_assoc, leb-true, leb-false, length-take, length-drop, length-append, le-leb}
 use Rattle.bundle_index.specs.Index.{IndexParts}
-use Rattle.version_tree.specs.Pages.{Each, IsPage, IsFullBeside, AreFull, pages_of, cut_unless}
-use Rattle.version_tree.specs.Places.{has_room}
+use Rattle.version_tree.specs.Inner.Pages.{Each, IsPage, IsFullBeside, AreFull, pages_of, cut_unless}
+use Rattle.version_tree.specs.Inner.Places.{has_room}
 use Rattle.version_tree.proofs.Elements.{each_take, each_drop, each_at, split_at, take_next, drop_next}
 
 -- Bundles as pages, by their number.

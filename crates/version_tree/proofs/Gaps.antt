@@ -7,9 +7,9 @@ use Rattle.emu_names.specs.declared.names.BundleKey.{BundleKey}
 use Rattle.bundle_index.specs.Index.{IndexParts}
 use Rattle.edit_rules.specs.Database.{same_key, is_before}
 use Rattle.edit_rules.proofs.KeyPlaces.{before_or, before_trans, key_same}
-use Rattle.version_tree.specs.Version.{has_key, indexed_with, others, placed, put_indexed}
-use Rattle.version_tree.specs.Pages.{Each, AreBefore, AreBehind, AreRising}
-use Rattle.version_tree.specs.Places.{IsGap, IsAtMostOneMore, is_of_key, has_key_at}
+use Rattle.version_tree.specs.Inner.Version.{has_key, indexed_with, others, placed, put_indexed}
+use Rattle.version_tree.specs.Inner.Pages.{Each, AreBefore, AreBehind, AreRising}
+use Rattle.version_tree.specs.Inner.Places.{IsGap, IsAtMostOneMore, is_of_key, has_key_at}
 use Rattle.version_tree.proofs.Elements.{each_map, each_low, each_high, Pairs, split_by, split_at, first_behind, whole, is_there}
 use Rattle.version_tree.proofs.Orders.{AreParts, behind_of, not_same, rising_parts, others_between, put_between, found_between}
 

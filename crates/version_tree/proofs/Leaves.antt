@@ -8,9 +8,9 @@ use Rattle.bundle_index.specs.Index.{IndexParts}
 use Rattle.edit_rules.specs.Database.{is_before}
 use Rattle.edit_rules.proofs.KeyPlaces.{before_trans}
 use Rattle.version_tree.specs.declared.change.Change.{Change}
-use Rattle.version_tree.specs.Version.{indexed_with, others, put_indexed}
-use Rattle.version_tree.specs.Pages.{Each, AreBefore, AreBehind, AreRising, IsPage, bundles_on, starts_by, pages_of, cut_unless, bundles_behind, pages_behind, KeepPages, IsChangeOf}
-use Rattle.version_tree.specs.Places.{IsPageFor}
+use Rattle.version_tree.specs.Inner.Version.{indexed_with, others, put_indexed}
+use Rattle.version_tree.specs.Inner.Pages.{Each, AreBefore, AreBehind, AreRising, IsPage, bundles_on, starts_by, pages_of, cut_unless, bundles_behind, pages_behind, KeepPages, IsChangeOf}
+use Rattle.version_tree.specs.Inner.Places.{IsPageFor}
 use Rattle.version_tree.proofs.Elements.{each_append, each_parts, each_map, each_take, each_drop, each_at, Pairs, split_by, split_at, take_next, drop_next, whole, get_first, get_second, drop_end}
 use Rattle.version_tree.proofs.Orders.{AreParts, below, behind_of, rising_parts, others_between, put_between, found_between}
 

@@ -6,3 +6,5 @@ pub mod Fullness
 pub mod Changes
 pub mod States
 pub mod Versions
+mod StepChanges
+mod Drafting

@@ -5,8 +5,8 @@ use Rattle.emu_names.specs.declared.names.BundleKey.{BundleKey}
 use Rattle.bundle_index.specs.Index.{IndexParts}
 use Rattle.edit_rules.specs.Database.{same_key, is_before}
 use Rattle.edit_rules.proofs.KeyPlaces.{same_itself, before_or, before_trans, not_back, key_same, apart_before, apart_after}
-use Rattle.version_tree.specs.Version.{has_key, indexed_with, others, placed, put_indexed}
-use Rattle.version_tree.specs.Pages.{Each, AreBefore, AreBehind, AreRising}
+use Rattle.version_tree.specs.Inner.Version.{has_key, indexed_with, others, placed, put_indexed}
+use Rattle.version_tree.specs.Inner.Pages.{Each, AreBefore, AreBehind, AreRising}
 use Rattle.version_tree.proofs.Elements.{each_append, each_parts, each_map, each_filter}
 
 -- Keys.

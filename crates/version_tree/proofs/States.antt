@@ -10,9 +10,10 @@ use Rattle.bundle_index.specs.Index.{IndexParts}
 use Rattle.edit_rules.specs.declared.bundle_change.Counts.{Counts}
 use Rattle.edit_rules.specs.Database.{IsBundleOf, is_before, same_key, bundle_with, without, put_in_order, put_for, all_items, are_keys_rising}
 use Rattle.edit_rules.proofs.KeyPlaces.{key_same}
-use Rattle.version_tree.specs.Version.{bundles_of, has_key, indexed_with, others, placed, put_indexed}
-use Rattle.version_tree.specs.Kept.{counts_in}
-use Rattle.version_tree.specs.Pages.{Each, AreBehind, AreRising}
+use Rattle.version_tree.specs.Version.{bundles_of}
+use Rattle.version_tree.specs.Inner.Version.{has_key, indexed_with, others, placed, put_indexed}
+use Rattle.version_tree.specs.Inner.Kept.{counts_in}
+use Rattle.version_tree.specs.Inner.Pages.{Each, AreBehind, AreRising}
 use Rattle.version_tree.proofs.Elements.{each_filter}
 use Rattle.version_tree.proofs.Orders.{apart_back, others_apart, each_put}
 

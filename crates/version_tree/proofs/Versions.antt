@@ -9,9 +9,10 @@ use Rattle.bundle_state.specs.Valid.{KeepsBundleRules}
 use Rattle.bundle_index.specs.Index.{IndexParts}
 use Rattle.edit_rules.specs.declared.bundle_change.Counts.{Counts}
 use Rattle.edit_rules.specs.Database.{DatabaseParts, IsBundleOf, all_items, are_keys_rising, counts_of}
-use Rattle.version_tree.specs.Version.{VersionParts, KeepsVersionRules, bundles_of, has_key, indexed_with, next_number, others, put_indexed, state_of, state_put, version_with, version_without}
-use Rattle.version_tree.specs.Kept.{IsKept, counts_in}
-use Rattle.version_tree.specs.Pages.{AreRising}
+use Rattle.version_tree.specs.Version.{VersionParts, bundles_of, state_of}
+use Rattle.version_tree.specs.Inner.Version.{KeepsVersionRules, has_key, indexed_with, next_number, others, put_indexed, state_put, version_with, version_without}
+use Rattle.version_tree.specs.Inner.Kept.{IsKept, counts_in}
+use Rattle.version_tree.specs.Inner.Pages.{AreRising}
 use Rattle.version_tree.proofs.Elements.{some_same}
 use Rattle.version_tree.proofs.Orders.{rising_put, rising_others}
 use Rattle.version_tree.proofs.States.{all_with, all_without, counts_same, items_others, items_put, length_others, length_put, length_bundles, items_few, state_others, state_rising, state_with}

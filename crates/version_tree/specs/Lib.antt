@@ -1,4 +1,3 @@
 pub mod Version
-pub mod Pages
-pub mod Places
-pub mod Kept
+pub mod Drafts
+pub mod Inner

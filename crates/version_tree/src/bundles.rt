@@ -3,14 +3,13 @@
 ghost use Rattle.std.specs.Prelude.{◌≡◌, ◌≢◌, ◌≤◌, true, false, suc, [], ◌∷◌, length, IfOk, None, option_copied};
 ghost use Rattle.std.specs.List.Sorted.{IsPartitionPoint};
 ghost use Rattle.edit_rules.specs.Database.{is_before};
-ghost use Rattle.version_tree.specs.Version.{has_key, indexed_with, others, put_indexed};
-ghost use Rattle.version_tree.specs.Pages.{AreRising};
-ghost use Rattle.version_tree.specs.Places.{IsAtMostOneMore, IsGap, has_key_at};
+ghost use Rattle.version_tree.specs.Inner.Version.{has_key, indexed_with, others, put_indexed};
+ghost use Rattle.version_tree.specs.Inner.Pages.{AreRising};
+ghost use Rattle.version_tree.specs.Inner.Places.{IsAtMostOneMore, IsGap, has_key_at};
 
 use crate::splice::spliced;
 use bundle_index::Indexed;
-use emu_lists::{Series, Shared};
-use emu_names::{BundleKey, Memory};
+use emu_names::{BundleKey, Memory, Series, Shared};
 use std::alloc::Global;
 
 /// The places of a list from one to before another one.

@@ -1,7 +1,7 @@
 //! A change of pages, before it is made.
 
 use bundle_index::Indexed;
-use emu_lists::{Series, Shared};
+use emu_names::{Series, Shared};
 
 /// Bundles that come into the place of some pages.
 #[derive(Drop)]

@@ -3,6 +3,8 @@
 
 mod bundles;
 mod change;
+mod draft;
+mod next;
 mod page;
 mod pages;
 mod sizes;
@@ -10,4 +12,6 @@ mod splice;
 mod tree;
 mod version;
 
+pub use draft::Draft;
+pub use next::{next_drafted, next_version};
 pub use version::{Version, versions_cross_threads};

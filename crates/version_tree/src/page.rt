@@ -1,11 +1,10 @@
 //! A page of bundles in the order of their keys.
 ghost use Rattle.std.specs.Prelude.{◌≡◌, ◌≤◌, length};
-ghost use Rattle.version_tree.specs.Pages.{IsPage, starts_by};
+ghost use Rattle.version_tree.specs.Inner.Pages.{IsPage, starts_by};
 
 use crate::bundles::is_before;
 use bundle_index::Indexed;
-use emu_lists::{Series, Shared};
-use emu_names::BundleKey;
+use emu_names::{BundleKey, Series, Shared};
 use std::marker::Model;
 
 /// A page of 1 to 128 bundles, which contracts see as their list.
@@ -20,7 +19,7 @@ impl Model for Page {
 
     ghost Value = { List IndexParts };
 
-    ghost use Rattle.version_tree.specs.Pages.{IsPage};
+    ghost use Rattle.version_tree.specs.Inner.Pages.{IsPage};
 
     ghost view = { λ p. p.bundles };
 

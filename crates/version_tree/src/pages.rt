@@ -5,9 +5,9 @@ ghost use Rattle.std.specs.List.{slice_get};
 ghost use Rattle.std.specs.List.Sorted.{IsPartitionPoint};
 ghost use Rattle.version_tree.specs.declared.sizes.TheConstants.{HALF, PAGE};
 ghost use Rattle.version_tree.specs.declared.pages.Neighbour.TheVariants as Neighbour;
-ghost use Rattle.version_tree.specs.Version.{indexed_with, others, put_indexed};
-ghost use Rattle.version_tree.specs.Pages.{IsChangeOf, IsPage, KeepPages, bundles_behind, bundles_on, first_change, pages_behind, pages_of, starts_by};
-ghost use Rattle.version_tree.specs.Places.{AreOneLess, IsNeighbour, IsPageFor, bundles_but, has_room};
+ghost use Rattle.version_tree.specs.Inner.Version.{indexed_with, others, put_indexed};
+ghost use Rattle.version_tree.specs.Inner.Pages.{IsChangeOf, IsPage, KeepPages, bundles_behind, bundles_on, first_change, pages_behind, pages_of, starts_by};
+ghost use Rattle.version_tree.specs.Inner.Places.{AreOneLess, IsNeighbour, IsPageFor, bundles_but, has_room};
 
 use crate::bundles::{bundle_of, only, with, without};
 use crate::change::Change;
@@ -15,8 +15,7 @@ use crate::page::Page;
 use crate::sizes::{HALF, PAGE};
 use crate::splice::{joined, spliced};
 use bundle_index::Indexed;
-use emu_lists::{Series, Shared};
-use emu_names::{BundleKey, Memory};
+use emu_names::{BundleKey, Memory, Series, Shared};
 use std::alloc::Global;
 
 /// The page with which the bundles of a page are joined.

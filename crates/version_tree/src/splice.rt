@@ -1,8 +1,7 @@
 //! Lists in which some elements have come into the place of others.
 ghost use Rattle.std.specs.Prelude.{◌≡◌, ◌≤◌, ◌++◌, length, take, drop, IfOk, OnOk};
 
-use emu_lists::{PlainData, Series};
-use emu_names::Memory;
+use emu_names::{Memory, PlainData, Series};
 use std::alloc::Global;
 
 /// Puts copies of the elements last. The only refusal is want of memory.

@@ -1,14 +1,13 @@
 //! Bundles in the order of their keys, on pages that copies share.
 ghost use Rattle.std.specs.Prelude.{◌≡◌, ◌≢◌, ◌<◌, [], length, IfOk, option_copied, Some, None};
 ghost use Rattle.std.specs.List.{slice_get};
-ghost use Rattle.version_tree.specs.Version.{indexed_with, others, put_indexed};
-ghost use Rattle.version_tree.specs.Pages.{AreRising};
+ghost use Rattle.version_tree.specs.Inner.Version.{indexed_with, others, put_indexed};
+ghost use Rattle.version_tree.specs.Inner.Pages.{AreRising};
 
 use crate::page::Page;
 use crate::pages::{bundle_at, bundle_on, pages_with, pages_without};
 use bundle_index::Indexed;
-use emu_lists::{PlainData, Series, Shared};
-use emu_names::{BundleKey, Memory};
+use emu_names::{BundleKey, Memory, PlainData, Series, Shared};
 use std::alloc::Global;
 use std::marker::Model;
 
@@ -27,7 +26,7 @@ impl Model for Tree {
 
     ghost Value = { List IndexParts };
 
-    ghost use Rattle.version_tree.specs.Pages.{KeepPages, bundles_on};
+    ghost use Rattle.version_tree.specs.Inner.Pages.{KeepPages, bundles_on};
 
     ghost view = { λ t. bundles_on t.pages };
 

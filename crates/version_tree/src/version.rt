@@ -6,16 +6,16 @@ ghost use Rattle.emu_names.specs.declared.limits.TheConstants.{BUNDLES};
 ghost use Rattle.bundle_state.specs.Built.{FitsConfig};
 ghost use Rattle.bundle_state.specs.Valid.{KeepsBundleRules};
 ghost use Rattle.edit_rules.specs.Database.{bundle_with, counts_of, empty_database};
-ghost use Rattle.version_tree.specs.Kept.{counts_in};
-ghost use Rattle.version_tree.specs.Pages.{AreRising};
-ghost use Rattle.version_tree.specs.Version.{KeepsVersionRules, bundles_of, first_version, indexed_with, others, put_indexed, state_of, state_put, version_with, version_without};
+ghost use Rattle.version_tree.specs.Inner.Kept.{counts_in};
+ghost use Rattle.version_tree.specs.Inner.Pages.{AreRising};
+ghost use Rattle.version_tree.specs.Version.{bundles_of, state_of};
+ghost use Rattle.version_tree.specs.Inner.Version.{KeepsVersionRules, first_version, indexed_with, others, put_indexed, state_put, version_with, version_without};
 
 use crate::tree::Tree;
 use bundle_index::Indexed;
 use db_config::Config;
 use edit_rules::Counts;
-use emu_lists::{PlainData, Shared};
-use emu_names::{BundleKey, Memory};
+use emu_names::{BundleKey, Memory, PlainData, Shared};
 use std::alloc::Global;
 use std::marker::Model;
 
@@ -39,7 +39,7 @@ impl Model for Version {
 
     ghost Value = { VersionParts };
 
-    ghost use Rattle.version_tree.specs.Kept.{IsKept};
+    ghost use Rattle.version_tree.specs.Inner.Kept.{IsKept};
 
     ghost view = { λ v. record { config = v.config; bundles = v.bundles; number = v.number } };
 

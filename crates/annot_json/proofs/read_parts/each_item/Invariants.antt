@@ -1,6 +1,6 @@
 use Rattle.std.proofs.Common.{◌≡◌}
 use Rattle.json_view.specs.Lists.{each_from}
-use Rattle.json_view.specs.Seen.{seen_at}
+use Rattle.json_view.specs.Inner.Seen.{seen_at}
 use Rattle.json_view.specs.Steps.{with_front}
 use Rattle.annot_json.specs.Read.{item_in}
 use Rattle.annot_json.proofs.read_parts.each_item.Given as goal

@@ -1,5 +1,5 @@
 use Rattle.std.proofs.Common.{rules, ◌≤◌, length}
-use Rattle.annot_json.specs.Laws.{has_read_id}
+use Rattle.annot_json.specs.Inner.Laws.{has_read_id}
 use Rattle.annot_json.proofs.Shown.{items_shown, all_end}
 use Rattle.annot_json.proofs.values.items_value.Goals as goal
 

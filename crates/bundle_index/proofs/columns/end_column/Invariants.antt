@@ -1,5 +1,5 @@
 use Rattle.std.proofs.Common.{◌≡◌, take}
-use Rattle.bundle_index.specs.Columns.{ends_of}
+use Rattle.bundle_index.specs.Inner.Columns.{ends_of}
 use Rattle.bundle_index.proofs.columns.end_column.Given as goal
 
 abbrev pub invariant-loop-item : goal.invariant-loop-item

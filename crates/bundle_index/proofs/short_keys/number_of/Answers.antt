@@ -1,6 +1,6 @@
 use Rattle.std.proofs.Common.{length, slice_index, ◌-◌, ap, sym, subst, refl, arith}
 use Rattle.std.proofs.lemmas.List.{drop_all}
-use Rattle.bundle_index.specs.Keys.{AreBytes, number_of}
+use Rattle.bundle_index.specs.Inner.Keys.{AreBytes, number_of}
 use Rattle.bundle_index.proofs.ShortLabels.{all_read, byte_more, number_fits}
 use Rattle.bundle_index.proofs.short_keys.number_of.Goals as goal
 

@@ -1,5 +1,5 @@
 use Rattle.std.proofs.Common.{◌≡◌, ◌≤◌, length, drop}
-use Rattle.bundle_index.specs.Keys.{AreBytes, number_of}
+use Rattle.bundle_index.specs.Inner.Keys.{AreBytes, number_of}
 use Rattle.bundle_index.proofs.short_keys.number_of.Given as goal
 
 abbrev pub invariant-loop-left : goal.invariant-loop-left

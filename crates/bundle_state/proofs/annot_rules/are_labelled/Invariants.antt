@@ -1,6 +1,6 @@
 use Rattle.std.proofs.Common.{◌≡◌, map, drop}
 use Rattle.std.specs.List.{list_any}
-use Rattle.db_config.specs.Names.{same_text}
+use Rattle.emu_names.specs.Texts.{same_text}
 use Rattle.level_items.specs.declared.annot.AnnotLabel.{AnnotLabel}
 use Rattle.bundle_state.proofs.annot_rules.are_labelled.Given as goal
 

@@ -1,7 +1,7 @@
 use Rattle.std.proofs.Common.{◌≡◌, ◌∙◌, ◌+◌, sym, ap, [], get_or, drop, Err}
 use Rattle.emu_names.specs.declared.rules.Broken.{Broken}
 use Rattle.level_items.specs.declared.annot.AnnotLink.{AnnotLink}
-use Rattle.bundle_state.specs.Placed.{level_in}
+use Rattle.bundle_state.specs.Inner.Placed.{level_in}
 use Rattle.bundle_state.specs.Linked.{put_link, put_links}
 use Rattle.bundle_state.proofs.Walks.{drop_get}
 use Rattle.bundle_state.proofs.LinksKept.{onward_stops, onward_goes, broken_ends}

@@ -2,7 +2,7 @@ use Rattle.std.proofs.Common.{arith, nat_eq, ap, ◌∙◌}
 use Rattle.std.specs.List.{list_any}
 use Rattle.std.specs.Option.{option_or}
 use Rattle.level_items.specs.Levels.{Level, ids_of}
-use Rattle.bundle_state.specs.Placed.{level_in}
+use Rattle.bundle_state.specs.Inner.Placed.{level_in}
 use Rattle.bundle_state.proofs.IdLevels.{levels_step, level_if}
 use Rattle.bundle_state.proofs.places.places_of.Goals as goal
 

@@ -1,6 +1,6 @@
 use Rattle.std.proofs.Common.{◌≡◌, ℕ, take}
 use Rattle.bundle_state.specs.Bundle.{level_of_id}
-use Rattle.bundle_state.specs.Placed.{level_in}
+use Rattle.bundle_state.specs.Inner.Placed.{level_in}
 use Rattle.bundle_state.proofs.places.places_of.Given as goal
 
 abbrev pub invariant-loop-level : goal.invariant-loop-level

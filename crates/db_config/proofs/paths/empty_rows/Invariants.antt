@@ -1,6 +1,6 @@
 use Rattle.std.proofs.Common.{◌≡◌, [], map}
 use Rattle.std.specs.List.{range_with_len}
-use Rattle.db_config.specs.Above.{above_row}
+use Rattle.db_config.specs.Inner.Above.{above_row}
 use Rattle.db_config.proofs.paths.empty_rows.Given as goal
 
 -- the rows so far

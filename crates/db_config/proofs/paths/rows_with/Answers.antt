@@ -1,5 +1,5 @@
 use Rattle.std.proofs.Common.{ℕ, ◌∷◌}
-use Rattle.db_config.specs.Above.{above_row}
+use Rattle.db_config.specs.Inner.Above.{above_row}
 use Rattle.db_config.proofs.Tables.{table_step}
 use Rattle.db_config.proofs.paths.rows_with.Goals as goal
 

@@ -1,5 +1,5 @@
 use Rattle.std.proofs.Common.{arith}
-use Rattle.edit_code.specs.Codes.{entry_of}
+use Rattle.edit_code.specs.Inner.Codes.{entry_of}
 use Rattle.edit_code.specs.Edits.{entry_form}
 use Rattle.edit_code.specs.Names.{has_names}
 use Rattle.edit_code.proofs.EditLaws.{entry_law}

@@ -1,6 +1,6 @@
 use Rattle.std.proofs.Common.{refl}
-use Rattle.code_forms.specs.Parts.{byte_in, led, pair, shaped, imaged, u32_form}
-use Rattle.code_forms.specs.Utf8.{text_form, utf8_form}
+use Rattle.byte_forms.specs.Parts.{byte_in, led, pair, shaped, imaged, u32_form}
+use Rattle.byte_forms.specs.Utf8.{text_form, utf8_form}
 use Rattle.edit_code.specs.Annots.{id_form, key_form}
 use Rattle.edit_code.specs.Codes.{entry_code}
 use Rattle.edit_code.specs.Edits.{body_form, edit_form, entry_form, keyed_form, session_form}

@@ -1,4 +1,4 @@
-use Rattle.code_forms.proofs.Stops.{prefix_free}
+use Rattle.byte_forms.proofs.Stops.{prefix_free}
 use Rattle.edit_code.specs.Edits.{entry_form}
 use Rattle.edit_code.specs.Heads.{head_form}
 use Rattle.edit_code.proofs.EditLaws.{entry_law}

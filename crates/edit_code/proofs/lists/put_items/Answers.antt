@@ -1,5 +1,5 @@
 use Rattle.std.proofs.Common.{◌++◌, arith}
-use Rattle.code_forms.specs.Lists.{items_code}
+use Rattle.byte_forms.specs.Lists.{items_code}
 use Rattle.edit_code.proofs.Loops.{put_more, put_done}
 use Rattle.edit_code.proofs.lists.put_items.Goals as goal
 

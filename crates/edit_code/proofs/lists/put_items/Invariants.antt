@@ -1,6 +1,6 @@
 -- What is written and what is still to be written are all that was asked for.
 use Rattle.std.proofs.Common.{◌≡◌, ◌++◌, drop}
-use Rattle.code_forms.specs.Lists.{items_code}
+use Rattle.byte_forms.specs.Lists.{items_code}
 use Rattle.edit_code.proofs.lists.put_items.Given as goal
 
 abbrev pub invariant-loop-item : goal.invariant-loop-item

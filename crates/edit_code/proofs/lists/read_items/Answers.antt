@@ -1,5 +1,5 @@
 use Rattle.std.proofs.Common.{◌-◌, arith, refl, ap, ◌∙◌}
-use Rattle.code_forms.specs.Lists.{items_at}
+use Rattle.byte_forms.specs.Lists.{items_at}
 use Rattle.edit_code.proofs.Loops.{put_front, read_first, read_more, read_done, read_fails}
 use Rattle.edit_code.proofs.lists.read_items.Goals as goal
 

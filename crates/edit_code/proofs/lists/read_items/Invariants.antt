@@ -1,6 +1,6 @@
 -- What was read and what is still to be read are all that is there.
 use Rattle.std.proofs.Common.{◌≡◌, ◌-◌}
-use Rattle.code_forms.specs.Lists.{items_at}
+use Rattle.byte_forms.specs.Lists.{items_at}
 use Rattle.edit_code.proofs.Loops.{put_front}
 use Rattle.edit_code.proofs.lists.read_items.Given as goal
 

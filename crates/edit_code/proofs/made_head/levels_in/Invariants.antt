@@ -1,7 +1,7 @@
 -- The first ones are there, and whether all pass is whether those that are left do.
 use Rattle.std.proofs.Common.{◌≡◌, take, drop}
 use Rattle.std.specs.List.{list_all}
-use Rattle.edit_code.specs.Names.{is_level}
+use Rattle.db_config.specs.Made.{is_level}
 use Rattle.edit_code.proofs.made_head.levels_in.Given as goal
 
 abbrev pub invariant-loop-part : goal.invariant-loop-part

@@ -2,8 +2,9 @@ use Rattle.std.proofs.Common.{◌≡◌, ℕ, ◌+◌, ◌<◌, Bool, true, fals
 use Rattle.std.specs.Prelude.{Some, None}
 use Rattle.std.specs.List.{list_all}
 use Rattle.std.proofs.lemmas.List.{take_more}
-use Rattle.edit_code.specs.Names.{if_so, is_attribute}
-use Rattle.edit_code.proofs.Tests.{all_more}
+use Rattle.db_config.specs.Made.{is_attribute}
+use Rattle.edit_code.specs.Inner.Names.{if_so}
+use Rattle.db_config.proofs.Tests.{all_more}
 use Rattle.edit_code.proofs.made_head.push_attributes.Goals as goal
 
 -- a value that is there is the one that passed its test

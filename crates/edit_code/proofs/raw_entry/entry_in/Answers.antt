@@ -8,7 +8,8 @@ use Rattle.edit_rules.specs.declared.edit.Entry.{Entry}
 use Rattle.edit_code.specs.declared.fields.Fields.{Fields}
 use Rattle.edit_code.specs.declared.fields.Fields.TheVariants as fields
 use Rattle.edit_code.specs.Edits.{edit_of}
-use Rattle.edit_code.specs.Names.{has_names, if_so, is_key}
+use Rattle.edit_code.specs.Names.{has_names, is_key}
+use Rattle.edit_code.specs.Inner.Names.{if_so}
 use Rattle.edit_code.proofs.Tests.{so_true}
 use Rattle.edit_code.proofs.raw_entry.entry_in.Goals as goal
 

@@ -1,6 +1,6 @@
 use Rattle.std.proofs.Common.{ℕ, List, length}
 use Rattle.emu_disk.specs.Disk.{Torn}
-use Rattle.emu_disk.specs.Laws.{torn_same}
+use Rattle.emu_disk.specs.Inner.Laws.{torn_same}
 use Rattle.emu_disk.proofs.Moments.{started, goes_on}
 use Rattle.edit_journal.proofs.journal.write_safely.Goals as goal
 

@@ -1,5 +1,5 @@
 use Rattle.std.proofs.Common.{length}
-use Rattle.edit_journal.specs.Recovery.{IsFront}
+use Rattle.edit_journal.specs.Inner.Recovery.{IsFront}
 use Rattle.edit_journal.proofs.recovery.find_list.Given as goal
 
 abbrev pub invariant-gates : goal.invariant-gates

@@ -2,7 +2,7 @@ use Rattle.std.proofs.Common.{◌≡◌, ◌∙◌, ◌++◌, length, take, Err,
 use Rattle.std.proofs.lemmas.Grind.{common_steps}
 use Rattle.emu_disk.proofs.Moments.{goes_on}
 use Rattle.edit_journal.specs.Store.{limit}
-use Rattle.edit_journal.specs.Held.{Reads}
+use Rattle.edit_journal.specs.Inner.Held.{Reads}
 use Rattle.edit_journal.proofs.Found.{FrontOf, front_more, front_all, front_long}
 use Rattle.edit_journal.proofs.recovery.read_all.Goals as goal
 

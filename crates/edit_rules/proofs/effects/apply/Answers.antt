@@ -4,7 +4,7 @@ use Rattle.bundle_state.proofs.LinksKept.{fine_value}
 use Rattle.edit_rules.specs.Edits.{key_of}
 use Rattle.edit_rules.specs.Changes.{changed}
 use Rattle.edit_rules.specs.Database.{DatabaseParts, with_bundles, counts_of}
-use Rattle.edit_rules.specs.KeyPlaces.{IsKeyPlace, found_at, put_at}
+use Rattle.edit_rules.specs.Inner.KeyPlaces.{IsKeyPlace, found_at, put_at}
 use Rattle.edit_rules.proofs.Stays.{edits_keep_rules, effect_at, changed_as}
 use Rattle.edit_rules.proofs.effects.apply.Goals as goal
 

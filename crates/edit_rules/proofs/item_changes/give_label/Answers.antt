@@ -1,7 +1,7 @@
 use Rattle.std.proofs.Common.{◌≡◌, ◌<◌, ℕ, List, length, Option, Some, None, Err, Result, option_map, rules, sym, ◌∙◌, ap, subst}
 use Rattle.std.specs.List.{slice_get}
 use Rattle.std.specs.Option.{option_and_then}
-use Rattle.emu_names.specs.Gives.{GivesOrBroken}
+use Rattle.emu_names.specs.Inner.Gives.{GivesOrBroken}
 use Rattle.emu_names.specs.declared.rules.Broken.{Broken}
 use Rattle.emu_names.specs.declared.rules.Broken.TheVariants as broken
 use Rattle.db_config.specs.declared.parts.ConfigParts.{ConfigParts}

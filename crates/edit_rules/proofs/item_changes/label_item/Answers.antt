@@ -1,6 +1,6 @@
 use Rattle.std.proofs.Common.{◌<◌, IfSome, sym, subst}
 use Rattle.bundle_state.specs.Bundle.{BundleParts}
-use Rattle.bundle_state.specs.Changed.{attributes_with}
+use Rattle.bundle_state.specs.Inner.Changed.{attributes_with}
 use Rattle.edit_rules.proofs.item_changes.label_item.Goals as goal
 
 pub set_label-requires-clause-attribute : goal.set_label-requires-clause-attribute

@@ -1,7 +1,7 @@
 use Rattle.std.proofs.Common.{◌≡◌, ◌<◌, ℕ, List, length, Option, None, Result, IfSome, IsTrue, sym, ◌∙◌, ap, subst, arith}
 use Rattle.std.specs.List.{slice_get}
 use Rattle.std.proofs.lemmas.Option.{slice_get_within}
-use Rattle.emu_names.specs.Gives.{GivesOrBroken}
+use Rattle.emu_names.specs.Inner.Gives.{GivesOrBroken}
 use Rattle.emu_names.specs.declared.rules.Broken.{Broken}
 use Rattle.emu_names.specs.declared.rules.Fault.{Fault}
 use Rattle.level_items.specs.Levels.{are_labels_for}
@@ -11,7 +11,8 @@ use Rattle.db_config.specs.declared.attributes.AttributeDef.{AttributeDef}
 use Rattle.db_config.specs.declared.parts.LevelDef.{LevelDef}
 use Rattle.bundle_state.specs.Bundle.{BundleParts}
 use Rattle.bundle_state.specs.Changed.{item_added}
-use Rattle.bundle_state.specs.Linked.{onward, unless_broken}
+use Rattle.bundle_state.specs.Linked.{unless_broken}
+use Rattle.emu_names.specs.Steps.{onward}
 use Rattle.bundle_state.specs.Made.{made_item, made_labels}
 use Rattle.edit_rules.specs.declared.bundle_change.Counts.{Counts}
 use Rattle.edit_rules.specs.Changes.{given_item_fault, put_on}

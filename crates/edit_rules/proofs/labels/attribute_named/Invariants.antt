@@ -1,7 +1,7 @@
 use Rattle.std.proofs.Common.{◌≡◌, drop}
 use Rattle.std.specs.List.{find}
 use Rattle.db_config.specs.declared.attributes.AttributeDef.{AttributeDef}
-use Rattle.db_config.specs.Names.{same_text}
+use Rattle.emu_names.specs.Texts.{same_text}
 use Rattle.edit_rules.proofs.labels.attribute_named.Given as goal
 
 abbrev pub invariant-loop-def : goal.invariant-loop-def

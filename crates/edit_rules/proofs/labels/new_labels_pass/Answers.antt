@@ -1,7 +1,7 @@
 use Rattle.std.proofs.Common.{◌∙◌, sym, arith, take, []}
 use Rattle.bundle_state.proofs.FaultSteps.{stops}
 use Rattle.edit_rules.specs.Changes.{new_labels_fault}
-use Rattle.edit_rules.specs.Given.{names_of}
+use Rattle.edit_rules.specs.Inner.Given.{names_of}
 use Rattle.edit_rules.proofs.LabelSteps.{one, labels_walk, labels_stop}
 use Rattle.edit_rules.proofs.labels.new_labels_pass.Goals as goal
 

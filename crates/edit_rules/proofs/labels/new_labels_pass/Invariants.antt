@@ -1,6 +1,6 @@
 use Rattle.std.proofs.Common.{◌≡◌, [], take, drop}
 use Rattle.edit_rules.specs.Changes.{new_labels_fault}
-use Rattle.edit_rules.specs.Given.{names_of}
+use Rattle.edit_rules.specs.Inner.Given.{names_of}
 use Rattle.edit_rules.proofs.labels.new_labels_pass.Given as goal
 
 abbrev pub invariant-loop-place : goal.invariant-loop-place

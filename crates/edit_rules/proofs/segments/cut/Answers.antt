@@ -1,10 +1,10 @@
 use Rattle.std.proofs.Common.{◌≡◌, length, None, Result, sym, subst, arith}
-use Rattle.emu_names.specs.Gives.{GivesOrBroken}
+use Rattle.emu_names.specs.Inner.Gives.{GivesOrBroken}
 use Rattle.emu_names.specs.declared.rules.Broken.{Broken}
 use Rattle.bundle_state.specs.Bundle.{BundleParts}
 use Rattle.bundle_state.specs.Built.{FitsConfig}
 use Rattle.bundle_state.specs.Changed.{item_added}
-use Rattle.bundle_state.specs.Linked.{onward}
+use Rattle.emu_names.specs.Steps.{onward}
 use Rattle.bundle_state.proofs.ChangedKept.{time_fits}
 use Rattle.edit_rules.proofs.Next.{level_count, labels_still, retimed_few}
 use Rattle.edit_rules.proofs.segments.cut.Goals as goal

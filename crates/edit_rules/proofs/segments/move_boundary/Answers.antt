@@ -1,5 +1,5 @@
 use Rattle.std.proofs.Common.{Result, sym, subst}
-use Rattle.emu_names.specs.Gives.{GivesOrBroken}
+use Rattle.emu_names.specs.Inner.Gives.{GivesOrBroken}
 use Rattle.emu_names.specs.declared.rules.Broken.{Broken}
 use Rattle.bundle_state.specs.Bundle.{BundleParts}
 use Rattle.edit_rules.proofs.Steps.{back_is, on_is}

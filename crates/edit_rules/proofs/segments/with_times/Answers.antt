@@ -1,9 +1,9 @@
 use Rattle.std.proofs.Common.{Result, sym, subst}
-use Rattle.emu_names.specs.Gives.{GivesOrBroken}
+use Rattle.emu_names.specs.Inner.Gives.{GivesOrBroken}
 use Rattle.emu_names.specs.declared.rules.Broken.{Broken}
 use Rattle.bundle_state.specs.Bundle.{BundleParts}
 use Rattle.bundle_state.specs.Changed.{item_retimed}
-use Rattle.bundle_state.specs.Linked.{onward}
+use Rattle.emu_names.specs.Steps.{onward}
 use Rattle.edit_rules.proofs.segments.with_times.Goals as goal
 
 pub returns : goal.returns

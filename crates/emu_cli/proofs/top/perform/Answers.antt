@@ -1,6 +1,6 @@
 use Rattle.std.proofs.Common.{inl, inr, refl, sym, subst}
 use Rattle.std.proofs.KnownBytes.{Appends-nil}
-use Rattle.store_calls.specs.Ends.{is_of_store}
+use Rattle.emu_cli.specs.Ends.{is_of_store}
 use Rattle.emu_cli.specs.Calls.{EndsOnStoreBy, texts_of}
 use Rattle.script_runs.specs.Told.{CompletesBy, FinishesBy, call_by}
 use Rattle.emu_cli.proofs.CallLemmas.{asked_run, asked_live, none_completes, usage_says, only_run, only_live, store_false, other_ends, other_store, no_command}

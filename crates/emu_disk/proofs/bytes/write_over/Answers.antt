@@ -1,6 +1,6 @@
 use Rattle.std.proofs.Common.{◌≡◌, ◌∙◌, min, length, ap, arith}
 use Rattle.emu_disk.specs.Disk.{put}
-use Rattle.emu_disk.specs.Laws.{put_min}
+use Rattle.emu_disk.specs.Inner.Laws.{put_min}
 use Rattle.emu_disk.proofs.bytes.write_over.Goals as goal
 
 pub returns : goal.returns

@@ -1,7 +1,7 @@
 use Rattle.std.proofs.Common.{false, length, sym, subst}
 use Rattle.std.proofs.lemmas.Result.{on_ok_weaker}
 use Rattle.emu_disk.specs.Disk.{Torn}
-use Rattle.emu_disk.specs.Laws.{torn_put, landed_fits}
+use Rattle.emu_disk.specs.Inner.Laws.{torn_put, landed_fits}
 use Rattle.emu_disk.proofs.replay.tear.Goals as goal
 
 pub returns-in-Half : goal.returns-in-Half

@@ -1,6 +1,6 @@
 use Rattle.std.proofs.Common.{◌≡◌, true, take}
 use Rattle.std.specs.List.{list_all}
-use Rattle.eql_match.specs.Shown.{is_bare}
+use Rattle.eql_match.specs.Inner.Shown.{is_bare}
 use Rattle.eql_match.proofs.bundle.are_bare.Given as goal
 
 -- the tuples so far have no mark

@@ -1,6 +1,6 @@
 use Rattle.std.proofs.Common.{◌≡◌, ap, sym, ◌∙◌, rules}
 use Rattle.std.specs.List.{list_all}
-use Rattle.eql_match.specs.Shown.{is_bare}
+use Rattle.eql_match.specs.Inner.Shown.{is_bare}
 use Rattle.eql_match.proofs.Bare.{shown_set}
 use Rattle.eql_match.proofs.bundle.shown_of.Goals as goal
 

@@ -1,7 +1,7 @@
 use Rattle.std.proofs.Common.{◌∙◌, length, subst, refl}
 use Rattle.bundle_state.specs.Valid.{KeepsBundleRules}
 use Rattle.eql_resolve.specs.Asked.{level_of}
-use Rattle.eql_resolve.specs.View.{query_in}
+use Rattle.eql_resolve.specs.Inner.View.{query_in}
 use Rattle.eql_model.proofs.Shown.{shown_at}
 use Rattle.eql_match.proofs.ItemsShown.{first_shown, items_match}
 use Rattle.eql_match.proofs.RowsBetween.{row_few}

@@ -1,5 +1,5 @@
 use Rattle.std.proofs.Common.{refl}
-use Rattle.eql_resolve.specs.View.{query_in}
+use Rattle.eql_resolve.specs.Inner.View.{query_in}
 use Rattle.eql_model.proofs.Shown.{shown_err, shown_at}
 use Rattle.eql_match.proofs.Bare.{found_few, found_sorted}
 use Rattle.eql_match.proofs.bundle.spans_of_tuples.Goals as goal

@@ -3,8 +3,10 @@ use Rattle.std.specs.Prelude.{not}
 use Rattle.std.proofs.lemmas.Bool.{eqb-true}
 use Rattle.std.proofs.lemmas.List.{length-map}
 use Rattle.bundle_state.specs.Bundle.{BundleParts}
-use Rattle.eql_resolve.specs.View.{term_in}
-use Rattle.eql_model.specs.Meaning.{items_at, meets, met_row}
+use Rattle.eql_resolve.specs.Inner.View.{term_in}
+use Rattle.eql_model.specs.Meaning.{meets}
+use Rattle.level_items.specs.Levels.{items_at}
+use Rattle.eql_model.specs.Inner.Meaning.{met_row}
 use Rattle.eql_match.proofs.Bits.{all_long}
 use Rattle.eql_match.proofs.Tests.{met_first, met_more, met_none, met_nowhere, no_first, some_terms}
 use Rattle.eql_match.proofs.conditions.all_met.Goals as goal

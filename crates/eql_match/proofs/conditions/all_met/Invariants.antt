@@ -1,7 +1,8 @@
 use Rattle.std.proofs.Common.{◌≡◌, length, map, take}
-use Rattle.eql_resolve.specs.View.{term_in}
-use Rattle.eql_model.specs.Meaning.{items_at, met_row}
-use Rattle.eql_match.specs.Rows.{all_bits}
+use Rattle.eql_resolve.specs.Inner.View.{term_in}
+use Rattle.level_items.specs.Levels.{items_at}
+use Rattle.eql_model.specs.Inner.Meaning.{met_row}
+use Rattle.eql_match.specs.Inner.Rows.{all_bits}
 use Rattle.eql_match.proofs.conditions.all_met.Given as goal
 
 -- the items that meet the conditions so far

@@ -1,7 +1,7 @@
 use Rattle.std.proofs.Common.{◌≡◌, map, drop}
 use Rattle.std.specs.List.{list_any}
 use Rattle.eql_resolve.specs.Asked.{is_marked_term}
-use Rattle.eql_resolve.specs.View.{term_in}
+use Rattle.eql_resolve.specs.Inner.View.{term_in}
 use Rattle.eql_match.proofs.conditions.are_marked.Given as goal
 
 -- a condition is marked where one of the rest is

@@ -1,8 +1,9 @@
 use Rattle.std.proofs.Common.{ap, ◌∙◌, ◌&&◌, length, sym}
 use Rattle.std.proofs.lemmas.List.{length-map}
 use Rattle.std.specs.Simd.Lanes.{zip2}
-use Rattle.eql_resolve.specs.View.{term_in}
-use Rattle.eql_model.specs.Meaning.{items_at, meets}
+use Rattle.eql_resolve.specs.Inner.View.{term_in}
+use Rattle.eql_model.specs.Meaning.{meets}
+use Rattle.level_items.specs.Levels.{items_at}
 use Rattle.eql_match.proofs.Tests.{met_at, unset_at}
 use Rattle.eql_match.proofs.conditions.clear_others.Goals as goal
 

@@ -1,5 +1,5 @@
 use Rattle.std.proofs.Common.{arith}
-use Rattle.eql_model.specs.Meaning.{items_at}
+use Rattle.level_items.specs.Levels.{items_at}
 use Rattle.eql_match.proofs.Tests.{column_long, has_column}
 use Rattle.eql_match.proofs.conditions.column_count.Goals as goal
 

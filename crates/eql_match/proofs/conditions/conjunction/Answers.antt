@@ -1,8 +1,9 @@
 use Rattle.std.proofs.Common.{◌≤◌, length, map, ap, refl, ◌∙◌, arith}
 use Rattle.emu_names.specs.declared.limits.TheConstants.{BUNDLE_ITEMS}
 use Rattle.bundle_state.specs.Bundle.{BundleParts, item_count}
-use Rattle.eql_resolve.specs.View.{term_in}
-use Rattle.eql_model.specs.Meaning.{items_at, met_row}
+use Rattle.eql_resolve.specs.Inner.View.{term_in}
+use Rattle.level_items.specs.Levels.{items_at}
+use Rattle.eql_model.specs.Inner.Meaning.{met_row}
 use Rattle.eql_model.proofs.Conditions.{level_few}
 use Rattle.eql_match.proofs.Bits.{all_long}
 use Rattle.eql_match.proofs.FoundWhere.{conjunction_tuples, found_exit, found_row}

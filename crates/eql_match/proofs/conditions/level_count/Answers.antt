@@ -1,6 +1,6 @@
 use Rattle.std.proofs.Common.{length, ap, ◌∙◌, arith}
 use Rattle.bundle_state.specs.Bundle.{BundleParts}
-use Rattle.eql_model.specs.Meaning.{items_at}
+use Rattle.level_items.specs.Levels.{items_at}
 use Rattle.eql_match.proofs.conditions.level_count.Goals as goal
 
 pub returns : goal.returns

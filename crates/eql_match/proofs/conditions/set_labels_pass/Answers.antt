@@ -1,5 +1,5 @@
-use Rattle.eql_model.specs.Labels.{is_wanted, label_of}
-use Rattle.eql_model.specs.Meaning.{items_at}
+use Rattle.eql_model.specs.Labels.{is_wanted}
+use Rattle.level_items.specs.Levels.{label_of, items_at}
 use Rattle.eql_match.proofs.Tests.{found_map, has_column}
 use Rattle.eql_match.proofs.conditions.set_labels_pass.Goals as goal
 

@@ -1,6 +1,6 @@
 use Rattle.std.proofs.Common.{map, subst}
 use Rattle.bundle_state.specs.Valid.{KeepsBundleRules}
-use Rattle.eql_resolve.specs.View.{term_in}
+use Rattle.eql_resolve.specs.Inner.View.{term_in}
 use Rattle.eql_model.proofs.Fitting.{conditions_on}
 use Rattle.eql_match.proofs.FoundBy.{conjunction_is}
 use Rattle.eql_match.proofs.evaluate.conjunction_found.Goals as goal

@@ -1,4 +1,4 @@
-use Rattle.eql_resolve.specs.View.{query_in}
+use Rattle.eql_resolve.specs.Inner.View.{query_in}
 use Rattle.eql_model.proofs.Fitting.{found_fit, level_there}
 use Rattle.eql_match.proofs.FoundBy.{dominance_of_lists, dominance_over}
 use Rattle.eql_match.proofs.Order.{found_rise}

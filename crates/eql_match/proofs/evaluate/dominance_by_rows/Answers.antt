@@ -1,8 +1,8 @@
 use Rattle.std.proofs.Common.{length, ap, sym, subst, ◌∙◌}
 use Rattle.bundle_state.specs.Valid.{KeepsBundleRules}
 use Rattle.eql_resolve.specs.Asked.{level_of}
-use Rattle.eql_resolve.specs.View.{query_in}
-use Rattle.eql_model.specs.Meaning.{items_at}
+use Rattle.eql_resolve.specs.Inner.View.{query_in}
+use Rattle.level_items.specs.Levels.{items_at}
 use Rattle.eql_model.proofs.Fitting.{level_there}
 use Rattle.eql_match.proofs.FoundBy.{dominance_of_rows}
 use Rattle.eql_match.proofs.RowsBetween.{row_few}

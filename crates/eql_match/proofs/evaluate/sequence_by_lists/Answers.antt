@@ -1,4 +1,4 @@
-use Rattle.eql_resolve.specs.View.{query_in}
+use Rattle.eql_resolve.specs.Inner.View.{query_in}
 use Rattle.eql_match.proofs.FoundBy.{sequence_of_lists, sequence_over}
 use Rattle.eql_match.proofs.Order.{found_rise}
 use Rattle.eql_match.proofs.evaluate.sequence_by_lists.Goals as goal

@@ -1,7 +1,7 @@
 use Rattle.std.proofs.Common.{length, subst}
 use Rattle.bundle_state.specs.Valid.{KeepsBundleRules}
 use Rattle.eql_resolve.specs.Asked.{level_of}
-use Rattle.eql_resolve.specs.View.{query_in}
+use Rattle.eql_resolve.specs.Inner.View.{query_in}
 use Rattle.eql_match.proofs.FoundBy.{sequence_of_rows}
 use Rattle.eql_match.proofs.RowsBetween.{row_few}
 use Rattle.eql_match.proofs.evaluate.sequence_by_rows.Goals as goal

@@ -1,6 +1,6 @@
 use Rattle.std.proofs.Common.{subst}
 use Rattle.bundle_state.specs.Valid.{KeepsBundleRules}
-use Rattle.eql_resolve.specs.View.{query_in}
+use Rattle.eql_resolve.specs.Inner.View.{query_in}
 use Rattle.eql_match.proofs.FoundBy.{found_short}
 use Rattle.eql_match.proofs.evaluate.sequence_found.Goals as goal
 

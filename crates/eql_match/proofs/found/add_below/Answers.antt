@@ -1,6 +1,6 @@
 use Rattle.std.proofs.Common.{length, ap, sym, ◌∙◌, ◌&&◌, arith}
-use Rattle.eql_model.specs.Flags.{flag_at}
-use Rattle.eql_model.specs.Joins.{bit_at}
+use Rattle.eql_model.specs.Inner.Flags.{flag_at}
+use Rattle.eql_model.specs.Inner.Joins.{bit_at}
 use Rattle.eql_model.proofs.Walk.{next_flag}
 use Rattle.eql_match.proofs.Steps.{below_none, below_step, below_end, made_long, row_long}
 use Rattle.eql_match.proofs.found.add_below.Goals as goal

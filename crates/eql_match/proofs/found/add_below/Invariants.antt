@@ -1,7 +1,7 @@
 use Rattle.std.proofs.Common.{◌≡◌, ◌-◌, ◌≤◌, ◌||◌, ◌&&◌, length, map}
 use Rattle.std.specs.List.{list_any, range_with_len}
-use Rattle.eql_model.specs.Flags.{flag_at}
-use Rattle.eql_model.specs.Joins.{bit_at}
+use Rattle.eql_model.specs.Inner.Flags.{flag_at}
+use Rattle.eql_model.specs.Inner.Joins.{bit_at}
 use Rattle.eql_match.proofs.found.add_below.Given as goal
 
 -- the items that were set before, and those below the right ones so far

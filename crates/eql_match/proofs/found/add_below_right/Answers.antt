@@ -2,7 +2,7 @@ use Rattle.std.proofs.Common.{length, sym, ap, subst, ◌∙◌}
 use Rattle.db_config.specs.Above.{is_above}
 use Rattle.bundle_state.specs.Valid.{KeepsBundleRules}
 use Rattle.hier_closure.specs.Dominance.{closure_of}
-use Rattle.eql_match.specs.Found.{with_below}
+use Rattle.eql_match.specs.Inner.Found.{with_below}
 use Rattle.eql_match.proofs.ByRows.{above_long, put_together}
 use Rattle.eql_match.proofs.RowsBetween.{only_above, rows_are, all_wide, row_few}
 use Rattle.eql_match.proofs.found.add_below_right.Goals as goal

@@ -1,7 +1,7 @@
 use Rattle.std.proofs.Common.{◌≡◌, ◌+◌, ◌-◌, ◌≤◌, ◌&&◌, length, map}
 use Rattle.std.specs.List.{filter, range_with_len}
-use Rattle.eql_model.specs.Flags.{flag_at}
-use Rattle.eql_match.specs.Found.{neighbours}
+use Rattle.eql_model.specs.Inner.Flags.{flag_at}
+use Rattle.eql_match.specs.Inner.Found.{neighbours}
 use Rattle.eql_match.proofs.found.follow.Given as goal
 
 -- the stretches that begin so far

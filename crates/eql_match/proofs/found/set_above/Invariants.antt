@@ -1,6 +1,6 @@
 use Rattle.std.proofs.Common.{◌-◌, ◌≤◌, ◌&&◌, length}
-use Rattle.eql_model.specs.Flags.{flag_at}
-use Rattle.eql_match.specs.Found.{is_above_some}
+use Rattle.eql_model.specs.Inner.Flags.{flag_at}
+use Rattle.eql_match.specs.Inner.Found.{is_above_some}
 use Rattle.eql_match.proofs.Steps.{AskedTo}
 use Rattle.eql_match.proofs.found.set_above.Given as goal
 

@@ -1,7 +1,7 @@
 use Rattle.std.proofs.Common.{length, sym, ap, subst, ◌∙◌}
 use Rattle.db_config.specs.Above.{is_above}
 use Rattle.bundle_state.specs.Valid.{KeepsBundleRules}
-use Rattle.eql_match.specs.Found.{above_some}
+use Rattle.eql_match.specs.Inner.Found.{above_some}
 use Rattle.eql_match.proofs.RowsBetween.{none_above, rows_are, all_wide, row_few}
 use Rattle.eql_match.proofs.found.set_above_right.Goals as goal
 

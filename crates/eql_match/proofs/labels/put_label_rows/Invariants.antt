@@ -1,5 +1,5 @@
 use Rattle.std.proofs.Common.{◌≡◌, ◌++◌, map, take}
-use Rattle.eql_match.specs.Labels.{label_row}
+use Rattle.eql_match.specs.Inner.Labels.{label_row}
 use Rattle.eql_match.proofs.labels.put_label_rows.Given as goal
 
 -- the rows of the labels so far

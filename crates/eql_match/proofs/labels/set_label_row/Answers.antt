@@ -2,7 +2,7 @@ use Rattle.std.proofs.Common.{Ok, false, refl, sym, ap, ◌∙◌}
 use Rattle.std.specs.Prelude.{replicate}
 use Rattle.bundle_index.proofs.Asked.{bits_are, no_bits}
 use Rattle.bundle_index.proofs.Numbers.{label_found}
-use Rattle.eql_model.specs.Meaning.{items_at}
+use Rattle.level_items.specs.Levels.{items_at}
 use Rattle.eql_match.proofs.Bits.{unset_wide}
 use Rattle.eql_match.proofs.Tests.{column_long, label_exit}
 use Rattle.eql_match.proofs.labels.set_label_row.Goals as goal

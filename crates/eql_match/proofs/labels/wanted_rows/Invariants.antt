@@ -1,6 +1,6 @@
 use Rattle.std.proofs.Common.{◌≡◌, map, take}
 use Rattle.eql_model.specs.Labels.{wanted_labels}
-use Rattle.eql_match.specs.Labels.{label_row}
+use Rattle.eql_match.specs.Inner.Labels.{label_row}
 use Rattle.eql_match.proofs.labels.wanted_rows.Given as goal
 
 -- the rows of the labels so far

@@ -1,7 +1,7 @@
 use Rattle.std.proofs.Common.{[], get_or, map, refl, sym, ap, ◌∙◌, arith}
 use Rattle.std.proofs.lemmas.List.{get_or-map, length-map}
 use Rattle.label_match.specs.Pattern.{matches_label}
-use Rattle.eql_model.specs.Labels.{label_of}
+use Rattle.level_items.specs.Levels.{label_of}
 use Rattle.eql_match.proofs.Tests.{answers_more}
 use Rattle.eql_match.proofs.patterns.answer_at.Goals as goal
 

@@ -1,6 +1,6 @@
 use Rattle.std.proofs.Common.{◌≡◌, length, map, refl, arith, rules}
 use Rattle.std.specs.Prelude.{replicate}
-use Rattle.eql_model.specs.Labels.{label_of}
+use Rattle.level_items.specs.Levels.{label_of}
 use Rattle.eql_match.proofs.Bits.{filled_none}
 use Rattle.eql_match.proofs.Tests.{answers_none, answers_within, matched_all, no_answer}
 use Rattle.eql_match.proofs.patterns.matched_bits.Goals as goal

@@ -1,9 +1,8 @@
 use Rattle.std.proofs.Common.{ap, sym, subst, ◌∙◌, map, List}
 use Rattle.level_items.specs.declared.items.Item.{Item}
 use Rattle.bundle_state.specs.Bundle.{BundleParts}
-use Rattle.eql_model.specs.Labels.{label_of}
-use Rattle.eql_model.specs.Meaning.{items_at}
-use Rattle.eql_match.specs.Labels.{AreNumbersOf}
+use Rattle.level_items.specs.Levels.{label_of, items_at}
+use Rattle.eql_match.specs.Inner.Labels.{AreNumbersOf}
 use Rattle.eql_match.proofs.Tests.{numbers_of}
 use Rattle.eql_match.proofs.patterns.pattern_row.Goals as goal
 

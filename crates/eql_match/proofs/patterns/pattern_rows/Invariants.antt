@@ -1,6 +1,6 @@
 use Rattle.std.proofs.Common.{◌≡◌, map, take}
-use Rattle.eql_model.specs.Labels.{matched_row}
-use Rattle.eql_model.specs.Meaning.{items_at}
+use Rattle.eql_model.specs.Inner.Labels.{matched_row}
+use Rattle.level_items.specs.Levels.{items_at}
 use Rattle.eql_match.proofs.patterns.pattern_rows.Given as goal
 
 -- the rows of the patterns so far

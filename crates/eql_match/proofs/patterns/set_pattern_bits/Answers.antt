@@ -1,5 +1,5 @@
 use Rattle.std.proofs.Common.{length, refl, rules}
-use Rattle.eql_model.specs.Meaning.{items_at}
+use Rattle.level_items.specs.Levels.{items_at}
 use Rattle.eql_model.proofs.MadeRows.{no_item}
 use Rattle.eql_match.proofs.Bits.{unset_own, unset_wide}
 use Rattle.eql_match.proofs.Tests.{any_exit, is_match, wide_rows}

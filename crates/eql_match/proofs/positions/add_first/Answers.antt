@@ -1,6 +1,6 @@
 use Rattle.std.proofs.Common.{true, Some, arith}
 use Rattle.std.proofs.lemmas.Option.{slice_get_within}
-use Rattle.lane_bits.specs.Row.{IsFirst}
+use Rattle.lane_bits.specs.Inner.Row.{IsFirst}
 use Rattle.eql_syntax.specs.declared.query.Place.TheVariants.{Start}
 use Rattle.eql_match.proofs.Standing.{adds_none, adds_start}
 use Rattle.eql_match.proofs.positions.add_first.Goals as goal

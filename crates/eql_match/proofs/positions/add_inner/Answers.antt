@@ -1,6 +1,6 @@
 use Rattle.std.proofs.Common.{true, Some}
 use Rattle.std.proofs.lemmas.Option.{slice_get_within}
-use Rattle.lane_bits.specs.Row.{IsFirst, IsLast}
+use Rattle.lane_bits.specs.Inner.Row.{IsFirst, IsLast}
 use Rattle.eql_syntax.specs.declared.query.Place.TheVariants.{Medial}
 use Rattle.eql_match.proofs.Standing.{adds_none, adds_medial}
 use Rattle.eql_match.proofs.positions.add_inner.Goals as goal

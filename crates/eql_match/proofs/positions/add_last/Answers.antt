@@ -1,6 +1,6 @@
 use Rattle.std.proofs.Common.{true, Some, arith}
 use Rattle.std.proofs.lemmas.Option.{slice_get_within}
-use Rattle.lane_bits.specs.Row.{IsLast}
+use Rattle.lane_bits.specs.Inner.Row.{IsLast}
 use Rattle.eql_syntax.specs.declared.query.Place.TheVariants.{End}
 use Rattle.eql_match.proofs.Standing.{adds_none, adds_end}
 use Rattle.eql_match.proofs.positions.add_last.Goals as goal

@@ -1,6 +1,6 @@
 use Rattle.std.proofs.Common.{sym, subst}
 use Rattle.eql_syntax.specs.declared.query.Place.{Place}
-use Rattle.eql_match.specs.Places.{AddsPlaced}
+use Rattle.eql_match.specs.Inner.Places.{AddsPlaced}
 use Rattle.eql_match.proofs.positions.add_placed.Goals as goal
 
 pub returns-in-Start : goal.returns-in-Start

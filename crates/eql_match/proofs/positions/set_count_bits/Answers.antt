@@ -1,5 +1,5 @@
 use Rattle.std.proofs.Common.{[], get_or, length, refl, arith}
-use Rattle.eql_model.specs.Bits.{row_counts}
+use Rattle.eql_model.specs.Inner.Bits.{row_counts}
 use Rattle.eql_match.proofs.Bits.{filled_first}
 use Rattle.eql_match.proofs.Standing.{counts_more, counts_all}
 use Rattle.eql_match.proofs.positions.set_count_bits.Goals as goal

@@ -1,5 +1,5 @@
 use Rattle.std.proofs.Common.{[], get_or, length}
-use Rattle.eql_model.specs.Bits.{row_counts}
+use Rattle.eql_model.specs.Inner.Bits.{row_counts}
 use Rattle.eql_match.proofs.Bits.{IsFilled}
 use Rattle.eql_match.proofs.positions.set_count_bits.Given as goal
 

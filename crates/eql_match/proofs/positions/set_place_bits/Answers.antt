@@ -1,7 +1,7 @@
 use Rattle.std.proofs.Common.{◌≡◌, ℕ, Bool, length, sym, subst, ap, ◌∙◌}
 use Rattle.std.specs.Prelude.{All}
-use Rattle.eql_match.specs.Places.{PassPlace}
-use Rattle.eql_match.specs.Rows.{any_bits}
+use Rattle.eql_match.specs.Inner.Places.{PassPlace}
+use Rattle.eql_match.specs.Inner.Rows.{any_bits}
 use Rattle.eql_match.proofs.Bits.{any_long}
 use Rattle.eql_match.proofs.Standing.{others_long, place_false}
 use Rattle.eql_match.proofs.positions.set_place_bits.Goals as goal

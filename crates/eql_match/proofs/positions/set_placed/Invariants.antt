@@ -1,5 +1,5 @@
 use Rattle.std.proofs.Common.{length, take}
-use Rattle.eql_match.specs.Places.{ArePlaced}
+use Rattle.eql_match.specs.Inner.Places.{ArePlaced}
 use Rattle.eql_match.proofs.positions.set_placed.Given as goal
 
 -- the bits by the rows so far

@@ -1,4 +1,4 @@
-use Rattle.eql_match.specs.Reach.{ReachesTo}
+use Rattle.eql_match.specs.Inner.Reach.{ReachesTo}
 use Rattle.eql_match.proofs.reach.reach.Given as goal
 
 -- the reach of the rows so far

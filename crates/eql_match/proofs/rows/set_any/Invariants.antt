@@ -1,5 +1,5 @@
 use Rattle.std.proofs.Common.{◌≡◌, length, take}
-use Rattle.eql_match.specs.Rows.{any_bits}
+use Rattle.eql_match.specs.Inner.Rows.{any_bits}
 use Rattle.eql_match.proofs.rows.set_any.Given as goal
 
 -- the bits of the rows so far

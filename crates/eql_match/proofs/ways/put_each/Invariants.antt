@@ -1,7 +1,7 @@
 use Rattle.std.proofs.Common.{◌≡◌, false, drop}
 use Rattle.eql_model.specs.Sets.{put_all, is_over}
 use Rattle.eql_model.specs.Tuples.{pairs_with}
-use Rattle.eql_match.specs.Ways.{joins, makes}
+use Rattle.eql_match.specs.Inner.Ways.{joins, makes}
 use Rattle.eql_match.proofs.ways.put_each.Given as goal
 
 -- the pairs that are left make the whole

@@ -4,7 +4,7 @@ use Rattle.std.proofs.lemmas.List.Concat.{flat_map-cons}
 use Rattle.eql_model.specs.declared.faults.MatchFault.TheVariants.{TooManyTuples}
 use Rattle.eql_model.specs.Tuples.{pairs_with}
 use Rattle.eql_model.proofs.Gathers.{gather_step, gather_over}
-use Rattle.eql_match.specs.Ways.{joins, makes}
+use Rattle.eql_match.specs.Inner.Ways.{joins, makes}
 use Rattle.eql_match.proofs.Near.{no_tuple}
 use Rattle.eql_match.proofs.ways.put_pairs.Goals as goal
 

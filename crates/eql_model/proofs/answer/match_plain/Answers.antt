@@ -1,5 +1,5 @@
 use Rattle.std.proofs.Common.{rules}
-use Rattle.eql_resolve.specs.View.{query_in}
+use Rattle.eql_resolve.specs.Inner.View.{query_in}
 use Rattle.eql_model.proofs.Shown.{shown_err, shown_at}
 use Rattle.eql_model.proofs.answer.match_plain.Goals as goal
 

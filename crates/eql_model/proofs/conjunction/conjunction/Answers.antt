@@ -1,7 +1,7 @@
 use Rattle.std.proofs.Common.{◌≤◌, length, ap, arith, rules}
 use Rattle.bundle_state.specs.Bundle.{item_count}
 use Rattle.emu_names.specs.declared.limits.TheConstants.{BUNDLE_ITEMS}
-use Rattle.eql_resolve.specs.View.{term_in}
+use Rattle.eql_resolve.specs.Inner.View.{term_in}
 use Rattle.eql_model.proofs.Conditions.{level_few, conjunction_exit}
 use Rattle.eql_model.proofs.conjunction.conjunction.Goals as goal
 

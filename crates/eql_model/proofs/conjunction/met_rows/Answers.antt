@@ -1,5 +1,5 @@
-use Rattle.eql_resolve.specs.View.{term_in}
-use Rattle.eql_model.specs.Meaning.{met_row}
+use Rattle.eql_resolve.specs.Inner.View.{term_in}
+use Rattle.eql_model.specs.Inner.Meaning.{met_row}
 use Rattle.eql_model.proofs.MadeRows.{made_step}
 use Rattle.eql_model.proofs.conjunction.met_rows.Goals as goal
 

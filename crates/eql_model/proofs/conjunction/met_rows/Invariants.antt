@@ -1,6 +1,6 @@
 use Rattle.std.proofs.Common.{◌≡◌, map, take}
-use Rattle.eql_resolve.specs.View.{term_in}
-use Rattle.eql_model.specs.Meaning.{met_row}
+use Rattle.eql_resolve.specs.Inner.View.{term_in}
+use Rattle.eql_model.specs.Inner.Meaning.{met_row}
 use Rattle.eql_model.proofs.conjunction.met_rows.Given as goal
 
 -- the rows of the conditions so far

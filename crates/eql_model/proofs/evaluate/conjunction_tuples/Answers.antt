@@ -1,5 +1,5 @@
 use Rattle.std.proofs.Common.{map}
-use Rattle.eql_resolve.specs.View.{term_in}
+use Rattle.eql_resolve.specs.Inner.View.{term_in}
 use Rattle.eql_model.proofs.Fitting.{conditions_on, conjunction_finds}
 use Rattle.eql_model.proofs.evaluate.conjunction_tuples.Goals as goal
 

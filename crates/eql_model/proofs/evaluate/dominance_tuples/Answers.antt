@@ -1,4 +1,4 @@
-use Rattle.eql_resolve.specs.View.{query_in}
+use Rattle.eql_resolve.specs.Inner.View.{query_in}
 use Rattle.eql_model.proofs.Fitting.{found_fit, level_there}
 use Rattle.eql_model.proofs.evaluate.dominance_tuples.Goals as goal
 

@@ -1,5 +1,5 @@
 use Rattle.std.proofs.Common.{◌+◌, sym, ◌∙◌}
-use Rattle.eql_model.specs.Joins.{is_under, bits_cover}
+use Rattle.eql_model.specs.Inner.Joins.{is_under, bits_cover}
 use Rattle.eql_model.proofs.Ranges.{all_passes, all_broken}
 use Rattle.eql_model.proofs.joins.bits_cover.Goals as goal
 

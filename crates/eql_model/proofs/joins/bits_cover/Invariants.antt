@@ -1,6 +1,6 @@
 use Rattle.std.proofs.Common.{◌≡◌, ◌-◌}
 use Rattle.std.specs.List.{list_all, range_with_len}
-use Rattle.eql_model.specs.Joins.{is_under, bits_cover}
+use Rattle.eql_model.specs.Inner.Joins.{is_under, bits_cover}
 use Rattle.eql_model.proofs.joins.bits_cover.Given as goal
 
 -- the places that are left answer the question

@@ -4,7 +4,7 @@ use Rattle.std.proofs.lemmas.List.Concat.{flat_map-cons}
 use Rattle.eql_model.specs.declared.tuple.Tuple.{Tuple}
 use Rattle.eql_model.specs.declared.faults.MatchFault.TheVariants.{TooManyTuples}
 use Rattle.eql_model.specs.Tuples.{pairs_with}
-use Rattle.eql_model.specs.Joins.{goes_with, makes}
+use Rattle.eql_model.specs.Inner.Joins.{goes_with, makes}
 use Rattle.eql_model.proofs.Gathers.{gather_step, gather_over}
 use Rattle.eql_model.proofs.joins.gather_all.Goals as goal
 

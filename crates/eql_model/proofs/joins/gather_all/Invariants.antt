@@ -2,7 +2,7 @@ use Rattle.std.proofs.Common.{◌≡◌, false, drop}
 use Rattle.std.specs.List.{flat_map}
 use Rattle.eql_model.specs.Sets.{put_all, is_over}
 use Rattle.eql_model.specs.Tuples.{pairs_with}
-use Rattle.eql_model.specs.Joins.{goes_with, makes}
+use Rattle.eql_model.specs.Inner.Joins.{goes_with, makes}
 use Rattle.eql_model.proofs.joins.gather_all.Given as goal
 
 -- the tuples that are left make the whole

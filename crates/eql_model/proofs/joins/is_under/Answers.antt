@@ -1,5 +1,5 @@
 use Rattle.std.proofs.Common.{◌+◌, sym, ◌∙◌}
-use Rattle.eql_model.specs.Joins.{bit_at, is_under}
+use Rattle.eql_model.specs.Inner.Joins.{bit_at, is_under}
 use Rattle.eql_model.proofs.Ranges.{any_passes}
 use Rattle.eql_model.proofs.joins.is_under.Goals as goal
 

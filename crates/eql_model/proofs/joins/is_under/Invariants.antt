@@ -1,6 +1,6 @@
 use Rattle.std.proofs.Common.{◌≡◌, ◌-◌}
 use Rattle.std.specs.List.{list_any, range_with_len}
-use Rattle.eql_model.specs.Joins.{bit_at, is_under}
+use Rattle.eql_model.specs.Inner.Joins.{bit_at, is_under}
 use Rattle.eql_model.proofs.joins.is_under.Given as goal
 
 -- the rows that are left answer the question

@@ -1,5 +1,5 @@
 use Rattle.std.proofs.Common.{◌≡◌, take, map}
-use Rattle.eql_model.specs.Labels.{matched_row}
+use Rattle.eql_model.specs.Inner.Labels.{matched_row}
 use Rattle.eql_model.proofs.labels.all_flags.Given as goal
 
 -- the rows of the patterns so far

@@ -1,5 +1,6 @@
 use Rattle.std.proofs.Common.{◌≡◌, take, map}
-use Rattle.eql_model.specs.Labels.{is_as, is_wanted, label_of}
+use Rattle.eql_model.specs.Labels.{is_as, is_wanted}
+use Rattle.level_items.specs.Levels.{label_of}
 use Rattle.eql_model.proofs.labels.label_flags.Given as goal
 
 -- the flags of the items so far

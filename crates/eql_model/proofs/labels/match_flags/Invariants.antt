@@ -1,5 +1,6 @@
 use Rattle.std.proofs.Common.{◌≡◌, take, map}
-use Rattle.eql_model.specs.Labels.{is_as, is_matched, label_of}
+use Rattle.eql_model.specs.Labels.{is_as, is_matched}
+use Rattle.level_items.specs.Levels.{label_of}
 use Rattle.eql_model.proofs.labels.match_flags.Given as goal
 
 -- the flags of the items so far

@@ -1,5 +1,5 @@
 use Rattle.std.proofs.Common.{◌≡◌, ◌++◌, take}
-use Rattle.eql_model.specs.Labels.{matched_row}
+use Rattle.eql_model.specs.Inner.Labels.{matched_row}
 use Rattle.eql_model.proofs.labels.put_flags.Given as goal
 
 -- the flags of the items so far, by the same pattern

@@ -1,4 +1,4 @@
-use Rattle.eql_model.specs.Bits.{row_counts}
+use Rattle.eql_model.specs.Inner.Bits.{row_counts}
 use Rattle.eql_model.proofs.Places.{flags_step}
 use Rattle.eql_model.proofs.positions.count_flags.Goals as goal
 

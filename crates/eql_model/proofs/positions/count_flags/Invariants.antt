@@ -1,5 +1,5 @@
 use Rattle.std.proofs.Common.{◌≡◌, map, take}
-use Rattle.eql_model.specs.Bits.{row_counts}
+use Rattle.eql_model.specs.Inner.Bits.{row_counts}
 use Rattle.eql_model.proofs.positions.count_flags.Given as goal
 
 -- the flags of the rows so far

@@ -1,7 +1,7 @@
 use Rattle.std.proofs.Common.{◌++◌, ◌∷◌, [], sym, ◌∙◌, arith}
 use Rattle.std.proofs.lemmas.List.FromFn.{map-range_with_len_more}
 use Rattle.level_items.specs.Levels.{ids_of}
-use Rattle.eql_model.specs.Bits.{rows_place}
+use Rattle.eql_model.specs.Inner.Bits.{rows_place}
 use Rattle.eql_model.proofs.positions.place_flags.Goals as goal
 
 pub loop-at-preserved : goal.loop-at-preserved

@@ -1,7 +1,7 @@
 use Rattle.std.proofs.Common.{◌≡◌, map}
 use Rattle.std.specs.List.{range_with_len}
 use Rattle.level_items.specs.Levels.{ids_of}
-use Rattle.eql_model.specs.Bits.{rows_place}
+use Rattle.eql_model.specs.Inner.Bits.{rows_place}
 use Rattle.eql_model.proofs.positions.place_flags.Given as goal
 
 -- the flags of the positions so far

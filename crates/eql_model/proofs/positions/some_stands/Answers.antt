@@ -1,7 +1,7 @@
 use Rattle.std.proofs.Common.{sym, ◌∙◌}
 use Rattle.std.specs.List.{list_any}
 use Rattle.level_items.specs.Levels.{ids_of}
-use Rattle.eql_model.specs.Bits.{row_stands}
+use Rattle.eql_model.specs.Inner.Bits.{row_stands}
 use Rattle.eql_model.proofs.Places.{rest_found, rest_passes}
 use Rattle.eql_model.proofs.positions.some_stands.Goals as goal
 

@@ -1,7 +1,7 @@
 use Rattle.std.proofs.Common.{◌≡◌, drop}
 use Rattle.std.specs.List.{list_any}
 use Rattle.level_items.specs.Levels.{ids_of}
-use Rattle.eql_model.specs.Bits.{row_stands}
+use Rattle.eql_model.specs.Inner.Bits.{row_stands}
 use Rattle.eql_model.proofs.positions.some_stands.Given as goal
 
 -- the rows that are left answer the question

@@ -1,6 +1,6 @@
 use Rattle.std.proofs.Common.{◌≡◌, ◌-◌, ◌≤◌, length, map}
 use Rattle.std.specs.List.{filter, range_with_len}
-use Rattle.eql_model.specs.Flags.{flag_at}
+use Rattle.eql_model.specs.Inner.Flags.{flag_at}
 use Rattle.eql_model.specs.Results.{bare, span_at}
 use Rattle.eql_model.proofs.results.spans_in.Given as goal
 

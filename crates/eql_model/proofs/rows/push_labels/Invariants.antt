@@ -2,7 +2,7 @@ use Rattle.std.proofs.Common.{◌≡◌, ◌++◌, take, codes}
 use Rattle.std.specs.List.{flat_map}
 use Rattle.std.specs.String.{string_bytes}
 use Rattle.level_items.specs.declared.items.Item.{Item}
-use Rattle.eql_model.specs.Labels.{label_of}
+use Rattle.level_items.specs.Levels.{label_of}
 use Rattle.eql_model.proofs.rows.push_labels.Given as goal
 
 -- the labels of the items so far, each behind its sign

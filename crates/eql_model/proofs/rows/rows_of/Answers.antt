@@ -1,13 +1,14 @@
-use Rattle.eql_resolve.specs.View.{query_in}
-use Rattle.eql_model.proofs.Shown.{result_level_there}
+use Rattle.std.proofs.Common.{◌≡◌, ℕ, ap, sym, subst, ◌∙◌}
+use Rattle.eql_resolve.specs.Asked.{result_level}
+use Rattle.eql_resolve.proofs.Kept.{result_within}
+use Rattle.eql_model.specs.Results.{AreThere}
 use Rattle.eql_model.proofs.rows.rows_of.Goals as goal
 
-pub below_of-requires-clause-level : goal.below_of-requires-clause-level
-below_of-requires-clause-level c =
-    result_level_there c.args.config.now c.args.bundle.now (query_in c.query.result.now) c.args.asked.now.query c.shown_place-level.result
-    c.requires.fits c.query.ensures c.shown_place-level.ensures c.requires.resolved.within
+pub rows_at-requires-clause-level : goal.rows_at-requires-clause-level
+rows_at-requires-clause-level c =
+    rw (c.result_level-level.ensures, c.query.ensures)
+    (result_within c.args.config.now c.args.asked.now.query c.requires.resolved.within)
 
-pub rows_below-requires-clause-level : goal.rows_below-requires-clause-level
-rows_below-requires-clause-level c =
-    result_level_there c.args.config.now c.args.bundle.now (query_in c.query.result.now) c.args.asked.now.query c.shown_place-level.result
-    c.requires.fits c.query.ensures c.shown_place-level.ensures c.requires.resolved.within
+pub rows_at-requires-clause-spans : goal.rows_at-requires-clause-spans
+rows_at-requires-clause-spans c =
+    rw (c.result_level-level.ensures, c.query.ensures) c.requires.spans

@@ -2,7 +2,7 @@ use Rattle.std.proofs.Common.{◌≡◌, Some, drop}
 use Rattle.std.specs.List.{filter}
 use Rattle.level_items.specs.Levels.{ids_of}
 use Rattle.eql_model.specs.Rows.{items_of, is_below_some, items_below, extent}
-use Rattle.eql_model.specs.Below.{AreInTime}
+use Rattle.eql_model.specs.Inner.Below.{AreInTime}
 use Rattle.eql_model.proofs.Extents.{extended}
 use Rattle.eql_model.proofs.times.extent_below.Given as goal
 

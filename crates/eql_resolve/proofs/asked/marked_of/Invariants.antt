@@ -1,6 +1,6 @@
 use Rattle.std.proofs.Common.{◌≡◌, drop, map}
 use Rattle.eql_resolve.specs.Asked.{marked_of}
-use Rattle.eql_resolve.specs.View.{term_in}
+use Rattle.eql_resolve.specs.Inner.View.{term_in}
 use Rattle.eql_resolve.proofs.asked.marked_of.Given as goal
 
 -- the marked one of the rest is that of all

@@ -1,4 +1,4 @@
-use Rattle.eql_resolve.specs.View.{query_in}
+use Rattle.eql_resolve.specs.Inner.View.{query_in}
 use Rattle.eql_resolve.proofs.Kept.{level_within}
 use Rattle.eql_resolve.proofs.queries.+asked_query.Goals as goal
 

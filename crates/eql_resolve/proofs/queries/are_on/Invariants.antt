@@ -1,7 +1,7 @@
 use Rattle.std.proofs.Common.{◌≡◌, drop, map}
 use Rattle.std.specs.List.{list_all}
 use Rattle.eql_resolve.specs.Asked.{is_on}
-use Rattle.eql_resolve.specs.View.{term_in}
+use Rattle.eql_resolve.specs.Inner.View.{term_in}
 use Rattle.eql_resolve.proofs.queries.are_on.Given as goal
 
 -- all are on the level exactly where the rest is

@@ -1,6 +1,6 @@
 use Rattle.std.proofs.Common.{map, drop, ap, ◌∙◌}
 use Rattle.std.proofs.lemmas.List.{map_push}
-use Rattle.eql_resolve.specs.View.{term_in}
+use Rattle.eql_resolve.specs.Inner.View.{term_in}
 use Rattle.eql_resolve.proofs.Steps.{asked_step}
 use Rattle.eql_resolve.proofs.terms.asked_terms.Goals as goal
 

@@ -1,5 +1,5 @@
 use Rattle.std.proofs.Common.{map}
-use Rattle.eql_resolve.specs.View.{term_in}
+use Rattle.eql_resolve.specs.Inner.View.{term_in}
 use Rattle.eql_resolve.proofs.Loops.{AreAsked}
 use Rattle.eql_resolve.proofs.terms.asked_terms.Given as goal
 

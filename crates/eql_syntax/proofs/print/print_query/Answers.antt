@@ -1,6 +1,6 @@
 use Rattle.std.proofs.Common.{◌≡◌, IfOk, rules}
-use Rattle.eql_syntax.specs.Tree.{tree_of}
-use Rattle.eql_syntax.specs.Print.{query_text}
+use Rattle.eql_syntax.specs.Inner.Tree.{tree_of}
+use Rattle.eql_syntax.specs.Inner.Print.{query_text}
 use Rattle.eql_syntax.proofs.Printed.{spells_found, reads_found}
 use Rattle.eql_syntax.proofs.print.print_query.Goals as goal
 

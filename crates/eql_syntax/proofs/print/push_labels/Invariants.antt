@@ -1,7 +1,7 @@
 use Rattle.std.proofs.Common.{◌≡◌, ◌++◌, List, ℕ, take, codes}
 use Rattle.std.specs.List.{flat_map}
 use Rattle.std.specs.String.{string_bytes}
-use Rattle.eql_syntax.specs.Print.{quoted_text}
+use Rattle.eql_syntax.specs.Inner.Print.{quoted_text}
 use Rattle.eql_syntax.proofs.print.push_labels.Given as goal
 
 abbrev pub invariant-loop-label : goal.invariant-loop-label

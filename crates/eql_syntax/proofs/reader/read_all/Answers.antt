@@ -1,5 +1,5 @@
 use Rattle.std.proofs.Common.{sym, ◌∙◌, arith}
-use Rattle.eql_syntax.specs.View.{reading_view}
+use Rattle.eql_syntax.specs.Inner.View.{reading_view}
 use Rattle.eql_syntax.proofs.Public.{reads_stop}
 use Rattle.eql_syntax.proofs.reader.read_all.Goals as goal
 

@@ -1,7 +1,7 @@
 use Rattle.std.proofs.Common.{◌≡◌, ◌≤◌, drop, Ok}
 use Rattle.emu_names.specs.declared.limits.TheConstants.{OPEN_BRACKETS}
-use Rattle.eql_syntax.specs.Reading.{read, reads}
-use Rattle.eql_syntax.specs.View.{reading_view}
+use Rattle.eql_syntax.specs.Inner.Reading.{read, reads}
+use Rattle.eql_syntax.specs.Inner.View.{reading_view}
 use Rattle.eql_syntax.proofs.reader.read_all.Given as goal
 
 abbrev pub invariant-loop-placed : goal.invariant-loop-placed

@@ -1,6 +1,6 @@
 use Rattle.std.proofs.Common.{◌≡◌, ◌∙◌, ap, sym, subst, true}
 use Rattle.std.proofs.lemmas.Bool.{and_parts}
-use Rattle.hier_closure.specs.Ranks.{AreMadeTo, is_between}
+use Rattle.hier_closure.specs.Inner.Ranks.{AreMadeTo, is_between}
 use Rattle.db_config.specs.Above.{is_above}
 use Rattle.hier_closure.proofs.Tables.{rank_in, rank_is, made_skip, made_below, lies_between}
 use Rattle.hier_closure.proofs.levels.add_level.Goals as goal

@@ -1,5 +1,5 @@
 use Rattle.std.proofs.Common.{◌≡◌, length}
-use Rattle.hier_closure.specs.Ranks.{AreMadeTo}
+use Rattle.hier_closure.specs.Inner.Ranks.{AreMadeTo}
 use Rattle.hier_closure.proofs.levels.add_rank.Given as goal
 
 -- the levels so far

@@ -1,5 +1,5 @@
 use Rattle.std.proofs.Common.{◌≡◌, length}
-use Rattle.hier_closure.specs.Ranks.{AreMadeTo}
+use Rattle.hier_closure.specs.Inner.Ranks.{AreMadeTo}
 use Rattle.hier_closure.proofs.levels.rows_between.Given as goal
 
 -- the ranks so far

@@ -1,4 +1,4 @@
-use Rattle.hier_closure.specs.Linked.{AreLinkedIn}
+use Rattle.hier_closure.specs.Inner.Linked.{AreLinkedIn}
 use Rattle.hier_closure.proofs.linked.linked_levels.Given as goal
 
 -- the rows so far

@@ -1,5 +1,5 @@
 use Rattle.std.proofs.Common.{◌≡◌, take}
-use Rattle.hier_closure.specs.Linked.{linked_of}
+use Rattle.hier_closure.specs.Inner.Linked.{linked_of}
 use Rattle.hier_closure.proofs.linked.rows_of.Given as goal
 
 -- the links so far

@@ -1,5 +1,5 @@
 use Rattle.std.proofs.Common.{◌/◌, ◌≡◌, ◌%◌, ◌^◌, get_or, arith}
-use Rattle.lane_bits.specs.Words.{bits_of}
+use Rattle.lane_bits.specs.Inner.Words.{bits_of}
 use Rattle.lane_bits.proofs.Next.{here_found, behind_found, past_found}
 use Rattle.lane_bits.proofs.bits.next_set.Goals as goal
 

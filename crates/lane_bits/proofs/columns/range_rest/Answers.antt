@@ -1,5 +1,5 @@
 use Rattle.std.proofs.Common.{arith}
-use Rattle.lane_bits.specs.Row.{is_between}
+use Rattle.lane_bits.specs.Inner.Row.{is_between}
 use Rattle.lane_bits.proofs.Masks.{rest_few, bit_small}
 use Rattle.lane_bits.proofs.columns.range_rest.Goals as goal
 

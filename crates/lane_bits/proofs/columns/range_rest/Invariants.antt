@@ -1,6 +1,6 @@
 use Rattle.std.proofs.Common.{◌≡◌, ◌≤◌, length, map, drop}
 use Rattle.std.specs.Simd.Lanes.{mask_l}
-use Rattle.lane_bits.specs.Row.{is_between}
+use Rattle.lane_bits.specs.Inner.Row.{is_between}
 use Rattle.lane_bits.proofs.columns.range_rest.Given as goal
 
 abbrev pub invariant-loop-at : goal.invariant-loop-at

@@ -1,4 +1,4 @@
-use Rattle.lane_bits.specs.Row.{is_between}
+use Rattle.lane_bits.specs.Inner.Row.{is_between}
 use Rattle.lane_bits.proofs.Masks.{AreMasks}
 use Rattle.lane_bits.proofs.columns.range_words.Given as goal
 

@@ -1,5 +1,5 @@
 use Rattle.std.specs.Int.Bits.{bit_and}
-use Rattle.lane_bits.specs.Words.{JoinedIn}
+use Rattle.lane_bits.specs.Inner.Words.{JoinedIn}
 use Rattle.lane_bits.proofs.joins.and_rest.Given as goal
 
 abbrev pub invariant-loop-at : goal.invariant-loop-at

@@ -1,6 +1,6 @@
 use Rattle.std.proofs.Common.{◌*◌}
 use Rattle.std.specs.Int.Bits.{bit_and}
-use Rattle.lane_bits.specs.Words.{JoinedIn}
+use Rattle.lane_bits.specs.Inner.Words.{JoinedIn}
 use Rattle.lane_bits.proofs.joins.and_words.Given as goal
 
 abbrev pub invariant-loop-block : goal.invariant-loop-block

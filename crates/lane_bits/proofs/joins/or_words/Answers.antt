@@ -1,6 +1,6 @@
 use Rattle.std.proofs.Common.{◌≡◌, ◌*◌, ◌/◌, ℕ, length, subst, arith}
 use Rattle.std.specs.Int.Bits.{bit_or}
-use Rattle.lane_bits.specs.Words.{JoinedIn}
+use Rattle.lane_bits.specs.Inner.Words.{JoinedIn}
 use Rattle.lane_bits.proofs.Joined.{all_joined}
 use Rattle.lane_bits.proofs.joins.or_words.Goals as goal
 

@@ -1,6 +1,6 @@
 use Rattle.std.proofs.Common.{◌+◌, ◌-◌, ◌*◌, ◌^◌, ◌≡◌, ◌<◌, ℕ, map, take, drop, arith, ◌∙◌, ap}
 use lib.Lanes.{mask_l}
-use Rattle.lane_bits.specs.Row.{is_between}
+use Rattle.lane_bits.specs.Inner.Row.{is_between}
 use Rattle.lane_bits.proofs.Masks.{taken_few, eight_more}
 use Rattle.lane_bits.proofs.lanes.range_word.Goals as goal
 

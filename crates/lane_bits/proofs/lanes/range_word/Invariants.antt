@@ -1,6 +1,6 @@
 use Rattle.std.proofs.Common.{◌≡◌, ◌+◌, ◌-◌, ◌*◌, map, take, drop}
 use Rattle.std.specs.Simd.Lanes.{mask_l}
-use Rattle.lane_bits.specs.Row.{is_between}
+use Rattle.lane_bits.specs.Inner.Row.{is_between}
 use Rattle.lane_bits.proofs.lanes.range_word.Given as goal
 
 -- the numbers behind those that are still to be asked have been

@@ -2,7 +2,7 @@ use Rattle.std.proofs.Common.{◌≡◌, ◌||◌, Bool, List, length, ap, ◌�
 use Rattle.std.proofs.lemmas.Simd.{length-zip2}
 use Rattle.std.specs.Int.Bits.{bit_or}
 use lib.Lanes.{zip2}
-use Rattle.lane_bits.specs.Words.{Hold}
+use Rattle.lane_bits.specs.Inner.Words.{Hold}
 use Rattle.lane_bits.proofs.Rows.{seen_held, or_held, written_held, written_is}
 use Rattle.lane_bits.proofs.row.or_into.Goals as goal
 

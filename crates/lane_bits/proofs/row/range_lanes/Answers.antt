@@ -1,8 +1,8 @@
 use Rattle.std.proofs.Common.{◌≡◌, List, length, map, replicate, sym, ap, subst, ◌∙◌, ℕ, arith}
 use Rattle.std.proofs.lemmas.List.{length-map}
 use Rattle.std.proofs.lemmas.Simd.{length-replicate}
-use Rattle.lane_bits.specs.Row.{is_between}
-use Rattle.lane_bits.specs.Words.{Hold, bits_of}
+use Rattle.lane_bits.specs.Inner.Row.{is_between}
+use Rattle.lane_bits.specs.Inner.Words.{Hold, bits_of}
 use Rattle.lane_bits.proofs.Rows.{length-shown, seen_held, none_held, not_between, written_held, written_is}
 use Rattle.lane_bits.proofs.row.range_lanes.Goals as goal
 

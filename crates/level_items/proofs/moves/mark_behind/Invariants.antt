@@ -1,5 +1,5 @@
 use Rattle.std.proofs.Common.{◌≡◌, ℕ}
-use Rattle.level_items.specs.Marked.{is_marked}
+use Rattle.level_items.specs.Inner.Marked.{is_marked}
 use Rattle.level_items.proofs.moves.mark_behind.Given as goal
 
 -- the marked ids are those from before

@@ -1,5 +1,5 @@
 use Rattle.std.proofs.Common.{take}
-use Rattle.level_items.specs.Kept.{AreMarksOf}
+use Rattle.level_items.specs.Inner.Kept.{AreMarksOf}
 use Rattle.level_items.proofs.moves.marks_of.Given as goal
 
 -- the items so far are marked

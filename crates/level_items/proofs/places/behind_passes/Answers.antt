@@ -1,5 +1,5 @@
 use Rattle.std.proofs.Common.{sym, ◌∙◌, subst}
-use Rattle.emu_names.specs.Gives.{FindsFault}
+use Rattle.emu_names.specs.Inner.Gives.{FindsFault}
 use Rattle.level_items.specs.Faults.{behind_fault}
 use Rattle.level_items.proofs.Rules.{last_at}
 use Rattle.level_items.proofs.places.behind_passes.Goals as goal

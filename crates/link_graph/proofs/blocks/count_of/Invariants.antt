@@ -1,5 +1,5 @@
 use Rattle.std.proofs.Common.{◌≡◌, take, length}
-use Rattle.link_graph.specs.Blocks.{joined}
+use Rattle.link_graph.specs.Inner.Blocks.{joined}
 use Rattle.link_graph.proofs.blocks.count_of.Given as goal
 
 -- the links of the blocks so far

@@ -1,6 +1,6 @@
 use Rattle.std.proofs.Common.{◌≡◌, drop}
 use Rattle.std.specs.List.{list_any}
-use Rattle.link_graph.specs.Blocks.{joined}
+use Rattle.link_graph.specs.Inner.Blocks.{joined}
 use Rattle.link_graph.specs.Link.{joins}
 use Rattle.link_graph.proofs.blocks.find_block.Given as goal
 

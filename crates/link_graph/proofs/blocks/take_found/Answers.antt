@@ -1,7 +1,7 @@
 use Rattle.std.proofs.Common.{◌≡◌, false, sym, ap, ◌∙◌}
 use Rattle.std.specs.List.{list_any}
 use Rattle.link_graph.specs.Link.{joins}
-use Rattle.link_graph.specs.Blocks.{joined}
+use Rattle.link_graph.specs.Inner.Blocks.{joined}
 use Rattle.link_graph.proofs.Filters.{filter_all}
 use Rattle.link_graph.proofs.Joined.{taken_written}
 use Rattle.link_graph.proofs.blocks.take_found.Goals as goal

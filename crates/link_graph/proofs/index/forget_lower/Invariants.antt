@@ -1,6 +1,6 @@
 use Rattle.std.proofs.Common.{◌≡◌, ℕ, ◌==◌, take}
 use Rattle.std.specs.List.{list_any}
-use Rattle.link_graph.specs.Index.{links_at, forgotten}
+use Rattle.link_graph.specs.Inner.Index.{links_at, forgotten}
 use Rattle.link_graph.proofs.index.forget_lower.Given as goal
 
 abbrev pub invariant-loop-link : goal.invariant-loop-link

@@ -1,6 +1,7 @@
 use Rattle.std.proofs.Common.{◌≡◌, ℕ, not, ◌&&◌, take}
 use Rattle.std.specs.List.{list_any}
-use Rattle.link_graph.specs.Index.{has_pair, is_pair}
+use Rattle.link_graph.specs.Index.{is_pair}
+use Rattle.link_graph.specs.Inner.Index.{has_pair}
 use Rattle.link_graph.proofs.index.forget_pairs.Given as goal
 
 -- the pairs of the links so far are gone

@@ -1,5 +1,5 @@
 use Rattle.live_book.specs.declared.fault.EditFault.TheVariants as edit_faults
-use Rattle.live_book.specs.Kept.{book_of}
+use Rattle.live_book.specs.Inner.Kept.{book_of}
 use Rattle.live_book.proofs.Committing.{refused_commits}
 use Rattle.live_book.proofs.Answering.{no_disk_as, memory_is_none}
 use Rattle.live_book.proofs.commit.commit_in.Goals as goal

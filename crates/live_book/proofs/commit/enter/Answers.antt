@@ -1,9 +1,10 @@
 use Rattle.std.proofs.Common.{◌≡◌, [], ◌∷◌, ◌++◌, None, Ok, Err, inl, inr, refl, sym, subst}
 use Rattle.edit_rules.specs.declared.edit.Entry.{Entry}
 use Rattle.live_book.specs.declared.fault.EditFault.TheVariants as edit_faults
-use Rattle.live_book.specs.Kept.{KeepsIn, IsAsBefore, DuringStore, CrashLeaves}
+use Rattle.live_book.specs.Kept.{KeepsIn, IsAsBefore, CrashLeaves}
+use Rattle.live_book.specs.Inner.Kept.{DuringStore}
 use Rattle.live_book.specs.Commits.{has_journal, DuringCommit}
-use Rattle.live_book.specs.Prepared.{IsFrameOf, HasRoomFor, ForStoreIn}
+use Rattle.live_book.specs.Inner.Prepared.{IsFrameOf, HasRoomFor, ForStoreIn}
 use Rattle.live_book.proofs.Storing.{quiet}
 use Rattle.live_book.proofs.Committing.{on_any, last_is, cut_back, longer, crash_weaker, ok_moment, disk_moment}
 use Rattle.live_book.proofs.commit.enter.Goals as goal

@@ -4,8 +4,9 @@ use Rattle.edit_rules.specs.declared.edit.Entry.{Entry}
 use Rattle.edit_journal.specs.declared.journal.Journal.{Journal}
 use Rattle.version_gate.specs.Lists.{entry}
 use Rattle.live_book.specs.declared.published.Published.{Published}
-use Rattle.live_book.specs.Kept.{IsAsBefore, IsBookOf, book_of, config_in}
-use Rattle.live_book.specs.Prepared.{MayFollowIn}
+use Rattle.live_book.specs.Kept.{IsAsBefore}
+use Rattle.live_book.specs.Inner.Kept.{IsBookOf, book_of, config_in}
+use Rattle.live_book.specs.Inner.Prepared.{MayFollowIn}
 use Rattle.live_book.proofs.Committing.{follows_in, book_err, book_ok}
 use Rattle.live_book.proofs.Answering.{refusal_commits, same_history, accepted_commits}
 use Rattle.live_book.proofs.commit.put.Goals as goal

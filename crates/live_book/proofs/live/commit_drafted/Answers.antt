@@ -1,10 +1,10 @@
 use Rattle.std.proofs.Common.{◌≡◌, List, Option, Some, IfSome, refl, rules, subst}
 use mathlib.Core.List.{IsPrefix}
 use Rattle.version_gate.specs.declared.entry.Entry.{Entry as Numbered}
-use Rattle.version_steps.specs.declared.draft.Draft.{Draft}
+use Rattle.version_tree.specs.declared.draft.Draft.{Draft}
 use Rattle.live_book.specs.declared.published.Published.{Published}
 use Rattle.live_book.specs.Commits.{entry_of}
-use Rattle.live_book.specs.Drafts.{IsDraftAt}
+use Rattle.live_book.specs.Inner.Drafts.{IsDraftAt}
 use Rattle.live_book.proofs.Configs.{commits_as, draft_fits}
 use Rattle.live_book.proofs.live.commit_drafted.Goals as goal
 

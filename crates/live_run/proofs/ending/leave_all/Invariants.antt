@@ -1,6 +1,6 @@
 use Rattle.std.proofs.Common.{◌≡◌, ◌+◌, ◌<◌, ◌++◌, map, vec_len, vec_capacity}
 use Rattle.std.specs.Vec.Iter.{into_iter_items, into_iter_len}
-use Rattle.live_run.specs.Running.{accepts_in, parts_of, refuses_in}
+use Rattle.live_run.specs.Inner.Running.{accepts_in, parts_of, refuses_in}
 use Rattle.live_run.proofs.ending.leave_all.Given as goal
 
 abbrev pub invariant-loop-seat : goal.invariant-loop-seat

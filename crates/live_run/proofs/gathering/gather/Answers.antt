@@ -5,11 +5,11 @@ use Rattle.live_book.specs.Histories.{IsHistory}
 use Rattle.live_book.specs.Kept.{BookParts}
 use Rattle.live_book.specs.Live.{HasGrown, Shows}
 use Rattle.edit_rules.specs.declared.edit.Entry.{Entry}
-use Rattle.lane_laws.specs.Lanes.{Agrees, Step, all_steps, all_turns}
-use Rattle.live_seats.specs.Notes.{noted_in}
-use Rattle.live_run.specs.Running.{EndsOver, HaveLanes, accepts_in, refuses_in}
+use Rattle.live_laws.specs.Lanes.{Agrees, Step, all_steps, all_turns}
+use Rattle.live_seats.specs.Inner.Notes.{noted_in}
+use Rattle.live_run.specs.Inner.Running.{EndsOver, HaveLanes, accepts_in, refuses_in}
 use Rattle.live_seats.specs.Marks.{marks_from}
-use Rattle.live_seats.specs.Seats.{IsAsked}
+use Rattle.live_seats.specs.Inner.Seats.{IsAsked}
 use Rattle.live_run.proofs.Gathers.{gathers_grown, gathers_lanes, gathers_room, gathers_shown}
 use Rattle.live_run.proofs.Joining.{ran_asked, ran_ends, ran_few, ran_named, ran_placed, ran_rooms}
 use Rattle.live_run.proofs.gathering.gather.Goals as goal

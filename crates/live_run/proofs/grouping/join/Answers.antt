@@ -1,6 +1,6 @@
 use Rattle.std.proofs.Common.{◌++◌, List, ◌∙◌, ap, arith, refl}
 use Rattle.std.specs.Vec.Iter.{into_iter_items}
-use Rattle.live_run.specs.Grouping.{QueueParts}
+use Rattle.live_run.specs.Inner.Grouping.{QueueParts}
 use Rattle.live_run.proofs.Queues.{replies_queued}
 use Rattle.live_run.proofs.Laid.{joined_all, joined_long, joined_more, queues_split}
 use Rattle.live_run.proofs.grouping.join.Goals as goal

@@ -1,5 +1,5 @@
 use Rattle.std.proofs.Common.{◌≡◌, length}
-use Rattle.live_run.specs.Grouping.{HaveRooms}
+use Rattle.live_run.specs.Inner.Grouping.{HaveRooms}
 use Rattle.live_run.proofs.grouping.make_queues.Given as goal
 
 -- the sessions so far have their room

@@ -1,6 +1,6 @@
 use Rattle.std.proofs.Common.{refl, ◌∙◌, ap, arith, slice_set}
 use Rattle.std.proofs.lemmas.Option.{slice_get_read}
-use Rattle.live_run.specs.Grouping.{QueueParts}
+use Rattle.live_run.specs.Inner.Grouping.{QueueParts}
 use Rattle.live_run.proofs.Queues.{put_is, put_room}
 use Rattle.live_run.proofs.grouping.put.Goals as goal
 

@@ -2,8 +2,8 @@ use Rattle.std.proofs.Common.{◌≡◌, ◌<◌, ℕ, List, [], ◌∷◌, ◌�
 use Rattle.std.specs.Vec.Iter.{into_iter_items}
 use Rattle.session_core.specs.declared.line.Reply.{Reply}
 use Rattle.session_core.specs.Worlds.{Each}
-use Rattle.lane_laws.specs.Lanes.{Step}
-use Rattle.live_run.specs.Grouping.{AreWithin, HasPlace, QueueParts, queued_from}
+use Rattle.live_laws.specs.Lanes.{Step}
+use Rattle.live_run.specs.Inner.Grouping.{AreWithin, HasPlace, QueueParts, queued_from}
 use Rattle.live_run.proofs.Queues.{length_queued}
 use Rattle.live_run.proofs.Laid.{laid_all, laid_more, laid_room, lane_done, lane_replies, lane_split, places_more}
 use Rattle.live_run.proofs.grouping.put_lane.Goals as goal

@@ -1,6 +1,6 @@
 use Rattle.std.proofs.Common.{◌≡◌, ℕ, get_or, ◌+◌, ◌<◌, ◌≤◌, [], vec_len, vec_capacity}
 use Rattle.std.specs.Vec.Iter.{into_iter_items, into_iter_len}
-use Rattle.live_run.specs.Running.{HaveTaken, HasTaken, IsThread, parts_of}
+use Rattle.live_run.specs.Inner.Running.{HaveTaken, HasTaken, IsThread, parts_of}
 use Rattle.live_run.proofs.lanes.end_lanes.Given as goal
 
 abbrev pub invariant-loop-child : goal.invariant-loop-child

@@ -1,6 +1,6 @@
 use Rattle.std.proofs.Common.{◌≡◌, ◌+◌, ◌≤◌, length, vec_len, vec_capacity}
 use Rattle.std.specs.List.{All}
-use Rattle.live_run.specs.Running.{HaveRoom}
+use Rattle.live_run.specs.Inner.Running.{HaveRoom}
 use Rattle.live_run.proofs.places.make_places.Given as goal
 
 abbrev pub invariant-loop-at : goal.invariant-loop-at

@@ -1,8 +1,8 @@
 use Rattle.std.proofs.Common.{◌≡◌, [], List, length, map, arith, ap, ◌∙◌, sym, refl, subst}
 use Rattle.std.specs.Vec.Iter.{into_iter_items}
 use Rattle.session_core.specs.Worlds.{Each}
-use Rattle.live_seats.specs.Seats.{SeatParts}
-use Rattle.live_run.specs.Running.{IsFresh}
+use Rattle.live_seats.specs.Inner.Seats.{SeatParts}
+use Rattle.live_run.specs.Inner.Running.{IsFresh}
 use Rattle.live_run.proofs.Joins.{all_moved, each_more, moved, none_moved, nothing}
 use Rattle.live_run.proofs.Rooming.{map_same}
 use Rattle.live_run.proofs.places.sit_all.Goals as goal

@@ -1,6 +1,6 @@
 use Rattle.std.proofs.Common.{◌≡◌, map, vec_len, arith, sym, ◌∙◌}
 use Rattle.std.proofs.lemmas.List.{length-map}
-use Rattle.live_run.specs.Running.{AreFree}
+use Rattle.live_run.specs.Inner.Running.{AreFree}
 use Rattle.live_run.proofs.Rooming.{free_from}
 use Rattle.live_run.proofs.Settled.{settled_lanes}
 use Rattle.live_run.proofs.run.run_in.Goals as goal

@@ -1,7 +1,7 @@
 use Rattle.std.proofs.Common.{ap, ◌∙◌}
 use Rattle.session_core.specs.declared.moves.Head.{Head}
-use Rattle.session_run.specs.Orders.{commit_reply}
-use Rattle.session_run.specs.Taken.{line_of}
+use Rattle.session_run.specs.Inner.Orders.{commit_reply}
+use Rattle.session_run.specs.Inner.Taken.{line_of}
 use Rattle.live_seats.proofs.line.answer_edit.Goals as goal
 
 pub returns-clause-edited : goal.returns-clause-edited

@@ -1,8 +1,8 @@
 use Rattle.std.proofs.Common.{Some, ℕ, ap, sym, ◌∙◌, subst}
 use Rattle.session_core.specs.declared.line.Reply.{Reply}
 use Rattle.session_core.specs.declared.moves.Head.{Head}
-use Rattle.session_run.specs.Taken.{head_of, or_memory}
-use Rattle.live_seats.specs.Replies.{RepliesTo}
+use Rattle.session_run.specs.Inner.Taken.{head_of, or_memory}
+use Rattle.live_seats.specs.Inner.Replies.{RepliesTo}
 use Rattle.live_seats.proofs.Lines.{after_replies}
 use Rattle.live_seats.proofs.line.take_after.Goals as goal
 

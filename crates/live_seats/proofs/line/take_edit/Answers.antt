@@ -5,8 +5,8 @@ use Rattle.session_core.specs.declared.line.Reply.{Reply}
 use Rattle.session_core.specs.declared.line.Request.{Request}
 use Rattle.session_core.specs.declared.line.Request.TheVariants as requests
 use Rattle.session_core.specs.declared.moves.Head.{Head}
-use Rattle.session_run.specs.Taken.{or_memory}
-use Rattle.live_seats.specs.Replies.{RepliesTo}
+use Rattle.session_run.specs.Inner.Taken.{or_memory}
+use Rattle.live_seats.specs.Inner.Replies.{RepliesTo}
 use Rattle.live_seats.proofs.Edits.{edit_replies}
 use Rattle.live_seats.proofs.Lines.{grid_replies}
 use Rattle.live_seats.proofs.line.take_edit.Goals as goal

@@ -1,8 +1,8 @@
 use Rattle.std.proofs.Common.{ℕ, ap, sym, ◌∙◌, subst}
 use Rattle.std.specs.Option.{option_map}
-use Rattle.lane_laws.specs.Lanes.{Step}
-use Rattle.live_seats.specs.Notes.{noted_of}
-use Rattle.live_seats.specs.Seats.{TakesLine, answered_step}
+use Rattle.live_laws.specs.Lanes.{Step}
+use Rattle.live_seats.specs.Inner.Notes.{noted_of}
+use Rattle.live_seats.specs.Inner.Seats.{TakesLine, answered_step}
 use Rattle.live_seats.proofs.Lines.{takes_line}
 use Rattle.live_seats.proofs.line.take_line.Goals as goal
 

@@ -1,5 +1,5 @@
 use Rattle.std.proofs.Common.{codes, string_bytes}
-use Rattle.script_lines.specs.Pieces.{edits_piece, number_behind}
+use Rattle.script_lines.specs.Inner.Pieces.{edits_piece, number_behind}
 use Rattle.script_lines.proofs.Pushed.{two}
 use Rattle.script_lines.proofs.replies.push_head.Goals as goal
 

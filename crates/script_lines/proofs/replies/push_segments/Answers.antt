@@ -1,5 +1,5 @@
 use Rattle.std.proofs.Common.{◌++◌, ℕ, List, ap, ◌∙◌, codes, string_bytes}
-use Rattle.segment_list.specs.Texts.{rows_text}
+use Rattle.segment_list.specs.Inner.Texts.{rows_text}
 use Rattle.script_lines.proofs.Pushed.{two}
 use Rattle.script_lines.proofs.replies.push_segments.Goals as goal
 

@@ -1,5 +1,5 @@
 use Rattle.std.proofs.Common.{◌≡◌, ◌+◌, drop}
-use Rattle.script_runs.specs.Cuts.{line_len}
+use Rattle.script_runs.specs.Inner.Cuts.{line_len}
 use Rattle.script_runs.proofs.cut.line_len.Given as goal
 
 -- no line feed stands among the bytes that were counted

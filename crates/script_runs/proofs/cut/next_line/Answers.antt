@@ -1,5 +1,6 @@
 use Rattle.std.proofs.Common.{◌≡◌, ◌<◌, ◌∷◌, [], length, ℕ, true, false, ◌==◌, List, take, drop, ◌∙◌, arith}
-use Rattle.script_runs.specs.Cuts.{cut, line_len}
+use Rattle.script_runs.specs.Cuts.{cut}
+use Rattle.script_runs.specs.Inner.Cuts.{line_len}
 use Rattle.script_runs.proofs.CutLemmas.{cut_at, cut_past, cut_last, one_line}
 use Rattle.script_runs.proofs.cut.next_line.Goals as goal
 

@@ -1,5 +1,5 @@
 use Rattle.std.proofs.Common.{subst, ap}
-use Rattle.script_runs.specs.Ran.{HasDisk}
+use Rattle.script_runs.specs.Inner.Ran.{HasDisk}
 use Rattle.script_runs.proofs.FreshSays.{store_unread, store_says}
 use Rattle.script_runs.proofs.EndLemmas.{told_ended, err_fault}
 use Rattle.script_runs.proofs.in_order.run_opened.Goals as goal

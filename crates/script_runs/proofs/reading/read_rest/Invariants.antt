@@ -1,7 +1,7 @@
 use Rattle.std.proofs.Common.{◌≤◌, ℕ, Bool, All, List, ◌++◌, length}
 use Rattle.emu_names.specs.declared.limits.TheConstants.{SCRIPT_LINES}
 use Rattle.script_runs.specs.Cuts.{cut}
-use Rattle.script_runs.specs.Reads.{HasRead, InReading}
+use Rattle.script_runs.specs.Inner.Reads.{HasRead, InReading}
 use Rattle.script_runs.proofs.reading.read_rest.Given as goal
 
 -- the lines so far were read, and those of the rest come next

@@ -1,7 +1,7 @@
 use Rattle.std.proofs.Common.{inl, refl, sym, subst}
-use Rattle.run_output.specs.declared.ended.Ended.TheVariants as ends
-use Rattle.script_runs.specs.Reached.{IsKept, EndsOnLine}
-use Rattle.script_lines.specs.Made.{times_too_large}
+use Rattle.program_output.specs.declared.ended.Ended.TheVariants as ends
+use Rattle.script_runs.specs.Inner.Reached.{IsKept, EndsOnLine}
+use Rattle.eql_resolve.specs.Made.{times_too_large}
 use Rattle.script_runs.proofs.RunLemmas.{ends_unread, reached_blank, runs_request, broke_here}
 use Rattle.script_runs.proofs.script.one_line.Goals as goal
 

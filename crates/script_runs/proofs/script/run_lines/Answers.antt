@@ -1,6 +1,6 @@
 use Rattle.std.proofs.Common.{◌++◌}
 use Rattle.script_runs.specs.Cuts.{cut}
-use Rattle.script_runs.specs.Reached.{IsKept, IsFailed}
+use Rattle.script_runs.specs.Inner.Reached.{IsKept, IsFailed}
 use Rattle.script_runs.proofs.RunLemmas.{ends_other, past_end, whole_end}
 use Rattle.script_runs.proofs.script.run_lines.Goals as goal
 

@@ -1,10 +1,10 @@
 use Rattle.std.proofs.Common.{◌∷◌, None, sym, ◌∙◌, ap, subst}
 use Rattle.live_book.specs.Kept.{KeepsIn}
 use Rattle.live_book.specs.Commits.{has_journal}
-use Rattle.run_output.specs.declared.ended.Ended.TheVariants as ends
-use Rattle.script_runs.specs.Bases.{fresh_base}
+use Rattle.program_output.specs.declared.ended.Ended.TheVariants as ends
+use Rattle.script_runs.specs.Inner.Bases.{fresh_base}
 use Rattle.script_runs.specs.Cuts.{cut}
-use Rattle.script_runs.specs.Reached.{IsBegun, IsBeginOf}
+use Rattle.script_runs.specs.Inner.Reached.{IsBegun, IsBeginOf}
 use Rattle.script_runs.proofs.FreshLemmas.{fresh_broke}
 use Rattle.script_runs.proofs.BookLemmas.{of_journal, end_journal}
 use Rattle.script_runs.proofs.script.run_made.Goals as goal

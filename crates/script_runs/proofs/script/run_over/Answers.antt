@@ -1,9 +1,9 @@
 use Rattle.std.proofs.Common.{[], sym, ◌∙◌, ap, subst}
 use Rattle.live_book.specs.Commits.{has_journal}
 use Rattle.script_runs.specs.Bases.{store_of}
-use Rattle.run_output.specs.declared.ended.Ended.TheVariants as ends
+use Rattle.program_output.specs.declared.ended.Ended.TheVariants as ends
 use Rattle.script_runs.specs.Cuts.{cut}
-use Rattle.script_runs.specs.Reached.{IsBeginOf}
+use Rattle.script_runs.specs.Inner.Reached.{IsBeginOf}
 use Rattle.script_runs.proofs.RunLemmas.{over_store}
 use Rattle.script_runs.proofs.BookLemmas.{of_journal, end_journal, broke_store}
 use Rattle.script_runs.proofs.script.run_over.Goals as goal

@@ -1,6 +1,6 @@
 use Rattle.std.proofs.Common.{◌∷◌, ◌++◌, ◌∙◌, arith}
 use Rattle.script_runs.specs.Cuts.{cut}
-use Rattle.script_runs.specs.Reached.{IsKept}
+use Rattle.script_runs.specs.Inner.Reached.{IsKept}
 use Rattle.script_runs.proofs.RunLemmas.{ends_in, lines_more, lines_end, split_more, rest_is}
 use Rattle.script_runs.proofs.script.run_rest.Goals as goal
 

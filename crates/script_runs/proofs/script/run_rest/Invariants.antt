@@ -3,7 +3,7 @@ use Rattle.db_config.specs.declared.parts.ConfigParts.{ConfigParts}
 use Rattle.live_book.specs.Commits.{has_journal}
 use Rattle.script_runs.specs.Bases.{Base}
 use Rattle.script_runs.specs.Cuts.{cut}
-use Rattle.script_runs.specs.Reached.{Reached, InLines}
+use Rattle.script_runs.specs.Inner.Reached.{Reached, InLines}
 use Rattle.script_runs.proofs.script.run_rest.Given as goal
 
 -- the lines so far were run, and those of the rest come next

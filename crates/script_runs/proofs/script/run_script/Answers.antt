@@ -1,6 +1,6 @@
 use Rattle.std.proofs.Common.{sym, subst}
 use Rattle.script_runs.specs.Cuts.{cut}
-use Rattle.script_runs.specs.Reached.{IsKept, IsFailed, RunsScript}
+use Rattle.script_runs.specs.Inner.Reached.{IsKept, IsFailed, RunsScript}
 use Rattle.script_runs.proofs.FreshLemmas.{fresh_first, fresh_lines}
 use Rattle.script_runs.proofs.script.run_script.Goals as goal
 

@@ -1,7 +1,7 @@
 use Rattle.std.proofs.Common.{◌++◌, ℕ, List, ap, ◌∙◌, codes, false, string_bytes}
 use Rattle.emu_names.proofs.Made.{made_same}
 use Rattle.eql_model.specs.declared.row.Row.{Row}
-use Rattle.segment_list.specs.Pieces.{row_texts}
+use Rattle.segment_list.specs.Inner.Pieces.{row_texts}
 use Rattle.segment_list.proofs.Listed.{whole_list}
 use Rattle.segment_list.proofs.Pushed.{three}
 use Rattle.segment_list.proofs.print.print_rows.Goals as goal

@@ -1,5 +1,5 @@
 use Rattle.std.proofs.Common.{◌<◌, ◌++◌, length, arith, string_bytes, false}
-use Rattle.segment_list.specs.Pieces.{row_texts}
+use Rattle.segment_list.specs.Inner.Pieces.{row_texts}
 use Rattle.segment_list.proofs.Listed.{next_row}
 use Rattle.segment_list.proofs.print.push_each.Goals as goal
 

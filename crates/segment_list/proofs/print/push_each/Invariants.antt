@@ -1,5 +1,5 @@
 use Rattle.std.proofs.Common.{◌≡◌, ◌++◌, drop, false, nat_lt, string_bytes}
-use Rattle.segment_list.specs.Pieces.{row_texts}
+use Rattle.segment_list.specs.Inner.Pieces.{row_texts}
 use Rattle.segment_list.proofs.print.push_each.Given as goal
 
 abbrev pub invariant-loop-place : goal.invariant-loop-place

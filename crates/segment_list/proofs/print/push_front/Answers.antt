@@ -1,6 +1,6 @@
 use Rattle.std.proofs.Common.{◌++◌, ap, ◌∙◌, ℕ, List, codes, string_bytes}
 use Rattle.json.specs.Print.{quoted}
-use Rattle.segment_list.specs.Pieces.{head_text, names_of, number_behind, number_or_null}
+use Rattle.segment_list.specs.Inner.Pieces.{head_text, names_of, number_behind, number_or_null}
 use Rattle.segment_list.proofs.Pushed.{six}
 use Rattle.segment_list.proofs.print.push_front.Goals as goal
 

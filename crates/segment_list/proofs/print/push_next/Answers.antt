@@ -1,6 +1,6 @@
 use Rattle.std.proofs.Common.{string_bytes}
 use Rattle.serde_json.specs.Written.{comma_if}
-use Rattle.segment_list.specs.Pieces.{row_text}
+use Rattle.segment_list.specs.Inner.Pieces.{row_text}
 use Rattle.segment_list.proofs.Pushed.{two}
 use Rattle.segment_list.proofs.print.push_next.Goals as goal
 

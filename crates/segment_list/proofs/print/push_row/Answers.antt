@@ -1,5 +1,5 @@
 use Rattle.std.proofs.Common.{◌++◌, ap, ◌∙◌, ℕ, List, string_bytes}
-use Rattle.segment_list.specs.Pieces.{back_text, front_text, samples_text}
+use Rattle.segment_list.specs.Inner.Pieces.{back_text, front_text, samples_text}
 use Rattle.segment_list.proofs.Listed.{row_in_parts}
 use Rattle.segment_list.proofs.Pushed.{three}
 use Rattle.segment_list.proofs.print.push_row.Goals as goal

@@ -1,5 +1,5 @@
 use Rattle.std.proofs.Common.{◌++◌, ap, ◌∙◌, ℕ, List, codes, string_bytes}
-use Rattle.segment_list.specs.Pieces.{level_text, names_of, number_behind, number_or_null}
+use Rattle.segment_list.specs.Inner.Pieces.{level_text, names_of, number_behind, number_or_null}
 use Rattle.segment_list.proofs.Pushed.{five}
 use Rattle.segment_list.proofs.print.push_samples.Goals as goal
 

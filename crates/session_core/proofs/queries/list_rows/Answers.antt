@@ -1,15 +1,31 @@
-use Rattle.session_core.proofs.RowLists.{list_more, few_more, refused}
+use Rattle.std.proofs.Common.{◌+◌, drop, subst}
+use Rattle.eql_model.specs.Meaning.{has_too_many}
+use Rattle.eql_model.specs.Rows.{rows, segment_list, any_has_too_many}
+use Rattle.eql_model.proofs.Listed.{from_here, list_more, few_more, refused}
 use Rattle.session_core.proofs.queries.list_rows.Goals as goal
 
 pub returns-in-Err : goal.returns-in-Err
 returns-in-Err c =
-    refused c.in-Err.fault c.config-config.result.now c.args.asked.now c.args.database.now c.loop-place.place c.at.result.now
-    c.loop-place.rows c.add_bundle.new.rows c.config-config.ensures c.at.ensures c.loop-place.invariant.few c.in-Err.ensures
+    let bundles = c.args.database.now.bundles in
+    let asked = c.args.asked.now in
+    rw c.config-config.ensures at
+    (refused (drop c.loop-place.place bundles) (drop (c.loop-place.place + 1) bundles) c.at.result.now
+    (from_here bundles c.loop-place.place c.at.result.now c.at.ensures) c.in-Err.fault
+    (λ b. has_too_many c.config-config.result.now b asked.query) (rows c.config-config.result.now c.at.result.now asked)
+    c.loop-place.list c.add_bundle.new.list (segment_list c.config-config.result.now bundles asked)
+    (any_has_too_many c.config-config.result.now bundles asked) c.loop-place.invariant.few c.in-Err.ensures)
 
 pub loop-place-preserved : goal.loop-place-preserved
-loop-place-preserved c = record {
-  rows = list_more c.config-config.result.now c.args.asked.now c.args.database.now.bundles c.loop-place.place c.at.result.now c.at.ensures
-      c.loop-place.rows c.add_bundle.new.rows _ c.loop-place.invariant.rows c.in-Ok.ensures.0;
-  few = few_more c.config-config.result.now c.args.asked.now c.args.database.now.bundles c.loop-place.place c.at.result.now c.at.ensures
-      _ c.loop-place.invariant.few c.in-Ok.ensures.1;
-}
+loop-place-preserved c =
+    let bundles = c.args.database.now.bundles in
+    let asked = c.args.asked.now in
+    let config = c.config-config.result.now in
+    let left = drop c.loop-place.place bundles in
+    let others = drop (c.loop-place.place + 1) bundles in
+    let split = from_here bundles c.loop-place.place c.at.result.now c.at.ensures in
+    record {
+      rows = list_more left others c.at.result.now split (λ b. rows config b asked) c.loop-place.list c.add_bundle.new.list _
+          c.loop-place.invariant.rows c.in-Ok.ensures.0;
+      few = few_more left others c.at.result.now split (λ b. has_too_many config b asked.query) _
+          c.loop-place.invariant.few c.in-Ok.ensures.1;
+    }

@@ -1,6 +1,7 @@
 use Rattle.std.proofs.Common.{◌≡◌, ◌+◌, ◌*◌, ◌≤◌, length}
 use Rattle.std.specs.Prelude.{string_bytes}
-use Rattle.textgrid.specs.Encodings.{utf16_from, utf16_of, with_text}
+use Rattle.textgrid.specs.Encodings.{utf16_from, utf16_of}
+use Rattle.textgrid.specs.Inner.Encodings.{with_text}
 use Rattle.textgrid.proofs.encoding.utf16_text.Given as goal
 
 abbrev pub invariant-loop-rest : goal.invariant-loop-rest

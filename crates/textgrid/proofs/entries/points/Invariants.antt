@@ -1,5 +1,6 @@
 use Rattle.std.proofs.Common.{◌≡◌, ◌-◌}
-use Rattle.textgrid.specs.Reading.{times_at, point_at, behind}
+use Rattle.textgrid.specs.Reading.{times_at, point_at}
+use Rattle.textgrid.specs.Inner.Reading.{behind}
 use Rattle.textgrid.proofs.entries.points.Given as goal
 
 abbrev pub invariant-loop : goal.invariant-loop

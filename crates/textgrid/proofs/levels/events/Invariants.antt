@@ -1,5 +1,6 @@
 use Rattle.std.proofs.Common.{◌≡◌, drop}
-use Rattle.textgrid.specs.Levels.{events_from, items_before}
+use Rattle.textgrid.specs.Levels.{events_from}
+use Rattle.textgrid.specs.Inner.Levels.{items_before}
 use Rattle.textgrid.proofs.levels.events.Given as goal
 
 abbrev pub invariant-loop-index : goal.invariant-loop-index

@@ -1,5 +1,6 @@
 use Rattle.std.proofs.Common.{◌≡◌, ◌+◌, drop}
-use Rattle.textgrid.specs.Levels.{levels_from, levels_before, entry_total}
+use Rattle.textgrid.specs.Levels.{levels_from}
+use Rattle.textgrid.specs.Inner.Levels.{levels_before, entry_total}
 use Rattle.textgrid.proofs.levels.levels.Given as goal
 
 abbrev pub invariant-loop-index : goal.invariant-loop-index

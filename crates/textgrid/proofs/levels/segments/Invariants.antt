@@ -1,5 +1,6 @@
 use Rattle.std.proofs.Common.{◌≡◌, drop}
-use Rattle.textgrid.specs.Levels.{segments_from, items_before}
+use Rattle.textgrid.specs.Levels.{segments_from}
+use Rattle.textgrid.specs.Inner.Levels.{items_before}
 use Rattle.textgrid.proofs.levels.segments.Given as goal
 
 abbrev pub invariant-loop-index : goal.invariant-loop-index

@@ -2,7 +2,8 @@ use Rattle.std.proofs.Common.{◌≡◌, ◌+◌, ◌++◌, ◌∷◌, [], take,
 use Rattle.std.specs.Prelude.{string_bytes}
 use Rattle.std.specs.Str.{IsCharBoundary, IsUtf8}
 use Rattle.std.proofs.lemmas.Str.{IsUtf8-drop}
-use Rattle.textgrid.specs.Quoted.{quoted, quoted_len}
+use Rattle.textgrid.specs.Quoted.{quoted}
+use Rattle.textgrid.specs.Inner.Quoted.{quoted_len}
 use Rattle.textgrid.specs.Values.{front}
 use Rattle.textgrid.proofs.Quotes.{unfinished, finished, goes_on, is_at_quote, first_cut, quote_bytes}
 use Rattle.textgrid.proofs.quoted.quoted_text.Goals as goal

@@ -1,7 +1,8 @@
 use Rattle.std.proofs.Common.{◌≡◌, ◌≤◌, ◌-◌, length, drop}
 use Rattle.std.specs.Prelude.{All}
-use Rattle.textgrid.specs.Short.{IsShortPlaced}
-use Rattle.textgrid.specs.Values.{values_from, values_of, joined}
+use Rattle.textgrid.specs.Inner.Short.{IsShortPlaced}
+use Rattle.textgrid.specs.Values.{values_from, values_of}
+use Rattle.textgrid.specs.Inner.Values.{joined}
 use Rattle.textgrid.proofs.scan.read_values.Given as goal
 
 abbrev pub invariant-loop-at : goal.invariant-loop-at

@@ -1,5 +1,6 @@
 use Rattle.std.proofs.Common.{◌≡◌, ◌-◌}
-use Rattle.textgrid.specs.Reading.{times_at, tier_at, behind}
+use Rattle.textgrid.specs.Reading.{times_at, tier_at}
+use Rattle.textgrid.specs.Inner.Reading.{behind}
 use Rattle.textgrid.proofs.tiers.tiers.Given as goal
 
 abbrev pub invariant-loop : goal.invariant-loop

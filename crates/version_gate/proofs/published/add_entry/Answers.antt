@@ -1,5 +1,5 @@
 use Rattle.std.proofs.Common.{sym, ◌∙◌, ap}
-use Rattle.version_gate.specs.Snapshots.{entry_of}
+use Rattle.version_gate.specs.Inner.Snapshots.{entry_of}
 use Rattle.version_gate.proofs.Adding.{adds_moves}
 use Rattle.version_gate.proofs.published.add_entry.Goals as goal
 

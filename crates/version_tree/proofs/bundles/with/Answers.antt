@@ -1,8 +1,8 @@
 use Rattle.std.proofs.Common.{◌≡◌, ◌++◌, ◌∷◌, ◌∙◌, List, sym, ap, subst, take, drop}
 use Rattle.bundle_state.specs.Bundle.{BundleParts}
 use Rattle.bundle_index.specs.Index.{IndexParts}
-use Rattle.version_tree.specs.Version.{put_indexed}
-use Rattle.version_tree.specs.Places.{IsAtMostOneMore}
+use Rattle.version_tree.specs.Inner.Version.{put_indexed}
+use Rattle.version_tree.specs.Inner.Places.{IsAtMostOneMore}
 use Rattle.version_tree.proofs.Elements.{if_ok}
 use Rattle.version_tree.proofs.Gaps.{put_size}
 use Rattle.version_tree.proofs.bundles.with.Goals as goal

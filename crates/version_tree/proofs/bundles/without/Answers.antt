@@ -1,6 +1,6 @@
 use Rattle.std.proofs.Common.{◌≡◌, ◌++◌, [], ◌∙◌, List, suc, length, sym, ap, take, drop}
 use Rattle.bundle_index.specs.Index.{IndexParts}
-use Rattle.version_tree.specs.Version.{others}
+use Rattle.version_tree.specs.Inner.Version.{others}
 use Rattle.version_tree.proofs.Elements.{if_ok}
 use Rattle.version_tree.proofs.Gaps.{taken_size}
 use Rattle.version_tree.proofs.bundles.without.Goals as goal

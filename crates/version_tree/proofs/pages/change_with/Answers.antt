@@ -1,7 +1,7 @@
 use Rattle.std.proofs.Common.{◌≡◌, ℕ, ◌∙◌, sym, ap, subst, arith}
 use Rattle.emu_names.specs.declared.names.BundleKey.{BundleKey}
 use Rattle.bundle_state.specs.Bundle.{BundleParts}
-use Rattle.version_tree.specs.Places.{IsPageFor}
+use Rattle.version_tree.specs.Inner.Places.{IsPageFor}
 use Rattle.version_tree.proofs.Leaves.{page_rising}
 use Rattle.version_tree.proofs.Changes.{put_made, put_holds}
 use Rattle.version_tree.proofs.pages.change_with.Goals as goal

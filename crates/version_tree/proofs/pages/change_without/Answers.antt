@@ -1,8 +1,8 @@
 use Rattle.std.proofs.Common.{◌≡◌, ◌∙◌, sym}
 use Rattle.version_tree.specs.declared.change.Change.{Change}
-use Rattle.version_tree.specs.Version.{others}
-use Rattle.version_tree.specs.Pages.{bundles_on, bundles_behind}
-use Rattle.version_tree.specs.Places.{bundles_but}
+use Rattle.version_tree.specs.Inner.Version.{others}
+use Rattle.version_tree.specs.Inner.Pages.{bundles_on, bundles_behind}
+use Rattle.version_tree.specs.Inner.Places.{bundles_but}
 use Rattle.version_tree.proofs.Elements.{if_ok}
 use Rattle.version_tree.proofs.Leaves.{found_on, page_rising}
 use Rattle.version_tree.proofs.Changes.{one_less, others_hold}

@@ -1,6 +1,6 @@
 use Rattle.std.proofs.Common.{◌≡◌, ◌∷◌, [], List, ◌∙◌, length, take, drop, sym, subst, arith, eqb-true}
 use Rattle.bundle_index.specs.Index.{IndexParts}
-use Rattle.version_tree.specs.Pages.{pages_of}
+use Rattle.version_tree.specs.Inner.Pages.{pages_of}
 use Rattle.version_tree.proofs.Elements.{if_ok}
 use Rattle.version_tree.proofs.Fullness.{pages_none, pages_one, pages_two}
 use Rattle.version_tree.proofs.pages.cut.Goals as goal

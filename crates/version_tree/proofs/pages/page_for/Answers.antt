@@ -1,6 +1,6 @@
 use Rattle.std.proofs.Common.{◌≡◌, true, false, List, arith}
 use Rattle.bundle_index.specs.Index.{IndexParts}
-use Rattle.version_tree.specs.Pages.{starts_by}
+use Rattle.version_tree.specs.Inner.Pages.{starts_by}
 use Rattle.version_tree.proofs.Elements.{each_low, each_high}
 use Rattle.version_tree.proofs.Leaves.{page_found}
 use Rattle.version_tree.proofs.pages.page_for.Goals as goal

@@ -1,6 +1,6 @@
 use Rattle.std.proofs.Common.{rules}
 use Rattle.std.proofs.lemmas.List.Sorted.{IsPartitionPoint-from_clause}
-use Rattle.version_tree.specs.Pages.{starts_by}
+use Rattle.version_tree.specs.Inner.Pages.{starts_by}
 use Rattle.version_tree.proofs.Leaves.{pages_halved}
 use Rattle.version_tree.proofs.pages.pages_started.Goals as goal
 

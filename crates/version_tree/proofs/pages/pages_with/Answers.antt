@@ -1,7 +1,7 @@
 use Rattle.std.proofs.Common.{◌≡◌, List}
 use Rattle.bundle_index.specs.Index.{IndexParts}
-use Rattle.version_tree.specs.Version.{put_indexed}
-use Rattle.version_tree.specs.Pages.{KeepPages, bundles_on, pages_behind}
+use Rattle.version_tree.specs.Inner.Version.{put_indexed}
+use Rattle.version_tree.specs.Inner.Pages.{KeepPages, bundles_on, pages_behind}
 use Rattle.version_tree.proofs.Elements.{if_ok}
 use Rattle.version_tree.proofs.Orders.{rising_put}
 use Rattle.version_tree.proofs.Changes.{made_keeps, made_holds}

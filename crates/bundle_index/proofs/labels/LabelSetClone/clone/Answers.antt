@@ -1,6 +1,6 @@
 use Rattle.std.proofs.Common.{sym, subst, ◌∙◌}
 use Rattle.std.specs.String.{string_bytes}
-use Rattle.bundle_index.specs.Numbered.{AreNumbered}
+use Rattle.bundle_index.specs.Inner.Numbered.{AreNumbered}
 use Rattle.bundle_index.proofs.Numbers.{clones_seen}
 use Rattle.bundle_index.proofs.labels.LabelSetClone.clone.Goals as goal
 

@@ -1,11 +1,11 @@
 use Rattle.std.proofs.Common.{◌≡◌, ◌∙◌, Ok, sym, ap, subst, option_map}
 use Rattle.std.specs.List.{slice_get}
-use Rattle.emu_names.specs.Gives.{FindsFault}
+use Rattle.emu_names.specs.Inner.Gives.{FindsFault}
 use Rattle.level_items.specs.declared.annot.AnnotLink.{AnnotLink}
 use Rattle.link_graph.specs.Link.{add_fault}
 use Rattle.bundle_state.specs.Bundle.{BundleParts}
 use Rattle.bundle_state.specs.Linked.{kind_of, definition_for}
-use Rattle.bundle_state.specs.Placed.{level_in}
+use Rattle.bundle_state.specs.Inner.Placed.{level_in}
 use Rattle.bundle_state.proofs.ChangedKept.{link_kept, kind_is}
 use Rattle.bundle_state.proofs.bundle.Bundle.add_link.Goals as goal
 

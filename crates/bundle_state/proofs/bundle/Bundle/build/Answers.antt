@@ -4,7 +4,7 @@ use Rattle.bundle_state.specs.Built.{built}
 use Rattle.bundle_state.specs.Faults.{annot_fault}
 use Rattle.bundle_state.specs.Made.{made_levels}
 use Rattle.bundle_state.specs.Linked.{put_links}
-use Rattle.bundle_state.specs.Placed.{level_in}
+use Rattle.bundle_state.specs.Inner.Placed.{level_in}
 use Rattle.bundle_state.proofs.LinksKept.{fine_value}
 use Rattle.bundle_state.proofs.BuiltKept.{unbroken, linked_by, build_rules, build_gives, build_breaks, build_stops}
 use Rattle.bundle_state.proofs.FewLevels.{made_few}

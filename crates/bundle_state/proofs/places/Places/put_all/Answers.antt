@@ -1,5 +1,5 @@
 use Rattle.std.proofs.Common.{◌∙◌, arith}
-use Rattle.bundle_state.specs.Placed.{level_in}
+use Rattle.bundle_state.specs.Inner.Placed.{level_in}
 use Rattle.bundle_state.proofs.IdLevels.{put_step}
 use Rattle.bundle_state.proofs.places.Places.put_all.Goals as goal
 

@@ -2,7 +2,7 @@ use Rattle.std.proofs.Common.{◌≡◌, ℕ, nat_eq, take}
 use Rattle.std.specs.List.{list_any}
 use Rattle.std.specs.Option.{option_or}
 use Rattle.level_items.specs.Levels.{ids_of}
-use Rattle.bundle_state.specs.Placed.{level_in}
+use Rattle.bundle_state.specs.Inner.Placed.{level_in}
 use Rattle.bundle_state.proofs.IdLevels.{level_if}
 use Rattle.bundle_state.proofs.places.Places.put_all.Given as goal
 

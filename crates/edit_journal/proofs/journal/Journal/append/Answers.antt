@@ -1,6 +1,6 @@
 use Rattle.std.proofs.Common.{true, false, None, inl, [], ◌∷◌, ◌++◌}
 use Rattle.emu_disk.proofs.Moments.{started}
-use Rattle.edit_journal.specs.Held.{DuringAppend}
+use Rattle.edit_journal.specs.Inner.Held.{DuringAppend}
 use Rattle.edit_journal.proofs.Kept.{small_end, stands_may, noted, noted_held, noted_before}
 use Rattle.edit_journal.proofs.journal.Journal.append.Goals as goal
 

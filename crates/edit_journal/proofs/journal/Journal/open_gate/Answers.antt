@@ -1,6 +1,6 @@
 use Rattle.std.proofs.Common.{◌+◌, Some, inl, refl, ap, arith}
 use Rattle.emu_disk.proofs.Moments.{weaker}
-use Rattle.edit_journal.specs.Held.{MayHave}
+use Rattle.edit_journal.specs.Inner.Held.{MayHave}
 use Rattle.edit_journal.proofs.Kept.{reaches, open_ok, open_err, open_may, on_err}
 use Rattle.edit_journal.proofs.journal.Journal.open_gate.Goals as goal
 

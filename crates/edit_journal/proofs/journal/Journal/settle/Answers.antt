@@ -1,5 +1,5 @@
 use Rattle.emu_disk.proofs.Moments.{started}
-use Rattle.edit_journal.specs.Held.{MayHave}
+use Rattle.edit_journal.specs.Inner.Held.{MayHave}
 use Rattle.edit_journal.proofs.Kept.{stands_may}
 use Rattle.edit_journal.proofs.journal.Journal.settle.Goals as goal
 

@@ -1,6 +1,6 @@
 use Rattle.std.proofs.Common.{inr, refl, arith}
 use Rattle.emu_disk.proofs.Moments.{weaker}
-use Rattle.edit_journal.specs.Held.{MayHave}
+use Rattle.edit_journal.specs.Inner.Held.{MayHave}
 use Rattle.edit_journal.proofs.Kept.{reaches, shut_err, shut_may, on_err}
 use Rattle.edit_journal.proofs.journal.Journal.shut.Goals as goal
 

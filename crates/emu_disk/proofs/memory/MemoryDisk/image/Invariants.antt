@@ -1,5 +1,5 @@
 use Rattle.std.proofs.Common.{◌≡◌, take}
-use Rattle.emu_disk.specs.Memory.{content, IsImage}
+use Rattle.emu_disk.specs.Inner.Memory.{content, IsImage}
 use Rattle.emu_disk.proofs.memory.MemoryDisk.image.Given as goal
 
 abbrev pub invariant-loop-call : goal.invariant-loop-call

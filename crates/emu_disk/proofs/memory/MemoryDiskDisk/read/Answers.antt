@@ -1,6 +1,6 @@
 use Rattle.std.proofs.Common.{length, true, false, Some, refl, ap}
 use Rattle.emu_disk.specs.declared.call.Call.TheVariants.{Read}
-use Rattle.emu_disk.proofs.Kept.{calls_failed, first_failed, within_adds, all_adds, time_adds, time_failed, bytes_by, same_failed, within_failed, all_failed}
+use Rattle.emu_disk.proofs.Kept.{calls_failed, not_due, first_failed, within_adds, all_adds, time_adds, time_failed, bytes_by, same_failed, within_failed, all_failed}
 use Rattle.emu_disk.proofs.memory.MemoryDiskDisk.read.Goals as goal
 
 pub returns-in-Ok-clause-same : goal.returns-in-Ok-clause-same
@@ -30,6 +30,7 @@ returns-in-Err-clause-time c = time_failed _ _ _ c.in-Err.ensures.moves
 pub returns-in-Ok-clause-made : goal.returns-in-Ok-clause-made
 returns-in-Ok-clause-made c = record {
   due = c.turn-done.ensures.due c.in-Ok.ensures.due;
+  failed = tt;
   calls = c.in-Ok.ensures.moves.calls;
   first = c.in-Ok.ensures.moves.first;
   failing = c.turn-done.ensures.failing;
@@ -40,6 +41,7 @@ returns-in-Ok-clause-made c = record {
 pub returns-in-Err-clause-made : goal.returns-in-Err-clause-made
 returns-in-Err-clause-made c = record {
   due = tt;
+  failed = not_due _ _ _ c.turn-done.ensures.all c.in-Err.ensures.failed;
   calls = calls_failed _ _ _ c.in-Err.ensures.moves;
   first = first_failed _ _ _ c.in-Err.ensures.moves;
   failing = c.turn-done.ensures.failing;

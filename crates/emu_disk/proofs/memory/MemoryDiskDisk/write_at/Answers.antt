@@ -1,5 +1,5 @@
 use Rattle.std.proofs.Common.{Some, ap}
-use Rattle.emu_disk.proofs.Kept.{torn_reads, calls_failed, first_failed, image_by, time_adds, time_failed, bytes_by, torn_failed}
+use Rattle.emu_disk.proofs.Kept.{torn_reads, calls_failed, not_due, first_failed, image_by, time_adds, time_failed, bytes_by, torn_failed}
 use Rattle.emu_disk.proofs.memory.MemoryDiskDisk.write_at.Goals as goal
 
 pub returns-in-Ok-clause-written : goal.returns-in-Ok-clause-written
@@ -20,6 +20,7 @@ returns-in-Err-clause-time c = time_failed _ _ _ c.in-Err.ensures.moves
 pub returns-in-Ok-clause-made : goal.returns-in-Ok-clause-made
 returns-in-Ok-clause-made c = record {
   due = c.turn-done.ensures.due c.in-Ok.ensures.due;
+  failed = tt;
   calls = c.in-Ok.ensures.moves.calls;
   first = c.in-Ok.ensures.moves.first;
   failing = c.turn-done.ensures.failing;
@@ -30,6 +31,7 @@ returns-in-Ok-clause-made c = record {
 pub returns-in-Err-clause-made : goal.returns-in-Err-clause-made
 returns-in-Err-clause-made c = record {
   due = tt;
+  failed = not_due _ _ _ c.turn-done.ensures.all c.in-Err.ensures.failed;
   calls = calls_failed _ _ _ c.in-Err.ensures.moves;
   first = first_failed _ _ _ c.in-Err.ensures.moves;
   failing = c.turn-done.ensures.failing;

@@ -1,6 +1,6 @@
 use Rattle.std.proofs.Common.{◌≡◌, rules}
 use Rattle.std.specs.declared.cmp.Ordering.TheVariants.{Equal, Greater}
-use Rattle.eql_model.specs.Kept.{order_behind}
+use Rattle.eql_model.specs.Inner.Kept.{order_behind}
 use Rattle.eql_model.proofs.Rising.{pushed_ok, pushed_order, there_already, put_between}
 use Rattle.eql_model.proofs.kept.Kept.put.Goals as goal
 

@@ -1,7 +1,7 @@
 use Rattle.std.proofs.Common.{◌≡◌}
 use Rattle.json_view.specs.Lists.{each_from}
 use Rattle.json_view.specs.Parts.{text_at}
-use Rattle.json_view.specs.Seen.{seen_at}
+use Rattle.json_view.specs.Inner.Seen.{seen_at}
 use Rattle.json_view.specs.Steps.{with_front}
 use Rattle.json_view.proofs.views.View.listed_texts.Given as goal
 

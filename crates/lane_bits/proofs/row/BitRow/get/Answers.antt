@@ -1,7 +1,7 @@
 use Rattle.std.proofs.Common.{◌/◌, ◌%◌, ◌<◌, Bool, List, length, get_or, nat_eq, slice_get, Some, ap, sym, subst, ◌∙◌}
 use Rattle.std.proofs.lemmas.Nat.Bits.{shr_and_one}
 use Rattle.std.specs.Int.{bit_at}
-use Rattle.lane_bits.specs.Words.{bits_of}
+use Rattle.lane_bits.specs.Inner.Words.{bits_of}
 use Rattle.lane_bits.proofs.Rows.{shown}
 use Rattle.lane_bits.proofs.row.BitRow.get.Goals as goal
 

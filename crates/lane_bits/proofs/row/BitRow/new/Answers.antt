@@ -1,7 +1,7 @@
 use Rattle.std.proofs.Common.{◌≡◌, ◌∙◌, List, ℕ, replicate, false, ap, sym, subst}
 use Rattle.std.proofs.lemmas.Simd.{length-replicate}
 use Rattle.std.specs.Int.{div_ceil}
-use Rattle.lane_bits.specs.Words.{Hold}
+use Rattle.lane_bits.specs.Inner.Words.{Hold}
 use Rattle.lane_bits.proofs.Rows.{new_held, held_is, row_held}
 use Rattle.lane_bits.proofs.row.BitRow.new.Goals as goal
 

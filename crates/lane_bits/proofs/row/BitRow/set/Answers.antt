@@ -1,6 +1,6 @@
 use Rattle.std.proofs.Common.{◌≡◌, ◌/◌, ◌∙◌, ap, set, length, List, ℕ, sym, subst}
 use Rattle.std.proofs.lemmas.List.{length-set}
-use Rattle.lane_bits.specs.Words.{Hold}
+use Rattle.lane_bits.specs.Inner.Words.{Hold}
 use Rattle.lane_bits.proofs.Rows.{seen_held, set_held, written_held, written_is}
 use Rattle.lane_bits.proofs.row.BitRow.set.Goals as goal
 

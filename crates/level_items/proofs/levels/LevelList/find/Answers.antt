@@ -1,6 +1,6 @@
 use Rattle.std.proofs.Common.{sym, ◌∙◌, ap}
 use Rattle.level_items.specs.declared.marks.Marks.{Marks}
-use Rattle.level_items.specs.Marked.{is_marked}
+use Rattle.level_items.specs.Inner.Marked.{is_marked}
 use Rattle.level_items.proofs.Found.{absent}
 use Rattle.level_items.proofs.levels.LevelList.find.Goals as goal
 

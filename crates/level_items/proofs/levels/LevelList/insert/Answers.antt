@@ -2,7 +2,7 @@ use Rattle.std.proofs.Common.{rules, ◌≡◌, ℕ, sym, ◌∙◌, ap, subst}
 use Rattle.std.specs.List.{insert}
 use Rattle.level_items.specs.Levels.{Level, level_of, are_labels_for, new_place}
 use Rattle.level_items.specs.Faults.{insert_fault}
-use Rattle.level_items.specs.Kept.{IsKept}
+use Rattle.level_items.specs.Inner.Kept.{IsKept}
 use Rattle.level_items.proofs.Changes.{kept_insert, own_more}
 use Rattle.level_items.proofs.levels.LevelList.insert.Goals as goal
 

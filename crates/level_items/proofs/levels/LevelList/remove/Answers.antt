@@ -1,7 +1,7 @@
 use Rattle.std.proofs.Common.{rules, ◌≡◌, ℕ, ◌∙◌, length, refl, sym, subst}
 use Rattle.std.proofs.lemmas.Option.{slice_get_read}
 use Rattle.level_items.specs.Levels.{level_of}
-use Rattle.level_items.specs.Kept.{IsKept}
+use Rattle.level_items.specs.Inner.Kept.{IsKept}
 use Rattle.level_items.proofs.Changes.{kept_remove, own_less}
 use Rattle.level_items.proofs.levels.LevelList.remove.Goals as goal
 

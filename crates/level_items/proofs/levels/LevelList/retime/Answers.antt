@@ -2,7 +2,7 @@ use Rattle.std.proofs.Common.{rules, ◌≡◌, length, refl, sym, ◌∙◌, ap
 use Rattle.std.proofs.lemmas.Option.{slice_get_read}
 use Rattle.level_items.specs.Levels.{change_at, level_of, retimed}
 use Rattle.level_items.specs.Faults.{retime_fault}
-use Rattle.level_items.specs.Kept.{IsKept}
+use Rattle.level_items.specs.Inner.Kept.{IsKept}
 use Rattle.level_items.proofs.Changes.{kept_retime, own_more, written, length-change_at}
 use Rattle.level_items.proofs.levels.LevelList.retime.Goals as goal
 

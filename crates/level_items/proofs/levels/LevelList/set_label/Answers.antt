@@ -4,7 +4,7 @@ use Rattle.std.proofs.lemmas.Option.{slice_get-get_or}
 use Rattle.level_items.specs.declared.items.Item.{Item}
 use Rattle.level_items.specs.declared.times.Time.TheVariants.{NoTime}
 use Rattle.level_items.specs.Levels.{change_at, level_of, relabelled}
-use Rattle.level_items.specs.Kept.{IsKept}
+use Rattle.level_items.specs.Inner.Kept.{IsKept}
 use Rattle.level_items.proofs.Changes.{attribute_at, kept_label, written, length-change_at}
 use Rattle.level_items.proofs.levels.LevelList.set_label.Goals as goal
 

@@ -1,7 +1,7 @@
 use Rattle.std.proofs.Common.{not}
 use Rattle.emu_names.specs.declared.limits.TheConstants.{BUNDLE_LINKS}
 use Rattle.link_graph.specs.Link.{joins}
-use Rattle.link_graph.specs.Blocks.{joined}
+use Rattle.link_graph.specs.Inner.Blocks.{joined}
 use Rattle.link_graph.proofs.Joined.{still_few}
 use Rattle.link_graph.proofs.blocks.Blocks.take_pair.Goals as goal
 

@@ -1,8 +1,8 @@
 use Rattle.std.proofs.Common.{◌≡◌, false, ◌++◌, ◌∷◌, [], subst, sym}
 use Rattle.std.specs.List.{list_any}
-use Rattle.link_graph.specs.Index.{Indexes}
+use Rattle.link_graph.specs.Inner.Index.{Indexes}
 use Rattle.link_graph.specs.Link.{joins}
-use Rattle.link_graph.specs.Links.{AreLinks}
+use Rattle.link_graph.specs.Inner.Links.{AreLinks}
 use Rattle.link_graph.proofs.Keeping.{push_kept}
 use Rattle.link_graph.proofs.Steps.{undone_list}
 use Rattle.link_graph.proofs.links.Links.put.Goals as goal

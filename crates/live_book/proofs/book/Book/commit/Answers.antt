@@ -3,7 +3,7 @@ use Rattle.std.specs.Arc.{arc_value}
 use Rattle.live_book.specs.declared.fault.EditFault.TheVariants as edit_faults
 use Rattle.live_book.specs.declared.published.Published.{Published}
 use Rattle.live_book.specs.Commits.{entry_of}
-use Rattle.live_book.specs.Kept.{config_in}
+use Rattle.live_book.specs.Inner.Kept.{config_in}
 use Rattle.live_book.proofs.Committing.{refused_commits}
 use Rattle.live_book.proofs.Answering.{memory_is_none}
 use Rattle.live_book.proofs.Configs.{fits_as}

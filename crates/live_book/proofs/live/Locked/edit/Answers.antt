@@ -7,7 +7,8 @@ use Rattle.version_gate.proofs.Numbers.{numbered_once}
 use Rattle.live_book.specs.declared.published.Published.{Published}
 use Rattle.live_book.specs.Kept.{BookParts}
 use Rattle.live_book.specs.Commits.{entry_of}
-use Rattle.live_book.specs.Live.{HasGrown, accepted_behind}
+use Rattle.live_book.specs.Live.{HasGrown}
+use Rattle.live_book.specs.Inner.Live.{accepted_behind}
 use Rattle.live_book.proofs.Ahead.{begins_on}
 use Rattle.live_book.proofs.Lists.{learnt_whole}
 use Rattle.live_book.proofs.Living.{grows, edits_live, longer_behind}

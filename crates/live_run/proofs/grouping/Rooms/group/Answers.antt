@@ -3,9 +3,9 @@ use Rattle.std.specs.Vec.Iter.{into_iter_items}
 use Rattle.session_core.specs.declared.line.Reply.{Reply}
 use Rattle.session_core.specs.Worlds.{Each}
 use Rattle.session_core.specs.Legal.{replies_in}
-use Rattle.lane_laws.specs.Lanes.{all_turns}
+use Rattle.live_laws.specs.Lanes.{all_turns}
 use Rattle.live_run.specs.Runs.{AreGrouped}
-use Rattle.live_run.specs.Grouping.{HasPlace, QueueParts, queued_from}
+use Rattle.live_run.specs.Inner.Grouping.{HasPlace, QueueParts, queued_from}
 use Rattle.live_run.proofs.Queues.{length_queued}
 use Rattle.live_run.proofs.Regrouped.{ordered, places_of}
 use Rattle.live_run.proofs.Gathered.{gathered_are, gathered_fit, gathered_within}

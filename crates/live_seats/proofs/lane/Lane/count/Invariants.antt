@@ -1,5 +1,5 @@
 use Rattle.std.proofs.Common.{◌≡◌, ◌≤◌, ◌+◌, drop, length}
-use Rattle.live_seats.specs.Seats.{lines_of}
+use Rattle.live_seats.specs.Inner.Seats.{lines_of}
 use Rattle.live_seats.proofs.lane.Lane.count.Given as goal
 
 -- those counted, and those still to come

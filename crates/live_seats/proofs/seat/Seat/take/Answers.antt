@@ -1,6 +1,6 @@
 use Rattle.std.proofs.Common.{List, ◌-◌, ◌∙◌, sym, subst, vec_capacity, vec_len}
-use Rattle.lane_laws.specs.Lanes.{Step}
-use Rattle.live_seats.specs.Seats.{IsSeat, seat_of}
+use Rattle.live_laws.specs.Lanes.{Step}
+use Rattle.live_seats.specs.Inner.Seats.{IsSeat, seat_of}
 use Rattle.live_seats.proofs.Seating.{seat_goes_on}
 use Rattle.live_seats.proofs.seat.Seat.take.Goals as goal
 

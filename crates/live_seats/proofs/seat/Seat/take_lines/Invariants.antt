@@ -1,7 +1,7 @@
 use Rattle.std.proofs.Common.{◌≡◌, ◌≤◌, ◌++◌, drop, length}
 use Rattle.session_core.specs.Legal.{lines_in}
-use Rattle.lane_laws.specs.Lanes.{turns_of}
-use Rattle.live_seats.specs.Seats.{lines_of}
+use Rattle.live_laws.specs.Lanes.{turns_of}
+use Rattle.live_seats.specs.Inner.Seats.{lines_of}
 use Rattle.live_seats.proofs.seat.Seat.take_lines.Given as goal
 
 -- the lines that were answered, and those still to come, for which there is room

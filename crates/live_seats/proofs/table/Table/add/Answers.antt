@@ -1,6 +1,6 @@
 use Rattle.std.proofs.Common.{ℕ, List, Option, subst, sym}
-use Rattle.live_seats.specs.Notes.{IsTold}
-use Rattle.live_seats.specs.Tables.{KeepsTelling}
+use Rattle.live_seats.specs.Inner.Notes.{IsTold}
+use Rattle.live_seats.specs.Inner.Tables.{KeepsTelling}
 use Rattle.live_seats.proofs.Telling.{keeps_put, told_put}
 use Rattle.live_seats.proofs.table.Table.add.Goals as goal
 

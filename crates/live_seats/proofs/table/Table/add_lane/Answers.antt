@@ -1,8 +1,8 @@
 use Rattle.std.proofs.Common.{ℕ, add-one, length, subst, sym, take}
 use Rattle.session_core.specs.Worlds.{Each}
-use Rattle.lane_laws.specs.Lanes.{Step}
-use Rattle.live_seats.specs.Seats.{IsAsked}
-use Rattle.live_seats.specs.Tables.{TellsStep}
+use Rattle.live_laws.specs.Lanes.{Step}
+use Rattle.live_seats.specs.Inner.Seats.{IsAsked}
+use Rattle.live_seats.specs.Inner.Tables.{TellsStep}
 use Rattle.session_core.proofs.Turns.{each_map}
 use Rattle.live_seats.proofs.Telling.{asked_steps, each_at, each_more, keeps_more, tells_still}
 use Rattle.live_seats.proofs.table.Table.add_lane.Goals as goal

@@ -1,6 +1,6 @@
 use Rattle.std.proofs.Common.{take}
 use Rattle.session_core.specs.Worlds.{Each}
-use Rattle.live_seats.specs.Tables.{KeepsTelling, TellsStep}
+use Rattle.live_seats.specs.Inner.Tables.{KeepsTelling, TellsStep}
 use Rattle.live_seats.proofs.table.Table.add_lane.Given as goal
 
 -- the steps so far are told

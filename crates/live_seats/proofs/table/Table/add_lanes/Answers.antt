@@ -1,9 +1,9 @@
 use Rattle.std.proofs.Common.{ℕ, List, add-one, length, map, subst, sym, take}
 use Rattle.session_core.specs.Legal.{lines_in}
 use Rattle.session_core.specs.Worlds.{Each}
-use Rattle.lane_laws.specs.Lanes.{Step, turns_of}
-use Rattle.live_seats.specs.Seats.{IsAsked}
-use Rattle.live_seats.specs.Tables.{TellsStep}
+use Rattle.live_laws.specs.Lanes.{Step, turns_of}
+use Rattle.live_seats.specs.Inner.Seats.{IsAsked}
+use Rattle.live_seats.specs.Inner.Tables.{TellsStep}
 use Rattle.live_seats.proofs.Telling.{asked_lanes, each_at, each_more, keeps_more, lanes_agree, lanes_still, mapped_at, mapped_below, mapped_past, take_whole}
 use Rattle.live_seats.proofs.table.Table.add_lanes.Goals as goal
 

@@ -1,7 +1,7 @@
 use Rattle.std.proofs.Common.{List, map, take}
 use Rattle.session_core.specs.Worlds.{Each}
-use Rattle.lane_laws.specs.Lanes.{Step}
-use Rattle.live_seats.specs.Tables.{KeepsTelling, TellsStep}
+use Rattle.live_laws.specs.Lanes.{Step}
+use Rattle.live_seats.specs.Inner.Tables.{KeepsTelling, TellsStep}
 use Rattle.live_seats.proofs.table.Table.add_lanes.Given as goal
 
 -- the lanes so far are told

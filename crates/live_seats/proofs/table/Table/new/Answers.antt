@@ -1,7 +1,7 @@
 use Rattle.std.proofs.Common.{◌≡◌, ℕ, List, Option, None, ◌∙◌, ap, arith, map, replicate, subst, sym}
 use Rattle.std.specs.Option.{option_map}
-use Rattle.live_seats.specs.Notes.{Note, noted_of}
-use Rattle.live_seats.specs.Tables.{AreInPlace}
+use Rattle.live_seats.specs.Inner.Notes.{Note, noted_of}
+use Rattle.live_seats.specs.Inner.Tables.{AreInPlace}
 use Rattle.live_seats.proofs.Telling.{in_place_none, mapped_none}
 use Rattle.live_seats.proofs.table.Table.new.Goals as goal
 

@@ -1,5 +1,5 @@
 use Rattle.std.proofs.Common.{ℕ, List, [], ap, ◌∙◌}
-use Rattle.segment_list.specs.Pieces.{head_text, level_text, names, session_text}
+use Rattle.segment_list.specs.Inner.Pieces.{head_text, level_text, names, session_text}
 use Rattle.segment_list.proofs.names.NamePieces.new.Goals as goal
 
 pub invariant_of-result : goal.invariant_of-result

@@ -1,6 +1,6 @@
 use Rattle.std.proofs.Common.{List, rules, subst, sym}
 use Rattle.segment_list.specs.declared.parts.Part.{Part}
-use Rattle.segment_list.specs.Merged.{AreApart}
+use Rattle.segment_list.specs.Inner.Merged.{AreApart}
 use Rattle.segment_list.proofs.Rising.{by_keys, rising, still_apart}
 use Rattle.segment_list.proofs.parts.Parts.sort.Goals as goal
 

@@ -1,6 +1,6 @@
 use Rattle.std.proofs.Common.{refl}
 use Rattle.session_core.specs.declared.line.Request.TheVariants as requests
-use Rattle.session_core.specs.Kept.{head_line}
+use Rattle.session_core.specs.Inner.Kept.{head_line}
 use Rattle.session_core.proofs.Keeping.{kept_looked_at, look_told}
 use Rattle.session_core.proofs.machine.Core.hold_look.Goals as goal
 

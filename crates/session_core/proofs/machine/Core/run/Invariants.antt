@@ -1,8 +1,9 @@
 use Rattle.std.proofs.Common.{◌≡◌, ◌<◌, length}
 use Rattle.std.specs.List.{All}
 use Rattle.session_core.specs.declared.event.Event.{Event}
-use Rattle.session_core.specs.Steps.{State, place_of, session_places, steps}
-use Rattle.session_core.specs.Stops.{StopsAt}
+use Rattle.session_core.specs.Steps.{State, session_places, steps}
+use Rattle.session_core.specs.Inner.Steps.{place_of}
+use Rattle.session_core.specs.Inner.Stops.{StopsAt}
 use Rattle.session_core.proofs.Turning.{behind}
 use Rattle.session_core.proofs.machine.Core.run.Given as goal
 

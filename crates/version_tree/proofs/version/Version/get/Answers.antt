@@ -1,6 +1,7 @@
 use Rattle.std.proofs.Common.{◌≡◌, ◌∙◌, ap, Option, option_map, option_copied}
 use Rattle.bundle_index.specs.Index.{IndexParts}
-use Rattle.version_tree.specs.Version.{VersionParts, indexed_with}
+use Rattle.version_tree.specs.Version.{VersionParts}
+use Rattle.version_tree.specs.Inner.Version.{indexed_with}
 use Rattle.version_tree.proofs.States.{state_found}
 use Rattle.version_tree.proofs.Versions.{kept_as, fits_found}
 use Rattle.version_tree.proofs.version.Version.get.Goals as goal

@@ -1,5 +1,6 @@
 use Rattle.std.proofs.Common.{◌≡◌, ◌∙◌, ap}
-use Rattle.version_tree.specs.Version.{VersionParts, put_indexed, next_number}
+use Rattle.version_tree.specs.Version.{VersionParts}
+use Rattle.version_tree.specs.Inner.Version.{put_indexed, next_number}
 use Rattle.version_tree.proofs.Versions.{kept_as, kept_with, is_with, state_is_with, version_as}
 use Rattle.version_tree.proofs.version.Version.with.Goals as goal
 

@@ -1,5 +1,6 @@
 use Rattle.std.proofs.Common.{◌≡◌, ◌∙◌, ap}
-use Rattle.version_tree.specs.Version.{VersionParts, others, next_number}
+use Rattle.version_tree.specs.Version.{VersionParts}
+use Rattle.version_tree.specs.Inner.Version.{others, next_number}
 use Rattle.version_tree.proofs.Versions.{kept_as, kept_without, is_without, state_is_without, version_as}
 use Rattle.version_tree.proofs.version.Version.without.Goals as goal
 

@@ -1,8 +1,8 @@
 use Rattle.std.proofs.Common.{◌≡◌, ◌+◌, [], length, vec_len, vec_capacity, rules, arith, ap, ◌∙◌, sym, refl, subst}
 use Rattle.live_seats.specs.declared.lane.Lane.TheVariants as lane_kinds
 use Rattle.live_run.specs.declared.lanes.LaneOf.{LaneOf}
-use Rattle.live_run.specs.Running.{AreFree, AreIdle, HasTaken, IsFree, IsThread, thread_lines}
-use Rattle.live_seats.specs.Seats.{IsAsked}
+use Rattle.live_run.specs.Inner.Running.{AreFree, AreIdle, HasTaken, IsFree, IsThread, thread_lines}
+use Rattle.live_seats.specs.Inner.Seats.{IsAsked}
 use Rattle.session_core.specs.Worlds.{Each}
 use denote.Param.{param}
 use denote.Exit.{no}

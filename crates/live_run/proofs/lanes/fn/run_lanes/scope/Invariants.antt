@@ -1,5 +1,5 @@
 use Rattle.std.proofs.Common.{◌≡◌, ℕ, get_or, ◌+◌, ◌<◌, ◌≤◌, [], length, vec_len, vec_capacity}
-use Rattle.live_run.specs.Running.{AreFree, IsThread}
+use Rattle.live_run.specs.Inner.Running.{AreFree, IsThread}
 use Rattle.live_run.proofs.lanes.fn.run_lanes.scope.Given as goal
 
 abbrev pub invariant-loop-seat : goal.invariant-loop-seat

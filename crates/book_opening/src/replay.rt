@@ -1,0 +1,146 @@
+//! The history of a store, read of its bodies.
+ghost use Rattle.std.specs.Prelude.{◌≡◌, ◌<◌, ◌++◌, [], ◌∷◌, ℕ, List, length, IfOk, IfErr, Ok, OnOk, IsTrue};
+ghost use Rattle.db_config.specs.declared.parts.ConfigParts.{ConfigParts};
+ghost use Rattle.db_config.specs.Valid.{is_valid};
+ghost use Rattle.edit_code.specs.Codes.{IsEntryCode, IsHeadCode};
+ghost use Rattle.edit_journal.specs.Held.{texts_of};
+ghost use Rattle.edit_rules.specs.Database.{KeepsDatabaseRules};
+ghost use Rattle.edit_rules.specs.Effects.{effect};
+ghost use Rattle.version_tree.specs.Version.{state_of};
+ghost use Rattle.version_tree.specs.Inner.Version.{first_version, next_number};
+ghost use Rattle.live_book.specs.Histories.{IsNoEntry, IsNoHead, IsNoNext};
+ghost use Rattle.book_opening.specs.Inner.Opens.{IsReplay, IsWrong, IsWrongIn};
+ghost use Rattle.book_opening.specs.Inner.Prepared.{BreaksRule, IsHistoryOf, IsWrongTail};
+
+use crate::fault::OpenFault;
+use db_config::Config;
+use edit_code::{CodeFault, read_entry, read_head};
+use edit_journal::Body;
+use edit_rules::{Entries, Entry};
+use emu_names::limits::HISTORY_EDITS;
+use emu_names::{Fault, Memory};
+use std::alloc::Global;
+use version_tree::{Version, next_version};
+
+/// Entries that were read, and the version after them.
+#[derive(Drop)]
+pub(crate) struct Replayed {
+    pub(crate) version: Version,
+    pub(crate) entries: Entries,
+}
+
+/// The configuration of a body.
+fn config_of(alloc: Global, body: &Body) -> Result<Config, OpenFault>
+    ensures ok { IfOk result (λ config. IsHeadCode body.now.bytes config) }
+    ensures err { IfErr result (λ fault. IsWrong (λ at.
+        (at ≡ body.now.at) × IsNoHead body.now.bytes) fault) }
+{
+    match read_head(alloc, body.bytes.as_slice()) {
+        Ok(config) => Ok(config),
+        Err(CodeFault::NotAnEntry(_)) => Err(OpenFault::Damaged(body.at)),
+        Err(CodeFault::Memory) => Err(OpenFault::Memory),
+    }
+}
+
+/// The entry of a body.
+fn entry_of(alloc: Global, body: &Body) -> Result<Entry, OpenFault>
+    ensures ok { IfOk result (λ entry. IsEntryCode body.now.bytes entry) }
+    ensures err { IfErr result (λ fault. IsWrong (λ at.
+        (at ≡ body.now.at) × IsNoEntry body.now.bytes) fault) }
+{
+    match read_entry(alloc, body.bytes.as_slice()) {
+        Ok(entry) => Ok(entry),
+        Err(CodeFault::NotAnEntry(_)) => Err(OpenFault::Damaged(body.at)),
+        Err(CodeFault::Memory) => Err(OpenFault::Memory),
+    }
+}
+
+/// The version behind an entry that stands in a body.
+fn version_behind(
+    alloc: Global,
+    version: &Version,
+    entry: &Entry,
+    body: &Body,
+) -> Result<Version, OpenFault>
+    requires { KeepsDatabaseRules (state_of version.now) }
+    ensures state { IfOk result (λ next.
+        effect (state_of version.now) entry.now.edit ≡ Ok (state_of next)) }
+    ensures config { IfOk result (λ next. next.config ≡ version.now.config) }
+    ensures number { IfOk result (λ next. next.number ≡ next_number version.now.number) }
+    ensures err { IfErr result (λ fault. IsWrong (λ at.
+        (at ≡ body.now.at) × BreaksRule version.now entry.now.edit) fault) }
+{
+    match next_version(alloc, version, &entry.edit) {
+        Ok(next) => Ok(next),
+        Err(Fault::Broken(_)) => Err(OpenFault::Damaged(body.at)),
+        Err(Fault::Memory) => Err(OpenFault::Memory),
+    }
+}
+
+/// Puts an entry behind those that were read, and its version in the place of theirs.
+fn put(replayed: &mut Replayed, entry: Entry, version: Version) -> Result<(), Memory>
+    ensures entries { OnOk result (replayed.new.entries ≡ replayed.old.entries ++ entry ∷ []) }
+    ensures version { OnOk result (replayed.new.version ≡ version) }
+{
+    replayed.entries.push(entry)?;
+    replayed.version = version;
+    Ok(())
+}
+
+/// Adds the entry of a body.
+fn add(alloc: Global, replayed: &mut Replayed, body: &Body) -> Result<(), OpenFault>
+    requires { (config : ConfigParts) × (texts : List (List ℕ)) × IsReplay config texts replayed.old }
+    ensures ok { (config : ConfigParts) (texts : List (List ℕ)) → IsReplay config texts replayed.old
+        → OnOk result (IsReplay config (texts ++ body.now.bytes ∷ []) replayed.new) }
+    ensures err { (config : ConfigParts) (texts : List (List ℕ)) → IsReplay config texts replayed.old
+        → IfErr result (λ fault. IsWrong (λ at.
+        (at ≡ body.now.at) × IsNoNext config replayed.old.entries body.now.bytes) fault) }
+{
+    if replayed.entries.len() >= HISTORY_EDITS {
+        return Err(OpenFault::Damaged(body.at));
+    }
+    let entry = entry_of(alloc, body)?;
+    match version_behind(alloc, &replayed.version, &entry, body) {
+        Ok(version) => Ok(put(replayed, entry, version)?),
+        Err(fault) => Err(fault),
+    }
+}
+
+/// Adds the entries of bodies, behind the version of a configuration.
+fn add_all(alloc: Global, version: Version, bodies: &[Body]) -> Result<Replayed, OpenFault>
+    requires first { version ≡ first_version version.config }
+    requires valid { IsTrue (is_valid version.config) }
+    ensures ok { IfOk result (λ r. IsReplay version.config (texts_of bodies.now) r) }
+    ensures err { IfErr result (λ fault. IsWrong (IsWrongTail version.config bodies.now) fault) }
+{
+    let mut replayed = Replayed {
+        version,
+        entries: Entries::new(alloc),
+    };
+    'bodies: for body in bodies {
+        add(alloc, &mut replayed, body)?;
+    }
+    Ok(replayed)
+}
+
+/// The configuration of a body, and the history of those behind it.
+fn replay_behind(alloc: Global, head: &Body, rest: &[Body]) -> Result<Replayed, OpenFault>
+    ensures ok { IfOk result (λ r. IsHistoryOf (head.now.bytes ∷ texts_of rest.now) r) }
+    ensures err { IfErr result (λ fault. IsWrong (IsWrongIn (head.now ∷ rest.now)) fault) }
+{
+    let config = config_of(alloc, head)?;
+    let version = Version::new(alloc, config)?;
+    add_all(alloc, version, rest)
+}
+
+/// The configuration and the history of bodies, of which there is one.
+pub(crate) fn replay(alloc: Global, bodies: &[Body]) -> Result<Replayed, OpenFault>
+    requires { 0 < length bodies.now }
+    ensures ok { IfOk result (λ r. IsHistoryOf (texts_of bodies.now) r) }
+    ensures err { IfErr result (λ fault. IsWrong (IsWrongIn bodies.now) fault) }
+{
+    match bodies {
+        [head, rest @ ..] => replay_behind(alloc, head, rest),
+        [] => unreachable!(),
+    }
+}

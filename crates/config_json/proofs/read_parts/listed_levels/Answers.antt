@@ -1,0 +1,17 @@
+use Rattle.std.proofs.Common.{rules}
+use Rattle.json_view.proofs.Each.{each_fault}
+use Rattle.json_view.specs.Inner.Seen.{seen_at}
+use Rattle.config_json.specs.Read.{listed_levels, level_in}
+use Rattle.config_json.proofs.Lists.{read_more}
+use Rattle.config_json.proofs.read_parts.listed_levels.Goals as goal
+
+pub returns-in-Err-clause-levels : goal.returns-in-Err-clause-levels
+unfolding listed_levels
+returns-in-Err-clause-levels c told =
+    let at_fault = each_fault _ _ _ _ _ _ _ c.loop-place.invariant.whole c.in_ok-part.ensures.element (c.in-Err.ensures told) in
+    search rules
+
+pub loop-place-preserved : goal.loop-place-preserved
+loop-place-preserved c =
+    read_more level_in (seen_at c.args.view.now) _ c.loop-place.levels c.push.new.self c.in-Ok.level c.loop-place.place c.loop-place.invariant
+    c.in_ok-part.ensures.element c.in-Ok.ensures c.in_ok-push-in-Ok.ensures.ok

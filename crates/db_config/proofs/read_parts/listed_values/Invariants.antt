@@ -1,8 +1,0 @@
-use Rattle.json_view.specs.Seen.{seen_at}
-use Rattle.db_config.specs.Read.{value_in}
-use Rattle.db_config.proofs.Lists.{IsRead}
-use Rattle.db_config.proofs.read_parts.listed_values.Given as goal
-
--- the elements so far are read
-abbrev pub invariant-loop-place : goal.invariant-loop-place
-invariant-loop-place l = IsRead value_in (seen_at l.view) l.values l.place

@@ -1,8 +1,0 @@
--- Whether all elements pass is whether those that are left do.
-use Rattle.std.proofs.Common.{◌≡◌, drop}
-use Rattle.std.specs.List.{list_all}
-use Rattle.edit_code.specs.Names.{is_level}
-use Rattle.edit_code.proofs.kept.each_level.Given as goal
-
-abbrev pub invariant-loop-def : goal.invariant-loop-def
-invariant-loop-def l = list_all is_level (drop l.def-index l.defs) ≡ list_all is_level l.fn.defs

@@ -1,7 +1,0 @@
-use Rattle.std.proofs.Common.{◌≡◌, drop}
-use Rattle.std.specs.List.{list_any}
-use Rattle.db_config.specs.Names.{same_text}
-use Rattle.edit_rules.proofs.labels.is_among.Given as goal
-
-abbrev pub invariant-loop-other : goal.invariant-loop-other
-invariant-loop-other l = list_any (same_text l.label) (drop l.other-index l.labels) ≡ list_any (same_text l.label) l.labels

@@ -1,0 +1,23 @@
+-- Words of contracts and loops beside `specs/Ends.antt`; no promise of the program rests on them.
+use Rattle.std.specs.Prelude.{◌≡◌, ◌⊎◌, ℕ, List, Result, Ok, Err}
+use Rattle.book_opening.specs.declared.fault.OpenFault.{OpenFault}
+use Rattle.book_opening.specs.declared.fault.OpenFault.TheVariants as open_faults
+use Rattle.store_texts.specs.declared.faults.CommandFault.{CommandFault}
+use Rattle.store_texts.specs.declared.faults.CommandFault.TheVariants as faults
+use Rattle.store_texts.specs.Texts.{damaged_text, done_text}
+use Rattle.program_output.specs.declared.ending.Ending.{Ending}
+use Rattle.program_output.specs.declared.ending.Ending.TheVariants.{Damaged as IsDamaged, Disk as NoDisk, Memory as OutOfMemory}
+
+-- the end of a command whose store was not opened for this reason
+abbrev pub IsOpenEnd : OpenFault → Ending → Type 0
+IsOpenEnd open_faults.Disk ending = ending ≡ NoDisk
+IsOpenEnd (open_faults.Damaged at) ending =
+    (ending ≡ IsDamaged (damaged_text at)) ⊎ (ending ≡ OutOfMemory)
+IsOpenEnd open_faults.StoreFull ending = ⊥
+IsOpenEnd open_faults.Memory ending = ending ≡ OutOfMemory
+
+-- the text of such a command, if memory holds it
+abbrev pub TellsDone : List ℕ → Result ℕ CommandFault → Result (List ℕ) CommandFault → Type 0
+TellsDone word (Ok n) (Ok text) = text ≡ done_text n word
+TellsDone word (Ok n) (Err fault) = fault ≡ faults.Memory
+TellsDone word (Err fault) result = result ≡ Err fault

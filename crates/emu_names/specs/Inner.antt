@@ -1,0 +1,3 @@
+pub mod Count
+pub mod Gives
+pub mod Rule

@@ -1,0 +1,45 @@
+use Rattle.std.proofs.Common.{◌∙◌, [], ◌∷◌, flat_map, map, sym, le_trans, arith}
+use Rattle.std.proofs.lemmas.List.Concat.{flat_map_single}
+use Rattle.emudb_files.specs.Wanted.{bundle_wanted}
+use Rattle.emudb_files.proofs.Going.{each_step, each_stop, each_end, item_is, same_wanted, stop_wanted}
+use Rattle.emudb_files.proofs.bundles.add_bundles.Goals as goal
+
+pub names-preserved : goal.names-preserved
+names-preserved g c = record {
+  advances = each_step g.D.Disk.may_leave
+      (λ content bundle. bundle_wanted c.args.path.now c.args.session.now content bundle ∷ [])
+      (g.F.Folder.content c.args.folder.now) (g.F.Folder.content c.names.folder) c.args.names.now c.names.name-index
+      c.as_str.result.now c.args.book.now c.names.book c.add_bundle.new.book c.names-test.true
+      (item_is c.as_str.result.now c.name-item.result c.args.names.now c.names.name-index c.as_str.ensures c.name-item.is)
+      c.names.invariant.same c.names.invariant.advances c.in-Ok.ensures.goes;
+  same = c.in-Ok.ensures.same ∙ c.names.invariant.same;
+  faults = le_trans c.names.invariant.faults c.in-Ok.ensures.read.later_faults;
+  misses = le_trans c.names.invariant.misses c.in-Ok.ensures.read.later_misses;
+  disk = le_trans c.names.invariant.disk c.in-Ok.ensures.disk.later;
+}
+
+pub returns-in-Err-clause-goes : goal.returns-in-Err-clause-goes
+returns-in-Err-clause-goes g c =
+    stop_wanted g.D.Disk.may_leave (g.F.Folder.content c.args.folder.now)
+    (λ content. flat_map (λ bundle. bundle_wanted c.args.path.now c.args.session.now content bundle ∷ []) c.args.names.now)
+    (λ content. map (bundle_wanted c.args.path.now c.args.session.now content) c.args.names.now)
+    c.args.book.now c.in-Err.fault c.add_bundle.new.book
+    (λ content known. sym (flat_map_single (bundle_wanted c.args.path.now c.args.session.now content) c.args.names.now))
+    (each_stop g.D.Disk.may_leave
+    (λ content bundle. bundle_wanted c.args.path.now c.args.session.now content bundle ∷ [])
+    (g.F.Folder.content c.args.folder.now) (g.F.Folder.content c.names.folder) c.args.names.now c.names.name-index
+    c.as_str.result.now c.args.book.now c.names.book c.in-Err.fault c.add_bundle.new.book c.names-test.true
+    (item_is c.as_str.result.now c.name-item.result c.args.names.now c.names.name-index c.as_str.ensures c.name-item.is)
+    c.names.invariant.same c.names.invariant.advances c.in-Err.ensures.goes)
+
+pub returns-clause-goes : goal.returns-clause-goes
+returns-clause-goes g c =
+    same_wanted g.D.Disk.may_leave (g.F.Folder.content c.args.folder.now)
+    (λ content. flat_map (λ bundle. bundle_wanted c.args.path.now c.args.session.now content bundle ∷ []) c.args.names.now)
+    (λ content. map (bundle_wanted c.args.path.now c.args.session.now content) c.args.names.now)
+    c.args.book.now c.names.book
+    (λ content known. sym (flat_map_single (bundle_wanted c.args.path.now c.args.session.now content) c.args.names.now))
+    (each_end g.D.Disk.may_leave
+    (λ content bundle. bundle_wanted c.args.path.now c.args.session.now content bundle ∷ [])
+    (g.F.Folder.content c.args.folder.now) c.args.names.now c.names.name-index c.args.book.now c.names.book
+    (omega (arith, c.names-test.false, c.names.auto.name-index-end)) c.names.invariant.advances)

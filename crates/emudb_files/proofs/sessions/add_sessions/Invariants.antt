@@ -1,0 +1,14 @@
+use Rattle.std.proofs.Common.{take, flat_map}
+use Rattle.live_book.specs.Kept.{faults_in}
+use Rattle.emudb_files.specs.Wanted.{session_wanted}
+use Rattle.emudb_files.proofs.Going.{Going}
+use Rattle.emudb_files.proofs.sessions.add_sessions.Given as goal
+
+-- what came so far was accepted
+abbrev pub invariant-names : goal.invariant-names
+invariant-names g l =
+    Going g.D.Disk.may_leave (g.F.Folder.content l.fn.folder) (g.F.Folder.content l.folder)
+    (λ content. flat_map (session_wanted l.path content) (take l.name-index l.names)) l.fn.book l.book
+    (g.F.Folder.faults l.fn.folder) (g.F.Folder.faults l.folder) (g.F.Folder.misses l.fn.folder)
+    (g.F.Folder.misses l.folder) (faults_in g.D.Disk.faults l.fn.book.journal)
+    (faults_in g.D.Disk.faults l.book.journal)

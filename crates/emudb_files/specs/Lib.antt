@@ -1,0 +1,6 @@
+pub mod Names
+pub mod Files
+pub mod Wanted
+pub mod Answers
+pub mod Stored
+pub mod Inner

@@ -1,0 +1,42 @@
+-- Labels of items by rows and by numbers.
+use Rattle.std.specs.Prelude.{◌≡◌, ℕ, ◌<◌, Bool, List, [], Option, Some, length, get_or, map}
+use Rattle.level_items.specs.declared.items.Item.{Item}
+use Rattle.std.specs.List.{slice_get}
+use Rattle.db_config.specs.declared.parts.AttributePlace.{AttributePlace}
+use Rattle.db_config.specs.declared.parts.ConfigParts.{ConfigParts}
+use Rattle.emu_names.specs.Texts.{same_text}
+use Rattle.bundle_state.specs.Bundle.{BundleParts}
+use Rattle.bundle_index.specs.Inner.Index.{attributes_on}
+use Rattle.label_match.specs.Pattern.{matches_label}
+use Rattle.eql_model.specs.Labels.{wanted_labels}
+use Rattle.level_items.specs.Levels.{label_of, items_at}
+
+-- the level of an attribute is there, and the attribute is
+pub record HasColumn (b : BundleParts) (place : AttributePlace) : Type 0 where
+  pub level : place.level < length b.levels
+  pub attribute : place.attribute < attributes_on b place.level
+
+-- for each item of the attribute's level whether its label is this one
+abbrev pub label_row : BundleParts → AttributePlace → List ℕ → List Bool
+label_row b place label =
+    map (λ item. same_text (label_of place.attribute item) label) (items_at b.levels place.level)
+
+-- one label is written, and it alone is wanted
+pub record IsAlone (config : ConfigParts) (place : AttributePlace) (written : List (List ℕ)) : Type 0 where
+  pub one : length written ≡ 1
+  pub wanted : wanted_labels config place written ≡ written
+
+-- there is a number for each label, and labels of one number are the same
+pub record AreNumbersOf (column : List ℕ) (labels : List (List ℕ)) : Type 0 where
+  pub count : length column ≡ length labels
+  pub alike : (i j : ℕ) → i < length labels → j < length labels →
+      get_or column i 0 ≡ get_or column j 0 → get_or labels i [] ≡ get_or labels j []
+
+-- what is noted at the number of a label is whether the pattern matches the label
+pub record AreAnswers (pattern : List ℕ) (column : List ℕ) (labels : List (List ℕ)) (answers : List (Option Bool)) : Type 0 where
+  pub right : (k : ℕ) (is : Bool) → k < length labels →
+      slice_get answers (get_or column k 0) ≡ Some (Some is) → is ≡ matches_label pattern (get_or labels k [])
+
+-- the label of the item at a position
+abbrev pub label_at : ℕ → List Item → ℕ → List ℕ
+label_at attribute items at = get_or (map (label_of attribute) items) at []

@@ -1,0 +1,10 @@
+pub mod Below
+pub mod Bits
+pub mod Flags
+pub mod Joins
+pub mod Kept
+pub mod Labels
+pub mod Meaning
+pub mod Results
+pub mod Rows
+pub mod Sets

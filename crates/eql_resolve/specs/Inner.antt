@@ -1,0 +1,4 @@
+pub mod Codes
+pub mod Prepare
+pub mod Sound
+pub mod View

@@ -1,0 +1,11 @@
+mod Tokens
+mod TokenLines
+mod Leaves
+mod Bridges
+mod ReadAgain
+mod Fillers
+mod Doubles
+mod Fitting
+mod Loops
+mod Places
+mod Bundles

@@ -1,0 +1,5 @@
+pub mod Gives
+pub mod Lists
+pub mod Parts
+pub mod Seen
+pub mod Words

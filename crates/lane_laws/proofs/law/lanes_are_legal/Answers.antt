@@ -1,5 +1,0 @@
-use Rattle.lane_laws.proofs.Joined.{lanes_legal}
-use Rattle.lane_laws.proofs.law.lanes_are_legal.Goals as goal
-
-pub returns : goal.returns
-returns c = lanes_legal

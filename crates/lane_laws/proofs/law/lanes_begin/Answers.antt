@@ -1,5 +1,0 @@
-use Rattle.lane_laws.proofs.Steps.{begins}
-use Rattle.lane_laws.proofs.law.lanes_begin.Goals as goal
-
-pub returns : goal.returns
-returns c = begins

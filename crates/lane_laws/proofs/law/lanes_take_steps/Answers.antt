@@ -1,5 +1,0 @@
-use Rattle.lane_laws.proofs.Steps.{takes_step}
-use Rattle.lane_laws.proofs.law.lanes_take_steps.Goals as goal
-
-pub returns : goal.returns
-returns c = takes_step

@@ -1,6 +1,0 @@
-use Rattle.std.proofs.Common.{◌≡◌}
-use Rattle.level_rows.proofs.levels.after.Given as goal
-
--- the level has no attributes
-abbrev pub invariant-loop-row : goal.invariant-loop-row
-invariant-loop-row g l = l.list.attributes ≡ 0

@@ -1,6 +1,0 @@
-use Rattle.std.proofs.Common.{◌≡◌}
-use Rattle.level_rows.proofs.levels.row_of.Given as goal
-
--- the level has no attributes
-abbrev pub invariant-loop-number : goal.invariant-loop-number
-invariant-loop-number g l = l.list.attributes ≡ 0

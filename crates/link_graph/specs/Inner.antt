@@ -1,0 +1,5 @@
+pub mod Blocks
+pub mod Ends
+pub mod Index
+pub mod Link
+pub mod Links

@@ -1,0 +1,4 @@
+pub mod Drafts
+pub mod Kept
+pub mod Live
+pub mod Prepared

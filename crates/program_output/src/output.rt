@@ -1,0 +1,53 @@
+//! Replies, written.
+ghost use Rattle.std.specs.Prelude.{◌≤◌, IfErr};
+ghost use Rattle.script_lines.specs.Texts.{reply_text};
+ghost use Rattle.program_output.specs.Texts.{config_reply};
+ghost use Rattle.program_output.specs.Inner.Written.{EndHasCause, WritesText};
+
+use crate::ended::Ended;
+use emu_io::{Sink, write_all};
+use emu_names::{SessionNo, Text};
+use script_lines::print_reply;
+use session_core::{Answer, Command, Reply};
+use std::alloc::Global;
+
+/// Writes a text.
+pub fn write_text<K: Sink>(out: &mut K, text: &Text) -> Result<(), Ended>
+    ensures output { WritesText result (K.written out.old) (K.written out.new) text.now }
+    ensures cause { IfErr result (λ end. EndHasCause end (K.faults out.old) (K.faults out.new)) }
+    ensures later { K.faults out.old ≤ K.faults out.new }
+{
+    match write_all(out, text.as_str().as_bytes()) {
+        Ok(()) => Ok(()),
+        Err(_) => Err(Ended::Write),
+    }
+}
+
+/// Writes a reply.
+pub fn write_reply<K: Sink>(alloc: Global, out: &mut K, reply: &Reply) -> Result<(), Ended>
+    ensures output { WritesText result (K.written out.old) (K.written out.new)
+        (reply_text reply.now) }
+    ensures cause { IfErr result (λ end. EndHasCause end (K.faults out.old) (K.faults out.new)) }
+    ensures later { K.faults out.old ≤ K.faults out.new }
+{
+    match print_reply(alloc, reply) {
+        Ok(text) => write_text(out, &text),
+        Err(_) => Err(Ended::Memory),
+    }
+}
+
+/// Writes the reply to the line of the configuration.
+pub fn write_config<K: Sink>(alloc: Global, out: &mut K) -> Result<(), Ended>
+    ensures output { WritesText result (K.written out.old) (K.written out.new)
+        (reply_text config_reply) }
+    ensures cause { IfErr result (λ end. EndHasCause end (K.faults out.old) (K.faults out.new)) }
+    ensures later { K.faults out.old ≤ K.faults out.new }
+{
+    let reply = Reply {
+        line: 1,
+        session: SessionNo(0),
+        n: Some(0),
+        answer: Answer::Done(Command::Config),
+    };
+    write_reply(alloc, out, &reply)
+}

@@ -1,0 +1,4 @@
+pub mod Printed
+pub mod Reading
+pub mod Sample
+pub mod Spelling

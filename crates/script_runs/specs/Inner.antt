@@ -1,0 +1,12 @@
+pub mod Answered
+pub mod Bases
+pub mod Cuts
+pub mod LiveTexts
+pub mod Lives
+pub mod Ran
+pub mod Reached
+pub mod Reads
+pub mod Runs
+pub mod Scripts
+pub mod Taken
+pub mod Turns

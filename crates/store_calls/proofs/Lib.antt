@@ -1,3 +1,0 @@
-mod Rates
-mod Images
-mod Opened

@@ -1,8 +1,0 @@
-use Rattle.std.proofs.Common.{◌≡◌, ◌++◌, drop, string_bytes, suc}
-use Rattle.store_commands.specs.Texts.{lines_from}
-use Rattle.store_commands.proofs.history.push_entries.Given as goal
-
-abbrev pub invariant-loop-place : goal.invariant-loop-place
-invariant-loop-place l =
-    string_bytes l.out ++ lines_from (suc l.place) (drop l.place l.entries) ≡ string_bytes l.fn.out
-    ++ lines_from 1 l.entries

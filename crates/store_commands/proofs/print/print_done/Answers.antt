@@ -1,7 +1,0 @@
-use Rattle.std.proofs.lemmas.Result.{IfOk-weaker}
-use Rattle.store_commands.proofs.Printed.{done_line}
-use Rattle.store_commands.proofs.print.print_done.Goals as goal
-
-pub returns : goal.returns
-returns c = IfOk-weaker _ _ _ (λ text is. done_line text _ c.args.n c.args.command.now c.in_ok-value.ensures is)
-    c.line_of.ensures

@@ -1,7 +1,0 @@
-use Rattle.std.proofs.Common.{◌≡◌, take, filter_map}
-use Rattle.store_loading.specs.Names.{folder_stem}
-use Rattle.store_loading.proofs.paths.stems.Given as goal
-
--- the names are those of the entries so far
-abbrev pub invariant-entries : goal.invariant-entries
-invariant-entries l = l.names.items ≡ filter_map (folder_stem l.ending) (take l.entry-index l.entries)

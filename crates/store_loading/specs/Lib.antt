@@ -1,6 +1,0 @@
-pub mod Names
-pub mod Files
-pub mod Wanted
-pub mod Answers
-pub mod Stored
-pub mod Running

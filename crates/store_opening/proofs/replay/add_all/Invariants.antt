@@ -1,7 +1,0 @@
-use Rattle.std.proofs.Common.{take}
-use Rattle.edit_journal.specs.Held.{texts_of}
-use Rattle.store_opening.specs.Opens.{IsReplay}
-use Rattle.store_opening.proofs.replay.add_all.Given as goal
-
-abbrev pub invariant-bodies : goal.invariant-bodies
-invariant-bodies l = IsReplay l.fn.version.config (texts_of (take l.body-index l.bodies)) l.replayed

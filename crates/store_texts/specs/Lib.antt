@@ -1,0 +1,6 @@
+pub mod Notes
+pub mod Texts
+pub mod Causes
+pub mod Commands
+pub mod Asked
+pub mod Inner

@@ -1,0 +1,137 @@
+-- The texts of the commands on a store: JSON objects (RFC 8259), each printed compact on a line of its own,
+-- with the members in the order of their names' bytes.
+use Rattle.std.specs.Prelude.{ℕ, suc, List, [], ◌∷◌, ◌++◌, Option, Some, None, codes}
+use Rattle.serde_json.specs.Data.{Data, number, string, object, unsigned, Members, no_members, member}
+use Rattle.serde_json.specs.Written.{compact_text}
+use Rattle.edit_rules.specs.declared.edit.Edit.{Edit}
+use Rattle.edit_rules.specs.declared.edit.Edit.TheVariants as edits
+use Rattle.edit_rules.specs.declared.edit.Entry.{Entry}
+use Rattle.eql_model.specs.declared.row.Row.{Row}
+use Rattle.segment_list.specs.Texts.{rows_data}
+use Rattle.store_texts.specs.declared.note.Note.{Note}
+
+-- a whole number
+abbrev pub whole : ℕ → Data
+whole n = number (unsigned n)
+
+-- one line: the compact text and a line feed
+unfoldable pub line_text : Data → List ℕ
+line_text d = compact_text d ++ 10 ∷ []
+
+-- a number at a name, where there is one, before these members
+abbrev pub with_whole : List ℕ → Option ℕ → Members → Members
+with_whole name None rest = rest
+with_whole name (Some n) rest = member name (whole n) rest
+
+-- a text at a name, where there is one, before these members
+abbrev pub with_text : List ℕ → Option (List ℕ) → Members → Members
+with_text name None rest = rest
+with_text name (Some text) rest = member name (string text) rest
+
+-- The last line of a command that is refused: what the refusal says, and the status 10.
+
+-- the members of a note
+abbrev pub note_members : Note → Members
+note_members n =
+    with_whole (codes "at") n.at
+    (member (codes "cause") (string n.cause)
+    (with_whole (codes "entry") n.entry
+    (with_text (codes "file") n.file
+    (with_whole (codes "id") n.id
+    (with_text (codes "name") n.name
+    (with_text (codes "path") n.path
+    (member (codes "status") (whole 10)
+    (with_whole (codes "tier") n.tier
+    (with_text (codes "wanted") n.wanted
+    (with_text (codes "what") n.what
+    no_members))))))))))
+
+-- the object of a note
+abbrev pub note_data : Note → Data
+note_data n = object (note_members n)
+
+-- The last line of a store that stands for no history, with the place of the damage and the status 7.
+abbrev pub damaged_data : ℕ → Data
+damaged_data at = object
+    (member (codes "at") (whole at)
+    (member (codes "cause") (string (codes "Damaged"))
+    (member (codes "status") (whole 7)
+    no_members)))
+
+-- its text
+unfoldable pub damaged_text : ℕ → List ℕ
+damaged_text at = line_text (damaged_data at)
+
+-- The line of a command that has added bundles: how many entries the store has, and the command.
+abbrev pub done_data : ℕ → List ℕ → Data
+done_data n command = object
+    (member (codes "n") (whole n) (member (codes "ok") (string command) no_members))
+
+-- its text
+unfoldable pub done_text : ℕ → List ℕ → List ℕ
+done_text n command = line_text (done_data n command)
+
+-- The lines that a live run ends with: how many entries stood before it, and each new entry with its place in the
+-- history, counted from 1, its line and its session.
+abbrev pub from_data : ℕ → Data
+from_data n = object (member (codes "from") (whole n) no_members)
+
+-- its text
+unfoldable pub from_text : ℕ → List ℕ
+from_text n = line_text (from_data n)
+
+-- an entry's place, line and session
+abbrev pub mark_data : ℕ → ℕ → ℕ → Data
+mark_data at line session = object
+    (member (codes "at") (whole at)
+    (member (codes "line") (whole line)
+    (member (codes "s") (whole session)
+    no_members)))
+
+-- its text
+unfoldable pub mark_text : ℕ → ℕ → ℕ → List ℕ
+mark_text at line session = line_text (mark_data at line session)
+
+-- The history.
+
+-- the name of an edit's command; a TextGrid's bundle is stored as the bundle that it makes
+abbrev pub edit_word : Edit → List ℕ
+edit_word (edits.AddBundle key annot) = codes "add_bundle"
+edit_word (edits.DropBundle key) = codes "drop_bundle"
+edit_word (edits.AddItem key level position item) = codes "add_item"
+edit_word (edits.RemoveItem key id) = codes "remove_item"
+edit_word (edits.SetLabel key id attribute label) = codes "set_label"
+edit_word (edits.SetSegment key id start dur) = codes "set_segment"
+edit_word (edits.MoveBoundary key id start) = codes "move_boundary"
+edit_word (edits.SetPoint key id at) = codes "set_point"
+edit_word (edits.Split key id new_id start) = codes "split"
+edit_word (edits.Merge key id) = codes "merge"
+edit_word (edits.AddLink key from to) = codes "add_link"
+edit_word (edits.RemoveLink key from to) = codes "remove_link"
+
+-- an entry at its place, which is counted from 1
+abbrev pub entry_data : ℕ → Entry → Data
+entry_data at e = object
+    (member (codes "at") (whole at)
+    (member (codes "do") (string (edit_word e.edit))
+    (member (codes "line") (whole e.line)
+    (member (codes "s") (whole e.session.0)
+    no_members))))
+
+-- a line for each entry; the first stands at this place
+abbrev pub lines_from : ℕ → List Entry → List ℕ
+lines_from at [] = []
+lines_from at (e ∷ es) = line_text (entry_data at e) ++ lines_from (suc at) es
+
+-- a line for each entry of a history
+unfoldable pub history_text : List Entry → List ℕ
+history_text entries = lines_from 1 entries
+
+-- The segment list of a query over a state with this number of edits.
+abbrev pub segments_data : ℕ → List Row → Data
+segments_data n rows = object
+    (member (codes "n") (whole n) (member (codes "segments") (rows_data rows) no_members))
+
+-- its text
+unfoldable pub segments_text : ℕ → List Row → List ℕ
+segments_text n rows = line_text (segments_data n rows)

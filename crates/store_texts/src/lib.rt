@@ -1,0 +1,18 @@
+//! The commands on a store: what `history`, `export`, `textgrid` and `ask` write, and the last lines of refusals.
+#![tactic(auto)]
+
+mod ask;
+mod causes;
+mod export;
+mod faults;
+mod history;
+mod note;
+mod print;
+mod segments;
+mod values;
+
+pub use ask::ask_text;
+pub use export::{export_text, textgrid_text};
+pub use faults::{CommandFault, FileFault, Refused};
+pub use history::history_text;
+pub use print::{print_damaged, print_done, print_from, print_mark, print_refused};

@@ -1,0 +1,180 @@
+//! What no clause says: that calls succeed where memory is ample, and are soon done.
+ghost use Rattle.std.specs.Prelude.{◌<◌};
+
+use crate::levels::crosses_threads;
+use emu_names::{Broken, Fault, ItemId, LinkKind, What};
+use link_graph::{Ends, Links};
+use std::alloc::Global;
+use std::process::Abort;
+use std::test::Fail;
+
+const ONE: LinkKind = LinkKind::OneToOne;
+
+const FEW: LinkKind = LinkKind::OneToMany;
+
+const MANY: LinkKind = LinkKind::ManyToMany;
+
+/// A link to be added: the definition, its kind, the two ids, and the rule that is broken with its id.
+type Row = (u32, LinkKind, u32, u32, u8, u32);
+
+static ROWS: [Row; 12] = [
+    (0, FEW, 1, 2, 0, 0),
+    (0, FEW, 1, 3, 0, 0),
+    // a pair that is there, whatever the definition
+    (0, FEW, 1, 2, 22, 0),
+    (1, MANY, 1, 2, 22, 0),
+    // a second parent, and one by another definition
+    (0, FEW, 4, 2, 24, 1),
+    (1, FEW, 4, 2, 0, 0),
+    // a second child, a second parent, and both
+    (2, ONE, 1, 5, 0, 0),
+    (2, ONE, 1, 6, 25, 5),
+    (2, ONE, 7, 5, 24, 1),
+    (2, ONE, 1, 5, 22, 0),
+    // any links
+    (3, MANY, 8, 5, 0, 0),
+    (3, MANY, 8, 6, 0, 0),
+];
+
+fn number_of(added: &Result<(), Fault>) -> (u8, u32) {
+    match added {
+        Ok(()) => (0, 0),
+        Err(Fault::Broken(Broken::OneParent(id))) => (24, id.0),
+        Err(Fault::Broken(Broken::OneChild(id))) => (25, id.0),
+        Err(Fault::Broken(rule)) => (rule.number(), 0),
+        Err(Fault::Memory) => (255, 0),
+    }
+}
+
+/// The rule that adding a link breaks, with its id.
+fn add(links: &mut Links, row: &Row) -> (u8, u32) {
+    let (definition, kind, from, to, _, _) = *row;
+    number_of(&links.add(definition, kind, ItemId(from), ItemId(to)))
+}
+
+/// Adds the links of the table, and compares each answer.
+fn add_all(rt: &impl Abort, links: &mut Links) {
+    for row in &ROWS {
+        assert_eq!(rt; add(links, row), (row.4, row.5), "{} {}", row.2, row.3);
+    }
+}
+
+fn some_links(rt: &impl Abort, alloc: Global) -> Links {
+    let mut links = Links::new(alloc);
+    add_all(rt, &mut links);
+    links
+}
+
+/// What a list of links has: its pairs of ids in order, and the parents and the children of an item.
+type State = (&'static [(u32, u32)], u32, &'static [u32], &'static [u32]);
+
+static ADDED: State = (
+    &[(1, 2), (1, 3), (4, 2), (1, 5), (8, 5), (8, 6)],
+    1,
+    &[],
+    &[2, 3, 5],
+);
+
+static REMOVED: State = (&[(1, 2), (4, 2), (1, 5), (8, 5), (8, 6)], 5, &[1, 8], &[]);
+
+static WITHOUT_ITEM: State = (&[(1, 2), (4, 2), (8, 6)], 2, &[1, 4], &[]);
+
+fn check_ends(rt: &impl Abort, ends: Ends<'_>, ids: &[u32]) {
+    let mut place = 0;
+    for id in ends {
+        assert!(rt; place < ids.len() && id.0 == ids[place]);
+        place += 1;
+    }
+    assert_eq!(rt; place, ids.len());
+}
+
+fn check(rt: &impl Abort, links: &Links, state: &State) {
+    let (pairs, id, parents, children) = *state;
+    assert_eq!(rt; links.len(), pairs.len());
+    for place in 0..links.len() {
+        let link = links.get(place).copy();
+        assert_eq!(rt; (link.from.0, link.to.0), pairs[place]);
+    }
+    check_ends(rt, links.parents(ItemId(id)), parents);
+    check_ends(rt, links.children(ItemId(id)), children);
+}
+
+fn remove(links: &mut Links, from: u32, to: u32) -> u8 {
+    number_of(&links.remove(ItemId(from), ItemId(to))).0
+}
+
+/// Links to be taken out, with the rule that is broken.
+static REMOVALS: [(u32, u32, u8); 3] = [(3, 1, 23), (1, 3, 0), (1, 3, 23)];
+
+fn remove_all(rt: &impl Abort, links: &mut Links) {
+    for &(from, to, rule) in &REMOVALS {
+        assert_eq!(rt; remove(links, from, to), rule);
+    }
+}
+
+#[test]
+fn links_are_added_and_taken_out(rt: HostRuntime) -> Result<(), Fail> {
+    let mut links = some_links(&rt, rt.alloc());
+    crosses_threads(&links);
+    check(&rt, &links, &ADDED);
+    remove_all(&rt, &mut links);
+    let copied = links.copy(rt.alloc())?;
+    check(&rt, &copied, &REMOVED);
+    links.remove_item(ItemId(5));
+    check(&rt, &links, &WITHOUT_ITEM);
+    Ok(())
+}
+
+/// 262,144 links from each of some items to each of some others.
+fn full(alloc: Global, lower: u32) -> Result<Links, Fault>
+    requires { 0 < lower }
+{
+    let mut links = Links::new(alloc);
+    for number in 0..262_144 {
+        let from = number / lower;
+        let to = 1_000_000 + number % lower;
+        links.add(0, MANY, ItemId(from), ItemId(to))?;
+    }
+    Ok(links)
+}
+
+/// Asserts that there is no room for more links, that each item has the others, and that an item is taken
+/// out with its links.
+fn expect_full(rt: &impl Abort, links: &mut Links, upper: u32, lower: u32) {
+    let more = links.add(0, MANY, ItemId(1_000_000), ItemId(0));
+    assert!(rt; more == Err(Fault::Broken(Broken::TooMany(What::BundleLinks))));
+    for id in 0..upper {
+        assert_eq!(rt; links.children(ItemId(id)).count(), lower as usize);
+    }
+    for id in 0..lower {
+        let parents = links.parents(ItemId(1_000_000u32.saturating_add(id)));
+        assert_eq!(rt; parents.count(), upper as usize);
+    }
+    links.remove_item(ItemId(0));
+    assert_eq!(rt; links.len(), 262_144usize.saturating_sub(lower as usize));
+}
+
+/// How many items there are above, and how many below.
+static FULL: [(u32, u32); 3] = [(1, 262_144), (512, 512), (262_144, 1)];
+
+#[test]
+fn many_links_are_soon_there(rt: HostRuntime) -> Result<(), Fail> {
+    for &(upper, lower) in &FULL {
+        assert!(rt; lower > 0);
+        let mut links = full(rt.alloc(), lower)?;
+        expect_full(&rt, &mut links, upper, lower);
+    }
+    Ok(())
+}
+
+/// Whether links are taken out one by one in far less time than the square of their number takes.
+#[test]
+fn many_links_are_soon_taken_out(rt: HostRuntime) -> Result<(), Fail> {
+    let mut links = full(rt.alloc(), 512)?;
+    for number in 0..65_536 {
+        let removed = links.remove(ItemId(number / 512), ItemId(1_000_000 + number % 512));
+        assert!(rt; removed.is_ok());
+    }
+    assert_eq!(rt; links.len(), 196_608);
+    Ok(())
+}

@@ -1,0 +1,57 @@
+//! A configuration, keys and annotations of it.
+use config_json::read_config;
+use db_config::Config;
+use emu_names::{BundleKey, ItemId, LevelKind, Memory, Name, NameFault, Series, Text};
+use json_view::View;
+use level_items::{Annot, AnnotItem, AnnotLevel, Time};
+use serde_json::Value;
+use std::alloc::Global;
+use std::test::Fail;
+
+/// Items Word, with one attribute of the level's name.
+static DATABASE: &str =
+    r#"{"name":"t","levelDefinitions":[{"name":"Word","type":"ITEM","attributeDefinitions":[{"name":"Word"}]}]}"#;
+
+/// The configuration with the level Word.
+pub fn config(alloc: Global) -> Result<Config, Fail> {
+    let value = Value::from_str(alloc, DATABASE)?;
+    let view = View::root(alloc, &value)?;
+    Ok(read_config(alloc, &view)?)
+}
+
+/// The key of a bundle.
+pub fn key(alloc: Global, session: &str, bundle: &str) -> Result<BundleKey, NameFault> {
+    let session = Name::new(alloc, session)?;
+    let bundle = Name::new(alloc, bundle)?;
+    Ok(BundleKey { session, bundle })
+}
+
+/// Items without labels, with the ids from 0 on.
+fn items(alloc: Global, count: u32) -> Result<Vec<AnnotItem>, Memory> {
+    let mut items = Vec::new(alloc);
+    for id in 0..count {
+        items.push(AnnotItem {
+            id: ItemId(id),
+            time: Time::NoTime,
+            labels: Series::new(alloc),
+        })?;
+    }
+    Ok(items)
+}
+
+/// So many words without labels, with the ids from 0 on.
+pub fn words(alloc: Global, count: u32) -> Result<Annot, Memory> {
+    let name = Text::new(alloc, "Word")?;
+    let annotates = Text::new(alloc, "b1.wav")?;
+    let level = AnnotLevel {
+        name,
+        kind: LevelKind::Item,
+        items: Series::from_vec(items(alloc, count)?),
+    };
+    Ok(Annot {
+        annotates,
+        rate: 20000,
+        levels: Series::from_vec(vec![in alloc; level]?),
+        links: Series::new(alloc),
+    })
+}

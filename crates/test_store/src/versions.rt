@@ -1,0 +1,232 @@
+//! 10,000 bundles that are put in and taken out in three orders.
+ghost use Rattle.std.specs.Prelude.{◌≡◌, IfOk};
+ghost use Rattle.bundle_state.specs.Built.{FitsConfig};
+
+use bundle_index::Indexed;
+use bundle_state::Bundle;
+use config_json::read_config;
+use db_config::Config;
+use emu_names::{BundleKey, Fault, Memory, Name, NameFault, Series, Text};
+use json_view::View;
+use level_items::Annot;
+use serde_json::Value;
+use std::alloc::Global;
+use std::process::Abort;
+use std::test::Fail;
+use version_tree::Version;
+
+static DATABASE: &str =
+    r#"{"name":"t","levelDefinitions":[{"name":"Word","type":"ITEM","attributeDefinitions":[{"name":"Word"}]}]}"#;
+
+/// How many bundles there are.
+const COUNT: u32 = 10_000;
+
+/// Steps by which the numbers of bundles are gone through: upwards, downwards, and to and fro.
+static STEPS: [u32; 3] = [1, 9_999, 7_001];
+
+/// The configuration of a value.
+fn config_of_value(alloc: Global, value: &Value) -> Result<Config, Fail> {
+    let view = View::root(alloc, value)?;
+    Ok(read_config(alloc, &view)?)
+}
+
+/// The configuration of the database.
+fn config_of(alloc: Global) -> Result<Config, Fail> {
+    let value = Value::from_str(alloc, DATABASE)?;
+    config_of_value(alloc, &value)
+}
+
+/// The name of a session.
+fn session_of(alloc: Global, number: u32) -> Result<Name, NameFault> {
+    let session = format!(in alloc; "s{:02}", number / 500)?;
+    Name::new(alloc, session.as_str())
+}
+
+/// The name of a bundle.
+fn bundle_of(alloc: Global, number: u32) -> Result<Name, NameFault> {
+    let bundle = format!(in alloc; "b{number:05}")?;
+    Name::new(alloc, bundle.as_str())
+}
+
+/// The key of a bundle, whose keys rise as the numbers do.
+fn key_of(alloc: Global, number: u32) -> Result<BundleKey, NameFault> {
+    Ok(BundleKey {
+        session: session_of(alloc, number)?,
+        bundle: bundle_of(alloc, number)?,
+    })
+}
+
+/// An annotation without items.
+fn annot_of(alloc: Global) -> Result<Annot, Memory> {
+    Ok(Annot {
+        annotates: Text::new(alloc, "")?,
+        rate: 20_000,
+        levels: Series::new(alloc),
+        links: Series::new(alloc),
+    })
+}
+
+/// The bundle of an annotation.
+#[tactic(auto, using(bundle_state::proofs::Calling::fits_built))]
+fn built(alloc: Global, config: &Config, key: BundleKey, annot: &Annot) -> Result<Bundle, Fault>
+    ensures { IfOk result (λ bundle. FitsConfig config.now bundle) }
+{
+    Bundle::build(alloc, config, key, annot)
+}
+
+/// The bundle of a number, with an annotation.
+fn bundle_with(alloc: Global, config: &Config, number: u32, annot: &Annot) -> Result<Bundle, Fail>
+    ensures { IfOk result (λ bundle. FitsConfig config.now bundle) }
+{
+    let key = key_of(alloc, number)?;
+    Ok(built(alloc, config, key, annot)?)
+}
+
+/// The bundle of a number.
+fn bundle_numbered(alloc: Global, config: &Config, number: u32) -> Result<Bundle, Fail>
+    ensures { IfOk result (λ bundle. FitsConfig config.now bundle) }
+{
+    let annot = annot_of(alloc)?;
+    bundle_with(alloc, config, number, &annot)
+}
+
+/// The bundle of a number, with its columns.
+fn indexed(alloc: Global, config: &Config, number: u32) -> Result<Indexed, Fail>
+    ensures { IfOk result (λ made. FitsConfig config.now made.bundle) }
+{
+    let bundle = bundle_numbered(alloc, config, number)?;
+    Ok(Indexed::new(alloc, bundle)?)
+}
+
+/// The version without a bundle, where it is there.
+fn without(alloc: Global, version: &Version, key: &BundleKey) -> Result<Version, Memory> {
+    match version.get(key) {
+        Some(_) => version.without(alloc, key),
+        None => version.copy(alloc),
+    }
+}
+
+/// The name of the bundle at a place.
+fn name_at(version: &Version, place: usize) -> Option<&str> {
+    if place < version.len() {
+        Some(version.at(place).bundle().key().bundle.as_str())
+    } else {
+        None
+    }
+}
+
+/// Checks that a bundle stands at a place, and is found.
+fn check_at(rt: &impl Abort, version: &Version, place: usize, key: &BundleKey) {
+    let found = (name_at(version, place), version.get(key).is_some());
+    assert_eq!(rt; found, (Some(key.bundle.as_str()), true));
+}
+
+/// Checks that the bundle of a number stands at a place, and is found.
+fn check_number(
+    rt: &impl Abort,
+    alloc: Global,
+    version: &Version,
+    place: usize,
+    number: u32,
+) -> Result<(), NameFault> {
+    let key = key_of(alloc, number)?;
+    check_at(rt, version, place, &key);
+    Ok(())
+}
+
+/// Checks that just the bundles from a number on stand in order.
+fn check(rt: &impl Abort, alloc: Global, version: &Version, first: u32) -> Result<(), NameFault> {
+    assert_eq!(rt; version.len(), (COUNT - first.min(COUNT)) as usize);
+    let mut number = first;
+    for place in 0..version.len() {
+        check_number(rt, alloc, version, place, number)?;
+        number = number.saturating_add(1);
+    }
+    Ok(())
+}
+
+/// The version with the bundle of a number, where there is room.
+fn with_number(alloc: Global, version: &Version, number: u32) -> Result<Version, Fail> {
+    if version.len() >= COUNT as usize {
+        return Ok(version.copy(alloc)?);
+    }
+    let next = indexed(alloc, version.config(), number)?;
+    Ok(version.with(alloc, next)?)
+}
+
+/// A version with all bundles, put in by steps.
+fn filled(alloc: Global, step: u32) -> Result<Version, Fail> {
+    let mut version = empty(alloc)?;
+    let mut number = 0;
+    for _bundle in 0..COUNT {
+        version = with_number(alloc, &version, number)?;
+        number = number.saturating_add(step) % COUNT;
+    }
+    Ok(version)
+}
+
+/// A version without bundles.
+fn empty(alloc: Global) -> Result<Version, Fail> {
+    Ok(Version::new(alloc, config_of(alloc)?)?)
+}
+
+/// The version without the bundle of a number, where it is there.
+fn without_number(alloc: Global, version: &Version, number: u32) -> Result<Version, Fail> {
+    let key = key_of(alloc, number)?;
+    Ok(without(alloc, version, &key)?)
+}
+
+/// A version without the bundles below a limit, taken out by steps.
+fn emptied(alloc: Global, version: &Version, step: u32, limit: u32) -> Result<Version, Fail> {
+    let mut left = version.copy(alloc)?;
+    let mut number = 0;
+    for _bundle in 0..COUNT {
+        if number < limit {
+            left = without_number(alloc, &left, number)?;
+        }
+        number = number.saturating_add(step) % COUNT;
+    }
+    Ok(left)
+}
+
+/// How many bundles are left when all are taken out of a version.
+fn left_of(alloc: Global, version: &Version, step: u32) -> Result<usize, Fail> {
+    let left = emptied(alloc, version, step, COUNT)?;
+    Ok(left.len())
+}
+
+/// Checks the half of the bundles that is left, and takes it out too.
+fn expect_half(rt: &impl Abort, alloc: Global, half: &Version, step: u32) -> Result<(), Fail> {
+    check(rt, alloc, half, 5_000)?;
+    let left = left_of(alloc, half, step)?;
+    assert_eq!(rt; left, 0);
+    Ok(())
+}
+
+/// Takes the bundles out of a version, first one half, and checks what is left.
+fn expect_emptied(rt: &impl Abort, alloc: Global, full: &Version, step: u32) -> Result<(), Fail> {
+    let half = emptied(alloc, full, step, 5_000)?;
+    expect_half(rt, alloc, &half, step)
+}
+
+/// Fills a version, and checks it.
+fn expect_full(rt: &impl Abort, alloc: Global, step: u32) -> Result<(), Fail> {
+    let full = filled(alloc, step)?;
+    expect_kept(rt, alloc, &full, step)
+}
+
+/// Checks a full version, and once more when the bundles were taken out of its copy.
+fn expect_kept(rt: &impl Abort, alloc: Global, full: &Version, step: u32) -> Result<(), Fail> {
+    check(rt, alloc, full, 0)?;
+    expect_emptied(rt, alloc, full, step)?;
+    check(rt, alloc, full, 0)?;
+    Ok(())
+}
+
+#[test]
+fn bundles_come_and_go(rt: HostRuntime) -> Result<(), Fail> {
+    for &step in &STEPS {
+        expect_full(&rt, rt.alloc(), step)?;
+    }
+    Ok(())
+}

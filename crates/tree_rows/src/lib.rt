@@ -1,5 +1,0 @@
-//! Versions of a database, through which many bundles go.
-#![tactic(auto)]
-
-#[cfg(test)]
-mod versions;

@@ -1,0 +1,4 @@
+pub mod Law
+pub mod Lists
+pub mod Seats
+pub mod Snapshots

@@ -1,0 +1,6 @@
+pub mod Drafts
+pub mod Kept
+pub mod Pages
+pub mod Places
+pub mod Steps
+pub mod Version

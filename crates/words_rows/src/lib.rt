@@ -1,5 +1,0 @@
-//! Command lines, and what each of them asks for.
-#![tactic(auto)]
-
-#[cfg(test)]
-mod lines;

@@ -1,0 +1,10 @@
+# A picture of the levels and links of a bundle, for the program dot of Graphviz:
+#   emu export S B | jq -r -f hierarchy.jq | dot -Tsvg > bundle.svg
+# Each level is a row, with its name at the left; an item shows its labels.
+"digraph {", "node [shape=plaintext]",
+(.levels | to_entries[]
+ | "{rank=same; level\(.key) [label=\(.value.name | tojson)]; "
+   + ([.value.items[] | "\(.id) [label=\([.labels[].value] | join(" / ") | tojson)]"] | join("; ")) + "}"),
+([range(.levels | length) | "level\(.)"] | join(" -> ") + " [style=invis]"),
+(.links[] | "\(.fromID) -> \(.toID)"),
+"}"
