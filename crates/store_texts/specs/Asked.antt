@@ -1,5 +1,5 @@
 -- What a query of a store is answered.
-use Rattle.std.specs.Prelude.{◌≤◌, ℕ, List, [], Option, Result, Ok, Err}
+use Rattle.std.specs.Prelude.{◌≤◌, ℕ, List, [], Option, None, Result, Ok, Err}
 use Rattle.emu_names.specs.Count.{RoseBy}
 use Rattle.session_core.specs.declared.line.Answer.{Answer}
 use Rattle.session_core.specs.declared.line.Answer.TheVariants as answers
@@ -24,7 +24,7 @@ asked_text n (answers.Done command) = Ok []
 -- one is given
 abbrev pub answered : VersionParts → Made → Option (List ℕ) → Result (List ℕ) Refused
 answered version made time =
-    asked_text version.number (answer_over (state_of version) (record { prepared = made; time = time }))
+    asked_text version.number (answer_over (state_of version) (record { prepared = made; time = time; requery = None }))
 
 -- an answer goes with what a maker of patterns made of the text, whose refusals were and are so many
 pub record TellsMade (result : Result (List ℕ) CommandFault) (text : List ℕ) (time : Option (List ℕ))
