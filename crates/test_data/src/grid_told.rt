@@ -4,7 +4,7 @@ ghost use Rattle.std.specs.Prelude.{◌≤◌};
 use emu_names::LevelKind;
 use level_items::{Annot, AnnotItem, AnnotLevel, Time};
 use std::alloc::{AllocError, Global};
-use textgrid::{GridFault, read_textgrid, to_annot};
+use textgrid::{Grid, GridFault, read_textgrid, to_annot};
 
 /// A fault, with its place.
 fn fault_told(alloc: Global, fault: GridFault) -> Result<String, AllocError> {
@@ -64,7 +64,29 @@ fn annot_told(alloc: Global, annot: &Annot) -> Result<String, AllocError> {
     Ok(told)
 }
 
-/// What is answered of the bytes of a file at this rate.
+/// What is answered of a TextGrid at this rate.
+fn grid_told(alloc: Global, rate: u32, grid: &Grid) -> Result<String, AllocError>
+    requires rate_above { 1 ≤ rate }
+    requires rate_below { rate ≤ 1000000 }
+{
+    match to_annot(alloc, rate, grid) {
+        Err(fault) => fault_told(alloc, fault),
+        Ok(annot) => annot_told(alloc, &annot),
+    }
+}
+
+/// What is answered of a copy of a TextGrid at this rate.
+fn copy_told(alloc: Global, rate: u32, grid: &Grid) -> Result<String, AllocError>
+    requires rate_above { 1 ≤ rate }
+    requires rate_below { rate ≤ 1000000 }
+{
+    match grid.copy(alloc) {
+        Err(_) => Err(AllocError),
+        Ok(copied) => grid_told(alloc, rate, &copied),
+    }
+}
+
+/// What is answered of the bytes of a file at this rate, by copies of what is read.
 pub fn told(alloc: Global, rate: u32, bytes: &[u8]) -> Result<String, AllocError>
     requires rate_above { 1 ≤ rate }
     requires rate_below { rate ≤ 1000000 }
@@ -73,10 +95,7 @@ pub fn told(alloc: Global, rate: u32, bytes: &[u8]) -> Result<String, AllocError
         return format!(in alloc; "too many bytes");
     }
     match read_textgrid(alloc, bytes) {
-        Err(fault) => fault_told(alloc, fault),
-        Ok(grid) => match to_annot(alloc, rate, &grid) {
-            Err(fault) => fault_told(alloc, fault),
-            Ok(annot) => annot_told(alloc, &annot),
-        },
+        Err(fault) => fault_told(alloc, fault.copy()),
+        Ok(grid) => copy_told(alloc, rate, &grid),
     }
 }
