@@ -255,7 +255,7 @@ def page(house):
         f"{len(top)} definitions of the promises, {len(everything)} with those of the surroundings and the laws. Written by `tools/definitions.py`.",
         "",
     ]
-    lines += section("The promises", "What `emu` promises: `says`, `complete` and `untouched`.", house, top, done)
+    lines += section("The promises", "What `emu` promises: `says`, `complete`, `commands` and `untouched`.", house, top, done)
     lines += section("The surroundings", "What the traits say of a source, a sink, a folder, a disk and a maker of patterns.", house, around, done)
     lines += section("The laws", "What the laws say beside it, of definitions alone.", house, laws, done)
     return "\n".join(part for line in lines for part in wrapped(line)).rstrip() + "\n", everything

@@ -25,7 +25,7 @@ use Rattle.live_book.specs.Histories.{head_size, HeadPassesLimit, IsBare, IsStor
 use Rattle.live_book.specs.Published.{IsStateAfter, AreShown}
 use Rattle.live_book.specs.Kept.{CrashLeaves, Keeps}
 use Rattle.live_book.specs.Inner.Kept.{Holding, IsBookOf}
-use Rattle.book_opening.specs.Opens.{DuringNew, IsEmptyOrLost, IsHeadTooMuch}
+use Rattle.book_opening.specs.Opens.{DuringNew, IsEmptyOrLost, IsHeadTooMuch, LeavesNew}
 use Rattle.book_opening.specs.Inner.Opens.{IsEmpty}
 use Rattle.live_book.specs.Inner.Prepared.{IsTest}
 
@@ -78,6 +78,12 @@ module _ {D : Type 0} (may_leave : D → List ℕ → Type 0) where
     head_leaves moment left_since old leaves =
         weaker moment left_since (disk_of old) (disk_of new) (DuringAppend [] None body) (DuringNew config)
         (λ c has. ⊎_elim (λ bare. inl bare) (λ stands. inr (record { storable = new_storable config code; stands = subst (λ (b : List ℕ). StandsFor (b ∷ []) c) is stands })) has) leaves
+
+    -- so does each image of now
+    pub head_left : (moment : D → ℕ) (left_since : D → ℕ → List ℕ → Type 0) (counts_now : (disk : D) (t : ℕ) (c : List ℕ) → t ≤ moment disk → may_leave disk c → left_since disk t c) (old : Journal D) → LeavesIn moment left_since old new (DuringAppend [] None body) → LeavesNew may_leave config (Some new)
+    head_left moment left_since counts_now old leaves =
+        let during = head_leaves moment left_since old leaves in
+        λ c image. during.each c (counts_now (disk_of new) (moment (disk_of old)) c during.later image)
 
   -- where the disk is not called
   pub still_bare : (moment : D → ℕ) (left_since : D → ℕ → List ℕ → Type 0) (only_now : (disk : D) (c : List ℕ) → left_since disk (moment disk) c → may_leave disk c) (journal : Option (Journal D)) → IsEmpty may_leave journal → CrashLeaves moment left_since journal journal IsBare

@@ -17,6 +17,8 @@ use Rattle.book_opening.specs.declared.fault.OpenFault.{OpenFault}
 use Rattle.book_opening.specs.declared.fault.OpenFault.TheVariants.{Disk, Damaged, StoreFull, Memory}
 use Rattle.live_book.specs.declared.published.Published.{Published}
 use Rattle.book_opening.specs.declared.making.Shown.{Shown}
+use Rattle.book_opening.specs.declared.opening.Opened.{Opened}
+use Rattle.book_opening.specs.declared.opening.Opened.TheVariants as stores
 use Rattle.book_opening.specs.declared.replay.Replayed.{Replayed}
 use Rattle.live_book.specs.Histories.{codes_of, IsDamagedAt, IsStorable}
 use Rattle.live_book.specs.Kept.{BookParts, Keeps, KeepsIn}
@@ -33,11 +35,10 @@ module _ {D : Type 0} (may_leave : D → List ℕ → Type 0) where
 
   -- Opening a store.
 
-  pub opened_over : (head : List ℕ) (texts : List (List ℕ)) (old : Journal D) (replayed : Replayed) (readers : ℕ) (config : ConfigParts) → IsHeadCode head config → IsReplay config texts replayed → (book : Option (BookParts D)) (journal : Option (Journal D)) (passes : List (Front Published))
-      → IsOpenedBook may_leave old replayed readers book journal passes → IsOpenedOver may_leave (head ∷ texts) old readers book journal passes
-  opened_over head texts old replayed readers config code is None journal passes opened = absurd opened
-  opened_over head texts old replayed readers config code is (Some book) (Some journal) passes opened = absurd opened
-  opened_over head texts old replayed readers config code is (Some book) None passes opened =
+  pub opened_over : (head : List ℕ) (texts : List (List ℕ)) (old : Journal D) (replayed : Replayed) (readers : ℕ) (config : ConfigParts) → IsHeadCode head config → IsReplay config texts replayed → (opened : Opened D)
+      → IsOpenedBook may_leave old replayed readers opened → IsOpenedOver may_leave (head ∷ texts) old readers opened
+  opened_over head texts old replayed readers config code is (stores.Bare journal) opened = absurd opened
+  opened_over head texts old replayed readers config code is (stores.Stored book passes) opened =
       let own : config ≡ book.config = sym (opened.0 ∙ is.config) in
       let all : replayed.entries ≡ book.history = sym opened.1 in
       let storable : IsStorable book.config book.history =
@@ -46,11 +47,10 @@ module _ {D : Type 0} (may_leave : D → List ℕ → Type 0) where
       replay_codes config texts replayed is head code ∙ ap (λ (c : ConfigParts). codes_of c replayed.entries) own ∙ ap (codes_of book.config) all in
       (storable, codes, opened.2 ∙ ap length all, opened.3, opened.4)
 
-  pub opened_as : (reads : Option (List ℕ)) (found : List Body) (old : Journal D) (readers : ℕ) → Reads reads (Ok found) → found ≡ placed 8 (texts_of found) → Holds may_leave (texts_of found) None old → (book : Option (BookParts D)) (journal : Option (Journal D)) (passes : List (Front Published))
-      → IsOpenedOver may_leave (texts_of found) old readers book journal passes → IsOpenedAs may_leave reads readers book journal passes
-  opened_as reads found old readers read places holds None journal passes opened = absurd opened
-  opened_as reads found old readers read places holds (Some book) (Some journal) passes opened = absurd opened
-  opened_as reads found old readers read places holds (Some book) None passes opened =
+  pub opened_as : (reads : Option (List ℕ)) (found : List Body) (old : Journal D) (readers : ℕ) → Reads reads (Ok found) → found ≡ placed 8 (texts_of found) → Holds may_leave (texts_of found) None old → (opened : Opened D)
+      → IsOpenedOver may_leave (texts_of found) old readers opened → IsOpenedAs may_leave reads readers opened
+  opened_as reads found old readers read places holds (stores.Bare journal) opened = absurd opened
+  opened_as reads found old readers read places holds (stores.Stored book passes) opened =
       let stands : StandsFor (codes_of book.config book.history) read.0 = subst (λ (t : List (List ℕ)). StandsFor t read.0) opened.1 (read.2 ∙ ap Ok places) in
       let kept : KeepsIn may_leave book.config book.history None book.journal =
       subst (KeepsIn may_leave book.config book.history None) (sym opened.3) (opened_keeps book.config book.history (texts_of found) old opened.0 opened.1 holds) in
@@ -75,27 +75,25 @@ module _ {D : Type 0} (may_leave : D → List ℕ → Type 0) where
       (first.list ∙ ap (λ (n : ℕ). entry n (arc_value shown.current) ∷ []) counted) (None, kept)
 
   pub opened_book : (replayed : Replayed) (journal : Journal D) (count opened readers : ℕ) (shown : Shown) (book : BookParts D) → book ≡ record { config = (arc_value shown.current).version.config; history = replayed.entries; opened = opened; journal = Some journal; gate = shown.publisher.gate; list = shown.publisher.list }
-      → IsFirstShown replayed.version count readers shown → opened ≡ length replayed.entries → IsOpenedBook may_leave journal replayed readers (Some book) None shown.passes
+      → IsFirstShown replayed.version count readers shown → opened ≡ length replayed.entries → IsOpenedBook may_leave journal replayed readers (stores.Stored book shown.passes)
   opened_book replayed journal count opened readers shown book is first all =
-      subst (λ (b : BookParts D). IsOpenedBook may_leave journal replayed readers (Some b) None shown.passes) (sym is)
+      subst (λ (b : BookParts D). IsOpenedBook may_leave journal replayed readers (stores.Stored b shown.passes)) (sym is)
       (ap (λ (p : Published). p.version.config) first.current, refl, all, refl, record { each = first.passes; some = first.some; most = first.most })
 
-  pub opened_from : (texts : List (List ℕ)) (old : Journal D) (replayed : Replayed) (readers : ℕ) → IsHistoryOf texts replayed → (book : Option (BookParts D)) (journal : Option (Journal D)) (passes : List (Front Published))
-      → IsOpenedBook may_leave old replayed readers book journal passes → IsOpenedOver may_leave texts old readers book journal passes
-  opened_from [] old replayed readers history book journal passes opened = absurd history
-  opened_from (head ∷ texts) old replayed readers history book journal passes opened = opened_over may_leave head texts old replayed readers history.0 history.1 history.2 book journal passes opened
+  pub opened_from : (texts : List (List ℕ)) (old : Journal D) (replayed : Replayed) (readers : ℕ) → IsHistoryOf texts replayed → (opened : Opened D)
+      → IsOpenedBook may_leave old replayed readers opened → IsOpenedOver may_leave texts old readers opened
+  opened_from [] old replayed readers history opened is = absurd history
+  opened_from (head ∷ texts) old replayed readers history opened is = opened_over may_leave head texts old replayed readers history.0 history.1 history.2 opened is
 
   -- a bare store
-  pub bare_as : (reads : Option (List ℕ)) (found : List Body) (journal : Journal D) (readers : ℕ) (passes : List (Front Published)) → Reads reads (Ok found) → length found ≡ 0 → Holds may_leave (texts_of found) None journal → passes ≡ [] → IsOpenedAs may_leave reads readers None (Some journal) passes
-  bare_as reads [] journal readers passes read none holds no_pass = (read, holds, no_pass)
-  bare_as reads (b ∷ found) journal readers passes read none holds no_pass = absurd (omega (arith, none))
+  pub bare_as : (reads : Option (List ℕ)) (found : List Body) (journal : Journal D) (readers : ℕ) → Reads reads (Ok found) → length found ≡ 0 → Holds may_leave (texts_of found) None journal → IsOpenedAs may_leave reads readers (stores.Bare journal)
+  bare_as reads [] journal readers read none holds = (read, holds)
+  bare_as reads (b ∷ found) journal readers read none holds = absurd (omega (arith, none))
 
   -- the journal of an opened store is the one that was recovered
-  pub same_journal : (P : Option (Journal D) → Type 0) (texts : List (List ℕ)) (old : Journal D) (readers : ℕ) (book : Option (BookParts D)) (journal : Option (Journal D)) (passes : List (Front Published))
-      → IsOpenedOver may_leave texts old readers book journal passes → P (Some old) → P (journal_in book journal)
-  same_journal P texts old readers None journal passes opened has = absurd opened
-  same_journal P texts old readers (Some book) (Some journal) passes opened has = absurd opened
-  same_journal P texts old readers (Some book) None passes opened has = subst P (sym opened.3) has
+  pub same_journal : (P : Option (Journal D) → Type 0) (texts : List (List ℕ)) (old : Journal D) (readers : ℕ) (opened : Opened D) → IsOpenedOver may_leave texts old readers opened → P (Some old) → P (journal_in opened)
+  same_journal P texts old readers (stores.Bare journal) is has = absurd is
+  same_journal P texts old readers (stores.Stored book passes) is has = subst P (sym is.3) has
 
 -- why a journal was not recovered
 pub refused_as : {D : Type 0} (reads : Option (List ℕ)) (faults : D → ℕ) (old new : D) (fault : JournalFault) → ((at : ℕ) → fault ≡ journal_faults.Damaged at → Reads reads (Err at)) → (fault ≡ journal_faults.Disk → Rose (faults old) (faults new)) → (fault ≡ journal_faults.StoreFull → ⊥)

@@ -8,8 +8,8 @@ ghost use Rattle.version_tree.specs.Inner.Version.{first_version};
 ghost use Rattle.live_book.specs.Histories.{HeadPassesLimit};
 ghost use Rattle.live_book.specs.Kept.{Keeps, KeepsIn, CrashLeaves, faults_in};
 ghost use Rattle.live_book.specs.Commits.{has_journal};
-ghost use Rattle.book_opening.specs.Opens.{IsEmptyOrLost, IsHeadTooMuch, IsNoBookFor, DuringNew};
-ghost use Rattle.book_opening.specs.Inner.Opens.{AreAtFront, IsEmpty, IsNew, DuringNoBook};
+ghost use Rattle.book_opening.specs.Opens.{IsEmptyOrLost, IsHeadTooMuch, IsNoBookFor, DuringNew, DuringNoBook, LeavesNew};
+ghost use Rattle.book_opening.specs.Inner.Opens.{AreAtFront, IsEmpty, IsNew};
 ghost use Rattle.live_book.specs.Inner.Prepared.{IsTest};
 ghost use Rattle.book_opening.specs.Inner.Prepared.{IsHeadFrameOf, IsFirstShown, IsBegun, ForBegun};
 
@@ -121,6 +121,7 @@ fn append_head<D: Disk>(
     requires coded { has_journal journal.old ≡ true → IsHeadCode (head_code config.now) config.now }
     ensures ok { OnOk result (KeepsIn D.may_leave config.now [] None journal.new) }
     ensures err { OnErr result (IsEmptyOrLost D.may_leave config.now journal.new) }
+    ensures left { OnErr result (LeavesNew D.may_leave config.now journal.new) }
     ensures any_moment { CrashLeaves D.moment D.left_since journal.old journal.new (
         DuringNew config.now) }
     ensures cause { HasCause (faults_in D.faults journal.old) (faults_in D.faults journal.new) result }
@@ -148,6 +149,7 @@ fn append_config<D: Disk>(
     requires coded { IsHeadCode (head_code config.now) config.now }
     ensures ok { OnOk result (Keeps D.may_leave config.now [] None journal.new) }
     ensures err { OnErr result (IsEmptyOrLost D.may_leave config.now (Some journal.new)) }
+    ensures left { OnErr result (LeavesNew D.may_leave config.now (Some journal.new)) }
     ensures any_moment { LeavesIn D.moment D.left_since journal.old journal.new (
         DuringNew config.now) }
     ensures cause { HasCause (count_in D.faults journal.old) (count_in D.faults journal.new) result }

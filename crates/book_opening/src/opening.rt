@@ -17,12 +17,17 @@ use std::alloc::Global;
 use std::sync::Wait;
 use version_gate::Passes;
 
-/// A store that was opened. Where it has a configuration there are the book and the passes of its gate, at
-/// least one; else there is the journal and no pass.
-pub struct Opened<D: Disk> {
-    pub book: Option<Book<D>>,
-    pub journal: Option<Journal<D>>,
-    pub passes: Passes<Published>,
+/// A store that was opened.
+pub enum Opened<D: Disk> {
+    /// It has a configuration: its book, which has the journal, and the passes of the book's gate, at least one.
+    Stored {
+        book: Book<D>,
+        passes: Passes<Published>,
+    },
+    /// It is bare: its journal, which has no bodies.
+    Bare {
+        journal: Journal<D>,
+    },
 }
 
 /// Why a store was not opened, and its disk.
@@ -47,25 +52,21 @@ pub fn open_store<D: Disk, R: Wait>(
 ) -> Result<Opened<D>, NoStore<D>>
     requires readers { (1 ≤ readers) × (readers ≤ 16) }
     ensures opened { IfOk result (λ o.
-        IsOpenedAs D.may_leave (D.reads disk) readers o.book o.journal o.passes) }
+        IsOpenedAs D.may_leave (D.reads disk) readers o) }
     ensures refused { IfErr result (λ e. IsNoStoreFor (D.reads disk) D.faults disk e.fault e.disk) }
     ensures any_moment { IfOk result (λ o. LeavesFrom D.moment D.left_since disk
-        (journal_in o.book o.journal) (D.may_leave disk)) }
+        (journal_in o) (D.may_leave disk)) }
     ensures any_moment_err { IfErr result (λ e.
         LeavesOnly D.moment D.left_since disk e.disk (D.may_leave disk)) }
     ensures later { IfOk result (λ o.
-        D.faults disk ≤ faults_in D.faults (journal_in o.book o.journal)) }
+        D.faults disk ≤ faults_in D.faults (journal_in o)) }
     ensures later_err { IfErr result (λ e. D.faults disk ≤ D.faults e.disk) }
 {
     match Journal::recover(alloc, disk) {
         Ok(found) => {
             let Recovered { journal, bodies } = found;
             if bodies.len() == 0 {
-                Ok(Opened {
-                    book: None,
-                    journal: Some(journal),
-                    passes: Passes::new(alloc),
-                })
+                Ok(Opened::Bare { journal })
             } else {
                 open_bodies(rt, alloc, journal, &bodies, readers)
             }
@@ -104,7 +105,7 @@ fn open_bodies<D: Disk, R: Wait>(
     requires some { 0 < length bodies.now }
     requires holds { Holds D.may_leave (texts_of bodies.now) None journal }
     ensures ok { IfOk result (λ o.
-        IsOpenedOver D.may_leave (texts_of bodies.now) journal readers o.book o.journal o.passes) }
+        IsOpenedOver D.may_leave (texts_of bodies.now) journal readers o) }
     ensures err { IfErr result (λ e.
         (e.disk ≡ disk_of journal) × IsWrong (IsWrongIn bodies.now) e.fault) }
 {
@@ -128,8 +129,7 @@ fn open_replayed<D: Disk, R: Wait>(
     requires readers { (1 ≤ readers) × (readers ≤ 16) }
     requires kept { (texts : List (List ℕ)) × IsHistoryOf texts replayed
         × Holds D.may_leave texts None journal }
-    ensures ok { IfOk result (λ o. IsOpenedBook D.may_leave journal replayed readers
-        o.book o.journal o.passes) }
+    ensures ok { IfOk result (λ o. IsOpenedBook D.may_leave journal replayed readers o) }
     ensures err { IfErr result (λ e.
         (e.disk ≡ disk_of journal) × (e.fault ≡ OpenFault.Memory)) }
 {
@@ -153,11 +153,7 @@ fn open_replayed<D: Disk, R: Wait>(
                 publisher,
                 journal: Some(journal),
             });
-            Ok(Opened {
-                book: Some(book),
-                journal: None,
-                passes,
-            })
+            Ok(Opened::Stored { book, passes })
         }
     }
 }

@@ -108,18 +108,18 @@ store_false words false h other = refl
 
 -- Commands on the store.
 
-store_words : (words : List (List ℕ)) (asked : Words) → words_of words ≡ Some asked → AsksForStore words → is_of_store asked ≡ true
+pub store_words : (words : List (List ℕ)) (asked : Words) → words_of words ≡ Some asked → AsksForStore words → is_of_store asked ≡ true
 store_words words asked h (command, k, is) = ap is_of_store (words_same (sym h ∙ k)) ∙ is
 
 not_both : (b : Bool) → b ≡ true → b ≡ false → ⊥
 not_both b h k = cc
 
 -- a command that is no run is one on the store, or none that the program does
-pub other_ends : (words : List (List ℕ)) (asked : Words) (calls : Bool → Call) (before images : List ℕ → Type 0) (Ends : Words → Ending → Type 0) (Writes : Status → Ending → Type 0) (status : Status) (b : Bool) → is_of_store asked ≡ b → words_of words ≡ Some asked → run_asked asked ≡ None → live_asked asked ≡ None →
+pub other_ends : (words : List (List ℕ)) (asked : Words) (calls : Bool → Call) (before since images : List ℕ → Type 0) (Ends : Words → Ending → Type 0) (Writes : Status → Ending → Type 0) (status : Status) (b : Bool) → is_of_store asked ≡ b → words_of words ≡ Some asked → run_asked asked ≡ None → live_asked asked ≡ None →
     (is_of_store asked ≡ true → (ending : Ending) × Ends asked ending × Writes status ending) → (is_of_store asked ≡ false → SaysUsage status (calls false)) →
-    CallEnds words calls before images (λ st. SaysStore words Ends (Writes st)) status
-other_ends words asked calls before images Ends Writes status true is h n l stored none = inr (inr (inr (inr (asked, h, is, (stored is).0, (stored is).1, (stored is).2))))
-other_ends words asked calls before images Ends Writes status false is h n l stored none =
+    CallEnds words calls before since images (λ st. SaysStore words Ends (Writes st)) status
+other_ends words asked calls before since images Ends Writes status true is h n l stored none = inr (inr (inr (inr (asked, h, is, (stored is).0, (stored is).1, (stored is).2))))
+other_ends words asked calls before since images Ends Writes status false is h n l stored none =
     inr (inr (inl (record { no_run = asked_none words asked h n; no_live = asked_no_live words asked h l; no_store = λ asks. not_both (is_of_store asked) (store_words words asked h asks) is }, none is)))
 
 pub other_store : (words : List (List ℕ)) (asked : Words) (b : Bool) → is_of_store asked ≡ b → words_of words ≡ Some asked → (AsksForStore words → ⊥) → is_of_store asked ≡ false
@@ -128,3 +128,30 @@ other_store words asked false is h none = is
 
 pub no_command : (words : List (List ℕ)) → words_of words ≡ None → IsNoCommand words
 no_command words h = record { no_run = usage_none words h; no_live = usage_no_live words h; no_store = λ asks. no_words asks.0 (sym h ∙ asks.1) }
+
+-- a run is no command on the store
+run_not_stored : (asked : Words) (store : Bool) → run_asked asked ≡ Some store → is_of_store asked ≡ true → ⊥
+run_not_stored (forms.Run s) store e is = not_both false is refl
+run_not_stored (forms.Live s n) store e is = not_both false is refl
+run_not_stored (forms.Ask eql time) store e is = no_flag store e
+run_not_stored (forms.Load name) store e is = no_flag store e
+run_not_stored (forms.Import session bundle rate file) store e is = no_flag store e
+run_not_stored (forms.Export session bundle) store e is = no_flag store e
+run_not_stored forms.History store e is = no_flag store e
+run_not_stored (forms.Work number bundles) store e is = not_both false is refl
+
+live_not_stored : (asked : Words) (store : Bool) → live_asked asked ≡ Some store → is_of_store asked ≡ true → ⊥
+live_not_stored (forms.Run s) store e is = not_both false is refl
+live_not_stored (forms.Live s n) store e is = not_both false is refl
+live_not_stored (forms.Ask eql time) store e is = no_flag store e
+live_not_stored (forms.Load name) store e is = no_flag store e
+live_not_stored (forms.Import session bundle rate file) store e is = no_flag store e
+live_not_stored (forms.Export session bundle) store e is = no_flag store e
+live_not_stored forms.History store e is = no_flag store e
+live_not_stored (forms.Work number bundles) store e is = not_both false is refl
+
+pub runs_no_store : (words : List (List ℕ)) (asked : Words) (store : Bool) → words_of words ≡ Some asked → run_asked asked ≡ Some store → AsksForStore words → ⊥
+runs_no_store words asked store h e asks = run_not_stored asked store e (store_words words asked h asks)
+
+pub lives_no_store : (words : List (List ℕ)) (asked : Words) (store : Bool) → words_of words ≡ Some asked → live_asked asked ≡ Some store → AsksForStore words → ⊥
+lives_no_store words asked store h e asks = live_not_stored asked store e (store_words words asked h asks)

@@ -1,3 +1,5 @@
 mod CallLemmas
+mod Completes
 mod Images
 mod Opened
+mod Told

@@ -13,7 +13,7 @@ use Rattle.cli_words.specs.declared.words.Words.{Words}
 use Rattle.cli_words.specs.declared.words.Words.TheVariants as forms
 use Rattle.cli_words.specs.Forms.{words_of}
 use Rattle.program_output.specs.declared.ending.Ending.{Ending}
-use Rattle.emu_cli.specs.Ends.{EndsOnStore, is_of_store, outside_of}
+use Rattle.emu_cli.specs.Ends.{EndsOnStore, IsFaultlessOn, folder_told, is_of_store, refusals_told}
 use Rattle.program_output.specs.declared.status.Status.{Status}
 use Rattle.program_output.specs.declared.status.Status.TheVariants as statuses
 use Rattle.script_runs.specs.Bases.{EachOf}
@@ -76,21 +76,21 @@ SaysStore words Ends Writes =
     (command : Words) × (words_of words ≡ Some command) × (is_of_store command ≡ true)
     × (ending : Ending) × Ends command ending × Writes ending
 
--- What a status says of a call by its words. The call is given with a store and without; `Stores` is what it says of a
--- command on the store.
-abbrev pub CallEnds : List (List ℕ) → (Bool → Call) → (List ℕ → Type 0) → (List ℕ → Type 0) → (Status → Type 0)
-    → Status → Type 0
-CallEnds words call before images Stores status =
-    ((store : Bool) × IsRunWords words store × Says status (call store) before images)
+-- What a status says of a call by its words, of the images of its disk before it, of those of some moment since then,
+-- and of those after it. The call is given with a store and without; `Stores` is what it says of a command on the store.
+abbrev pub CallEnds : List (List ℕ) → (Bool → Call) → (List ℕ → Type 0) → (List ℕ → Type 0) → (List ℕ → Type 0)
+    → (Status → Type 0) → Status → Type 0
+CallEnds words call before since images Stores status =
+    ((store : Bool) × IsRunWords words store × Says status (call store) before since images)
     ⊎ (((store : Bool) × IsLiveWords words store × SaysLive status (call store) before images)
     ⊎ ((IsNoCommand words × SaysUsage status (call false))
-    ⊎ ((SaysNothing status (call false) × EachOf images before) ⊎ Stores status)))
+    ⊎ ((SaysNothing status (call false) × EachOf images before × EachOf since before) ⊎ Stores status)))
 
 -- what the code that a call answers says of it
-abbrev pub CallSays : List (List ℕ) → (Bool → Call) → (List ℕ → Type 0) → (List ℕ → Type 0) → (Status → Type 0)
-    → ℕ → Type 0
-CallSays words call before images Stores code =
-    (status : Status) × (code ≡ code_of status) × CallEnds words call before images Stores status
+abbrev pub CallSays : List (List ℕ) → (Bool → Call) → (List ℕ → Type 0) → (List ℕ → Type 0) → (List ℕ → Type 0)
+    → (Status → Type 0) → ℕ → Type 0
+CallSays words call before since images Stores code =
+    (status : Status) × (code ≡ code_of status) × CallEnds words call before since images Stores status
 
 -- where nothing is wrong outside or in the script, only want of memory keeps a run from its end
 abbrev pub RunCompletes : List (List ℕ) → (Bool → Call) → Status → Type 0
@@ -101,16 +101,41 @@ abbrev pub CallCompletes : List (List ℕ) → (Bool → Call) → ℕ → Type 
 CallCompletes words call code =
     (store : Bool) → AskForRun words store → IsFaultless (call store) → (code ≡ 0) ⊎ (code ≡ 8)
 
+-- a command on the store whose outside is faultless ends well, is refused, or memory ran out
+abbrev pub CommandCompletes : List (List ℕ) → Type 0 → Status → Type 0
+CommandCompletes words IsFaultless status =
+    AsksForStore words → IsFaultless
+    → (status ≡ statuses.Fine) ⊎ (status ≡ statuses.Refused) ⊎ (status ≡ statuses.Memory)
+
+-- the same of the code
+abbrev pub CommandCodeCompletes : List (List ℕ) → Type 0 → ℕ → Type 0
+CommandCodeCompletes words IsFaultless code =
+    AsksForStore words → IsFaultless → (code ≡ 0) ⊎ (code ≡ 10) ⊎ (code ≡ 8)
+
 -- By what source, sink, folder, disk and maker of patterns tell before the call and after it.
+
 module _ {F D P : Type 0} (folder : folders.Ghosts F) (disk : disks.Ghosts D) (maker : makers.Ghosts P)
     (files files_after : F) (before after : D) (patterns patterns_after : P) where
   -- a command on the store ended so
   abbrev pub EndsOnStoreBy : Words → Ending → Type 0
   EndsOnStoreBy command ending =
-      EndsOnStore disk.may_leave disk.moment disk.left_since disk.faults
-      (outside_of (folder.content files) (disk.reads before) (folder.faults files) (folder.faults files_after)
-      (folder.misses files) (folder.misses files_after) (disk.faults before) (disk.faults after))
-      (maker.refusals patterns) (maker.refusals patterns_after) command ending before after
+      EndsOnStore disk (folder_told folder files files_after) (refusals_told maker patterns patterns_after) command ending
+      before after
+
+module _ {K F D : Type 0} (sink : sinks.Ghosts K) (folder : folders.Ghosts F) (disk : disks.Ghosts D)
+    (words : List (List ℕ)) (out out_after : K) (files files_after : F) (before after : D) where
+  -- nothing was at fault outside
+  abbrev pub IsFaultlessBy : Type 0
+  IsFaultlessBy =
+      IsFaultlessOn disk (folder_told folder files files_after) (sink.faults out) (sink.faults out_after) before after
+
+  -- a command on the store then ends well, is refused, or memory ran out
+  abbrev pub CommandCompletesBy : Status → Type 0
+  CommandCompletesBy status = CommandCompletes words IsFaultlessBy status
+
+  -- the same of the code
+  abbrev pub CommandCodeCompletesBy : ℕ → Type 0
+  CommandCodeCompletesBy code = CommandCodeCompletes words IsFaultlessBy code
 
 module _ {S K F D P : Type 0} (source : sources.Ghosts S) (sink : sinks.Ghosts K) (folder : folders.Ghosts F)
     (disk : disks.Ghosts D) (maker : makers.Ghosts P) (words : List (List ℕ)) (script script_after : S)
@@ -123,16 +148,21 @@ module _ {S K F D P : Type 0} (source : sources.Ghosts S) (sink : sinks.Ghosts K
   -- what a status says of it where the words ask for a command on the store
   abbrev stores : Status → Type 0
   stores status =
-      SaysStore words (EndsOnStoreBy folder disk maker files files_after before after patterns patterns_after)
+      SaysStore words
+      (EndsOnStoreBy folder disk maker files files_after before after patterns patterns_after)
       (FinishesBy sink out out_after status)
+
+  -- the images of some moment since it began
+  abbrev since : List ℕ → Type 0
+  since = disk.left_since after (disk.moment before)
 
   -- what a status says of it
   abbrev pub CallEndsBy : Status → Type 0
-  CallEndsBy status = CallEnds words calls (disk.may_leave before) (disk.may_leave after) stores status
+  CallEndsBy status = CallEnds words calls (disk.may_leave before) since (disk.may_leave after) stores status
 
   -- what the code that it answers says of it
   abbrev pub CallSaysBy : ℕ → Type 0
-  CallSaysBy code = CallSays words calls (disk.may_leave before) (disk.may_leave after) stores code
+  CallSaysBy code = CallSays words calls (disk.may_leave before) since (disk.may_leave after) stores code
 
   -- where nothing is wrong outside or in the script, only want of memory keeps a run from its end
   abbrev pub RunCompletesBy : Status → Type 0

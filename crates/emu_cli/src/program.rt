@@ -1,7 +1,7 @@
 //! The commands on the store, by what the words ask for.
 ghost use Rattle.std.specs.Prelude.{◌≡◌, true};
 ghost use Rattle.cli_words.specs.Inner.Gives.{IsInRange};
-ghost use Rattle.emu_cli.specs.Ends.{EndsOnStore, is_of_store, outside_of};
+ghost use Rattle.emu_cli.specs.Ends.{EndsOnStore, folder_told, is_of_store, refusals_told};
 
 use crate::store::{StoreEnd, import_store, load_store, read_store};
 use cli_words::Words;
@@ -37,10 +37,9 @@ pub fn on_store<R: Threads + Wait + Sync, F: Folder, D: Disk, P: PatternMaker, G
 ) -> StoreEnd<D>
     requires kind { is_of_store command.now ≡ true }
     requires ranges { IsInRange command.now }
-    ensures { EndsOnStore D.may_leave D.moment D.left_since D.faults
-        (outside_of (F.content folder.old) (D.reads disk) (F.faults folder.old) (F.faults folder.new)
-        (F.misses folder.old) (F.misses folder.new) (D.faults disk) (D.faults result.disk))
-        (P.refusals patterns.old) (P.refusals patterns.new) command.now result.ending disk result.disk }
+    ensures { EndsOnStore D.Disk (folder_told F.Folder folder.old folder.new)
+        (refusals_told P.PatternMaker patterns.old patterns.new) command.now
+        result.ending disk result.disk }
 {
     match command {
         Words::Load { name } => load_store(rt, alloc, name.as_str(), folder, disk),

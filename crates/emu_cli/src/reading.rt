@@ -1,7 +1,9 @@
 //! The commands that read the store: `history`, `export`, `textgrid`, `ask`.
 ghost use Rattle.std.specs.Prelude.{◌≡◌, true};
 ghost use Rattle.std.specs.Option.{option_copied};
-ghost use Rattle.emu_cli.specs.Ends.{IsMadeText, reads_book, EndsBook};
+ghost use Rattle.edit_rules.specs.Effects.{database_after};
+ghost use Rattle.store_texts.specs.Commands.{Tells, exported, grid_exported};
+ghost use Rattle.emu_cli.specs.Ends.{EndsBook, IsMadeText, reads_book, refusals_told};
 
 use crate::ending::end_of;
 use cli_words::Words;
@@ -18,6 +20,66 @@ use store_texts::{CommandFault, ask_text, export_text, history_text, textgrid_te
 /// How many workers answer the query of `ask`.
 const ASK_WORKERS: u32 = 1;
 
+/// The annotation of a bundle of a book, on a line of its own.
+#[tactic(auto, using(crate::proofs::Told::exported_after))]
+fn export_of<D: Disk>(
+    alloc: Global,
+    book: &Book<D>,
+    session: &str,
+    bundle: &str,
+) -> Result<Text, CommandFault>
+    ensures { Tells result (exported (database_after book.now.config book.now.history)
+        session.now bundle.now) }
+{
+    let shown = book.in_force()?;
+    export_text(alloc, &shown.version, session, bundle)
+}
+
+/// The TextGrid of a bundle of a book.
+#[tactic(auto, using(crate::proofs::Told::gridded_after))]
+fn grid_of<D: Disk>(
+    alloc: Global,
+    book: &Book<D>,
+    session: &str,
+    bundle: &str,
+) -> Result<Text, CommandFault>
+    ensures { Tells result (grid_exported (database_after book.now.config book.now.history)
+        session.now bundle.now) }
+{
+    let shown = book.in_force()?;
+    textgrid_text(alloc, &shown.version, session, bundle)
+}
+
+/// The answer to a query over a book.
+#[tactic(auto, using(crate::proofs::Told::asked_after))]
+fn answer_of<R: Threads + Sync, D: Disk, P: PatternMaker, G: Gate + Sync>(
+    rt: &R,
+    alloc: Global,
+    book: &Book<D>,
+    patterns: &mut P,
+    eql: &str,
+    time: Option<&str>,
+    gate: &G,
+) -> Result<Text, CommandFault>
+    ensures { IsMadeText (Words.Ask eql.now (option_copied time.entry))
+        (refusals_told P.PatternMaker patterns.old patterns.new)
+        book.now.config book.now.history result }
+{
+    let Ok(shown) = book.in_force() else {
+        return Err(CommandFault::Memory);
+    };
+    ask_text(
+        rt,
+        alloc,
+        &shown.version,
+        patterns,
+        eql,
+        time,
+        ASK_WORKERS,
+        gate,
+    )
+}
+
 /// The text of a command that reads a book.
 fn text_of<R: Threads + Sync, D: Disk, P: PatternMaker, G: Gate + Sync>(
     rt: &R,
@@ -28,30 +90,25 @@ fn text_of<R: Threads + Sync, D: Disk, P: PatternMaker, G: Gate + Sync>(
     gate: &G,
 ) -> Result<Text, CommandFault>
     requires { reads_book command.now ≡ true }
-    ensures made { IsMadeText command.now (P.refusals patterns.old) (P.refusals patterns.new)
+    ensures made { IsMadeText command.now (refusals_told P.PatternMaker patterns.old patterns.new)
         book.now.config book.now.history result }
 {
     match command {
         Words::History => Ok(history_text(alloc, book.history())?),
         Words::Export { session, bundle } => {
-            let shown = book.in_force()?;
-            export_text(alloc, &shown.version, session.as_str(), bundle.as_str())
+            export_of(alloc, book, session.as_str(), bundle.as_str())
         }
         Words::TextGrid { session, bundle } => {
-            let shown = book.in_force()?;
-            textgrid_text(alloc, &shown.version, session.as_str(), bundle.as_str())
+            grid_of(alloc, book, session.as_str(), bundle.as_str())
         }
         Words::Ask { eql, time } => {
-            let shown = book.in_force()?;
-            let level = level_of(time);
-            ask_text(
+            answer_of(
                 rt,
                 alloc,
-                &shown.version,
+                book,
                 patterns,
                 eql.as_str(),
-                level,
-                ASK_WORKERS,
+                level_of(time),
                 gate,
             )
         }
@@ -79,7 +136,7 @@ pub(crate) fn read_book<R: Threads + Sync, D: Disk, P: PatternMaker, G: Gate + S
     gate: &G,
 ) -> Ending
     requires { reads_book command.now ≡ true }
-    ensures { EndsBook (IsMadeText command.now (P.refusals patterns.old) (P.refusals patterns.new))
+    ensures { EndsBook (IsMadeText command.now (refusals_told P.PatternMaker patterns.old patterns.new))
         book.now.config book.now.history result }
 {
     let made = text_of(rt, alloc, command, book, patterns, gate);

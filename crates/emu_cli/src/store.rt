@@ -1,12 +1,13 @@
 //! A command on the store: the store is opened, the command is run, and the disk is given back.
-ghost use Rattle.std.specs.Prelude.{◌≡◌, ◌≢◌, ◌≤◌, ◌⊎◌, ℕ, List, Option, true, [], None, Some};
+ghost use Rattle.std.specs.Prelude.{◌≡◌, ◌≢◌, ◌≤◌, true, [], None, Some};
 ghost use Rattle.std.specs.Option.{option_map};
 ghost use Rattle.emu_names.specs.declared.limits.TheConstants.{TOP_RATE};
 ghost use Rattle.edit_journal.specs.Held.{disk_of, Holds, count_in};
 ghost use Rattle.live_book.specs.Kept.{KeepsIn, faults_in};
 ghost use Rattle.live_book.specs.Commits.{has_journal};
+ghost use Rattle.book_opening.specs.Inner.Opens.{LeavesFrom};
 ghost use Rattle.emudb_files.specs.Wanted.{import_wanted};
-ghost use Rattle.emu_cli.specs.Ends.{EndsBook, EndsImport, EndsLoad, EndsReading, IsImport, IsLoad, IsMadeText, IsRefusedBy, IsUntouched, outside_of, reads_book};
+ghost use Rattle.emu_cli.specs.Ends.{EndsBook, EndsImport, EndsLoad, EndsReading, IsImport, IsLoad, IsMadeText, IsRefusedBy, IsUntouched, folder_told, reads_book, refusals_told};
 ghost use Rattle.emu_cli.specs.Inner.Ends.{IsOpenEnd};
 
 use crate::adding::done_end;
@@ -99,7 +100,7 @@ fn read_and_close<R: Threads + Wait + Sync, D: Disk, P: PatternMaker, G: Gate + 
 ) -> StoreEnd<D>
     requires reads { reads_book command.now ≡ true }
     requires stored { has_journal book.journal ≡ true }
-    ensures ending { EndsBook (IsMadeText command.now (P.refusals patterns.old) (P.refusals patterns.new))
+    ensures ending { EndsBook (IsMadeText command.now (refusals_told P.PatternMaker patterns.old patterns.new))
         book.config book.history result.ending }
     ensures disk { Some result.disk ≡ option_map disk_of book.journal }
 {
@@ -120,30 +121,21 @@ pub(crate) fn read_store<R: Threads + Wait + Sync, D: Disk, P: PatternMaker, G: 
     gate: &G,
 ) -> StoreEnd<D>
     requires { reads_book command.now ≡ true }
-    ensures ending { EndsReading (D.reads disk) (D.faults disk) (D.faults result.disk)
-        (IsMadeText command.now (P.refusals patterns.old) (P.refusals patterns.new)) result.ending }
-    ensures untouched { IsUntouched D.moment D.left_since D.may_leave disk result.disk }
+    ensures ending { EndsReading D.Disk
+        (IsMadeText command.now (refusals_told P.PatternMaker patterns.old patterns.new))
+        result.ending disk result.disk }
+    ensures untouched { IsUntouched D.Disk disk result.disk }
     ensures later { D.faults disk ≤ D.faults result.disk }
 {
     match open_store(rt, alloc, disk, READERS) {
         Err(refused) => unopened(alloc, refused),
-        Ok(opened) => {
-            let Opened {
+        Ok(opened) => match opened {
+            Opened::Stored {
                 book,
-                journal,
                 passes: _passes,
-            } = opened;
-            match book {
-                Some(book) => match journal {
-                    None => read_and_close(rt, alloc, command, book, patterns, gate),
-                    Some(_) => unreachable!(),
-                },
-                None => match journal {
-                    Some(journal) => bare(alloc, journal, &Refused::NoConfiguration),
-                    None => unreachable!(),
-                },
-            }
-        }
+            } => read_and_close(rt, alloc, command, book, patterns, gate),
+            Opened::Bare { journal } => bare(alloc, journal, &Refused::NoConfiguration),
+        },
     }
 }
 
@@ -161,12 +153,11 @@ fn import_and_close<R: Wait, F: Folder, D: Disk>(
     requires rate { (1 ≤ rate) × (rate ≤ TOP_RATE) }
     requires stored { has_journal book.journal ≡ true }
     requires settled { KeepsIn D.may_leave book.config book.history None book.journal }
-    ensures { (reads : Option (List ℕ)) (start : ℕ) → start ≤ faults_in D.faults book.journal
-        → IsImport D.may_leave D.moment D.left_since D.faults
-        (outside_of (F.content folder.old) reads (F.faults folder.old) (F.faults folder.new)
-        (F.misses folder.old) (F.misses folder.new) start (D.faults result.disk))
+    ensures { (begin : D) → D.faults begin ≤ faults_in D.faults book.journal
+        → LeavesFrom D.moment D.left_since begin book.journal (D.may_leave begin)
+        → IsImport D.Disk (folder_told F.Folder folder.old folder.new)
         (import_wanted session.now bundle.now rate file.now)
-        book result.ending result.disk }
+        book result.ending begin result.disk }
 {
     let made = import(rt, alloc, &mut book, folder, session, bundle, rate, file);
     StoreEnd {
@@ -187,31 +178,19 @@ pub(crate) fn import_store<R: Wait, F: Folder, D: Disk>(
     disk: D,
 ) -> StoreEnd<D>
     requires { (1 ≤ rate) × (rate ≤ TOP_RATE) }
-    ensures { EndsImport D.may_leave D.moment D.left_since D.faults
-        (outside_of (F.content folder.old) (D.reads disk) (F.faults folder.old) (F.faults folder.new)
-        (F.misses folder.old) (F.misses folder.new) (D.faults disk) (D.faults result.disk))
+    ensures { EndsImport D.Disk (folder_told F.Folder folder.old folder.new)
         (import_wanted session.now bundle.now rate file.now)
         result.ending disk result.disk }
 {
     match open_store(rt, alloc, disk, READERS) {
         Err(refused) => unopened(alloc, refused),
-        Ok(opened) => {
-            let Opened {
+        Ok(opened) => match opened {
+            Opened::Stored {
                 book,
-                journal,
                 passes: _passes,
-            } = opened;
-            match book {
-                Some(book) => match journal {
-                    None => import_and_close(rt, alloc, folder, session, bundle, rate, file, book),
-                    Some(_) => unreachable!(),
-                },
-                None => match journal {
-                    Some(journal) => bare(alloc, journal, &Refused::NoConfiguration),
-                    None => unreachable!(),
-                },
-            }
-        }
+            } => import_and_close(rt, alloc, folder, session, bundle, rate, file, book),
+            Opened::Bare { journal } => bare(alloc, journal, &Refused::NoConfiguration),
+        },
     }
 }
 
@@ -224,11 +203,10 @@ fn load_and_close<R: Wait, F: Folder, D: Disk>(
     journal: Journal<D>,
 ) -> StoreEnd<D>
     requires { Holds D.may_leave [] None journal }
-    ensures { (reads : Option (List ℕ)) (start : ℕ) → start ≤ count_in D.faults journal
-        → IsLoad D.may_leave D.faults
-        (outside_of (F.content folder.old) reads (F.faults folder.old) (F.faults folder.new)
-        (F.misses folder.old) (F.misses folder.new) start (D.faults result.disk))
-        name.now journal result.ending result.disk }
+    ensures { (begin : D) → D.faults begin ≤ count_in D.faults journal
+        → LeavesFrom D.moment D.left_since begin (Some journal) (D.may_leave begin)
+        → IsLoad D.Disk (folder_told F.Folder folder.old folder.new) name.now journal result.ending
+        begin result.disk }
 {
     let Loaded { journal, result } = load(rt, alloc, journal, folder, name);
     StoreEnd {
@@ -257,29 +235,17 @@ pub(crate) fn load_store<R: Wait, F: Folder, D: Disk>(
     folder: &mut F,
     disk: D,
 ) -> StoreEnd<D>
-    ensures { EndsLoad D.may_leave D.moment D.left_since D.faults
-        (outside_of (F.content folder.old) (D.reads disk) (F.faults folder.old) (F.faults folder.new)
-        (F.misses folder.old) (F.misses folder.new) (D.faults disk) (D.faults result.disk))
-        name.now result.ending disk result.disk }
+    ensures { EndsLoad D.Disk (folder_told F.Folder folder.old folder.new) name.now
+        result.ending disk result.disk }
 {
     match open_store(rt, alloc, disk, READERS) {
         Err(refused) => unopened(alloc, refused),
-        Ok(opened) => {
-            let Opened {
+        Ok(opened) => match opened {
+            Opened::Stored {
                 book,
-                journal,
                 passes: _passes,
-            } = opened;
-            match book {
-                Some(book) => match journal {
-                    None => keep_and_close(rt, alloc, book),
-                    Some(_) => unreachable!(),
-                },
-                None => match journal {
-                    Some(journal) => load_and_close(rt, alloc, name, folder, journal),
-                    None => unreachable!(),
-                },
-            }
-        }
+            } => keep_and_close(rt, alloc, book),
+            Opened::Bare { journal } => load_and_close(rt, alloc, name, folder, journal),
+        },
     }
 }

@@ -4,7 +4,7 @@ ghost use Rattle.program_output.specs.declared.ending.Ending.{Ending as Ends};
 ghost use Rattle.emu_cli.specs.Ends.{is_of_store};
 ghost use Rattle.cli_words.specs.Inner.Gives.{IsInRange};
 ghost use Rattle.program_output.specs.Texts.{usage_text};
-ghost use Rattle.emu_cli.specs.Calls.{AskForRun, AsksForStore, CallCompletesBy, CallEndsBy, CallSaysBy, EndsOnStoreBy, RunCompletesBy, texts_of};
+ghost use Rattle.emu_cli.specs.Calls.{AskForRun, AsksForStore, CallCompletesBy, CallEndsBy, CallSaysBy, CommandCodeCompletesBy, CommandCompletesBy, EndsOnStoreBy, RunCompletesBy, texts_of};
 ghost use Rattle.emu_cli.specs.Inner.Calls.{live_asked, run_asked};
 ghost use Rattle.program_output.specs.Statuses.{WritesLast};
 ghost use Rattle.script_runs.specs.Told.{FinishesBy};
@@ -163,6 +163,8 @@ fn perform<
     ensures complete { RunCompletesBy S.Source K.Sink F.Folder D.Disk P.PatternMaker (texts_of words.now)
         script.old script.new out.old out.new folder.old folder.new disk result.disk
         patterns.old patterns.new result.status }
+    ensures commands { CommandCompletesBy K.Sink F.Folder D.Disk (texts_of words.now)
+        out.old out.new folder.old folder.new disk result.disk result.status }
     ensures untouched { (AskForRun (texts_of words.now) true → ⊥) →
         (AsksForStore (texts_of words.now) → ⊥) → result.disk ≡ disk }
 {
@@ -236,6 +238,8 @@ pub fn emu<
     ensures complete { CallCompletesBy S.Source K.Sink F.Folder D.Disk P.PatternMaker (texts_of words.now)
         script.old script.new out.old out.new folder.old folder.new disk result.disk
         patterns.old patterns.new result.status }
+    ensures commands { CommandCodeCompletesBy K.Sink F.Folder D.Disk (texts_of words.now)
+        out.old out.new folder.old folder.new disk result.disk result.status }
     ensures untouched { (AskForRun (texts_of words.now) true → ⊥) →
         (AsksForStore (texts_of words.now) → ⊥) → result.disk ≡ disk }
 {

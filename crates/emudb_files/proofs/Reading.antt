@@ -97,13 +97,14 @@ session_read told path session below name bundles is_below is_name h = record {
 }
 
 -- the bundles of a session that was read
-pub session_goes : {D T : Type 0} (may_leave : D → List ℕ → Type 0) (told told' : Option (List Stored))
+pub session_goes : {D T : Type 0} (may_leave : D → List ℕ → Type 0) (moment : D → ℕ)
+    (left_since : D → ℕ → List ℕ → Type 0) (told told' : Option (List Stored))
     (path session : List ℕ) (found : Session) (below : List ℕ) (names : List (List ℕ)) (old : BookParts D)
     (r : Result T CommandFault) (new : BookParts D) → below ≡ found.path → names ≡ found.bundles → told' ≡ told
     → Reads told (session_in path session) (Ok found)
-    → Goes may_leave told' (λ c. map (bundle_wanted below found.name c) names) old r new
-    → Goes may_leave told (λ c. session_wanted path c session) old r new
-session_goes may_leave told told' path session found below names old r new is is' same reads goes =
-    names_go may_leave told (session_in path session) found bundles_of old r new reads
-    (goes_along may_leave told told' (λ c. bundles_of c found) old r new same
-    (subst₂ (λ p l. Goes may_leave told' (λ c. map (bundle_wanted p found.name c) l) old r new) is is' goes))
+    → Goes may_leave moment left_since told' (λ c. map (bundle_wanted below found.name c) names) old r new
+    → Goes may_leave moment left_since told (λ c. session_wanted path c session) old r new
+session_goes may_leave moment left_since told told' path session found below names old r new is is' same reads goes =
+    names_go may_leave moment left_since told (session_in path session) found bundles_of old r new reads
+    (goes_along may_leave moment left_since told told' (λ c. bundles_of c found) old r new same
+    (subst₂ (λ p l. Goes may_leave moment left_since told' (λ c. map (bundle_wanted p found.name c) l) old r new) is is' goes))

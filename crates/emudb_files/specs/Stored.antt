@@ -1,5 +1,5 @@
 -- What `import` and `load` do to a store.
-use Rattle.std.specs.Prelude.{◌≡◌, ◌⊎◌, ℕ, List, [], ◌∷◌, ◌++◌, length, map, true, Option, None, Some, Result, Ok, Err}
+use Rattle.std.specs.Prelude.{◌≡◌, ◌⊎◌, ◌≤◌, ℕ, List, [], ◌∷◌, ◌++◌, length, take, map, true, Option, None, Some, Result, Ok, Err}
 use mathlib.Core.List.{IsPrefix}
 use Rattle.emu_io.specs.declared.tree.Stored.{Stored}
 use Rattle.emu_names.specs.declared.names.BundleKey.{BundleKey}
@@ -11,9 +11,10 @@ use Rattle.edit_rules.specs.declared.edit.Entry.{Entry}
 use Rattle.edit_journal.specs.declared.journal.Journal.{Journal}
 use Rattle.live_book.specs.declared.fault.EditFault.{EditFault}
 use Rattle.book_opening.specs.declared.fault.OpenFault.{OpenFault}
-use Rattle.live_book.specs.Kept.{BookParts, Keeps}
+use Rattle.live_book.specs.Histories.{IsBare, Stands}
+use Rattle.live_book.specs.Kept.{BookParts, CrashLeaves, Keeps}
 use Rattle.live_book.specs.Commits.{Commits, IsAnswer, IsWelcome, entry_of}
-use Rattle.book_opening.specs.Opens.{IsNoBookFor}
+use Rattle.book_opening.specs.Opens.{DuringNoBook, IsNoBookFor}
 use Rattle.store_texts.specs.declared.faults.Refused.{Refused}
 use Rattle.store_texts.specs.declared.faults.CommandFault.{CommandFault}
 use Rattle.store_texts.specs.declared.faults.CommandFault.TheVariants as faults
@@ -92,12 +93,36 @@ IsStop config history next lost faults.Memory = (lost ≡ None) × (next ≡ [])
 -- How a run ended that accepted these edits, in order, each as an entry of the program: at the end of what is wanted, with
 -- the number of entries; or before, at what was taken next. All that was accepted or taken is a front of what is wanted
 abbrev pub IsEnd : Option (List Stored) → (List Stored → List (Result Edit Refused)) → ConfigParts → List Edit
-    → Option Entry → Result ℕ CommandFault → Type 0
-IsEnd told wanted config done lost (Ok n) =
-    (n ≡ length done) × (lost ≡ None) × Told told (λ content. wanted content ≡ map Ok done)
-IsEnd told wanted config done lost (Err fault) =
-    (next : List (Result Edit Refused)) × IsStop config (map own_entry done) next lost fault
+    → List (Result Edit Refused) → Option Entry → Result ℕ CommandFault → Type 0
+IsEnd told wanted config done next lost (Ok n) =
+    (n ≡ length done) × (next ≡ []) × (lost ≡ None) × Told told (λ content. wanted content ≡ map Ok done)
+IsEnd told wanted config done next lost (Err fault) =
+    IsStop config (map own_entry done) next lost fault
     × Told told (λ content. IsPrefix (map Ok done ++ next) (wanted content))
+
+-- What a crash at some moment of a run leaves.
+
+-- an image stands for a configuration and a beginning of a history
+pub record IsPart (config : ConfigParts) (history : List Entry) (c : List ℕ) : Type 0 where
+  pub count : ℕ
+  pub within : count ≤ length history
+  pub stands : Stands config (take count history) c
+
+-- or for all of it and the edit that was taken next, where the disk failed at that
+abbrev pub IsOneMore : ConfigParts → List Entry → List (Result Edit Refused) → CommandFault → List ℕ → Type 0
+IsOneMore config history (Ok edit ∷ []) faults.Disk c = Stands config (history ++ own_entry edit ∷ []) c
+IsOneMore config history next fault c = ⊥
+
+-- what an image may be, by how the run ended; before the configuration was stored it is bare
+abbrev pub DuringLoad : ConfigParts → List Entry → List (Result Edit Refused) → Result ℕ CommandFault → List ℕ → Type 0
+DuringLoad config history next (Ok n) c = IsBare c ⊎ IsPart config history c
+DuringLoad config history next (Err fault) c =
+    IsBare c ⊎ (IsPart config history c ⊎ IsOneMore config history next fault c)
+
+-- a journal is as before, or a crash at any moment since then leaves bytes that have P
+abbrev pub LeavesAlong : {D : Type 0} → (D → ℕ) → (D → ℕ → List ℕ → Type 0) → Option (Journal D) → Option (Journal D)
+    → (List ℕ → Type 0) → Type 0
+LeavesAlong moment left_since old new P = (new ≡ old) ⊎ CrashLeaves moment left_since old new P
 
 -- no configuration was stored, since none was read, and the journal is as before
 pub record IsNotRead {D : Type 0} (told : Option (List Stored)) (name : List ℕ) (old : Journal D)
@@ -109,38 +134,46 @@ pub record IsNotRead {D : Type 0} (told : Option (List Stored)) (name : List ℕ
 
 -- The configuration was not stored, and no book was made of it. The journal is as before, or after a fault of the disk the
 -- configuration may be in doubt
-pub record IsNotStored {D : Type 0} (may_leave : D → List ℕ → Type 0) (count : D → ℕ) (config : ConfigParts)
-    (old : Journal D) (result : Result ℕ CommandFault) (new : Journal D) : Type 0 where
+pub record IsNotStored {D : Type 0} (may_leave : D → List ℕ → Type 0) (moment : D → ℕ)
+    (left_since : D → ℕ → List ℕ → Type 0) (count : D → ℕ) (config : ConfigParts) (old : Journal D)
+    (result : Result ℕ CommandFault) (new : Journal D) : Type 0 where
   pub fault : OpenFault
   pub no_book : IsNoBookFor may_leave count config (Some old) fault (Some new)
   pub refused : result ≡ Err (open_fault fault)
+  pub moments : CrashLeaves moment left_since (Some old) (Some new) (DuringNoBook fault config)
 
 -- Behind a stored configuration these edits were accepted, in order, each as an entry of the program, and the journal
 -- keeps all of that
-pub record IsFilled {D : Type 0} (may_leave : D → List ℕ → Type 0) (told : Option (List Stored))
-    (wanted : List Stored → List (Result Edit Refused)) (config : ConfigParts) (result : Result ℕ CommandFault)
-    (new : Journal D) : Type 0 where
+pub record IsFilled {D : Type 0} (may_leave : D → List ℕ → Type 0) (moment : D → ℕ)
+    (left_since : D → ℕ → List ℕ → Type 0) (told : Option (List Stored))
+    (wanted : List Stored → List (Result Edit Refused)) (config : ConfigParts) (old : Option (Journal D))
+    (result : Result ℕ CommandFault) (new : Journal D) : Type 0 where
   pub done : List Edit
+  pub next : List (Result Edit Refused)
   pub lost : Option Entry
   pub add : AddBundles done
   pub keeps : Keeps may_leave config (map own_entry done) lost new
-  pub end : IsEnd told wanted config done lost result
+  pub end : IsEnd told wanted config done next lost result
+  pub moments : LeavesAlong moment left_since old (Some new) (DuringLoad config (map own_entry done) next result)
 
 -- a configuration was not stored, or it was stored and bundles were added
-abbrev pub IsMade : {D : Type 0} → (D → List ℕ → Type 0) → (D → ℕ) → Option (List Stored)
-    → (List Stored → List (Result Edit Refused)) → ConfigParts → Journal D → Result ℕ CommandFault → Journal D → Type 0
-IsMade may_leave count told wanted config old result new =
-    IsNotStored may_leave count config old result new ⊎ IsFilled may_leave told wanted config result new
+abbrev pub IsMade : {D : Type 0} → (D → List ℕ → Type 0) → (D → ℕ) → (D → ℕ → List ℕ → Type 0) → (D → ℕ)
+    → Option (List Stored) → (List Stored → List (Result Edit Refused)) → ConfigParts → Journal D → Result ℕ CommandFault
+    → Journal D → Type 0
+IsMade may_leave moment left_since count told wanted config old result new =
+    IsNotStored may_leave moment left_since count config old result new
+    ⊎ IsFilled may_leave moment left_since told wanted config (Some old) result new
 
 -- the configuration was read, and then stored or not
-pub record IsRead {D : Type 0} (may_leave : D → List ℕ → Type 0) (count : D → ℕ) (told : Option (List Stored))
-    (name : List ℕ) (old : Journal D) (result : Result ℕ CommandFault) (new : Journal D) : Type 0 where
+pub record IsRead {D : Type 0} (may_leave : D → List ℕ → Type 0) (moment : D → ℕ)
+    (left_since : D → ℕ → List ℕ → Type 0) (count : D → ℕ) (told : Option (List Stored)) (name : List ℕ)
+    (old : Journal D) (result : Result ℕ CommandFault) (new : Journal D) : Type 0 where
   pub config : ConfigParts
   pub is_wanted : Told told (λ content. config_wanted name content ≡ Ok config)
-  pub made : IsMade may_leave count told (bundles_wanted name) config old result new
+  pub made : IsMade may_leave moment left_since count told (bundles_wanted name) config old result new
 
 -- what a `load` does to a store without a configuration
-abbrev pub Loads : {D : Type 0} → (D → List ℕ → Type 0) → (D → ℕ) → Option (List Stored) → List ℕ → Journal D
-    → Result ℕ CommandFault → Journal D → Type 0
-Loads may_leave count told name old result new =
-    IsNotRead told name old result new ⊎ IsRead may_leave count told name old result new
+abbrev pub Loads : {D : Type 0} → (D → List ℕ → Type 0) → (D → ℕ) → (D → ℕ → List ℕ → Type 0) → (D → ℕ)
+    → Option (List Stored) → List ℕ → Journal D → Result ℕ CommandFault → Journal D → Type 0
+Loads may_leave moment left_since count told name old result new =
+    IsNotRead told name old result new ⊎ IsRead may_leave moment left_since count told name old result new

@@ -74,7 +74,7 @@ fn add_bundle<R: Wait, F: Folder, D: Disk>(
     bundle: &str,
 ) -> Result<u64, CommandFault>
     requires { IsKept D.may_leave None book.old }
-    ensures goes { Goes D.may_leave (F.content folder.old)
+    ensures goes { Goes D.may_leave D.moment D.left_since (F.content folder.old)
         (λ content. bundle_wanted path.now session.now content bundle.now ∷ [])
         book.old result book.new }
     ensures read { HasReadCause (F.faults folder.old) (F.faults folder.new)
@@ -100,7 +100,7 @@ pub(crate) fn add_bundles<R: Wait, F: Folder, D: Disk>(
     names: &[FileName],
 ) -> Result<(), CommandFault>
     requires { IsKept D.may_leave None book.old }
-    ensures goes { Goes D.may_leave (F.content folder.old)
+    ensures goes { Goes D.may_leave D.moment D.left_since (F.content folder.old)
         (λ content. map (bundle_wanted path.now session.now content) names.now)
         book.old result book.new }
     ensures read { HasReadCause (F.faults folder.old) (F.faults folder.new)

@@ -51,8 +51,8 @@ pub fn load<R: Wait, F: Folder, D: Disk>(
     name: &str,
 ) -> Loaded<D>
     requires { Holds D.may_leave [] None journal }
-    ensures stored { Loads D.may_leave D.faults (F.content folder.old) name.now journal
-        result.result result.journal }
+    ensures stored { Loads D.may_leave D.moment D.left_since D.faults (F.content folder.old)
+        name.now journal result.result result.journal }
     ensures read { HasReadCause (F.faults folder.old) (F.faults folder.new)
         (F.misses folder.old) (F.misses folder.new) result.result }
     ensures disk { HasDiskCause (count_in D.faults journal) (count_in D.faults result.journal)
@@ -94,8 +94,8 @@ fn store<R: Wait, F: Folder, D: Disk>(
     name: &str,
 ) -> Loaded<D>
     requires { Holds D.may_leave [] None journal }
-    ensures stored { IsMade D.may_leave D.faults (F.content folder.old) (bundles_wanted name.now)
-        config journal result.result result.journal }
+    ensures stored { IsMade D.may_leave D.moment D.left_since D.faults (F.content folder.old)
+        (bundles_wanted name.now) config journal result.result result.journal }
     ensures read { HasReadCause (F.faults folder.old) (F.faults folder.new)
         (F.misses folder.old) (F.misses folder.new) result.result }
     ensures disk { HasDiskCause (count_in D.faults journal) (count_in D.faults result.journal)
@@ -140,8 +140,8 @@ fn fill<R: Wait, F: Folder, D: Disk>(
 ) -> Loaded<D>
     requires kept { IsKept D.may_leave None book }
     requires empty { book.history ≡ [] }
-    ensures filled { IsFilled D.may_leave (F.content folder.old) (bundles_wanted name.now)
-        book.config result.result result.journal }
+    ensures filled { IsFilled D.may_leave D.moment D.left_since (F.content folder.old)
+        (bundles_wanted name.now) book.config book.journal result.result result.journal }
     ensures read { HasReadCause (F.faults folder.old) (F.faults folder.new)
         (F.misses folder.old) (F.misses folder.new) result.result }
     ensures disk { HasDiskCause (faults_in D.faults book.journal)
@@ -162,8 +162,8 @@ fn add_counted<R: Wait, F: Folder, D: Disk>(
     name: &str,
 ) -> Result<u64, CommandFault>
     requires { IsKept D.may_leave None book.old }
-    ensures goes { Goes D.may_leave (F.content folder.old) (bundles_wanted name.now)
-        book.old result book.new }
+    ensures goes { Goes D.may_leave D.moment D.left_since (F.content folder.old)
+        (bundles_wanted name.now) book.old result book.new }
     ensures count { IfOk result (λ n. n ≡ length book.new.history) }
     ensures read { HasReadCause (F.faults folder.old) (F.faults folder.new)
         (F.misses folder.old) (F.misses folder.new) result }
@@ -186,8 +186,8 @@ fn add_named<R: Wait, F: Folder, D: Disk>(
     name: &str,
 ) -> Result<(), CommandFault>
     requires { IsKept D.may_leave None book.old }
-    ensures goes { Goes D.may_leave (F.content folder.old) (bundles_wanted name.now)
-        book.old result book.new }
+    ensures goes { Goes D.may_leave D.moment D.left_since (F.content folder.old)
+        (bundles_wanted name.now) book.old result book.new }
     ensures read { HasReadCause (F.faults folder.old) (F.faults folder.new)
         (F.misses folder.old) (F.misses folder.new) result }
     ensures disk { HasDiskCause (faults_in D.faults book.old.journal)

@@ -76,7 +76,7 @@ fn add_session<R: Wait, F: Folder, D: Disk>(
     session: &str,
 ) -> Result<(), CommandFault>
     requires { IsKept D.may_leave None book.old }
-    ensures goes { Goes D.may_leave (F.content folder.old)
+    ensures goes { Goes D.may_leave D.moment D.left_since (F.content folder.old)
         (λ content. session_wanted path.now content session.now) book.old result book.new }
     ensures read { HasReadCause (F.faults folder.old) (F.faults folder.new)
         (F.misses folder.old) (F.misses folder.new) result }
@@ -111,7 +111,7 @@ fn add_sessions<R: Wait, F: Folder, D: Disk>(
     names: &[FileName],
 ) -> Result<(), CommandFault>
     requires { IsKept D.may_leave None book.old }
-    ensures goes { Goes D.may_leave (F.content folder.old)
+    ensures goes { Goes D.may_leave D.moment D.left_since (F.content folder.old)
         (λ content. flat_map (session_wanted path.now content) names.now)
         book.old result book.new }
     ensures read { HasReadCause (F.faults folder.old) (F.faults folder.new)
@@ -138,8 +138,8 @@ pub(crate) fn add_database<R: Wait, F: Folder, D: Disk>(
     path: &str,
 ) -> Result<(), CommandFault>
     requires { IsKept D.may_leave None book.old }
-    ensures goes { Goes D.may_leave (F.content folder.old) (database_wanted path.now)
-        book.old result book.new }
+    ensures goes { Goes D.may_leave D.moment D.left_since (F.content folder.old)
+        (database_wanted path.now) book.old result book.new }
     ensures read { HasReadCause (F.faults folder.old) (F.faults folder.new)
         (F.misses folder.old) (F.misses folder.new) result }
     ensures disk { HasDiskCause (faults_in D.faults book.old.journal)

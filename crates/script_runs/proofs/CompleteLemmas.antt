@@ -69,18 +69,18 @@ stored_is stored bare_store h = refl
 stored_is stored (store_of config history) h = refl
 stored_is stored no_store h = absurd h
 
-not_damaged_base : (stored : Option (List ℕ)) (base : Base) (bytes : List ℕ) (at : ℕ) → stored ≡ Some bytes → IsBaseOf true stored base → OfRead stored (λ c. IsDamagedAt c at) → ⊥
+pub not_damaged_base : (stored : Option (List ℕ)) (base : Base) (bytes : List ℕ) (at : ℕ) → stored ≡ Some bytes → IsBaseOf true stored base → OfRead stored (λ c. IsDamagedAt c at) → ⊥
 not_damaged_base stored bare_store bytes at told h d = not_damaged_bare bytes at (of_told stored bytes IsBare told h) (of_told stored bytes (λ c. IsDamagedAt c at) told d)
 not_damaged_base stored (store_of config history) bytes at told h d = not_damaged_store bytes config history at (of_told stored bytes (Stands config history) told h) (of_told stored bytes (λ c. IsDamagedAt c at) told d)
 not_damaged_base stored no_store bytes at told h d = absurd h
 
 module _ (call : Call) (f : IsFaultless call) where
-  not_early : (images : List ℕ → Type 0) (stop : Stop) → EndedEarly call images stop → ⊥
-  not_early images stop e =
-      let text : f.text ≡ e.text = told_is call.left f.text e.text f.known e.told in
-      let wants : wants_by f.base ≡ wants_by e.base = wants_same call.store call.stored f.base e.base f.store_known f.begins e.begins in
-      let sound : IsSound (wants_by e.base) e.text = subst (λ w. IsSound w e.text) wants (subst (λ t. IsSound (wants_by f.base) t) text f.sound.sound) in
-      sound e.lines stop e.read.bytes e.read.made e.script
+  not_early : (before since images : List ℕ → Type 0) (stop : Stop) → EndedEarly call before since images stop → ⊥
+  not_early before since images stop e =
+      let text : f.text ≡ e.has.text = told_is call.left f.text e.has.text f.known e.has.told in
+      let wants : wants_by f.base ≡ wants_by e.has.base = wants_same call.store call.stored f.base e.has.base f.store_known f.begins e.has.begins in
+      let sound : IsSound (wants_by e.has.base) e.has.text = subst (λ w. IsSound w e.has.text) wants (subst (λ t. IsSound (wants_by f.base) t) text f.sound.sound) in
+      sound e.has.lines stop e.has.read.bytes e.has.read.made e.script
 
   not_long : (images Writes : List ℕ → Type 0) → TooLong call images Writes → ⊥
   not_long images Writes t =
@@ -96,25 +96,25 @@ module _ (call : Call) (f : IsFaultless call) where
   not_risen : (before now : ℕ) → now ≡ before → before < 2 ^ 64 - 1 → Rose before now → ⊥
   not_risen before now same room rose = absurd (omega arith)
 
-  pub complete : (status : Status) (before images : List ℕ → Type 0) → Says status call before images → (status ≡ statuses.Fine) ⊎ (status ≡ statuses.Memory)
-  complete statuses.Fine before images says = inl refl
-  complete statuses.Usage before images says = absurd says
-  complete statuses.Script before images says = absurd (not_early images (at_fault says.number says.fault) says.stopped)
-  complete statuses.Read before images says = absurd (not_risen call.reads call.reads_after f.reads f.reads_room says.cause)
-  complete statuses.Write before images says = absurd (not_risen call.writes call.writes_after f.writes f.writes_room says.cause)
-  complete statuses.Disk before images says = absurd (not_risen call.faults call.faults_after f.faults f.faults_room says.cause)
-  complete statuses.Damaged before images says = absurd (not_damaged says.at says.damage)
-  complete statuses.Memory before images says = inr refl
-  complete statuses.Limit before images (inl e) = absurd (not_early images limit e)
-  complete statuses.Limit before images (inr t) = absurd (not_long images _ t)
-  complete statuses.Refused before images says = absurd says
+  pub complete : (status : Status) (before since images : List ℕ → Type 0) → Says status call before since images → (status ≡ statuses.Fine) ⊎ (status ≡ statuses.Memory)
+  complete statuses.Fine before since images says = inl refl
+  complete statuses.Usage before since images says = absurd says
+  complete statuses.Script before since images says = absurd (not_early before since images (at_fault says.number says.fault) says.stopped)
+  complete statuses.Read before since images says = absurd (not_risen call.reads call.reads_after f.reads f.reads_room says.0.cause)
+  complete statuses.Write before since images says = absurd (not_risen call.writes call.writes_after f.writes f.writes_room says.cause)
+  complete statuses.Disk before since images says = absurd (not_risen call.faults call.faults_after f.faults f.faults_room says.0.cause)
+  complete statuses.Damaged before since images says = absurd (not_damaged says.0.at says.0.damage)
+  complete statuses.Memory before since images says = inr refl
+  complete statuses.Limit before since images (inl e) = absurd (not_early before since images limit e)
+  complete statuses.Limit before since images (inr t) = absurd (not_long images _ t.0)
+  complete statuses.Refused before since images says = absurd says
 
   not_stopped : (images Writes : List ℕ → Type 0) (stop : Stop) → StoppedFirst call images stop Writes → ⊥
   not_stopped images Writes stop e =
-      let text : f.text ≡ e.text = told_is call.left f.text e.text f.known e.told in
-      let wants : wants_by f.base ≡ wants_by e.base = wants_same call.store call.stored f.base e.base f.store_known f.begins e.begins in
-      let sound : IsSound (wants_by e.base) e.text = subst (λ w. IsSound w e.text) wants (subst (λ t. IsSound (wants_by f.base) t) text f.sound.sound) in
-      sound e.lines stop e.read.bytes e.read.made e.script
+      let text : f.text ≡ e.has.text = told_is call.left f.text e.has.text f.known e.has.told in
+      let wants : wants_by f.base ≡ wants_by e.has.base = wants_same call.store call.stored f.base e.has.base f.store_known f.begins e.has.begins in
+      let sound : IsSound (wants_by e.has.base) e.has.text = subst (λ w. IsSound w e.has.text) wants (subst (λ t. IsSound (wants_by f.base) t) text f.sound.sound) in
+      sound e.has.lines stop e.has.read.bytes e.has.read.made e.script
 
   -- the same of a live run
   pub complete_live : (status : Status) (before images : List ℕ → Type 0) → SaysLive status call before images → (status ≡ statuses.Fine) ⊎ (status ≡ statuses.Memory)

@@ -6,6 +6,7 @@ use Rattle.edit_rules.specs.declared.edit.Entry.{Entry}
 use Rattle.session_core.specs.declared.line.Line.{Line}
 use Rattle.session_core.specs.declared.line.Reply.{Reply}
 use Rattle.session_core.specs.InOrder.{Outage, disk_outages}
+use Rattle.emu_disk.specs.declared.disk.Disk as disks
 use Rattle.edit_journal.specs.declared.journal.Journal.{Journal}
 use Rattle.edit_journal.specs.Held.{disk_of}
 use Rattle.edit_journal.proofs.Kept.{stands_may}
@@ -14,10 +15,10 @@ use Rattle.live_book.specs.Commits.{has_journal}
 use Rattle.book_opening.specs.Opens.{DuringNew}
 use Rattle.live_book.proofs.Storing.{images}
 use Rattle.script_runs.specs.Scripts.{Parsed}
-use Rattle.script_runs.specs.Bases.{Base, no_store, bare_store, store_of, is_stored, config_by, counted, EachOf, LeavesStore}
+use Rattle.script_runs.specs.Bases.{Base, no_store, bare_store, store_of, is_stored, config_by, counted, EachOf, LeavesStore, AtEach}
 use Rattle.script_runs.specs.Runs.{replies_by}
 use Rattle.script_runs.specs.Inner.Runs.{history_by}
-use Rattle.script_runs.specs.Inner.Reached.{IsKept, IsDone, IsFailed, IsBeginOf, KeepsStore, KeepsHistory}
+use Rattle.script_runs.specs.Inner.Reached.{IsKept, IsDone, IsFailed, IsBeginOf, KeepsStore, KeepsHistory, AtMomentOf, DuringStart, IsRunDone, IsRunFailed, IsRunKept, LeavesSince}
 use Rattle.script_runs.specs.Inner.Ran.{HasDisk, BeginsBefore}
 
 -- the disk's count rose, and each image is bare or has the configuration alone
@@ -69,3 +70,30 @@ module _ {D : Type 0} (may_leave : D → List ℕ → Type 0) (faults : D → �
   begin_of no_store (Some journal) disk s h = absurd (cc)
   begin_of bare_store None disk s h = absurd (cc)
   begin_of (store_of config history) None disk s h = absurd (cc)
+
+-- Of a run, with what a crash at some moment of it left.
+
+-- since a run began, by the disk of its journal
+pub since_of : {D : Type 0} (disk : disks.Ghosts D) (begin : D) (stored : Bool) (journal : Option (Journal D)) (now : D) (P : List ℕ → Type 0) → has_journal journal ≡ stored → HasDisk journal now → LeavesSince disk begin journal P → AtEach stored (disk.left_since now (disk.moment begin)) P
+since_of disk begin false journal now P s h since = tt
+since_of disk begin true (Some journal) now P s h since = subst (λ d. EachOf (disk.left_since d (disk.moment begin)) P) (sym h) since.each
+since_of disk begin true None now P s h since = absurd (cc)
+
+pub run_done_of : {D : Type 0} (disk : disks.Ghosts D) (base : Base) (begin : D) (journal : Option (Journal D)) (now : D) → HasDisk journal now → (p : Parsed) (outages : List Outage) → IsRunKept disk base begin journal p outages →
+    IsRunDone base (disk.faults begin) (disk.faults now) (disk.may_leave begin) (disk.left_since now (disk.moment begin)) (disk.may_leave now) p outages
+run_done_of disk base begin journal now h p outages k = record {
+  done = done_of disk.may_leave disk.faults base (disk.faults begin) journal now h p outages k.kept;
+  moments = since_of disk begin (is_stored base) journal now (AtMomentOf (disk.may_leave begin) base p outages) k.kept.stored h k.moments;
+}
+
+-- the same where the configuration could not be written
+pub record RunFailedBy (begin now : ℕ) (before since images : List ℕ → Type 0) (config : ConfigParts) : Type 0 where
+  pub failed : FailedBy begin now images config
+  pub moments : EachOf since (DuringStart before config)
+
+pub run_failed_of : {D : Type 0} (disk : disks.Ghosts D) (begin : D) (journal : Option (Journal D)) (now : D) → has_journal journal ≡ true → HasDisk journal now → (config : ConfigParts) → IsRunFailed disk begin journal config →
+    RunFailedBy (disk.faults begin) (disk.faults now) (disk.may_leave begin) (disk.left_since now (disk.moment begin)) (disk.may_leave now) config
+run_failed_of disk begin journal now s h config f = record {
+  failed = failed_of disk.may_leave disk.faults (disk.faults begin) journal now s h config f.failed;
+  moments = since_of disk begin true journal now (DuringStart (disk.may_leave begin) config) s h f.moments;
+}

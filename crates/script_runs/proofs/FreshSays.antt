@@ -8,6 +8,7 @@ use Rattle.emu_io.specs.Inner.Fronts.{TakesFront, IsFrontOf}
 use Rattle.db_config.specs.declared.parts.ConfigParts.{ConfigParts}
 use Rattle.edit_rules.specs.declared.edit.Entry.{Entry}
 use Rattle.session_core.specs.InOrder.{Outage}
+use Rattle.emu_disk.specs.declared.disk.Disk as disks
 use Rattle.edit_journal.specs.declared.journal.Journal.{Journal}
 use Rattle.live_book.specs.Kept.{KeepsIn}
 use Rattle.live_book.specs.Commits.{has_journal}
@@ -19,13 +20,14 @@ use Rattle.script_runs.specs.Cuts.{cut}
 use Rattle.script_runs.specs.Scripts.{Parsed, read_from}
 use Rattle.script_runs.specs.Bases.{Base, store_of, wants_by, is_stored, IsBaseOf}
 use Rattle.script_runs.specs.Inner.Bases.{fresh_base}
-use Rattle.script_runs.specs.Says.{call_of, Says}
-use Rattle.script_runs.specs.Inner.Reached.{IsKept, IsDone, IsFailed, IsBeginOf, RunsScript, EndsScript}
+use Rattle.script_runs.specs.Says.{Says}
+use Rattle.script_runs.specs.Inner.Says.{call_of}
+use Rattle.script_runs.specs.Inner.Reached.{IsBeginOf, RunsScript, EndsScript, IsRunDone, IsRunFailed, IsRunKept, LeavesSince}
 use Rattle.program_output.specs.Inner.Written.{EndHasCause}
 use Rattle.script_runs.specs.Inner.Ran.{HasDisk, BeginsBefore, IsUnread}
 use Rattle.program_output.specs.Inner.Statuses.{Closes}
-use Rattle.script_runs.proofs.KeptLemmas.{kept_none, kept_store}
-use Rattle.script_runs.proofs.DiskLemmas.{FailedBy, done_of, failed_of, begin_of}
+use Rattle.script_runs.proofs.MomentLemmas.{run_none, run_store}
+use Rattle.script_runs.proofs.DiskLemmas.{RunFailedBy, begin_of, run_done_of, run_failed_of}
 use Rattle.script_runs.proofs.SaysLemmas.{says_ended}
 use Rattle.script_runs.proofs.EndLemmas.{unread_says}
 
@@ -44,16 +46,16 @@ module _ (base : Base) (Done Known : Parsed → List Outage → Type 0) (Failed 
   runs_weaker (Ok x) past lines m n before now e = record { asked = e.asked; read = e.read; parsed = e.parsed; script = e.script; whole = e.whole; outages = e.outages; done = weaker _ _ e.done; output = e.output }
   runs_weaker (Err end) past lines m n before now e = ends_weaker end past lines m n before now e
 
-module _ {D : Type 0} (may_leave : D → List ℕ → Type 0) (faults : D → ℕ) (reads : D → Option (List ℕ)) (store : Bool) (base : Base) (begin disk : D) (begins : IsBaseOf store (reads begin) base) where
+module _ {D : Type 0} (disk : disks.Ghosts D) (store : Bool) (base : Base) (begin now : D) (begins : IsBaseOf store (disk.reads begin) base) where
   -- of a run whose journal has this disk
-  pub disk_says : {A : Type 0} (ended : Result A Ended) (status : Status) (journal : Option (Journal D)) → HasDisk journal disk → has_journal journal ≡ is_stored base →
+  pub disk_says : {A : Type 0} (ended : Result A Ended) (status : Status) (journal : Option (Journal D)) → HasDisk journal now → has_journal journal ≡ is_stored base →
       (left left_after : Option (List ℕ)) (r rs m n : ℕ) (past : Bool) (bytes : List ℕ) → IsFrontOf left SCRIPT_BYTES bytes past → TakesFront left left_after bytes past → (before mid after : Option (List ℕ)) (w mids ws : ℕ) →
-      RunsScript ended base (IsKept may_leave faults base (faults begin) journal) (IsFailed may_leave faults (faults begin) journal) past (cut past bytes) m n before mid → IfErr ended (λ end. EndHasCause end w mids) → w ≤ mids → mids ≤ ws → Closes ended status mid after mids ws →
-      Says status (call_of store (reads begin) left left_after before after r rs w ws m n (faults begin) (faults disk)) (may_leave begin) (may_leave disk)
+      RunsScript ended base (IsRunKept disk base begin journal) (IsRunFailed disk begin journal) past (cut past bytes) m n before mid → IfErr ended (λ end. EndHasCause end w mids) → w ≤ mids → mids ≤ ws → Closes ended status mid after mids ws →
+      Says status (call_of store (disk.reads begin) left left_after before after r rs w ws m n (disk.faults begin) (disk.faults now)) (disk.may_leave begin) (disk.left_since now (disk.moment begin)) (disk.may_leave now)
   disk_says ended status journal has is left left_after r rs m n past bytes front taken before mid after w mids ws ran cause later then c =
-      says_ended store (reads begin) left left_after r rs m n (faults begin) (faults disk) base begins (may_leave begin) (may_leave disk) past bytes front ended status before mid after w mids ws taken
-      (runs_weaker base (IsKept may_leave faults base (faults begin) journal) (IsDone base (faults begin) (faults disk) (may_leave disk)) (IsFailed may_leave faults (faults begin) journal) (FailedBy (faults begin) (faults disk) (may_leave disk))
-      (done_of may_leave faults base (faults begin) journal disk has) (λ stored. failed_of may_leave faults (faults begin) journal disk (is ∙ stored) has) ended past (cut past bytes) m n before mid ran) cause later then c
+      says_ended store (disk.reads begin) left left_after r rs m n (disk.faults begin) (disk.faults now) base begins (disk.may_leave begin) (disk.left_since now (disk.moment begin)) (disk.may_leave now) past bytes front ended status before mid after w mids ws taken
+      (runs_weaker base (IsRunKept disk base begin journal) (IsRunDone base (disk.faults begin) (disk.faults now) (disk.may_leave begin) (disk.left_since now (disk.moment begin)) (disk.may_leave now)) (IsRunFailed disk begin journal) (RunFailedBy (disk.faults begin) (disk.faults now) (disk.may_leave begin) (disk.left_since now (disk.moment begin)) (disk.may_leave now))
+      (run_done_of disk base begin journal now has) (λ stored. run_failed_of disk begin journal now (is ∙ stored) has) ended past (cut past bytes) m n before mid ran) cause later then c
 
 stored_fresh : (store : Bool) → is_stored (fresh_base store) ≡ store
 stored_fresh true = refl
@@ -64,45 +66,45 @@ wants_fresh true = refl
 wants_fresh false = refl
 
 -- Over no store, or a bare one.
-module _ {D : Type 0} (may_leave : D → List ℕ → Type 0) (faults : D → ℕ) (reads : D → Option (List ℕ)) (store : Bool) (begin disk : D) (old : Option (Journal D)) (is : has_journal old ≡ store) (begins : IsBaseOf store (reads begin) (fresh_base store)) (low : BeginsBefore faults old begin) where
-  low_begin : IsBeginOf faults (fresh_base store) old (faults begin)
-  low_begin = begin_of may_leave faults (fresh_base store) old begin (is ∙ sym (stored_fresh store)) low
+module _ {D : Type 0} (disk : disks.Ghosts D) (store : Bool) (begin now : D) (old : Option (Journal D)) (is : has_journal old ≡ store) (begins : IsBaseOf store (disk.reads begin) (fresh_base store)) (low : BeginsBefore disk.faults old begin) (since : LeavesSince disk begin old (disk.may_leave begin)) where
+  low_begin : IsBeginOf disk.faults (fresh_base store) old (disk.faults begin)
+  low_begin = begin_of disk.may_leave disk.faults (fresh_base store) old begin (is ∙ sym (stored_fresh store)) low
 
-  pub fresh_unread : HasDisk old disk → IsEmpty may_leave old → (left left_after : Option (List ℕ)) (r rs m : ℕ) (fault : ReadFault) (status : Status) (now : Option (List ℕ)) (w : ℕ) → IsUnread fault status → (fault ≡ read_faults.Failed → Rose r rs) →
-      Says status (call_of store (reads begin) left left_after now now r rs w w m m (faults begin) (faults disk)) (may_leave begin) (may_leave disk)
-  fresh_unread has empty left left_after r rs m fault status now w un cause =
-      unread_says store (reads begin) left left_after r rs m (faults begin) (faults disk) (fresh_base store) begins (may_leave begin) (may_leave disk) fault status now w un cause
-      (done_of may_leave faults (fresh_base store) (faults begin) old disk has (read_from (wants_by (fresh_base store))) []
-      (subst (λ wants. IsKept may_leave faults (fresh_base store) (faults begin) old (read_from wants) []) (sym (wants_fresh store)) (kept_none may_leave faults (faults begin) store old is low_begin empty)))
+  pub fresh_unread : HasDisk old now → IsEmpty disk.may_leave old → (left left_after : Option (List ℕ)) (r rs m : ℕ) (fault : ReadFault) (status : Status) (written : Option (List ℕ)) (w : ℕ) → IsUnread fault status → (fault ≡ read_faults.Failed → Rose r rs) →
+      Says status (call_of store (disk.reads begin) left left_after written written r rs w w m m (disk.faults begin) (disk.faults now)) (disk.may_leave begin) (disk.left_since now (disk.moment begin)) (disk.may_leave now)
+  fresh_unread has empty left left_after r rs m fault status written w un cause =
+      unread_says store (disk.reads begin) left left_after r rs m (disk.faults begin) (disk.faults now) (fresh_base store) begins (disk.may_leave begin) (disk.left_since now (disk.moment begin)) (disk.may_leave now) fault status written w un cause
+      (run_done_of disk (fresh_base store) begin old now has (read_from (wants_by (fresh_base store))) []
+      (subst (λ wants. IsRunKept disk (fresh_base store) begin old (read_from wants) []) (sym (wants_fresh store)) (run_none disk begin store old is low_begin since empty)))
 
-  pub fresh_says : (journal : Option (Journal D)) → HasDisk journal disk → has_journal journal ≡ has_journal old → (left left_after : Option (List ℕ)) (r rs m n : ℕ) (past : Bool) (bytes : List ℕ) → IsFrontOf left SCRIPT_BYTES bytes past → TakesFront left left_after bytes past →
+  pub fresh_says : (journal : Option (Journal D)) → HasDisk journal now → has_journal journal ≡ has_journal old → (left left_after : Option (List ℕ)) (r rs m n : ℕ) (past : Bool) (bytes : List ℕ) → IsFrontOf left SCRIPT_BYTES bytes past → TakesFront left left_after bytes past →
       {A : Type 0} (ended : Result A Ended) (status : Status) (before mid after : Option (List ℕ)) (w mids ws : ℕ) →
-      ((base : Base) (b : ℕ) → base ≡ fresh_base (has_journal old) → IsBeginOf faults base old b → RunsScript ended base (IsKept may_leave faults base b journal) (IsFailed may_leave faults b journal) past (cut past bytes) m n before mid) →
+      ((base : Base) (b : D) → base ≡ fresh_base (has_journal old) → IsBeginOf disk.faults base old (disk.faults b) → LeavesSince disk b old (disk.may_leave b) → RunsScript ended base (IsRunKept disk base b journal) (IsRunFailed disk b journal) past (cut past bytes) m n before mid) →
       IfErr ended (λ end. EndHasCause end w mids) → w ≤ mids → mids ≤ ws → Closes ended status mid after mids ws →
-      Says status (call_of store (reads begin) left left_after before after r rs w ws m n (faults begin) (faults disk)) (may_leave begin) (may_leave disk)
+      Says status (call_of store (disk.reads begin) left left_after before after r rs w ws m n (disk.faults begin) (disk.faults now)) (disk.may_leave begin) (disk.left_since now (disk.moment begin)) (disk.may_leave now)
   fresh_says journal has same left left_after r rs m n past bytes front taken ended status before mid after w mids ws ran cause later then c =
-      disk_says may_leave faults reads store (fresh_base store) begin disk begins ended status journal has (same ∙ is ∙ sym (stored_fresh store)) left left_after r rs m n past bytes front taken before mid after w mids ws
-      (ran (fresh_base store) (faults begin) (ap (λ b. fresh_base b) (sym is)) low_begin) cause later then c
+      disk_says disk store (fresh_base store) begin now begins ended status journal has (same ∙ is ∙ sym (stored_fresh store)) left left_after r rs m n past bytes front taken before mid after w mids ws
+      (ran (fresh_base store) begin (ap (λ b. fresh_base b) (sym is)) low_begin since) cause later then c
 
 -- Over a store with a configuration.
-module _ {D : Type 0} (may_leave : D → List ℕ → Type 0) (faults : D → ℕ) (reads : D → Option (List ℕ)) (config : ConfigParts) (history : List Entry) (begin disk : D) (old : Option (Journal D)) (is : has_journal old ≡ true) (keeps : KeepsIn may_leave config history None old)
-    (begins : IsBaseOf true (reads begin) (store_of config history)) (low : BeginsBefore faults old begin) where
+module _ {D : Type 0} (disk : disks.Ghosts D) (config : ConfigParts) (history : List Entry) (begin now : D) (old : Option (Journal D)) (is : has_journal old ≡ true) (keeps : KeepsIn disk.may_leave config history None old)
+    (begins : IsBaseOf true (disk.reads begin) (store_of config history)) (low : BeginsBefore disk.faults old begin) (since : LeavesSince disk begin old (disk.may_leave begin)) where
   abbrev base : Base
   base = store_of config history
 
-  pub store_low : IsBeginOf faults base old (faults begin)
-  store_low = begin_of may_leave faults base old begin is low
+  pub store_low : IsBeginOf disk.faults base old (disk.faults begin)
+  store_low = begin_of disk.may_leave disk.faults base old begin is low
 
-  pub store_unread : HasDisk old disk → (left left_after : Option (List ℕ)) (r rs m : ℕ) (fault : ReadFault) (status : Status) (now : Option (List ℕ)) (w : ℕ) → IsUnread fault status → (fault ≡ read_faults.Failed → Rose r rs) →
-      Says status (call_of true (reads begin) left left_after now now r rs w w m m (faults begin) (faults disk)) (may_leave begin) (may_leave disk)
-  store_unread has left left_after r rs m fault status now w un cause =
-      unread_says true (reads begin) left left_after r rs m (faults begin) (faults disk) base begins (may_leave begin) (may_leave disk) fault status now w un cause
-      (done_of may_leave faults base (faults begin) old disk has (read_from false) [] (kept_store may_leave faults (faults begin) config history old is store_low keeps))
+  pub store_unread : HasDisk old now → (left left_after : Option (List ℕ)) (r rs m : ℕ) (fault : ReadFault) (status : Status) (written : Option (List ℕ)) (w : ℕ) → IsUnread fault status → (fault ≡ read_faults.Failed → Rose r rs) →
+      Says status (call_of true (disk.reads begin) left left_after written written r rs w w m m (disk.faults begin) (disk.faults now)) (disk.may_leave begin) (disk.left_since now (disk.moment begin)) (disk.may_leave now)
+  store_unread has left left_after r rs m fault status written w un cause =
+      unread_says true (disk.reads begin) left left_after r rs m (disk.faults begin) (disk.faults now) base begins (disk.may_leave begin) (disk.left_since now (disk.moment begin)) (disk.may_leave now) fault status written w un cause
+      (run_done_of disk base begin old now has (read_from false) [] (run_store disk begin config history old is store_low since keeps))
 
-  pub store_says : (journal : Option (Journal D)) → HasDisk journal disk → has_journal journal ≡ true → (left left_after : Option (List ℕ)) (r rs m n : ℕ) (past : Bool) (bytes : List ℕ) → IsFrontOf left SCRIPT_BYTES bytes past → TakesFront left left_after bytes past →
+  pub store_says : (journal : Option (Journal D)) → HasDisk journal now → has_journal journal ≡ true → (left left_after : Option (List ℕ)) (r rs m n : ℕ) (past : Bool) (bytes : List ℕ) → IsFrontOf left SCRIPT_BYTES bytes past → TakesFront left left_after bytes past →
       {A : Type 0} (ended : Result A Ended) (status : Status) (before mid after : Option (List ℕ)) (w mids ws : ℕ) →
-      ((b : ℕ) → IsBeginOf faults base old b → KeepsIn may_leave config history None old → RunsScript ended base (IsKept may_leave faults base b journal) (IsFailed may_leave faults b journal) past (cut past bytes) m n before mid) →
+      ((b : D) → IsBeginOf disk.faults base old (disk.faults b) → LeavesSince disk b old (disk.may_leave b) → KeepsIn disk.may_leave config history None old → RunsScript ended base (IsRunKept disk base b journal) (IsRunFailed disk b journal) past (cut past bytes) m n before mid) →
       IfErr ended (λ end. EndHasCause end w mids) → w ≤ mids → mids ≤ ws → Closes ended status mid after mids ws →
-      Says status (call_of true (reads begin) left left_after before after r rs w ws m n (faults begin) (faults disk)) (may_leave begin) (may_leave disk)
+      Says status (call_of true (disk.reads begin) left left_after before after r rs w ws m n (disk.faults begin) (disk.faults now)) (disk.may_leave begin) (disk.left_since now (disk.moment begin)) (disk.may_leave now)
   store_says journal has same left left_after r rs m n past bytes front taken ended status before mid after w mids ws ran cause later then c =
-      disk_says may_leave faults reads true base begin disk begins ended status journal has same left left_after r rs m n past bytes front taken before mid after w mids ws (ran (faults begin) store_low keeps) cause later then c
+      disk_says disk true base begin now begins ended status journal has same left left_after r rs m n past bytes front taken before mid after w mids ws (ran begin store_low since keeps) cause later then c

@@ -34,13 +34,13 @@ refused_more (k ∷ lines) [] l reply next h = absurd h
 refused_more (k ∷ lines) (r ∷ replies) l reply next (inl h) = inl h
 refused_more (k ∷ lines) (r ∷ replies) l reply next (inr h) = inr (refused_more lines replies l reply next h)
 
-refused_last : (lines : List Line) (replies : List Reply) (l : Line) (reply : Reply) (next : Entry) → length replies ≡ length lines → IsDiskRefused l reply next → WasRefused (lines ++ l ∷ []) (replies ++ reply ∷ []) next
+pub refused_last : (lines : List Line) (replies : List Reply) (l : Line) (reply : Reply) (next : Entry) → length replies ≡ length lines → IsDiskRefused l reply next → WasRefused (lines ++ l ∷ []) (replies ++ reply ∷ []) next
 refused_last [] [] l reply next same h = inl h
 refused_last [] (r ∷ replies) l reply next same h = absurd (omega arith)
 refused_last (k ∷ lines) [] l reply next same h = absurd (omega arith)
 refused_last (k ∷ lines) (r ∷ replies) l reply next same h = let rest : length replies ≡ length lines = omega arith in inr (refused_last lines replies l reply next rest h)
 
-if_more : (lines : List Line) (replies : List Reply) (l : Line) (reply : Reply) (lost : Option Entry) → IfRefused lines replies lost → IfRefused (lines ++ l ∷ []) (replies ++ reply ∷ []) lost
+pub if_more : (lines : List Line) (replies : List Reply) (l : Line) (reply : Reply) (lost : Option Entry) → IfRefused lines replies lost → IfRefused (lines ++ l ∷ []) (replies ++ reply ∷ []) lost
 if_more lines replies l reply None h = tt
 if_more lines replies l reply (Some next) h = refused_more lines replies l reply next h
 
@@ -94,25 +94,25 @@ module _ {D : Type 0} (may_leave : D → List ℕ → Type 0) (faults : D → �
         turns_push (is_stored base) (start config (opening_by base)) p.requests outages l o d.each
         ∙ ap (λ r. ((begun_in base config p.requests outages).0 ++ r.0 ∷ [], r.1)) here
 
-    replies_are : replies_by base next (outages ++ o ∷ []) ≡ replies_by base p outages ++ reply ∷ []
+    pub replies_are : replies_by base next (outages ++ o ∷ []) ≡ replies_by base p outages ++ reply ∷ []
     replies_are =
         replies_begun base next config (outages ++ o ∷ []) at.begun
         ∙ ap (λ r. r.0) pushed
         ∙ ap (λ rs. rs ++ reply ∷ []) (sym (replies_begun base p config outages at.begun))
 
-    old_history : history_by base p outages ≡ running.core.book.history
+    pub old_history : history_by base p outages ≡ running.core.book.history
     old_history = history_begun base p config outages at.begun ∙ sym (ap (λ (st : State). st.entries) at.state)
 
-    new_history : history_by base next (outages ++ o ∷ []) ≡ new.core.book.history
+    pub new_history : history_by base next (outages ++ o ∷ []) ≡ new.core.book.history
     new_history = history_begun base next config (outages ++ o ∷ []) at.begun ∙ ap (λ r. r.1.entries) pushed
 
     new_config : new.core.book.config ≡ config
     new_config = t.answers.same.config ∙ at.book
 
-    before : KeepsHistory may_leave config p.requests (replies_by base p outages) (history_by base p outages) running.core.book.journal
+    pub before : KeepsHistory may_leave config p.requests (replies_by base p outages) (history_by base p outages) running.core.book.journal
     before = subst (λ c. KeepsStore may_leave c p.requests (replies_by base p outages) (history_by base p outages) running.core.book.journal) at.begun d.kept
 
-    before_keeps : KeepsIn may_leave running.core.book.config running.core.book.history before.lost running.core.book.journal
+    pub before_keeps : KeepsIn may_leave running.core.book.config running.core.book.history before.lost running.core.book.journal
     before_keeps =
         subst (λ c. KeepsIn may_leave c running.core.book.history before.lost running.core.book.journal) (sym at.book)
         (subst (λ h. KeepsIn may_leave config h before.lost running.core.book.journal) old_history before.keeps)
@@ -120,7 +120,7 @@ module _ {D : Type 0} (may_leave : D → List ℕ → Type 0) (faults : D → �
     left : LeftBehind may_leave l reply before.lost new.core.book
     left = t.answers.kept before.lost before_keeps
 
-    counts : length (replies_by base p outages) ≡ length p.requests
+    pub counts : length (replies_by base p outages) ≡ length p.requests
     counts = ap length (replies_begun base p config outages at.begun) ∙ turns_count (is_stored base) (start config (opening_by base)) p.requests outages d.each
 
     behind : KeepsHistory may_leave config next.requests (replies_by base next (outages ++ o ∷ [])) (history_by base next (outages ++ o ∷ [])) new.core.book.journal

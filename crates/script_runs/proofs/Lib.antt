@@ -8,6 +8,8 @@ mod ReadingLemmas
 mod TextLemmas
 mod KeptLemmas
 mod DiskLemmas
+mod MomentLemmas
+mod LastLemmas
 mod RunLemmas
 mod FreshLemmas
 mod BookLemmas

@@ -17,8 +17,8 @@ use Rattle.book_opening.specs.declared.fault.OpenFault.TheVariants as opens
 use Rattle.live_book.specs.Histories.{OfRead, IsBare}
 use Rattle.live_book.specs.Kept.{BookParts, KeepsIn, CrashLeaves, faults_in}
 use Rattle.live_book.specs.Commits.{has_journal}
-use Rattle.book_opening.specs.Opens.{IsNoBookFor, DuringNew}
-use Rattle.book_opening.specs.Inner.Opens.{IsEmpty, IsNoStoreFor, IsNew, DuringNoBook}
+use Rattle.book_opening.specs.Opens.{IsNoBookFor, DuringNew, DuringNoBook}
+use Rattle.book_opening.specs.Inner.Opens.{IsEmpty, IsNoStoreFor, IsNew}
 use Rattle.script_lines.specs.declared.faults.ReadLine.TheVariants as reads
 use Rattle.store_texts.specs.Texts.{damaged_text}
 use Rattle.program_output.specs.declared.ended.Ended.{Ended}
@@ -29,7 +29,8 @@ use Rattle.script_runs.specs.Scripts.{Parsed, read_from, with_read}
 use Rattle.script_runs.specs.Bases.{Base, no_store, bare_store, store_of, wants_by, is_stored, opening_by, config_by, counted, IsBaseOf, EachOf, LeavesStore}
 use Rattle.script_runs.specs.Inner.Bases.{fresh_base}
 use Rattle.program_output.specs.Texts.{limit_text}
-use Rattle.script_runs.specs.Says.{Call, call_of, TooLong}
+use Rattle.script_runs.specs.Says.{Call, TooLong}
+use Rattle.script_runs.specs.Inner.Says.{call_of}
 use Rattle.program_output.specs.Statuses.{WritesLast}
 use Rattle.script_runs.specs.Inner.Reached.{IsDone, IsKept, IsBeginOf, IsEndFor}
 use Rattle.script_runs.specs.Inner.Ran.{HasDisk, BeginsBefore, IsUnread, SaysUnopened}

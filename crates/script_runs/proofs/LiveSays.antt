@@ -25,10 +25,11 @@ use Rattle.program_output.specs.declared.ended.Ended.TheVariants as ends
 use Rattle.program_output.specs.declared.status.Status.{Status}
 use Rattle.program_output.specs.declared.status.Status.TheVariants as statuses
 use Rattle.script_runs.specs.Cuts.{cut}
-use Rattle.script_runs.specs.Scripts.{Parsed, read_from, Stop, limit, at_fault}
+use Rattle.script_runs.specs.Scripts.{Parsed, read_from, Stop, limit, at_fault, lines_of}
 use Rattle.script_runs.specs.Bases.{Base, no_store, bare_store, store_of, wants_by, is_stored, opening_by, config_by, counted, IsBaseOf, EachOf, LeavesStore}
 use Rattle.script_runs.specs.Runs.{Setting, setting_by, stop_text}
-use Rattle.script_runs.specs.Says.{Call, call_of, Gives}
+use Rattle.script_runs.specs.Says.{Call, Gives}
+use Rattle.script_runs.specs.Inner.Says.{call_of}
 use Rattle.program_output.specs.Statuses.{WritesLast}
 use Rattle.script_runs.specs.Inner.Reached.{IsDone}
 use Rattle.script_runs.specs.Inner.Ran.{HasDisk, IsUnread}
@@ -38,7 +39,7 @@ use Rattle.script_runs.specs.Lives.{LivesUnder, LivesWhole, LivesNot, LeavesLive
 use Rattle.script_runs.specs.LiveTexts.{live_text}
 use Rattle.script_runs.specs.Inner.Answered.{EndsOver, KeepsLive, LivesOver, WasRead, over_book}
 use Rattle.script_runs.proofs.DiskLemmas.{counted_is}
-use Rattle.script_runs.proofs.SaysLemmas.{script_read, script_is, read_first, says_unopened}
+use Rattle.script_runs.proofs.SaysLemmas.{script_read, script_is, read_all, read_first, says_unopened}
 use Rattle.script_runs.proofs.LiveLemmas.{first_read}
 
 -- nothing was done
@@ -71,12 +72,7 @@ module _ (store : Bool) (stored left left_after : Option (List ℕ)) (r rs m n f
     stopped_first : (stop : Stop) (Writes : List ℕ → Type 0) (before after : Option (List ℕ)) (w ws : ℕ) → IsStopped (wants_by base) past (cut past bytes) stop m n → Done → Writes (stop_text stop) → StoppedFirst (call before after w ws) images stop Writes
     stopped_first stop Writes before after w ws e d written =
         let s = script_read left past bytes front in record {
-          base = base;
-          begins = begins;
-          text = s.text;
-          told = s.told;
-          lines = e.asked;
-          read = read_first left past bytes s e.asked m n e.read;
+          has = record { base = base; begins = begins; text = s.text; told = s.told; lines = e.asked; read = read_first left past bytes s e.asked m n e.read };
           script = script_is (wants_by base) left past bytes s e.asked ∙ e.script;
           leaves = left_none base f fs images d;
           output = written;
@@ -187,13 +183,8 @@ module _ {D : Type 0} (may_leave : D → List ℕ → Type 0) (faults : D → �
     lives_whole : (Writes : List ℕ → Type 0) (before after : Option (List ℕ)) (w ws : ℕ) → LivesOver may_leave faults book given lines journal Writes →
         LivesWhole (call_of store (reads_of begin) left left_after before after r rs w ws m n (faults begin) (faults disk)) (may_leave disk) Writes
     lives_whole Writes before after w ws o = record {
-      base = base;
-      begins = begins;
-      text = x.text;
-      told = x.told;
+      has = record { base = base; begins = begins; text = x.text; told = x.told; lines = x.lines; read = read_all x.lines (lines_of x.text) m n x.read };
       at_end = x.at_end;
-      lines = x.lines;
-      read = x.read;
       parsed = parsed;
       script = x.script;
       config = book.config;

@@ -1,38 +1,29 @@
 -- What an opened store has.
 use Rattle.std.proofs.Common.{◌≡◌, ℕ, ◌≤◌, true, List, Option, Some, None, refl, subst}
+use Rattle.emu_disk.specs.declared.disk.Disk as disks
 use Rattle.edit_journal.specs.declared.journal.Journal.{Journal}
 use Rattle.version_gate.specs.Lists.{Front}
 use Rattle.live_book.specs.declared.published.Published.{Published}
 use Rattle.live_book.specs.Histories.{OfRead, IsBare, Stands}
 use Rattle.live_book.specs.Kept.{BookParts, KeepsIn, faults_in}
 use Rattle.live_book.specs.Commits.{has_journal}
-use Rattle.book_opening.specs.Inner.Opens.{AreAtFront, IsEmpty, IsOpenedAs, journal_in}
+use Rattle.book_opening.specs.declared.opening.Opened.{Opened}
+use Rattle.book_opening.specs.declared.opening.Opened.TheVariants as stores
+use Rattle.book_opening.specs.Inner.Opens.{AreAtFront, IsEmpty, IsOpenedAs, LeavesFrom, journal_in}
 use Rattle.script_runs.specs.Inner.Ran.{BeginsBefore}
+use Rattle.script_runs.specs.Inner.Reached.{LeavesSince}
 use Rattle.script_runs.proofs.EndLemmas.{begins_before}
 
-abbrev some_book : {D : Type 0} → BookParts D → Option (BookParts D)
-some_book b = Some b
-
-some_same : {D : Type 0} {x y : BookParts D} → some_book x ≡ some_book y → x ≡ y
-some_same e = cc
-
-module _ {D : Type 0} (may_leave : D → List ℕ → Type 0) (reads : Option (List ℕ)) (readers : ℕ) (passes : List (Front Published)) where
+module _ {D : Type 0} (may_leave : D → List ℕ → Type 0) (reads : Option (List ℕ)) (readers : ℕ) where
   -- the book of a store with a configuration
-  pub record HasBook (b : BookParts D) : Type 0 where
+  pub record HasBook (b : BookParts D) (passes : List (Front Published)) : Type 0 where
     pub begins : OfRead reads (Stands b.config b.history)
     pub keeps : KeepsIn may_leave b.config b.history None b.journal
     pub stored : has_journal b.journal ≡ true
     pub front : AreAtFront readers b passes
 
-  pub some_opened : (book : Option (BookParts D)) (journal : Option (Journal D)) (b : BookParts D) → book ≡ Some b → IsOpenedAs may_leave reads readers book journal passes → HasBook b
-  some_opened (Some x) None b e h = subst (λ y. HasBook y) (some_same e) (record { begins = h.0; keeps = h.2; stored = h.3; front = h.4 })
-  some_opened (Some x) (Some j) b e h = absurd h
-  some_opened None journal b e h = absurd (cc)
-
-  pub no_journal : (book : Option (BookParts D)) (journal : Option (Journal D)) (b : BookParts D) (j : Journal D) → book ≡ Some b → journal ≡ Some j → IsOpenedAs may_leave reads readers book journal passes → ⊥
-  no_journal (Some x) None b j e k h = cc
-  no_journal (Some x) (Some y) b j e k h = h
-  no_journal None journal b j e k h = cc
+  pub some_opened : (opened : Opened D) (b : BookParts D) (passes : List (Front Published)) → opened ≡ stores.Stored b passes → IsOpenedAs may_leave reads readers opened → HasBook b passes
+  some_opened opened b passes e h = let o = subst (λ x. IsOpenedAs may_leave reads readers x) e h in record { begins = o.0; keeps = o.2; stored = o.3; front = o.4 }
 
   -- the journal of a bare store
   pub record HasNone (journal : Option (Journal D)) : Type 0 where
@@ -40,13 +31,22 @@ module _ {D : Type 0} (may_leave : D → List ℕ → Type 0) (reads : Option (L
     pub empty : IsEmpty may_leave journal
     pub stored : has_journal journal ≡ true
 
-  pub none_opened : (book : Option (BookParts D)) (journal : Option (Journal D)) → book ≡ None → IsOpenedAs may_leave reads readers book journal passes → HasNone journal
-  none_opened None (Some j) e h = record { begins = h.0; empty = h.1; stored = refl }
-  none_opened None None e h = absurd h
-  none_opened (Some x) journal e h = absurd (cc)
+  pub none_opened : (opened : Opened D) (j : Journal D) → opened ≡ stores.Bare j → IsOpenedAs may_leave reads readers opened → HasNone (Some j)
+  none_opened opened j e h = let o = subst (λ x. IsOpenedAs may_leave reads readers x) e h in record { begins = o.0; empty = o.1; stored = refl }
 
-pub some_begins : {D : Type 0} (faults : D → ℕ) (book : Option (BookParts D)) (journal : Option (Journal D)) (b : BookParts D) (begin : D) → book ≡ Some b → faults begin ≤ faults_in faults (journal_in book journal) → BeginsBefore faults b.journal begin
-some_begins faults book journal b begin e low = begins_before faults b.journal begin (subst (λ x. faults begin ≤ faults_in faults (journal_in x journal)) e low)
+pub some_begins : {D : Type 0} (faults : D → ℕ) (opened : Opened D) (b : BookParts D) (passes : List (Front Published)) (begin : D) → opened ≡ stores.Stored b passes → faults begin ≤ faults_in faults (journal_in opened) → BeginsBefore faults b.journal begin
+some_begins faults opened b passes begin e low = begins_before faults b.journal begin (subst (λ x. faults begin ≤ faults_in faults (journal_in x)) e low)
 
-pub none_begins : {D : Type 0} (faults : D → ℕ) (book : Option (BookParts D)) (journal : Option (Journal D)) (begin : D) → book ≡ None → faults begin ≤ faults_in faults (journal_in book journal) → BeginsBefore faults journal begin
-none_begins faults book journal begin e low = begins_before faults journal begin (subst (λ x. faults begin ≤ faults_in faults (journal_in x journal)) e low)
+pub none_begins : {D : Type 0} (faults : D → ℕ) (opened : Opened D) (j : Journal D) (begin : D) → opened ≡ stores.Bare j → faults begin ≤ faults_in faults (journal_in opened) → BeginsBefore faults (Some j) begin
+none_begins faults opened j begin e low = begins_before faults (Some j) begin (subst (λ x. faults begin ≤ faults_in faults (journal_in x)) e low)
+
+-- no image was new while it was opened
+from_since : {D : Type 0} (disk : disks.Ghosts D) (journal : Option (Journal D)) (begin : D) (P : List ℕ → Type 0) → LeavesFrom disk.moment disk.left_since begin journal P → LeavesSince disk begin journal P
+from_since disk None begin P h = tt
+from_since disk (Some journal) begin P h = h
+
+pub some_since : {D : Type 0} (disk : disks.Ghosts D) (opened : Opened D) (b : BookParts D) (passes : List (Front Published)) (begin : D) (P : List ℕ → Type 0) → opened ≡ stores.Stored b passes → LeavesFrom disk.moment disk.left_since begin (journal_in opened) P → LeavesSince disk begin b.journal P
+some_since disk opened b passes begin P e h = from_since disk b.journal begin P (subst (λ x. LeavesFrom disk.moment disk.left_since begin (journal_in x) P) e h)
+
+pub none_since : {D : Type 0} (disk : disks.Ghosts D) (opened : Opened D) (j : Journal D) (begin : D) (P : List ℕ → Type 0) → opened ≡ stores.Bare j → LeavesFrom disk.moment disk.left_since begin (journal_in opened) P → LeavesSince disk begin (Some j) P
+none_since disk opened j begin P e h = from_since disk (Some j) begin P (subst (λ x. LeavesFrom disk.moment disk.left_since begin (journal_in x) P) e h)

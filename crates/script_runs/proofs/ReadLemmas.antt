@@ -48,7 +48,7 @@ read_more lines script times m n k r h = record { bytes = r.bytes; made = r.made
 pub read_same : (lines : List AskedLine) (script other : List (List ℕ)) (m n : ℕ) → script ≡ other → AreRead lines script m n → AreRead lines other m n
 read_same lines script other m n same r = record { bytes = r.bytes ∙ same; made = r.made; refused = r.refused }
 
-count_is : (lines : List AskedLine) (done : List (List ℕ)) → lines_in lines ≡ done → length lines ≡ length done
+pub count_is : (lines : List AskedLine) (done : List (List ℕ)) → lines_in lines ≡ done → length lines ≡ length done
 count_is lines done h = sym (length-map lines (λ (l : AskedLine). l.line)) ∙ ap length h
 
 front_is : (lines : List AskedLine) (all done rest : List (List ℕ)) → lines_in lines ≡ done → all ≡ done ++ rest → take (length lines) all ≡ done

@@ -1,5 +1,5 @@
 -- What a status says, from what was read, run and written.
-use Rattle.std.proofs.Common.{◌≡◌, inl, inr, ◌↔◌, ℕ, ◌+◌, ◌<◌, ◌≤◌, Bool, true, false, IsTrue, IfErr, List, [], ◌∷◌, length, take, drop, Option, Some, None, Result, Ok, Err, refl, sym, ◌∙◌, ap, subst, arith, nat_lt, append-nil}
+use Rattle.std.proofs.Common.{◌≡◌, ◌⊎◌, inl, inr, ◌↔◌, ℕ, ◌+◌, ◌<◌, ◌≤◌, Bool, true, false, IsTrue, IfErr, List, [], ◌∷◌, length, take, drop, Option, Some, None, Result, Ok, Err, refl, sym, ◌∙◌, ap, subst, arith, nat_lt, append-nil}
 use Rattle.std.proofs.lemmas.Bool.{ltb-true, ltb-false}
 use Rattle.std.specs.Io.KnownBytes.{Appends, IsAtEnd}
 use Rattle.std.proofs.KnownBytes.{Appends-nil}
@@ -17,18 +17,20 @@ use Rattle.program_output.specs.declared.status.Status.{Status}
 use Rattle.program_output.specs.declared.status.Status.TheVariants as statuses
 use Rattle.script_runs.specs.Cuts.{cut}
 use Rattle.script_runs.specs.Scripts.{AskedLine, AreRead, Parsed, read_from, parse, end_behind, end_from, if_over, passes_limit, is_past, lines_of, script_from, script_of, front_of, Stop, limit, at_fault}
-use Rattle.script_runs.specs.Bases.{Base, no_store, bare_store, store_of, wants_by, is_stored, opening_by, config_by, IsBaseOf, EachOf, LeavesStore}
-use Rattle.script_runs.specs.Runs.{run_text, replies_by, setting_by, IsRunFrom, stop_text}
+use Rattle.script_runs.specs.Bases.{Base, no_store, bare_store, store_of, wants_by, is_stored, opening_by, config_by, IsBaseOf, EachOf, LeavesStore, AtEach}
+use Rattle.script_runs.specs.Runs.{run_text, run_texts, replies_by, setting_by, IsRunFrom, stop_text}
 use Rattle.script_runs.specs.Inner.Runs.{history_by}
 use Rattle.program_output.specs.Texts.{limit_text}
-use Rattle.script_runs.specs.Says.{Call, call_of, Leaves, Gives, TooLong, Says, EndedEarly, BrokeOff}
+use Rattle.script_runs.specs.Says.{Call, Leaves, Moments, Gives, TooLong, ReadFailed, Says, EndedEarly, BrokeOff, DuringOpening, StaysBare}
+use Rattle.script_runs.specs.Inner.Says.{call_of}
 use Rattle.program_output.specs.Statuses.{WritesLast}
-use Rattle.script_runs.specs.Inner.Reached.{IsDone, BrokeIn, RanScript, StoppedScript, IsTooLong, IsUnwritten, GaveConfig, RunsScript}
+use Rattle.script_runs.specs.Inner.Reached.{IsDone, BrokeIn, RanScript, StoppedScript, IsTooLong, IsUnwritten, GaveConfig, RunsScript, AtMomentOf, DuringStart, IsRunDone}
 use Rattle.program_output.specs.Inner.Written.{EndHasCause}
 use Rattle.program_output.specs.Inner.Statuses.{Closes}
-use Rattle.script_runs.proofs.ReadLemmas.{read_none, read_same}
+use Rattle.script_runs.proofs.ReadLemmas.{count_is, read_none, read_same}
 use Rattle.program_output.proofs.FrontLemmas.{front_more, whole_more}
-use Rattle.script_runs.proofs.DiskLemmas.{FailedBy}
+use Rattle.script_runs.proofs.LastLemmas.{all_to_last, cut_to_last, flat_run, last_as}
+use Rattle.script_runs.proofs.DiskLemmas.{RunFailedBy}
 use Rattle.script_runs.proofs.OrderedLemmas.{IsLegalBase, legal_base, legal_run}
 
 -- The script that was read.
@@ -62,6 +64,11 @@ script_is wants left past bytes s lines =
 -- the lines that were read are the text's
 pub read_whole : (left : Option (List ℕ)) (past : Bool) (bytes : List ℕ) (s : Script left past bytes) (lines : List AskedLine) (m n : ℕ) → AreRead lines (cut past bytes) m n → AreRead lines (lines_of s.text) m n
 read_whole left past bytes s lines m n r = read_same lines (cut past bytes) (lines_of s.text) m n (sym s.lines) r
+
+-- all lines of a script are its first ones
+pub read_all : (lines : List AskedLine) (script : List (List ℕ)) (m n : ℕ) → AreRead lines script m n → AreRead lines (take (length lines) script) m n
+read_all lines script m n r =
+    read_same lines script (take (length lines) script) m n (sym (ap (λ k. take k script) (count_is lines script r.bytes) ∙ take-length script)) r
 
 pub read_first : (left : Option (List ℕ)) (past : Bool) (bytes : List ℕ) (s : Script left past bytes) (lines : List AskedLine) (m n : ℕ) → AreRead lines (take (length lines) (cut past bytes)) m n → AreRead lines (take (length lines) (lines_of s.text)) m n
 read_first left past bytes s lines m n r = read_same lines (take (length lines) (cut past bytes)) (take (length lines) (lines_of s.text)) m n (sym (ap (take (length lines)) s.lines)) r
@@ -120,48 +127,26 @@ told_some : (left : Option (List ℕ)) → Tells left (some_text left)
 told_some None = tt
 told_some (Some known) = refl
 
+-- What a crash at some moment left of a bare store.
+bare_since : (base : Base) (before since : List ℕ → Type 0) → is_stored base ≡ true → wants_by base ≡ true → AtEach (is_stored base) since (AtMomentOf before base (read_from true) []) → StaysBare before since
+bare_since bare_store before since s w h = λ c left. bare_at c (h c left)
+  where
+    bare_at : (c : List ℕ) → AtMomentOf before bare_store (read_from true) [] c → before c ⊎ IsBare c
+    bare_at c (inl was) = inl was
+    bare_at c (inr (inl bare)) = inr bare
+    bare_at c (inr (inr never)) = absurd never
+bare_since no_store before since s w h = absurd (cc)
+bare_since (store_of config history) before since s w h = absurd (cc)
+
+-- or while its configuration was written
+during_as : (call : Call) (before : List ℕ → Type 0) (config : ConfigParts) (c : List ℕ) → Gives call config → DuringStart before config c → DuringOpening call before c
+during_as call before config c given (inl was) = inl was
+during_as call before config c given (inr new) = inr (config, given, new)
+
+-- the script could not be read
 module _ (store : Bool) (stored left left_after : Option (List ℕ)) (r rs m n f fs : ℕ) (base : Base) (begins : IsBaseOf store stored base)
     (before_images images : List ℕ → Type 0) where
-  abbrev call : Option (List ℕ) → Option (List ℕ) → ℕ → ℕ → Call
-  call before after w ws = call_of store stored left left_after before after r rs w ws m n f fs
-
-  legal : IsLegalBase base
-  legal = legal_base store stored base begins
-
-  abbrev Done : Parsed → List Outage → Type 0
-  Done = IsDone base f fs images
-
-  abbrev Failed : ConfigParts → Type 0
-  Failed = FailedBy f fs images
-
-  abbrev Said : Status → Option (List ℕ) → Option (List ℕ) → ℕ → ℕ → Type 0
-  Said status before after w ws = Says status (call before after w ws) before_images images
-
-  run_is : (lines : List AskedLine) (p : Parsed) (outages : List Outage) → parse (read_from (wants_by base)) lines ≡ Ok p → Done p outages → IsRunFrom (setting_by base p f fs) p outages (history_by base p outages)
-  run_is lines p outages h d = legal_run base legal f fs images lines p outages h d
-
-  -- before the first line
-  pub says_unread : (now : Option (List ℕ)) (w ws : ℕ) → m ≤ n → Done (read_from (wants_by base)) [] → BrokeOff (call now now w ws) before_images images
-  says_unread now w ws later d = inl (record {
-    base = base;
-    begins = begins;
-    text = some_text left;
-    told = told_some left;
-    lines = [];
-    read = read_none m n later;
-    done = 0;
-    parsed = read_from (wants_by base);
-    script = refl;
-    outages = [];
-    history = history_by base (read_from (wants_by base)) [];
-    run = run_is [] (read_from (wants_by base)) [] refl d;
-    leaves = d.left;
-    last = [];
-    line = inl refl;
-    output = (0, Appends-nil now);
-  })
-
-  pub says_unopened : (now : Option (List ℕ)) (w : ℕ) → Rose r rs → Done (read_from (wants_by base)) [] → Said statuses.Read now now w w
+  pub says_unopened : (now : Option (List ℕ)) (w : ℕ) → Rose r rs → IsDone base f fs images (read_from (wants_by base)) [] → ReadFailed (call_of store stored left left_after now now r rs w w m n f fs) images
   says_unopened now w cause d = record {
     base = base;
     begins = begins;
@@ -169,6 +154,49 @@ module _ (store : Bool) (stored left left_after : Option (List ℕ)) (r rs m n f
     leaves = subst (λ h. Leaves base (read_from (wants_by base)) [] h images) (opening_is base) d.left;
     output = Appends-nil now;
   }
+
+module _ (store : Bool) (stored left left_after : Option (List ℕ)) (r rs m n f fs : ℕ) (base : Base) (begins : IsBaseOf store stored base)
+    (before_images since_images images : List ℕ → Type 0) where
+  abbrev call : Option (List ℕ) → Option (List ℕ) → ℕ → ℕ → Call
+  call before after w ws = call_of store stored left left_after before after r rs w ws m n f fs
+
+  legal : IsLegalBase base
+  legal = legal_base store stored base begins
+
+  abbrev Done : Parsed → List Outage → Type 0
+  Done = IsRunDone base f fs before_images since_images images
+
+  abbrev Failed : ConfigParts → Type 0
+  Failed = RunFailedBy f fs before_images since_images images
+
+  abbrev Said : Status → Option (List ℕ) → Option (List ℕ) → ℕ → ℕ → Type 0
+  Said status before after w ws = Says status (call before after w ws) before_images since_images images
+
+  run_is : (lines : List AskedLine) (p : Parsed) (outages : List Outage) → parse (read_from (wants_by base)) lines ≡ Ok p → Done p outages → IsRunFrom (setting_by base p f fs) p outages (history_by base p outages)
+  run_is lines p outages h d = legal_run base legal f fs images lines p outages h d.done
+
+  -- before the first line
+  pub says_unread : (now : Option (List ℕ)) (w ws : ℕ) → m ≤ n → Done (read_from (wants_by base)) [] → BrokeOff (call now now w ws) before_images since_images images
+  says_unread now w ws later d = inl (record {
+    has = record { base = base; begins = begins; text = some_text left; told = told_some left; lines = []; read = read_none m n later };
+    done = 0;
+    parsed = read_from (wants_by base);
+    script = refl;
+    outages = [];
+    history = history_by base (read_from (wants_by base)) [];
+    run = run_is [] (read_from (wants_by base)) [] refl d;
+    leaves = d.done.left;
+    moments = d.moments;
+    last = [];
+    line = inl refl;
+    output = last_as now now (run_texts base (read_from (wants_by base)) []) (all_to_last now now (run_texts base (read_from (wants_by base)) []) [] (flat_run base (read_from (wants_by base)) [] ∙ unread_text base) (Appends-nil now));
+  })
+
+  pub says_read : (now : Option (List ℕ)) (w : ℕ) → Rose r rs → Done (read_from (wants_by base)) [] → Said statuses.Read now now w w
+  says_read now w cause d = (
+    says_unopened store stored left left_after r rs m n f fs base begins before_images images now w cause d.done,
+    subst (λ h. Moments base (read_from (wants_by base)) [] h before_images since_images) (opening_is base) d.moments,
+  )
 
   module _ (past : Bool) (bytes : List ℕ) (front : IsFrontOf left SCRIPT_BYTES bytes past) where
     abbrev script : Script left past bytes
@@ -180,79 +208,63 @@ module _ (store : Bool) (stored left left_after : Option (List ℕ)) (r rs m n f
     -- 0
     says_fine : (before after : Option (List ℕ)) (w ws : ℕ) → TakesFront left left_after bytes past → RanScript base Done past (cut past bytes) m n before after → Said statuses.Fine before after w ws
     says_fine before after w ws taken ran = record {
-      base = base;
-      begins = begins;
-      text = script.text;
-      told = script.told;
+      has = record { base = base; begins = begins; text = script.text; told = script.told; lines = ran.asked; read = read_all ran.asked (lines_of script.text) m n (read_whole left past bytes script ran.asked m n ran.read) };
       at_end = end_of left left_after bytes past (drop (length ran.asked) (cut past bytes)) (parse (read_from (wants_by base)) ran.asked) ran.parsed taken ran.script;
-      lines = ran.asked;
-      read = read_whole left past bytes script ran.asked m n ran.read;
       parsed = ran.parsed;
       script = text_is ran.asked ∙ ran.script;
       outages = ran.outages;
       history = history_by base ran.parsed ran.outages;
       run = run_is ran.asked ran.parsed ran.outages ran.whole ran.done;
-      leaves = ran.done.left;
+      leaves = ran.done.done.left;
+      moments = ran.done.moments;
       output = ran.output;
     }
 
     -- 3 and 9, where the last line was written
-    ended_early : (stop : Stop) (before mid after : Option (List ℕ)) (w ws : ℕ) → StoppedScript base Done stop past (cut past bytes) m n before mid → Appends mid after (stop_text stop) → EndedEarly (call before after w ws) images stop
+    ended_early : (stop : Stop) (before mid after : Option (List ℕ)) (w ws : ℕ) → StoppedScript base Done stop past (cut past bytes) m n before mid → Appends mid after (stop_text stop) → EndedEarly (call before after w ws) before_images since_images images stop
     ended_early stop before mid after w ws e last = record {
-      base = base;
-      begins = begins;
-      text = script.text;
-      told = script.told;
-      lines = e.asked;
-      read = read_first left past bytes script e.asked m n e.read;
+      has = record { base = base; begins = begins; text = script.text; told = script.told; lines = e.asked; read = read_first left past bytes script e.asked m n e.read };
       script = text_is e.asked ∙ e.script;
       outages = e.outages;
       history = history_by base (front_of (wants_by base) e.asked) e.outages;
       run = run_is (take e.done_lines e.asked) (front_of (wants_by base) e.asked) e.outages e.front e.done;
-      leaves = e.done.left;
+      leaves = e.done.done.left;
+      moments = e.done.moments;
       output = whole_more before mid after (run_text base (front_of (wants_by base) e.asked) e.outages) (stop_text stop) e.output last;
     }
 
     -- 5 and 8, where a front of the last line was written
-    broke_early : (stop : Stop) (before mid after : Option (List ℕ)) (w ws : ℕ) → StoppedScript base Done stop past (cut past bytes) m n before mid → WritesFront mid after (stop_text stop) → BrokeOff (call before after w ws) before_images images
+    broke_early : (stop : Stop) (before mid after : Option (List ℕ)) (w ws : ℕ) → StoppedScript base Done stop past (cut past bytes) m n before mid → WritesFront mid after (stop_text stop) → BrokeOff (call before after w ws) before_images since_images images
     broke_early stop before mid after w ws e last = inl (record {
-      base = base;
-      begins = begins;
-      text = script.text;
-      told = script.told;
-      lines = e.asked;
-      read = read_first left past bytes script e.asked m n e.read;
+      has = record { base = base; begins = begins; text = script.text; told = script.told; lines = e.asked; read = read_first left past bytes script e.asked m n e.read };
       done = e.done_lines;
       parsed = front_of (wants_by base) e.asked;
       script = e.front;
       outages = e.outages;
       history = history_by base (front_of (wants_by base) e.asked) e.outages;
       run = run_is (take e.done_lines e.asked) (front_of (wants_by base) e.asked) e.outages e.front e.done;
-      leaves = e.done.left;
-      last = stop_text stop;
+      leaves = e.done.done.left;
+      moments = e.done.moments;
+      last = stop_text stop ∷ [];
       line = inr (record { stop = stop; script = text_is e.asked ∙ e.script; front = refl; line = refl });
-      output = front_more before mid after (run_text base (front_of (wants_by base) e.asked) e.outages) (stop_text stop) e.output last;
+      output = cut_to_last before mid after (run_texts base (front_of (wants_by base) e.asked) e.outages) (run_text base (front_of (wants_by base) e.asked) e.outages) (stop_text stop) (flat_run base (front_of (wants_by base) e.asked) e.outages) e.output last;
     })
 
     -- 5 and 8, where the run broke off
-    broke_off : (before after : Option (List ℕ)) (w ws : ℕ) → BrokeIn base Done (cut past bytes) m n before after → BrokeOff (call before after w ws) before_images images
+    broke_off : (before after : Option (List ℕ)) (w ws : ℕ) → BrokeIn base Done (cut past bytes) m n before after → BrokeOff (call before after w ws) before_images since_images images
     broke_off before after w ws b = inl (record {
-      base = base;
-      begins = begins;
-      text = script.text;
-      told = script.told;
-      lines = b.asked;
-      read = read_first left past bytes script b.asked m n b.read;
+      has = record { base = base; begins = begins; text = script.text; told = script.told; lines = b.asked; read = read_first left past bytes script b.asked m n b.read };
       done = length b.asked;
       parsed = b.parsed;
       script = ap (parse (read_from (wants_by base))) (take-length b.asked) ∙ b.script;
       outages = b.outages;
       history = history_by base b.parsed b.outages;
       run = run_is b.asked b.parsed b.outages b.script b.done;
-      leaves = b.done.left;
+      leaves = b.done.done.left;
+      moments = b.done.moments;
       last = [];
       line = inl refl;
-      output = subst (λ t. WritesFront before after t) (sym (append-nil (run_text base b.parsed b.outages))) b.output;
+      output = last_as before after (run_texts base b.parsed b.outages) b.output;
     })
 
     -- the first line gave the configuration of a bare store
@@ -272,12 +284,15 @@ module _ (store : Bool) (stored left left_after : Option (List ℕ)) (r rs m n f
       config = t.config;
       gives = gives before mid after w ws t.config t.stored t.wants t.gave;
       over = t.over;
-      leaves = bare_left base images t.stored t.wants t.done.left;
+      leaves = bare_left base images t.stored t.wants t.done.done.left;
       output = written;
     }
 
+    stays_bare : (before mid : Option (List ℕ)) → IsTooLong base Done (cut past bytes) m n before mid → StaysBare before_images since_images
+    stays_bare before mid t = bare_since base before_images since_images t.stored t.wants t.done.moments
+
     -- a last line behind a run that was stopped
-    says_stopped : (status own : Status) (stop : Stop) (before mid after : Option (List ℕ)) (w mids ws : ℕ) → (EndedEarly (call before after w ws) images stop → Said own before after w ws) → StoppedScript base Done stop past (cut past bytes) m n before mid → w ≤ mids →
+    says_stopped : (status own : Status) (stop : Stop) (before mid after : Option (List ℕ)) (w mids ws : ℕ) → (EndedEarly (call before after w ws) before_images since_images images stop → Said own before after w ws) → StoppedScript base Done stop past (cut past bytes) m n before mid → w ≤ mids →
         WritesLast status own mid after mids ws (stop_text stop) → Said status before after w ws
     says_stopped status own stop before mid after w mids ws make e later (inl h) = subst (λ st. Said st before after w ws) (sym h.0) (make (ended_early stop before mid after w ws e h.1))
     says_stopped status own stop before mid after w mids ws make e later (inr (inl h)) = subst (λ st. Said st before after w ws) (sym h.0) (record { cause = omega (arith, h.1); output = broke_early stop before mid after w ws e h.2 })
@@ -285,19 +300,23 @@ module _ (store : Bool) (stored left left_after : Option (List ℕ)) (r rs m n f
 
     -- the last line where the store has no room for the configuration
     says_long : (status : Status) (before mid after : Option (List ℕ)) (w mids ws : ℕ) → IsTooLong base Done (cut past bytes) m n before mid → w ≤ mids → WritesLast status statuses.Limit mid after mids ws limit_text → Said status before after w ws
-    says_long status before mid after w mids ws t later (inl h) = subst (λ st. Said st before after w ws) (sym h.0) (inr (too_long (Appends before after) before mid after w ws t (whole_more before mid after [] limit_text t.gave.output h.1)))
+    says_long status before mid after w mids ws t later (inl h) = subst (λ st. Said st before after w ws) (sym h.0) (inr (too_long (Appends before after) before mid after w ws t (whole_more before mid after [] limit_text t.gave.output h.1), stays_bare before mid t))
     says_long status before mid after w mids ws t later (inr (inl h)) =
-        subst (λ st. Said st before after w ws) (sym h.0) (record { cause = omega (arith, h.1); output = inr (inl (too_long (WritesFront before after) before mid after w ws t (front_more before mid after [] limit_text t.gave.output h.2))) })
-    says_long status before mid after w mids ws t later (inr (inr h)) = subst (λ st. Said st before after w ws) (sym h.0) (inr (inl (too_long (WritesFront before after) before mid after w ws t (front_more before mid after [] limit_text t.gave.output h.1))))
+        subst (λ st. Said st before after w ws) (sym h.0) (record { cause = omega (arith, h.1); output = inr (inl (too_long (WritesFront before after) before mid after w ws t (front_more before mid after [] limit_text t.gave.output h.2), stays_bare before mid t)) })
+    says_long status before mid after w mids ws t later (inr (inr h)) = subst (λ st. Said st before after w ws) (sym h.0) (inr (inl (too_long (WritesFront before after) before mid after w ws t (front_more before mid after [] limit_text t.gave.output h.1), stays_bare before mid t)))
 
     -- 6
     says_unwritten : (before after : Option (List ℕ)) (w ws : ℕ) → IsUnwritten base Failed (cut past bytes) m n before after → Said statuses.Disk before after w ws
-    says_unwritten before after w ws u = record {
-      stored = (bare_of store stored base begins u.stored u.wants).0;
-      cause = u.failed.cause;
-      leaves = inr (record { config = u.config; gives = gives before after after w ws u.config u.stored u.wants u.gave; each = u.failed.each });
-      output = u.gave.output;
-    }
+    says_unwritten before after w ws u =
+        let given = gives before after after w ws u.config u.stored u.wants u.gave in (
+          record {
+            stored = (bare_of store stored base begins u.stored u.wants).0;
+            cause = u.failed.failed.cause;
+            leaves = inr (record { config = u.config; gives = given; each = u.failed.failed.each });
+            output = u.gave.output;
+          },
+          λ c left. during_as (call before after w ws) before_images u.config c given (u.failed.moments c left),
+        )
 
     later_rose : (w mids ws : ℕ) → mids ≤ ws → Rose w mids → Rose w ws
     later_rose w mids ws h g = omega arith

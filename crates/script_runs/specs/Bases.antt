@@ -1,5 +1,5 @@
 -- What a run begins with: no store, a bare store, or a store with a history; and what it then leaves there.
-use Rattle.std.specs.Prelude.{◌⊎◌, ℕ, Bool, true, false, List, [], ◌∷◌, Option, Some, None}
+use Rattle.std.specs.Prelude.{◌⊎◌, ◌≤◌, ℕ, Bool, true, false, List, [], ◌∷◌, length, take, Option, Some, None}
 use Rattle.db_config.specs.declared.parts.ConfigParts.{ConfigParts}
 use Rattle.edit_rules.specs.declared.edit.Entry.{Entry}
 use Rattle.session_core.specs.declared.line.Line.{Line}
@@ -81,3 +81,38 @@ abbrev pub LeavesStore : Bool → Option ConfigParts → List Line → List Repl
 LeavesStore false config lines replies history images = Unit {0}
 LeavesStore true None lines replies history images = EachOf images IsBare
 LeavesStore true (Some config) lines replies history images = LeavesHistory config lines replies history images
+
+-- Every moment of a run.
+
+-- An image stands for the configuration and a prefix of the history that a run leaves, no shorter than the one before
+-- it; or for these with one entry more, which is the edit of a line that the disk refused
+pub record IsOfRun (config : ConfigParts) (opening : List Entry) (lines : List Line) (replies : List Reply)
+    (history : List Entry) (c : List ℕ) : Type 0 where
+  pub count : ℕ
+  pub from : length opening ≤ count
+  pub to : count ≤ length history
+  pub lost : Option Entry
+  pub why : IfRefused lines replies lost
+  pub stands : StandsOrLost config (take count history) lost c
+
+-- the same where the run has a configuration
+abbrev pub IsOfRunIn : Option ConfigParts → List Entry → List Line → List Reply → List Entry → List ℕ → Type 0
+IsOfRunIn None opening lines replies history c = ⊥
+IsOfRunIn (Some config) opening lines replies history c = IsOfRun config opening lines replies history c
+
+-- an image is bare, and so was the store before the run
+abbrev pub IsStillBare : Base → List ℕ → Type 0
+IsStillBare bare_store c = IsBare c
+IsStillBare base c = ⊥
+
+-- what an image may be that a crash at some moment of a run leaves: it was possible before the run; or it is bare, as
+-- the store was; or it is of the run
+abbrev pub AtMoment : (List ℕ → Type 0) → Base → Option ConfigParts → List Line → List Reply → List Entry → List ℕ
+    → Type 0
+AtMoment before base config lines replies history c =
+    before c ⊎ (IsStillBare base c ⊎ IsOfRunIn config (opening_by base) lines replies history c)
+
+-- each image of some moment has P, where there is a store
+abbrev pub AtEach : Bool → (List ℕ → Type 0) → (List ℕ → Type 0) → Type 0
+AtEach false since P = Unit {0}
+AtEach true since P = EachOf since P

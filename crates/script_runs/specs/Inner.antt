@@ -7,6 +7,7 @@ pub mod Ran
 pub mod Reached
 pub mod Reads
 pub mod Runs
+pub mod Says
 pub mod Scripts
 pub mod Taken
 pub mod Turns

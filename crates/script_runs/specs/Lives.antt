@@ -22,7 +22,7 @@ use Rattle.script_runs.specs.LiveTexts.{live_text}
 use Rattle.script_runs.specs.Scripts.{AskedLine, AreRead, Parsed, lines_of, script_of, Stop, limit, at_fault}
 use Rattle.script_runs.specs.Bases.{Base, wants_by, is_stored, opening_by, config_by, IsBaseOf, EachOf, LeavesStore}
 use Rattle.script_runs.specs.Runs.{Setting, setting_by, stop_text}
-use Rattle.script_runs.specs.Says.{Call, DiskFailed, FoundDamage, Gives, ReadFailed, TooLong, Unopened}
+use Rattle.script_runs.specs.Says.{Call, DiskFailed, FoundDamage, Gives, HasRead, ReadFailed, TooLong, Unopened}
 use Rattle.script_lines.specs.declared.faults.LineFault.{LineFault}
 
 -- A live run under a configuration: what it answered to these requests, beside the history that it leaves. It holds in
@@ -67,22 +67,17 @@ LeavesLive true config replies history images = LeavesDoubt config replies histo
 
 -- The whole script was read before its first line was run, nothing ends it early, and it was run
 pub record LivesWhole (call : Call) (images : List ℕ → Type 0) (Writes : List ℕ → Type 0) : Type 0 where
-  pub base : Base
-  pub begins : IsBaseOf call.store call.stored base
-  pub text : List ℕ
-  pub told : Tells call.left text
+  pub has : HasRead call
   pub at_end : IsAtEnd call.left_after
-  pub lines : List AskedLine
-  pub read : AreRead lines (lines_of text) call.refusals call.refusals_after
   pub parsed : Parsed
-  pub script : script_of (wants_by base) text lines ≡ Some (Ok parsed)
+  pub script : script_of (wants_by has.base) has.text has.lines ≡ Some (Ok parsed)
   pub config : ConfigParts
-  pub begun : config_by base parsed.config ≡ Some config
+  pub begun : config_by has.base parsed.config ≡ Some config
   pub ended : LiveEnded
   pub history : List Entry
-  pub run : LivesUnder (setting_by base parsed call.faults call.faults_after) config parsed.requests ended history
-  pub leaves : LeavesLive (is_stored base) config ended.replies history images
-  pub output : Writes (live_text (wants_by base) ended)
+  pub run : LivesUnder (setting_by has.base parsed call.faults call.faults_after) config parsed.requests ended history
+  pub leaves : LeavesLive (is_stored has.base) config ended.replies history images
+  pub output : Writes (live_text (wants_by has.base) ended)
 
 -- a configuration that came into a bare store is the one that the script gives
 abbrev pub IfGiven : Call → Option ConfigParts → Type 0
@@ -99,14 +94,9 @@ pub record LivesNot (call : Call) (images : List ℕ → Type 0) : Type 0 where
 
 -- A line at fault, which was read, or a limit ends the script; no line was run
 pub record StoppedFirst (call : Call) (images : List ℕ → Type 0) (stop : Stop) (Writes : List ℕ → Type 0) : Type 0 where
-  pub base : Base
-  pub begins : IsBaseOf call.store call.stored base
-  pub text : List ℕ
-  pub told : Tells call.left text
-  pub lines : List AskedLine
-  pub read : AreRead lines (take (length lines) (lines_of text)) call.refusals call.refusals_after
-  pub script : script_of (wants_by base) text lines ≡ Some (Err stop)
-  pub leaves : LeavesStore (is_stored base) (config_by base None) [] [] (opening_by base) images
+  pub has : HasRead call
+  pub script : script_of (wants_by has.base) has.text has.lines ≡ Some (Err stop)
+  pub leaves : LeavesStore (is_stored has.base) (config_by has.base None) [] [] (opening_by has.base) images
   pub output : Writes (stop_text stop)
 
 -- a front of what was to be written, after the run or before it

@@ -1,5 +1,6 @@
 -- The run of a script in order, and the text that it writes.
-use Rattle.std.specs.Prelude.{IsTrue, ◌≡◌, ℕ, Bool, List, [], ◌++◌, length, take, flat_map, Option, Some, None}
+use Rattle.std.specs.Prelude.{IsTrue, ◌≡◌, ◌≤◌, ℕ, Bool, List, [], ◌∷◌, ◌++◌, length, take, map, flat_map, Option, Some, None}
+use Rattle.std.specs.Io.KnownBytes.{Appends}
 use Rattle.db_config.specs.declared.parts.ConfigParts.{ConfigParts}
 use Rattle.edit_rules.specs.declared.edit.Entry.{Entry}
 use Rattle.session_core.specs.declared.line.Line.{Line}
@@ -56,6 +57,30 @@ config_text (Some config) = reply_text config_reply
 abbrev pub text_from : Setting → Parsed → List Outage → List ℕ
 text_from setting p outages = config_text p.config ++ flat_map reply_text (replies_from setting p outages)
 
+-- The same as texts, one for each reply.
+
+-- the text of the reply of the configuration, where the script gives one
+abbrev pub config_texts : Option ConfigParts → List (List ℕ)
+config_texts None = []
+config_texts (Some config) = reply_text config_reply ∷ []
+
+-- the texts of all replies of a run
+abbrev pub texts_from : Setting → Parsed → List Outage → List (List ℕ)
+texts_from setting p outages = config_texts p.config ++ map reply_text (replies_from setting p outages)
+
+-- texts as one
+abbrev pub flat : List (List ℕ) → List ℕ
+flat texts = flat_map (λ text. text) texts
+
+-- Texts were written one after another, all but the last one whole, and then a front of that
+pub record WritesToLast (before now : Option (List ℕ)) (texts : List (List ℕ)) : Type 0 where
+  pub whole : List (List ℕ)
+  pub last : List (List ℕ)
+  pub one : length last ≤ 1
+  pub split : texts ≡ whole ++ last
+  pub cut : ℕ
+  pub output : Appends before now (flat whole ++ take cut (flat last))
+
 -- A run under a configuration: its replies to these requests, beside the history that it leaves.
 pub record RunsUnder (setting : Setting) (config : ConfigParts) (requests : List Line) (replies : List Reply)
     (history : List Entry) : Type 0 where
@@ -100,6 +125,10 @@ replies_by base p outages = replies_from (setting_by base p 0 0) p outages
 -- what a run writes
 abbrev pub run_text : Base → Parsed → List Outage → List ℕ
 run_text base p outages = text_from (setting_by base p 0 0) p outages
+
+-- the texts of its replies
+abbrev pub run_texts : Base → Parsed → List Outage → List (List ℕ)
+run_texts base p outages = texts_from (setting_by base p 0 0) p outages
 
 -- The last line of a run that ends early.
 

@@ -14,8 +14,8 @@ use Rattle.store_texts.specs.Texts.{damaged_text}
 use Rattle.program_output.specs.declared.status.Status.{Status}
 use Rattle.program_output.specs.declared.status.Status.TheVariants as statuses
 use Rattle.script_runs.specs.Scripts.{AskedLine, AreRead, Parsed, read_from, with_read, parse, parse_line, lines_of, script_of, front_of, IsSound, Stop, limit, at_fault}
-use Rattle.script_runs.specs.Bases.{Base, wants_by, is_stored, opening_by, config_by, IsBaseOf, EachOf, LeavesStore}
-use Rattle.script_runs.specs.Runs.{run_text, replies_by, setting_by, IsRunFrom, stop_text}
+use Rattle.script_runs.specs.Bases.{Base, wants_by, is_stored, opening_by, config_by, IsBaseOf, EachOf, LeavesStore, AtEach, AtMoment}
+use Rattle.script_runs.specs.Runs.{run_text, run_texts, replies_by, setting_by, IsRunFrom, WritesToLast, stop_text}
 use Rattle.program_output.specs.Texts.{limit_text}
 
 -- Of a call that runs a script: whether it has a store, and what a read of the disk gives before it; what the source
@@ -38,74 +38,60 @@ pub record Call : Type 0 where
   pub faults : ℕ
   pub faults_after : ℕ
 
--- a call of these parts
-abbrev pub call_of : Bool → Option (List ℕ) → Option (List ℕ) → Option (List ℕ) → Option (List ℕ) → Option (List ℕ) →
-    ℕ → ℕ → ℕ → ℕ → ℕ → ℕ → ℕ → ℕ → Call
-call_of store stored left left_after written written_after reads reads_after writes writes_after
-    refusals refusals_after faults faults_after =
-    record {
-      store = store;
-      stored = stored;
-      left = left;
-      left_after = left_after;
-      written = written;
-      written_after = written_after;
-      reads = reads;
-      reads_after = reads_after;
-      writes = writes;
-      writes_after = writes_after;
-      refusals = refusals;
-      refusals_after = refusals_after;
-      faults = faults;
-      faults_after = faults_after;
-    }
-
 -- what a crash at the exit may leave of the store of a run
 abbrev pub Leaves : Base → Parsed → List Outage → List Entry → (List ℕ → Type 0) → Type 0
 Leaves base p outages history images =
     LeavesStore (is_stored base) (config_by base p.config) p.requests (replies_by base p outages) history images
 
--- 0: the script was read to its end, each line with what the maker made of its query, nothing ends it
--- early, and what was written is the text of a legal run of all its requests
-pub record RanWhole (call : Call) (images : List ℕ → Type 0) : Type 0 where
-  pub base : Base
-  pub begins : IsBaseOf call.store call.stored base
-  pub text : List ℕ
-  pub told : Tells call.left text
-  pub at_end : IsAtEnd call.left_after
-  pub lines : List AskedLine
-  pub read : AreRead lines (lines_of text) call.refusals call.refusals_after
-  pub parsed : Parsed
-  pub script : script_of (wants_by base) text lines ≡ Some (Ok parsed)
-  pub outages : List Outage
-  pub history : List Entry
-  pub run : IsRunFrom (setting_by base parsed call.faults call.faults_after) parsed outages history
-  pub leaves : Leaves base parsed outages history images
-  pub output : Appends call.written call.written_after (run_text base parsed outages)
+-- what a crash at some moment of a run may have left of its store
+abbrev pub Moments : Base → Parsed → List Outage → List Entry → (List ℕ → Type 0) → (List ℕ → Type 0) → Type 0
+Moments base p outages history before since =
+    AtEach (is_stored base) since
+    (AtMoment before base (config_by base p.config) p.requests (replies_by base p outages) history)
 
--- 3 and 9: a line at fault, which was read, or a limit ends the script; the lines before it were run, and
--- what was written is the text of their legal run and then the last line
-pub record EndedEarly (call : Call) (images : List ℕ → Type 0) (stop : Stop) : Type 0 where
+-- The script of a call was read, or the first of its lines: what the call begins with, the text, and the lines that
+-- were read with what the maker made of their queries
+pub record HasRead (call : Call) : Type 0 where
   pub base : Base
   pub begins : IsBaseOf call.store call.stored base
   pub text : List ℕ
   pub told : Tells call.left text
   pub lines : List AskedLine
   pub read : AreRead lines (take (length lines) (lines_of text)) call.refusals call.refusals_after
-  pub script : script_of (wants_by base) text lines ≡ Some (Err stop)
+
+-- 0: the script was read to its end, each line with what the maker made of its query, nothing ends it
+-- early, and what was written is the text of a legal run of all its requests
+pub record RanWhole (call : Call) (before since images : List ℕ → Type 0) : Type 0 where
+  pub has : HasRead call
+  pub at_end : IsAtEnd call.left_after
+  pub parsed : Parsed
+  pub script : script_of (wants_by has.base) has.text has.lines ≡ Some (Ok parsed)
   pub outages : List Outage
   pub history : List Entry
-  pub run : IsRunFrom (setting_by base (front_of (wants_by base) lines) call.faults call.faults_after)
-      (front_of (wants_by base) lines) outages history
-  pub leaves : Leaves base (front_of (wants_by base) lines) outages history images
+  pub run : IsRunFrom (setting_by has.base parsed call.faults call.faults_after) parsed outages history
+  pub leaves : Leaves has.base parsed outages history images
+  pub moments : Moments has.base parsed outages history before since
+  pub output : Appends call.written call.written_after (run_text has.base parsed outages)
+
+-- 3 and 9: a line at fault, which was read, or a limit ends the script; the lines before it were run, and
+-- what was written is the text of their legal run and then the last line
+pub record EndedEarly (call : Call) (before since images : List ℕ → Type 0) (stop : Stop) : Type 0 where
+  pub has : HasRead call
+  pub script : script_of (wants_by has.base) has.text has.lines ≡ Some (Err stop)
+  pub outages : List Outage
+  pub history : List Entry
+  pub run : IsRunFrom (setting_by has.base (front_of (wants_by has.base) has.lines) call.faults call.faults_after)
+      (front_of (wants_by has.base) has.lines) outages history
+  pub leaves : Leaves has.base (front_of (wants_by has.base) has.lines) outages history images
+  pub moments : Moments has.base (front_of (wants_by has.base) has.lines) outages history before since
   pub output : Appends call.written call.written_after
-      (run_text base (front_of (wants_by base) lines) outages ++ stop_text stop)
+      (run_text has.base (front_of (wants_by has.base) has.lines) outages ++ stop_text stop)
 
 -- 3: the first line at fault
-pub record FoundFault (call : Call) (images : List ℕ → Type 0) : Type 0 where
+pub record FoundFault (call : Call) (before since images : List ℕ → Type 0) : Type 0 where
   pub number : ℕ
   pub fault : LineFault
-  pub stopped : EndedEarly call images (at_fault number fault)
+  pub stopped : EndedEarly call before since images (at_fault number fault)
 
 -- the store is bare, and the first line of the script was read and gives this configuration
 pub record Gives (call : Call) (config : ConfigParts) : Type 0 where
@@ -139,32 +125,29 @@ pub record FoundDamage (call : Call) (before images : List ℕ → Type 0) : Typ
   pub output : Appends call.written call.written_after (damaged_text at)
 
 -- the last line of a run that was to end early, behind the run of all lines before
-pub record IsLastLine (base : Base) (text : List ℕ) (lines : List AskedLine) (parsed : Parsed) (last : List ℕ)
-    : Type 0 where
+pub record IsLastLine (base : Base) (text : List ℕ) (lines : List AskedLine) (parsed : Parsed)
+    (last : List (List ℕ)) : Type 0 where
   pub stop : Stop
   pub script : script_of (wants_by base) text lines ≡ Some (Err stop)
   pub front : parsed ≡ front_of (wants_by base) lines
-  pub line : last ≡ stop_text stop
+  pub line : last ≡ stop_text stop ∷ []
 
--- 5 and 8: what was written is a front of the text of a legal run of the first of the lines that were read, a line
--- being among them also where its reply could not be written, or of the text of such a run and the last line
-pub record Unfinished (call : Call) (images : List ℕ → Type 0) : Type 0 where
-  pub base : Base
-  pub begins : IsBaseOf call.store call.stored base
-  pub text : List ℕ
-  pub told : Tells call.left text
-  pub lines : List AskedLine
-  pub read : AreRead lines (take (length lines) (lines_of text)) call.refusals call.refusals_after
+-- 5 and 8: the first of the lines that were read were run, a line being among them also where its reply could not be
+-- written; behind them there may be a last line. Each text was written whole before the next line was run: what was
+-- written is all of them but the last, and a front of that
+pub record Unfinished (call : Call) (before since images : List ℕ → Type 0) : Type 0 where
+  pub has : HasRead call
   pub done : ℕ
   pub parsed : Parsed
-  pub script : parse (read_from (wants_by base)) (take done lines) ≡ Ok parsed
+  pub script : parse (read_from (wants_by has.base)) (take done has.lines) ≡ Ok parsed
   pub outages : List Outage
   pub history : List Entry
-  pub run : IsRunFrom (setting_by base parsed call.faults call.faults_after) parsed outages history
-  pub leaves : Leaves base parsed outages history images
-  pub last : List ℕ
-  pub line : (last ≡ []) ⊎ IsLastLine base text lines parsed last
-  pub output : WritesFront call.written call.written_after (run_text base parsed outages ++ last)
+  pub run : IsRunFrom (setting_by has.base parsed call.faults call.faults_after) parsed outages history
+  pub leaves : Leaves has.base parsed outages history images
+  pub moments : Moments has.base parsed outages history before since
+  pub last : List (List ℕ)
+  pub line : (last ≡ []) ⊎ IsLastLine has.base has.text has.lines parsed last
+  pub output : WritesToLast call.written call.written_after (run_texts has.base parsed outages ++ last)
 
 -- 5 and 8, where the store was not opened: what was written is a front of the last line, if there is one, and no
 -- image is new
@@ -175,11 +158,16 @@ pub record Unopened (call : Call) (before images : List ℕ → Type 0) : Type 0
   pub line : (last ≡ []) ⊎ ((at : ℕ) × IsDamage call at × (last ≡ damaged_text at))
   pub output : WritesFront call.written call.written_after last
 
+-- each image of some moment was possible before the call, or is bare
+abbrev pub StaysBare : (List ℕ → Type 0) → (List ℕ → Type 0) → Type 0
+StaysBare before since = EachOf since (λ c. before c ⊎ IsBare c)
+
 -- 5 and 8: a front of what was to be written
-abbrev pub BrokeOff : Call → (List ℕ → Type 0) → (List ℕ → Type 0) → Type 0
-BrokeOff call before images =
-    Unfinished call images
-    ⊎ (TooLong call images (WritesFront call.written call.written_after) ⊎ Unopened call before images)
+abbrev pub BrokeOff : Call → (List ℕ → Type 0) → (List ℕ → Type 0) → (List ℕ → Type 0) → Type 0
+BrokeOff call before since images =
+    Unfinished call before since images
+    ⊎ ((TooLong call images (WritesFront call.written call.written_after) × StaysBare before since)
+    ⊎ (Unopened call before images × EachOf since before))
 
 -- 4: a read failed; the script is read before its first line is run, so no line was done
 pub record ReadFailed (call : Call) (images : List ℕ → Type 0) : Type 0 where
@@ -190,9 +178,9 @@ pub record ReadFailed (call : Call) (images : List ℕ → Type 0) : Type 0 wher
   pub output : Appends call.written call.written_after []
 
 -- 5: a write failed
-pub record WriteFailed (call : Call) (before images : List ℕ → Type 0) : Type 0 where
+pub record WriteFailed (call : Call) (before since images : List ℕ → Type 0) : Type 0 where
   pub cause : Rose call.writes call.writes_after
-  pub output : BrokeOff call before images
+  pub output : BrokeOff call before since images
 
 -- the configuration of a script could not be written: each image is bare, or has the configuration alone
 pub record LeavesConfig (call : Call) (images : List ℕ → Type 0) : Type 0 where
@@ -208,19 +196,29 @@ pub record DiskFailed (call : Call) (before images : List ℕ → Type 0) : Type
   pub leaves : EachOf images before ⊎ LeavesConfig call images
   pub output : Appends call.written call.written_after []
 
--- what each status says of a call, of the images of its disk before it, and of those after it
-abbrev pub Says : Status → Call → (List ℕ → Type 0) → (List ℕ → Type 0) → Type 0
-Says statuses.Fine call before images = RanWhole call images
-Says statuses.Usage call before images = ⊥
-Says statuses.Script call before images = FoundFault call images
-Says statuses.Read call before images = ReadFailed call images
-Says statuses.Write call before images = WriteFailed call before images
-Says statuses.Disk call before images = DiskFailed call before images
-Says statuses.Damaged call before images = FoundDamage call before images
-Says statuses.Memory call before images = BrokeOff call before images
-Says statuses.Limit call before images =
-    EndedEarly call images limit ⊎ TooLong call images (Appends call.written call.written_after)
-Says statuses.Refused call before images = ⊥
+-- while the store was opened, or the script's configuration written, each image was possible before the call, or is
+-- bare or has that configuration alone
+abbrev pub DuringOpening : Call → (List ℕ → Type 0) → List ℕ → Type 0
+DuringOpening call before c = before c ⊎ ((config : ConfigParts) × Gives call config × DuringNew config c)
+
+-- What each status says of a call, of the images of its disk before it, of those of some moment since then, and of
+-- those after it
+abbrev pub Says : Status → Call → (List ℕ → Type 0) → (List ℕ → Type 0) → (List ℕ → Type 0) → Type 0
+Says statuses.Fine call before since images = RanWhole call before since images
+Says statuses.Usage call before since images = ⊥
+Says statuses.Script call before since images = FoundFault call before since images
+Says statuses.Read call before since images =
+    (failed : ReadFailed call images)
+    × Moments failed.base (read_from (wants_by failed.base)) [] (opening_by failed.base) before since
+Says statuses.Write call before since images = WriteFailed call before since images
+Says statuses.Disk call before since images =
+    DiskFailed call before images × EachOf since (DuringOpening call before)
+Says statuses.Damaged call before since images = FoundDamage call before images × EachOf since before
+Says statuses.Memory call before since images = BrokeOff call before since images
+Says statuses.Limit call before since images =
+    EndedEarly call before since images limit
+    ⊎ (TooLong call images (Appends call.written call.written_after) × StaysBare before since)
+Says statuses.Refused call before since images = ⊥
 
 -- the script is sound, and a bare store has room for the configuration that it gives
 pub record IsSoundFor (base : Base) (text : List ℕ) : Type 0 where

@@ -6,7 +6,7 @@ use Rattle.emu_disk.specs.declared.disk.Disk as disks
 use Rattle.label_match.specs.declared.maker.PatternMaker as makers
 use Rattle.program_output.specs.declared.ending.Ending.{Ending}
 use Rattle.program_output.specs.declared.status.Status.{Status}
-use Rattle.script_runs.specs.Says.{Call, call_of, Completes, Says}
+use Rattle.script_runs.specs.Says.{Call, Completes, Says}
 use Rattle.program_output.specs.Statuses.{Finishes}
 use Rattle.script_runs.specs.Lives.{SaysLive}
 
@@ -31,9 +31,22 @@ module _ {K D : Type 0} (sink : sinks.Ghosts K) (disk : disks.Ghosts D) (store :
     (refusals refusals_after : ℕ) (out out_after : K) (before after : D) where
   -- the call
   abbrev pub call_told : Call
-  call_told = call_of store (disk.reads before) told.left told.left_after (sink.written out) (sink.written out_after)
-      told.reads told.reads_after (sink.faults out) (sink.faults out_after) refusals refusals_after
-      (disk.faults before) (disk.faults after)
+  call_told = record {
+    store = store;
+    stored = disk.reads before;
+    left = told.left;
+    left_after = told.left_after;
+    written = sink.written out;
+    written_after = sink.written out_after;
+    reads = told.reads;
+    reads_after = told.reads_after;
+    writes = sink.faults out;
+    writes_after = sink.faults out_after;
+    refusals = refusals;
+    refusals_after = refusals_after;
+    faults = disk.faults before;
+    faults_after = disk.faults after;
+  }
 
   -- what a status says of it, where it is a live run
   abbrev pub SaysLiveTold : Status → Type 0
@@ -50,7 +63,8 @@ module _ {S K D P : Type 0} (source : sources.Ghosts S) (sink : sinks.Ghosts K) 
 
   -- what a status says of it
   abbrev pub SaysBy : Status → Type 0
-  SaysBy status = Says status call_by (disk.may_leave before) (disk.may_leave after)
+  SaysBy status =
+      Says status call_by (disk.may_leave before) (disk.left_since after (disk.moment before)) (disk.may_leave after)
 
   -- what a status says of it, where it is a live run
   abbrev pub SaysLiveBy : Status → Type 0

@@ -295,27 +295,30 @@ fn live_over_store<
     gate: &G,
 ) -> Ran<D>
     requires opened { (reads : Option (List ℕ)) ×
-        IsOpenedAs D.may_leave reads spread.readers opened.book opened.journal opened.passes }
+        IsOpenedAs D.may_leave reads spread.readers opened }
     requires spread { IsSpread spread }
     ensures says { (begin : D) →
-        IsOpenedAs D.may_leave (D.reads begin) spread.readers opened.book opened.journal opened.passes →
-        D.faults begin ≤ faults_in D.faults (journal_in opened.book opened.journal) →
+        IsOpenedAs D.may_leave (D.reads begin) spread.readers opened →
+        D.faults begin ≤ faults_in D.faults (journal_in opened) →
         SaysLiveBy S.Source K.Sink D.Disk P.PatternMaker true script.old script.new
         out.old out.new begin result.disk patterns.old patterns.new result.status }
 {
-    let Opened {
-        book,
-        journal,
-        passes,
-    } = opened;
-    match book {
-        Some(book) => match journal {
-            None => give_back(live_opened(
-                rt, alloc, book, passes, spread, script, out, patterns, gate,
-            )),
-            Some(_) => unreachable!(),
-        },
-        None => give_back(live_fresh(rt, alloc, journal, spread, script, out, patterns, gate)),
+    match opened {
+        Opened::Stored { book, passes } => {
+            give_back(live_opened(rt, alloc, book, passes, spread, script, out, patterns, gate))
+        }
+        Opened::Bare { journal } => {
+            give_back(live_fresh(
+                rt,
+                alloc,
+                Some(journal),
+                spread,
+                script,
+                out,
+                patterns,
+                gate,
+            ))
+        }
     }
 }
 

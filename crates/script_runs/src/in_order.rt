@@ -3,9 +3,10 @@
 ghost use Rattle.std.specs.Prelude.{◌≡◌, ◌≢◌, ◌≤◌, ℕ, List, Bool, true, false, None, Option};
 ghost use Rattle.live_book.specs.Kept.{KeepsIn, faults_in};
 ghost use Rattle.live_book.specs.Commits.{has_journal};
-ghost use Rattle.book_opening.specs.Inner.Opens.{AreAtFront, IsEmpty, IsOpenedAs, journal_in};
+ghost use Rattle.book_opening.specs.Inner.Opens.{AreAtFront, IsEmpty, IsOpenedAs, LeavesFrom, journal_in};
 ghost use Rattle.script_runs.specs.Bases.{store_of};
 ghost use Rattle.script_runs.specs.Inner.Bases.{fresh_base};
+ghost use Rattle.script_runs.specs.Inner.Reached.{LeavesSince};
 ghost use Rattle.script_runs.specs.Inner.Ran.{HasDisk, IsUnread, RunsOver, SaysUnopened};
 ghost use Rattle.script_runs.specs.Told.{SaysBy};
 
@@ -63,6 +64,7 @@ fn run_fresh<R: Threads + Wait + Sync, S: Source, K: Sink, D: Disk, P: PatternMa
     requires { IsEmpty D.may_leave journal }
     ensures says { (store : Bool) (begin disk : D) →
         RunsOver D.Disk store (fresh_base store) journal result.journal begin disk →
+        LeavesSince D.Disk begin journal (D.may_leave begin) →
         SaysBy S.Source K.Sink D.Disk P.PatternMaker store script.old script.new
         out.old out.new begin disk patterns.old patterns.new result.status }
     ensures stored { has_journal result.journal ≡ has_journal journal }
@@ -99,6 +101,7 @@ fn run_opened<R: Threads + Wait + Sync, S: Source, K: Sink, D: Disk, P: PatternM
     requires stored { has_journal book.journal ≡ true }
     ensures says { (begin disk : D) → KeepsIn D.may_leave book.config book.history None book.journal →
         RunsOver D.Disk true (store_of book.config book.history) book.journal result.journal begin disk →
+        LeavesSince D.Disk begin book.journal (D.may_leave begin) →
         SaysBy S.Source K.Sink D.Disk P.PatternMaker true script.old script.new
         out.old out.new begin disk patterns.old patterns.new result.status }
     ensures stored { has_journal result.journal ≡ true }
@@ -161,24 +164,21 @@ fn run_over_store<R: Threads + Wait + Sync, S: Source, K: Sink, D: Disk, P: Patt
     patterns: &mut P,
 ) -> Ran<D>
     requires { (reads : Option (List ℕ)) ×
-        IsOpenedAs D.may_leave reads 1 opened.book opened.journal opened.passes }
+        IsOpenedAs D.may_leave reads 1 opened }
     ensures says { (begin : D) →
-        IsOpenedAs D.may_leave (D.reads begin) 1 opened.book opened.journal opened.passes →
-        D.faults begin ≤ faults_in D.faults (journal_in opened.book opened.journal) →
+        IsOpenedAs D.may_leave (D.reads begin) 1 opened →
+        D.faults begin ≤ faults_in D.faults (journal_in opened) →
+        LeavesFrom D.moment D.left_since begin (journal_in opened) (D.may_leave begin) →
         SaysBy S.Source K.Sink D.Disk P.PatternMaker true script.old script.new
         out.old out.new begin result.disk patterns.old patterns.new result.status }
 {
-    let Opened {
-        book,
-        journal,
-        passes,
-    } = opened;
-    match book {
-        Some(book) => match journal {
-            None => give_back(run_opened(rt, alloc, book, passes, script, out, patterns)),
-            Some(_) => unreachable!(),
-        },
-        None => give_back(run_fresh(rt, alloc, journal, script, out, patterns)),
+    match opened {
+        Opened::Stored { book, passes } => {
+            give_back(run_opened(rt, alloc, book, passes, script, out, patterns))
+        }
+        Opened::Bare { journal } => {
+            give_back(run_fresh(rt, alloc, Some(journal), script, out, patterns))
+        }
     }
 }
 

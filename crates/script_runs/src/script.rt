@@ -8,7 +8,7 @@ ghost use Rattle.script_runs.specs.Bases.{Base, store_of};
 ghost use Rattle.script_runs.specs.Inner.Bases.{fresh_base};
 ghost use Rattle.script_runs.specs.Cuts.{cut};
 ghost use Rattle.program_output.specs.Inner.Written.{EndHasCause};
-ghost use Rattle.script_runs.specs.Inner.Reached.{IsBeginOf, IsBegun, IsEndFor, IsFailed, IsKept, Reached, RunsLine, RunsLines, RunsScript};
+ghost use Rattle.script_runs.specs.Inner.Reached.{DuringStart, IsBeginOf, IsBegun, IsEndFor, IsRunFailed, IsRunKept, LeavesSince, Reached, RunsLine, RunsLines, RunsScript};
 ghost use Rattle.script_runs.specs.Inner.Turns.{IsLineRead, IsUnreadFor, ReadsConfig};
 
 use crate::cut::next_line;
@@ -49,11 +49,11 @@ fn one_line<R: Threads + Wait + Sync, K: Sink, D: Disk, P: PatternMaker>(
 ) -> Result<(), Ended>
     requires { All (λ n. n ≤ running.old.number) running.old.earlier }
     ensures rises { OnOk result (All (λ n. n ≤ running.new.number) running.new.earlier) }
-    ensures ran { (base : Base) (begin : ℕ) (config : Configuration) (lines : List (List ℕ))
+    ensures ran { (base : Base) (begin : D) (config : Configuration) (lines : List (List ℕ))
         (refusals : ℕ) (before : Option (List ℕ)) →
-        Reached D.may_leave D.faults base begin config lines running.old refusals
+        Reached D.Disk base begin config lines running.old refusals
         (P.refusals patterns.old) before (K.written out.old) →
-        RunsLine result D.may_leave D.faults base begin running.new config lines line.now refusals
+        RunsLine result D.Disk base begin running.new config lines line.now refusals
         (P.refusals patterns.new) before (K.written out.new) }
     ensures stored { has_journal running.new.core.book.journal ≡ has_journal running.old.core.book.journal }
     ensures cause { IfErr result (λ end. EndHasCause end (K.faults out.old) (K.faults out.new)) }
@@ -91,11 +91,11 @@ fn run_rest<R: Threads + Wait + Sync, K: Sink, D: Disk, P: PatternMaker>(
     patterns: &mut P,
 ) -> Result<(), Ended>
     requires { All (λ n. n ≤ running.old.number) running.old.earlier }
-    ensures ran { (base : Base) (begin : ℕ) (config : Configuration) (lines : List (List ℕ))
+    ensures ran { (base : Base) (begin : D) (config : Configuration) (lines : List (List ℕ))
         (refusals : ℕ) (before : Option (List ℕ)) →
-        Reached D.may_leave D.faults base begin config lines running.old refusals
+        Reached D.Disk base begin config lines running.old refusals
         (P.refusals patterns.old) before (K.written out.old) →
-        RunsLines result base (IsKept D.may_leave D.faults base begin running.new.core.book.journal)
+        RunsLines result base (IsRunKept D.Disk base begin running.new.core.book.journal)
         past (lines ++ cut past bytes.now) refusals (P.refusals patterns.new) before
         (K.written out.new) }
     ensures stored { has_journal running.new.core.book.journal ≡ has_journal running.old.core.book.journal }
@@ -128,12 +128,12 @@ fn run_lines<R: Threads + Wait + Sync, K: Sink, D: Disk, P: PatternMaker>(
     patterns: &mut P,
 ) -> Result<(), Ended>
     requires { All (λ n. n ≤ running.old.number) running.old.earlier }
-    ensures ran { (base : Base) (begin : ℕ) (config : Configuration)
+    ensures ran { (base : Base) (begin : D) (config : Configuration)
         (lines : List (List ℕ)) (refusals : ℕ) (before : Option (List ℕ)) →
-        Reached D.may_leave D.faults base begin config lines running.old refusals
+        Reached D.Disk base begin config lines running.old refusals
         (P.refusals patterns.old) before (K.written out.old) →
-        RunsScript result base (IsKept D.may_leave D.faults base begin running.new.core.book.journal)
-        (IsFailed D.may_leave D.faults begin running.new.core.book.journal) past
+        RunsScript result base (IsRunKept D.Disk base begin running.new.core.book.journal)
+        (IsRunFailed D.Disk begin running.new.core.book.journal) past
         (lines ++ cut past rest.now) refusals (P.refusals patterns.new) before
         (K.written out.new) }
     ensures stored { has_journal running.new.core.book.journal ≡ has_journal running.old.core.book.journal }
@@ -161,13 +161,14 @@ fn run_begun<R: Threads + Wait + Sync, K: Sink, D: Disk, P: PatternMaker>(
     patterns: &mut P,
 ) -> Result<(), Ended>
     requires { All (λ n. n ≤ running.old.number) running.old.earlier }
-    ensures ran { (base : Base) (begin : ℕ) (config : Configuration)
+    ensures ran { (base : Base) (begin : D) (config : Configuration)
         (line : List ℕ) (refusals : ℕ) → base ≡ fresh_base (has_journal running.old.core.book.journal) →
-        IsBeginOf D.faults base running.old.core.book.journal begin →
+        IsBeginOf D.faults base running.old.core.book.journal (D.faults begin) →
+        LeavesSince D.Disk begin running.old.core.book.journal (DuringStart (D.may_leave begin) config) →
         IsLineRead line 1 true [] refusals (P.refusals patterns.old) (Ok (ReadLine.Config config)) →
         IsBegun D.may_leave config [] 1 running.old →
-        RunsScript result base (IsKept D.may_leave D.faults base begin running.new.core.book.journal)
-        (IsFailed D.may_leave D.faults begin running.new.core.book.journal) past
+        RunsScript result base (IsRunKept D.Disk base begin running.new.core.book.journal)
+        (IsRunFailed D.Disk begin running.new.core.book.journal) past
         (line ∷ cut past rest.now) refusals (P.refusals patterns.new) (K.written out.old)
         (K.written out.new) }
     ensures stored { has_journal running.new.core.book.journal ≡ has_journal running.old.core.book.journal }
@@ -192,14 +193,15 @@ fn run_made<R: Threads + Wait + Sync, K: Sink, D: Disk, P: PatternMaker>(
     patterns: &mut P,
 ) -> RunEnd<D>
     requires passes { AreAtFront 1 made.book made.passes }
-    ensures ran { (base : Base) (begin : ℕ) (line : List ℕ) (refusals : ℕ) →
+    ensures ran { (base : Base) (begin : D) (line : List ℕ) (refusals : ℕ) →
         base ≡ fresh_base (has_journal made.book.journal) →
-        IsBeginOf D.faults base made.book.journal begin →
+        IsBeginOf D.faults base made.book.journal (D.faults begin) →
+        LeavesSince D.Disk begin made.book.journal (DuringStart (D.may_leave begin) made.book.config) →
         IsLineRead line 1 true [] refusals (P.refusals patterns.old)
         (Ok (ReadLine.Config made.book.config)) →
         made.book.history ≡ [] → KeepsIn D.may_leave made.book.config [] None made.book.journal →
-        RunsScript result.ended base (IsKept D.may_leave D.faults base begin result.journal)
-        (IsFailed D.may_leave D.faults begin result.journal) past
+        RunsScript result.ended base (IsRunKept D.Disk base begin result.journal)
+        (IsRunFailed D.Disk begin result.journal) past
         (line ∷ cut past rest.now) refusals (P.refusals patterns.new) (K.written out.old)
         (K.written out.new) }
     ensures stored { has_journal result.journal ≡ has_journal made.book.journal }
@@ -248,11 +250,12 @@ fn run_configured<R: Threads + Wait + Sync, K: Sink, D: Disk, P: PatternMaker>(
     patterns: &mut P,
 ) -> RunEnd<D>
     requires { IsEmpty D.may_leave journal }
-    ensures ran { (base : Base) (begin : ℕ) (line : List ℕ) (refusals : ℕ) →
-        base ≡ fresh_base (has_journal journal) → IsBeginOf D.faults base journal begin →
+    ensures ran { (base : Base) (begin : D) (line : List ℕ) (refusals : ℕ) →
+        base ≡ fresh_base (has_journal journal) → IsBeginOf D.faults base journal (D.faults begin) →
+        LeavesSince D.Disk begin journal (D.may_leave begin) →
         IsLineRead line 1 true [] refusals (P.refusals patterns.old) (Ok (ReadLine.Config config)) →
-        RunsScript result.ended base (IsKept D.may_leave D.faults base begin result.journal)
-        (IsFailed D.may_leave D.faults begin result.journal) past (line ∷ cut past rest.now) refusals
+        RunsScript result.ended base (IsRunKept D.Disk base begin result.journal)
+        (IsRunFailed D.Disk begin result.journal) past (line ∷ cut past rest.now) refusals
         (P.refusals patterns.new) (K.written out.old) (K.written out.new) }
     ensures stored { has_journal result.journal ≡ has_journal journal }
     ensures cause { IfErr result.ended (λ end.
@@ -300,10 +303,11 @@ pub(crate) fn run_script<R: Threads + Wait + Sync, K: Sink, D: Disk, P: PatternM
     patterns: &mut P,
 ) -> RunEnd<D>
     requires { IsEmpty D.may_leave journal }
-    ensures ran { (base : Base) (begin : ℕ) → base ≡ fresh_base (has_journal journal) →
-        IsBeginOf D.faults base journal begin →
-        RunsScript result.ended base (IsKept D.may_leave D.faults base begin result.journal)
-        (IsFailed D.may_leave D.faults begin result.journal) past (cut past bytes.now)
+    ensures ran { (base : Base) (begin : D) → base ≡ fresh_base (has_journal journal) →
+        IsBeginOf D.faults base journal (D.faults begin) →
+        LeavesSince D.Disk begin journal (D.may_leave begin) →
+        RunsScript result.ended base (IsRunKept D.Disk base begin result.journal)
+        (IsRunFailed D.Disk begin result.journal) past (cut past bytes.now)
         (P.refusals patterns.old) (P.refusals patterns.new) (K.written out.old) (K.written out.new) }
     ensures stored { has_journal result.journal ≡ has_journal journal }
     ensures cause { IfErr result.ended (λ end.
@@ -338,11 +342,13 @@ pub(crate) fn run_over<R: Threads + Wait + Sync, K: Sink, D: Disk, P: PatternMak
 ) -> RunEnd<D>
     requires passes { AreAtFront 1 book passes }
     requires stored { has_journal book.journal ≡ true }
-    ensures ran { (begin : ℕ) → IsBeginOf D.faults (store_of book.config book.history) book.journal begin →
+    ensures ran { (begin : D) →
+        IsBeginOf D.faults (store_of book.config book.history) book.journal (D.faults begin) →
+        LeavesSince D.Disk begin book.journal (D.may_leave begin) →
         KeepsIn D.may_leave book.config book.history None book.journal →
         RunsScript result.ended (store_of book.config book.history)
-        (IsKept D.may_leave D.faults (store_of book.config book.history) begin result.journal)
-        (IsFailed D.may_leave D.faults begin result.journal) past (cut past bytes.now)
+        (IsRunKept D.Disk (store_of book.config book.history) begin result.journal)
+        (IsRunFailed D.Disk begin result.journal) past (cut past bytes.now)
         (P.refusals patterns.old) (P.refusals patterns.new)
         (K.written out.old) (K.written out.new) }
     ensures stored { has_journal result.journal ≡ true }

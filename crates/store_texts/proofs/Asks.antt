@@ -5,7 +5,7 @@ use Rattle.eql_resolve.specs.Made.{Made, IsMade, times_too_large}
 use Rattle.version_tree.specs.Version.{VersionParts}
 use Rattle.store_texts.specs.declared.faults.CommandFault.{CommandFault}
 use Rattle.store_texts.specs.declared.faults.CommandFault.TheVariants as faults
-use Rattle.store_texts.specs.Asked.{TellsAsked, answered}
+use Rattle.store_texts.specs.Inner.Asked.{TellsAsked, answered}
 use Rattle.store_texts.specs.Commands.{Tells}
 
 pub tells_asked : (result : Result (List ℕ) CommandFault) (text : List ℕ) (time : Option (List ℕ))

@@ -1,7 +1,8 @@
 //! The answer to a query over a store.
 ghost use Rattle.std.specs.Prelude.{◌≡◌, ◌≤◌, IfOk};
 ghost use Rattle.std.specs.Option.{option_copied};
-ghost use Rattle.store_texts.specs.Asked.{TellsAsked, answered, asked_text};
+ghost use Rattle.store_texts.specs.Asked.{asked_text};
+ghost use Rattle.store_texts.specs.Inner.Asked.{TellsAsked, answered};
 ghost use Rattle.store_texts.specs.Commands.{Tells};
 
 use crate::faults::{CommandFault, Refused};

@@ -12,12 +12,14 @@ use Rattle.version_gate.specs.Lists.{Front, front}
 use Rattle.live_book.specs.declared.published.Published.{Published}
 use Rattle.book_opening.specs.declared.fault.OpenFault.{OpenFault}
 use Rattle.book_opening.specs.declared.fault.OpenFault.TheVariants.{Disk, Damaged, StoreFull, Memory}
+use Rattle.book_opening.specs.declared.opening.Opened.{Opened}
+use Rattle.book_opening.specs.declared.opening.Opened.TheVariants as stores
 use Rattle.book_opening.specs.declared.replay.Replayed.{Replayed}
 use Rattle.live_book.specs.Histories.{Stands, IsBare, IsDamagedAt, IsWrongBehind, OfRead, AreEntryCodes}
 use Rattle.live_book.specs.Published.{IsStateAfter}
 use Rattle.live_book.specs.Kept.{BookParts, KeepsIn}
 use Rattle.live_book.specs.Commits.{has_journal}
-use Rattle.book_opening.specs.Opens.{IsHeadTooMuch, DuringNew}
+use Rattle.book_opening.specs.Opens.{IsHeadTooMuch}
 
 -- the passes of a book: at least one, at most so many, and each has the whole published list
 pub record AreAtFront {D : Type 0} (readers : ℕ) (book : BookParts D) (passes : List (Front Published))
@@ -41,27 +43,19 @@ pub record IsNew {D : Type 0} (may_leave : D → List ℕ → Type 0) (own : Con
   pub stored : has_journal book.journal ≡ with_store
   pub fits : IsHeadTooMuch with_store own → ⊥
 
--- where the disk was not called, the store stays bare
-abbrev pub DuringNoBook : OpenFault → ConfigParts → List ℕ → Type 0
-DuringNoBook Disk config c = DuringNew config c
-DuringNoBook fault config c = IsBare c
-
 -- a store was opened: its bytes stand for the book's configuration and history, and nothing is in doubt; or
--- they are bare, and there are no book and no pass
-abbrev pub IsOpenedAs : {D : Type 0} → (D → List ℕ → Type 0) → Option (List ℕ) → ℕ → Option (BookParts D)
-    → Option (Journal D) → List (Front Published) → Type 0
-IsOpenedAs may_leave reads readers (Some book) None passes =
+-- they are bare, and there is no book
+abbrev pub IsOpenedAs : {D : Type 0} → (D → List ℕ → Type 0) → Option (List ℕ) → ℕ → Opened D → Type 0
+IsOpenedAs may_leave reads readers (stores.Stored book passes) =
     OfRead reads (Stands book.config book.history) × (book.opened ≡ length book.history)
     × KeepsIn may_leave book.config book.history None book.journal × (has_journal book.journal ≡ true)
     × AreAtFront readers book passes
-IsOpenedAs may_leave reads readers None (Some journal) passes =
-    OfRead reads IsBare × Holds may_leave [] None journal × (passes ≡ [])
-IsOpenedAs may_leave reads readers _ _ passes = ⊥
+IsOpenedAs may_leave reads readers (stores.Bare journal) = OfRead reads IsBare × Holds may_leave [] None journal
 
 -- the journal of an opened store, which a book owns if there is one
-abbrev pub journal_in : {D : Type 0} → Option (BookParts D) → Option (Journal D) → Option (Journal D)
-journal_in None journal = journal
-journal_in (Some book) journal = book.journal
+abbrev pub journal_in : {D : Type 0} → Opened D → Option (Journal D)
+journal_in (stores.Stored book passes) = book.journal
+journal_in (stores.Bare journal) = Some journal
 
 -- a crash at any moment since a disk was the old one, which a journal has now, leaves bytes that have P
 abbrev pub LeavesFrom : {D : Type 0} → (D → ℕ) → (D → ℕ → List ℕ → Type 0) → D → Option (Journal D)

@@ -21,6 +21,8 @@ use Rattle.book_opening.specs.declared.fault.OpenFault.TheVariants as open_fault
 use Rattle.live_book.specs.declared.published.Published.{Published}
 use Rattle.book_opening.specs.declared.making.Shown.{Shown}
 use Rattle.book_opening.specs.declared.making.Begun.{Begun}
+use Rattle.book_opening.specs.declared.opening.Opened.{Opened}
+use Rattle.book_opening.specs.declared.opening.Opened.TheVariants as stores
 use Rattle.book_opening.specs.declared.replay.Replayed.{Replayed}
 use Rattle.live_book.specs.Histories.{codes_of, IsHistory, IsStorable, AreEntryCodes, IsNoNext}
 use Rattle.live_book.specs.Commits.{has_journal}
@@ -51,20 +53,18 @@ pub record IsWrongTail (config : ConfigParts) (bodies : List Body) (at : ℕ) : 
   pub no_next : IsNoNext config entries wrong.bytes
 
 -- a book of a history that was read, over this journal
-abbrev pub IsOpenedBook : {D : Type 0} → (D → List ℕ → Type 0) → Journal D → Replayed → ℕ
-    → Option (BookParts D) → Option (Journal D) → List (Front Published) → Type 0
-IsOpenedBook may_leave old replayed readers (Some book) None passes =
+abbrev pub IsOpenedBook : {D : Type 0} → (D → List ℕ → Type 0) → Journal D → Replayed → ℕ → Opened D → Type 0
+IsOpenedBook may_leave old replayed readers (stores.Stored book passes) =
     (book.config ≡ replayed.version.config) × (book.history ≡ replayed.entries)
     × (book.opened ≡ length replayed.entries) × (book.journal ≡ Some old) × AreAtFront readers book passes
-IsOpenedBook may_leave old replayed readers _ _ passes = ⊥
+IsOpenedBook may_leave old replayed readers (stores.Bare journal) = ⊥
 
 -- a book of what bodies stand for, over this journal, in which nothing is in doubt
-abbrev pub IsOpenedOver : {D : Type 0} → (D → List ℕ → Type 0) → List (List ℕ) → Journal D → ℕ
-    → Option (BookParts D) → Option (Journal D) → List (Front Published) → Type 0
-IsOpenedOver may_leave texts old readers (Some book) None passes =
+abbrev pub IsOpenedOver : {D : Type 0} → (D → List ℕ → Type 0) → List (List ℕ) → Journal D → ℕ → Opened D → Type 0
+IsOpenedOver may_leave texts old readers (stores.Stored book passes) =
     IsStorable book.config book.history × (texts ≡ codes_of book.config book.history)
     × (book.opened ≡ length book.history) × (book.journal ≡ Some old) × AreAtFront readers book passes
-IsOpenedOver may_leave texts old readers _ _ passes = ⊥
+IsOpenedOver may_leave texts old readers (stores.Bare journal) = ⊥
 
 -- a journal's fault, as that of a store
 abbrev pub fault_of : JournalFault → OpenFault

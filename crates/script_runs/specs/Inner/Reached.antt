@@ -1,7 +1,6 @@
 -- How far a run has come, and how it ends.
 use Rattle.std.specs.Prelude.{true, false, ◌≡◌, ◌⊎◌, ℕ, ◌+◌, ◌≤◌, Bool, List, [], ◌∷◌, ◌++◌, length, take, Option, Some, None, Result, Ok, Err}
 use Rattle.std.specs.Io.KnownBytes.{Appends}
-use Rattle.emu_io.specs.Fronts.{WritesFront}
 use Rattle.emu_names.specs.Count.{Rose, RoseBy}
 use Rattle.db_config.specs.declared.parts.ConfigParts.{ConfigParts}
 use Rattle.edit_rules.specs.declared.edit.Entry.{Entry}
@@ -9,6 +8,8 @@ use Rattle.session_core.specs.declared.line.Line.{Line}
 use Rattle.session_core.specs.declared.line.Reply.{Reply}
 use Rattle.session_core.specs.Steps.{start}
 use Rattle.session_core.specs.InOrder.{Outage, disk_outages, in_turn}
+use Rattle.emu_disk.specs.Disk.{LeavesOnly}
+use Rattle.emu_disk.specs.declared.disk.Disk as disks
 use Rattle.edit_journal.specs.declared.journal.Journal.{Journal}
 use Rattle.edit_journal.specs.Held.{disk_of}
 use Rattle.book_opening.specs.declared.fault.OpenFault.{OpenFault}
@@ -24,8 +25,8 @@ use Rattle.program_output.specs.declared.ended.Ended.{Ended}
 use Rattle.program_output.specs.declared.ended.Ended.TheVariants as ends
 use Rattle.script_runs.specs.declared.running.Running.{Running}
 use Rattle.script_runs.specs.Scripts.{AskedLine, AreRead, Parsed, read_from, with_read, parse, parse_line, parsed_front, passes_limit, script_from, Stop, limit, at_fault, numbers_of}
-use Rattle.script_runs.specs.Bases.{Base, wants_by, is_stored, opening_by, config_by, counted, IfRefused, LeavesStore, EachOf}
-use Rattle.script_runs.specs.Runs.{replies_by, run_text}
+use Rattle.script_runs.specs.Bases.{Base, wants_by, is_stored, opening_by, config_by, counted, IfRefused, LeavesStore, EachOf, AtEach, AtMoment}
+use Rattle.script_runs.specs.Runs.{replies_by, run_text, run_texts, WritesToLast}
 use Rattle.script_runs.specs.Inner.Runs.{history_by}
 
 -- What the requests of a script leave in the journal.
@@ -55,6 +56,24 @@ pub record IsKept {D : Type 0} (may_leave : D → List ℕ → Type 0) (faults :
   pub kept : KeepsStore may_leave (config_by base p.config) p.requests (replies_by base p outages)
       (history_by base p outages) journal
 
+-- a crash at any moment since a run began left bytes that have P, where there is a journal
+abbrev pub LeavesSince : {D : Type 0} → disks.Ghosts D → D → Option (Journal D) → (List ℕ → Type 0) → Type 0
+LeavesSince disk begin None P = Unit {0}
+LeavesSince disk begin (Some journal) P = LeavesOnly disk.moment disk.left_since begin (disk_of journal) P
+
+-- what a crash at some moment of a run may have left, behind these requests
+abbrev pub AtMomentOf : (List ℕ → Type 0) → Base → Parsed → List Outage → List ℕ → Type 0
+AtMomentOf before base p outages c =
+    AtMoment before base (config_by base p.config) p.requests (replies_by base p outages) (history_by base p outages) c
+
+-- The requests of a script were run over a base, since a disk was this one: the journal keeps what they leave, the
+-- history is no shorter than the one before them, and a crash at any moment left what it may
+pub record IsRunKept {D : Type 0} (disk : disks.Ghosts D) (base : Base) (begin : D) (journal : Option (Journal D))
+    (p : Parsed) (outages : List Outage) : Type 0 where
+  pub kept : IsKept disk.may_leave disk.faults base (disk.faults begin) journal p outages
+  pub longer : length (opening_by base) ≤ length (history_by base p outages)
+  pub moments : LeavesSince disk begin journal (AtMomentOf (disk.may_leave begin) base p outages)
+
 -- The same without the journal: of the disk's count and of its images behind the run
 pub record IsDone (base : Base) (begin now : ℕ) (images : List ℕ → Type 0) (p : Parsed) (outages : List Outage)
     : Type 0 where
@@ -62,6 +81,12 @@ pub record IsDone (base : Base) (begin now : ℕ) (images : List ℕ → Type 0)
   pub rose : RoseBy (disk_outages (is_stored base) outages) (counted base begin) (counted base now)
   pub left : LeavesStore (is_stored base) (config_by base p.config) p.requests (replies_by base p outages)
       (history_by base p outages) images
+
+-- with what a crash at some moment of the run left
+pub record IsRunDone (base : Base) (begin now : ℕ) (before since images : List ℕ → Type 0) (p : Parsed)
+    (outages : List Outage) : Type 0 where
+  pub done : IsDone base begin now images p outages
+  pub moments : AtEach (is_stored base) since (AtMomentOf before base p outages)
 
 -- a count is not above that of a journal's disk, where there is a journal
 abbrev pub IsBeginOf : {D : Type 0} → (D → ℕ) → Base → Option (Journal D) → ℕ → Type 0
@@ -90,7 +115,7 @@ pub record IsBegun {D : Type 0} (may_leave : D → List ℕ → Type 0) (config 
   pub number : running.number ≡ count
 
 -- the lines so far were read and run, and their replies written
-pub record Reached {D : Type 0} (may_leave : D → List ℕ → Type 0) (faults : D → ℕ) (base : Base) (begin : ℕ)
+pub record Reached {D : Type 0} (disk : disks.Ghosts D) (base : Base) (begin : D)
     (config : ConfigParts) (lines : List (List ℕ)) (running : Running D)
     (refusals refusals_now : ℕ) (before now : Option (List ℕ)) : Type 0 where
   pub asked : List AskedLine
@@ -99,13 +124,13 @@ pub record Reached {D : Type 0} (may_leave : D → List ℕ → Type 0) (faults 
   pub script : parse (read_from (wants_by base)) asked ≡ Ok parsed
   pub outages : List Outage
   pub at : IsAt base running config parsed outages
-  pub done : IsKept may_leave faults base begin running.core.book.journal parsed outages
+  pub done : IsRunKept disk base begin running.core.book.journal parsed outages
   pub output : Appends before now (run_text base parsed outages)
 
 -- How a run ends. `Done` says what is known of the requests that were run, and of the places where memory ran out
 -- or the disk failed.
 
--- the lines were read and run, and a front of their replies was written
+-- the lines were read and run, and their replies written, but the last perhaps in part
 pub record Broke (base : Base) (Done : Parsed → List Outage → Type 0) (lines : List (List ℕ))
     (refusals refusals_now : ℕ) (before now : Option (List ℕ)) : Type 0 where
   pub asked : List AskedLine
@@ -114,7 +139,7 @@ pub record Broke (base : Base) (Done : Parsed → List Outage → Type 0) (lines
   pub script : parse (read_from (wants_by base)) asked ≡ Ok parsed
   pub outages : List Outage
   pub done : Done parsed outages
-  pub output : WritesFront before now (run_text base parsed outages)
+  pub output : WritesToLast before now (run_texts base parsed outages)
 
 -- the lines were run and their replies written, and the next line passes a limit
 pub record IsOver (base : Base) (Done : Parsed → List Outage → Type 0) (lines : List (List ℕ)) (line : List ℕ)
@@ -158,12 +183,12 @@ EndsOnLine ends.NoRoom base Done lines line refusals refusals_now before now = �
 EndsOnLine ends.Disk base Done lines line refusals refusals_now before now = ⊥
 
 -- one line was run
-abbrev pub RunsLine : {A : Type 0} {D : Type 0} → Result A Ended → (D → List ℕ → Type 0) → (D → ℕ) → Base → ℕ →
+abbrev pub RunsLine : {A : Type 0} {D : Type 0} → Result A Ended → disks.Ghosts D → Base → D →
     Running D → ConfigParts → List (List ℕ) → List ℕ → ℕ → ℕ → Option (List ℕ) → Option (List ℕ) → Type 0
-RunsLine (Ok x) may_leave faults base begin running config lines line refusals refusals_now before now =
-    Reached may_leave faults base begin config (lines ++ line ∷ []) running refusals refusals_now before now
-RunsLine (Err end) may_leave faults base begin running config lines line refusals refusals_now before now =
-    EndsOnLine end base (IsKept may_leave faults base begin running.core.book.journal) lines line
+RunsLine (Ok x) disk base begin running config lines line refusals refusals_now before now =
+    Reached disk base begin config (lines ++ line ∷ []) running refusals refusals_now before now
+RunsLine (Err end) disk base begin running config lines line refusals refusals_now before now =
+    EndsOnLine end base (IsRunKept disk base begin running.core.book.journal) lines line
     refusals refusals_now before now
 
 -- all lines were read and run, and their replies written
@@ -180,7 +205,7 @@ pub record RanAll (base : Base) (Done : Parsed → List Outage → Type 0) (line
   pub done : Done parsed outages
   pub output : Appends before now (run_text base parsed outages)
 
--- the first lines were read and run, and a front of their replies was written
+-- the first lines were read and run, and their replies written, but the last perhaps in part
 pub record BrokeIn (base : Base) (Done : Parsed → List Outage → Type 0) (lines : List (List ℕ))
     (refusals refusals_now : ℕ) (before now : Option (List ℕ)) : Type 0 where
   pub asked : List AskedLine
@@ -189,7 +214,7 @@ pub record BrokeIn (base : Base) (Done : Parsed → List Outage → Type 0) (lin
   pub script : parse (read_from (wants_by base)) asked ≡ Ok parsed
   pub outages : List Outage
   pub done : Done parsed outages
-  pub output : WritesFront before now (run_text base parsed outages)
+  pub output : WritesToLast before now (run_texts base parsed outages)
 
 -- a whole script was read and run, and its replies written
 pub record RanScript (base : Base) (Done : Parsed → List Outage → Type 0) (past : Bool) (lines : List (List ℕ))
@@ -276,12 +301,22 @@ RunsScript (Ok x) base Done Failed past lines refusals refusals_now before now =
 RunsScript (Err end) base Done Failed past lines refusals refusals_now before now =
     EndsScript end base Done Failed past lines refusals refusals_now before now
 
+-- while a configuration is written each image was possible before, or is bare, or has it alone
+abbrev pub DuringStart : (List ℕ → Type 0) → ConfigParts → List ℕ → Type 0
+DuringStart before config c = before c ⊎ DuringNew config c
+
 -- what is known of a journal where the configuration could not be written: the disk's count rose, and each image is
 -- bare, or has the configuration alone
 pub record IsFailed {D : Type 0} (may_leave : D → List ℕ → Type 0) (faults : D → ℕ) (begin : ℕ)
     (journal : Option (Journal D)) (config : ConfigParts) : Type 0 where
   pub cause : Rose begin (faults_in faults journal)
   pub images : (own : Journal D) → journal ≡ Some own → EachOf (may_leave (disk_of own)) (DuringNew config)
+
+-- the same, with what a crash at any moment since a disk was this one left
+pub record IsRunFailed {D : Type 0} (disk : disks.Ghosts D) (begin : D) (journal : Option (Journal D))
+    (config : ConfigParts) : Type 0 where
+  pub failed : IsFailed disk.may_leave disk.faults (disk.faults begin) journal config
+  pub moments : LeavesSince disk begin journal (DuringStart (disk.may_leave begin) config)
 
 -- how a run ends for which no book could be made
 abbrev pub IsEndFor : OpenFault → Ended → Type 0
@@ -291,9 +326,9 @@ IsEndFor (opens.Damaged at) end = end ≡ ends.Memory
 IsEndFor opens.Memory end = end ≡ ends.Memory
 
 -- between two lines of a loop: these lines were run, and those of the rest come next
-pub record InLines {D : Type 0} (may_leave : D → List ℕ → Type 0) (faults : D → ℕ) (base : Base) (begin : ℕ)
+pub record InLines {D : Type 0} (disk : disks.Ghosts D) (base : Base) (begin : D)
     (config : ConfigParts) (all : List (List ℕ)) (rest : List (List ℕ)) (running : Running D)
     (refusals refusals_now : ℕ) (before now : Option (List ℕ)) : Type 0 where
   pub done : List (List ℕ)
   pub split : all ≡ done ++ rest
-  pub reached : Reached may_leave faults base begin config done running refusals refusals_now before now
+  pub reached : Reached disk base begin config done running refusals refusals_now before now

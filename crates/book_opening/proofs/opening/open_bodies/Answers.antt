@@ -15,7 +15,7 @@ pub returns-in-Ok-clause-ok : goal.returns-in-Ok-clause-ok
 returns-in-Ok-clause-ok g c =
     let history = rw c.as_slice.ensures at c.in-Ok.ensures.ok in
     IfOk-weaker c.open_replayed.result _ _
-    (λ o is. opened_from g.D.Disk.may_leave (texts_of c.args.bodies.now) c.args.journal c.in-Ok.replayed c.args.readers history o.book o.journal o.passes is)
+    (λ o is. opened_from g.D.Disk.may_leave (texts_of c.args.bodies.now) c.args.journal c.in-Ok.replayed c.args.readers history o is)
     c.open_replayed.ensures.ok
 
 pub returns-in-Ok-clause-err : goal.returns-in-Ok-clause-err

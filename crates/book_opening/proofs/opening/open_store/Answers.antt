@@ -14,15 +14,15 @@ open_bodies-requires-clause-some g c = omega (arith, c.if-len-eq0.false, c.len.e
 pub returns-then-len-eq0-clause-opened : goal.returns-then-len-eq0-clause-opened
 returns-then-len-eq0-clause-opened g c =
     let found = c.in-Ok.found in
-    bare_as g.D.Disk.may_leave (g.D.Disk.reads c.args.disk) found.bodies found.journal c.args.readers _ c.in-Ok.ensures.bodies
-    (omega (arith, c.if-len-eq0.true, c.len.ensures)) c.in-Ok.ensures.holds c.new.ensures
+    bare_as g.D.Disk.may_leave (g.D.Disk.reads c.args.disk) found.bodies found.journal c.args.readers c.in-Ok.ensures.bodies
+    (omega (arith, c.if-len-eq0.true, c.len.ensures)) c.in-Ok.ensures.holds
 
 pub returns-in-Ok-clause-opened : goal.returns-in-Ok-clause-opened
 returns-in-Ok-clause-opened g c =
     let found = c.in-Ok.found in
     IfOk-weaker c.open_bodies.result _ _
     (λ o is. opened_as g.D.Disk.may_leave (g.D.Disk.reads c.args.disk) found.bodies found.journal c.args.readers c.in-Ok.ensures.bodies
-    c.in-Ok.ensures.places c.in-Ok.ensures.holds o.book o.journal o.passes is)
+    c.in-Ok.ensures.places c.in-Ok.ensures.holds o is)
     c.open_bodies.ensures.ok
 
 pub returns-in-Ok-clause-refused : goal.returns-in-Ok-clause-refused
@@ -38,7 +38,7 @@ returns-in-Ok-clause-any_moment g c =
     IfOk-weaker c.open_bodies.result _ _
     (λ o is. same_journal g.D.Disk.may_leave
     (λ j. LeavesFrom g.D.Disk.moment g.D.Disk.left_since c.args.disk j (g.D.Disk.may_leave c.args.disk))
-    (texts_of found.bodies) found.journal c.args.readers o.book o.journal o.passes is c.in-Ok.ensures.any_moment)
+    (texts_of found.bodies) found.journal c.args.readers o is c.in-Ok.ensures.any_moment)
     c.open_bodies.ensures.ok
 
 pub returns-in-Ok-clause-any_moment_err : goal.returns-in-Ok-clause-any_moment_err
@@ -53,7 +53,7 @@ returns-in-Ok-clause-later g c =
     let found = c.in-Ok.found in
     IfOk-weaker c.open_bodies.result _ _
     (λ o is. same_journal g.D.Disk.may_leave (λ j. g.D.Disk.faults c.args.disk ≤ faults_in g.D.Disk.faults j)
-    (texts_of found.bodies) found.journal c.args.readers o.book o.journal o.passes is c.in-Ok.ensures.later)
+    (texts_of found.bodies) found.journal c.args.readers o is c.in-Ok.ensures.later)
     c.open_bodies.ensures.ok
 
 pub returns-in-Ok-clause-later_err : goal.returns-in-Ok-clause-later_err

@@ -1,9 +1,10 @@
 use Rattle.std.proofs.Common.{inl, inr, refl, sym, subst}
 use Rattle.std.proofs.KnownBytes.{Appends-nil}
-use Rattle.emu_cli.specs.Ends.{is_of_store}
+use Rattle.emu_cli.specs.Ends.{folder_told, is_of_store, refusals_told}
 use Rattle.emu_cli.specs.Calls.{EndsOnStoreBy, texts_of}
 use Rattle.script_runs.specs.Told.{CompletesBy, FinishesBy, call_by}
-use Rattle.emu_cli.proofs.CallLemmas.{asked_run, asked_live, none_completes, usage_says, only_run, only_live, store_false, other_ends, other_store, no_command}
+use Rattle.emu_cli.proofs.CallLemmas.{asked_run, asked_live, none_completes, usage_says, only_run, only_live, store_false, other_ends, other_store, no_command, store_words, runs_no_store, lives_no_store}
+use Rattle.emu_cli.proofs.Completes.{finishes_well, store_well}
 use Rattle.emu_cli.proofs.top.perform.Goals as goal
 
 pub returns-in-Some-clause-says : goal.returns-in-Some-clause-says
@@ -38,7 +39,7 @@ pub returns-in-Ok-clause-says : goal.returns-in-Ok-clause-says
 returns-in-Ok-clause-says g c =
     other_ends (texts_of c.args.words.now) c.in-Ok.asked
     (λ store. call_by g.S.Source g.K.Sink g.D.Disk g.P.PatternMaker store c.args.script.now c.args.script.now c.args.out.now c.perform_other.new.out c.args.disk c.perform_other.result.disk c.args.patterns.now c.perform_other.new.patterns)
-    (g.D.Disk.may_leave c.args.disk) (g.D.Disk.may_leave c.perform_other.result.disk)
+    (g.D.Disk.may_leave c.args.disk) (g.D.Disk.left_since c.perform_other.result.disk (g.D.Disk.moment c.args.disk)) (g.D.Disk.may_leave c.perform_other.result.disk)
     (EndsOnStoreBy g.F.Folder g.D.Disk g.P.PatternMaker c.args.folder.now c.perform_other.new.folder c.args.disk c.perform_other.result.disk c.args.patterns.now c.perform_other.new.patterns)
     (FinishesBy g.K.Sink c.args.out.now c.perform_other.new.out)
     c.perform_other.result.status (is_of_store c.in-Ok.asked) refl c.in-Ok.ensures.read (sym c.in-None.ensures) (sym c.in-None-live_asked.ensures)
@@ -49,4 +50,22 @@ pub returns-in-Ok-clause-untouched : goal.returns-in-Ok-clause-untouched
 returns-in-Ok-clause-untouched g c = λ run stores. c.perform_other.ensures.untouched (other_store (texts_of c.args.words.now) c.in-Ok.asked (is_of_store c.in-Ok.asked) refl c.in-Ok.ensures.read stores)
 
 pub returns-clause-says : goal.returns-clause-says
-returns-clause-says g c = inr (inr (inr (inl ((refl, Appends-nil (g.K.Sink.written c.args.out.now)), λ c image. image))))
+returns-clause-says g c = inr (inr (inr (inl ((refl, Appends-nil (g.K.Sink.written c.args.out.now)), λ b image. image, λ b left. g.met.D.Disk.only_now c.args.disk b left))))
+
+pub returns-in-Some-clause-commands : goal.returns-in-Some-clause-commands
+returns-in-Some-clause-commands g c = λ asks faultless. absurd (runs_no_store (texts_of c.args.words.now) c.in-Ok.asked c.in-Some.store c.in-Ok.ensures.read (sym c.in-Some.ensures) asks)
+
+pub returns-in-Some-live_asked-clause-commands : goal.returns-in-Some-live_asked-clause-commands
+returns-in-Some-live_asked-clause-commands g c = λ asks faultless. absurd (lives_no_store (texts_of c.args.words.now) c.in-Ok.asked c.in-Some-live_asked.stored c.in-Ok.ensures.read (sym c.in-Some-live_asked.ensures) asks)
+
+pub returns-in-Err-Usage-clause-commands : goal.returns-in-Err-Usage-clause-commands
+returns-in-Err-Usage-clause-commands g c = λ asks faultless. absurd ((no_command (texts_of c.args.words.now) (rw c.in-Err-Usage.field-0-is at c.in-Err-Usage.ensures.read)).no_store asks)
+
+pub returns-in-Ok-clause-commands : goal.returns-in-Ok-clause-commands
+returns-in-Ok-clause-commands g c = λ asks faultless.
+    let ended = c.perform_other.ensures.store (store_words (texts_of c.args.words.now) c.in-Ok.asked c.in-Ok.ensures.read asks) in
+    let well = store_well g.D.Disk (folder_told g.F.Folder c.args.folder.now c.perform_other.new.folder) (g.K.Sink.faults c.args.out.now) (g.K.Sink.faults c.perform_other.new.out) c.args.disk c.perform_other.result.disk faultless (refusals_told g.P.PatternMaker c.args.patterns.now c.perform_other.new.patterns) c.in-Ok.asked ended.0 ended.1 in
+    finishes_well g.D.Disk (folder_told g.F.Folder c.args.folder.now c.perform_other.new.folder) (g.K.Sink.faults c.args.out.now) (g.K.Sink.faults c.perform_other.new.out) c.args.disk c.perform_other.result.disk faultless c.perform_other.result.status (g.K.Sink.written c.args.out.now) (g.K.Sink.written c.perform_other.new.out) ended.0 well ended.2
+
+pub returns-clause-commands : goal.returns-clause-commands
+returns-clause-commands g c = λ asks faultless. inr (inr refl)

@@ -10,6 +10,6 @@ returns-in-Ok-clause-goes g c =
 
 pub returns-in-Err-clause-goes : goal.returns-in-Err-clause-goes
 returns-in-Err-clause-goes g c =
-    edit_stops g.D.Disk.may_leave (g.F.Folder.content c.args.folder.now)
+    edit_stops g.D.Disk.may_leave g.D.Disk.moment g.D.Disk.left_since (g.F.Folder.content c.args.folder.now)
     (λ content. bundle_wanted c.args.path.now c.args.session.now content c.args.bundle.now) c.args.book.now
     c.in-Err.fault c.requires c.in-Err.ensures.reads

@@ -6,7 +6,7 @@ use Rattle.emudb_files.proofs.bundles.add_bundles.Goals as goal
 
 pub names-preserved : goal.names-preserved
 names-preserved g c = record {
-  advances = each_step g.D.Disk.may_leave
+  advances = each_step g.D.Disk.may_leave g.D.Disk.moment g.D.Disk.left_since
       (λ content bundle. bundle_wanted c.args.path.now c.args.session.now content bundle ∷ [])
       (g.F.Folder.content c.args.folder.now) (g.F.Folder.content c.names.folder) c.args.names.now c.names.name-index
       c.as_str.result.now c.args.book.now c.names.book c.add_bundle.new.book c.names-test.true
@@ -20,12 +20,12 @@ names-preserved g c = record {
 
 pub returns-in-Err-clause-goes : goal.returns-in-Err-clause-goes
 returns-in-Err-clause-goes g c =
-    stop_wanted g.D.Disk.may_leave (g.F.Folder.content c.args.folder.now)
+    stop_wanted g.D.Disk.may_leave g.D.Disk.moment g.D.Disk.left_since (g.F.Folder.content c.args.folder.now)
     (λ content. flat_map (λ bundle. bundle_wanted c.args.path.now c.args.session.now content bundle ∷ []) c.args.names.now)
     (λ content. map (bundle_wanted c.args.path.now c.args.session.now content) c.args.names.now)
     c.args.book.now c.in-Err.fault c.add_bundle.new.book
     (λ content known. sym (flat_map_single (bundle_wanted c.args.path.now c.args.session.now content) c.args.names.now))
-    (each_stop g.D.Disk.may_leave
+    (each_stop g.D.Disk.may_leave g.D.Disk.moment g.D.Disk.left_since
     (λ content bundle. bundle_wanted c.args.path.now c.args.session.now content bundle ∷ [])
     (g.F.Folder.content c.args.folder.now) (g.F.Folder.content c.names.folder) c.args.names.now c.names.name-index
     c.as_str.result.now c.args.book.now c.names.book c.in-Err.fault c.add_bundle.new.book c.names-test.true
@@ -34,12 +34,12 @@ returns-in-Err-clause-goes g c =
 
 pub returns-clause-goes : goal.returns-clause-goes
 returns-clause-goes g c =
-    same_wanted g.D.Disk.may_leave (g.F.Folder.content c.args.folder.now)
+    same_wanted g.D.Disk.may_leave g.D.Disk.moment g.D.Disk.left_since (g.F.Folder.content c.args.folder.now)
     (λ content. flat_map (λ bundle. bundle_wanted c.args.path.now c.args.session.now content bundle ∷ []) c.args.names.now)
     (λ content. map (bundle_wanted c.args.path.now c.args.session.now content) c.args.names.now)
     c.args.book.now c.names.book
     (λ content known. sym (flat_map_single (bundle_wanted c.args.path.now c.args.session.now content) c.args.names.now))
-    (each_end g.D.Disk.may_leave
+    (each_end g.D.Disk.may_leave g.D.Disk.moment g.D.Disk.left_since
     (λ content bundle. bundle_wanted c.args.path.now c.args.session.now content bundle ∷ [])
     (g.F.Folder.content c.args.folder.now) c.args.names.now c.names.name-index c.args.book.now c.names.book
     (omega (arith, c.names-test.false, c.names.auto.name-index-end)) c.names.invariant.advances)

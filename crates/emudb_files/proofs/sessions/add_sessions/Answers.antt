@@ -5,7 +5,7 @@ use Rattle.emudb_files.proofs.sessions.add_sessions.Goals as goal
 
 pub names-preserved : goal.names-preserved
 names-preserved g c = record {
-  advances = each_step g.D.Disk.may_leave (session_wanted c.args.path.now)
+  advances = each_step g.D.Disk.may_leave g.D.Disk.moment g.D.Disk.left_since (session_wanted c.args.path.now)
       (g.F.Folder.content c.args.folder.now) (g.F.Folder.content c.names.folder) c.args.names.now c.names.name-index
       c.as_str.result.now c.args.book.now c.names.book c.add_session.new.book c.names-test.true
       (item_is c.as_str.result.now c.name-item.result c.args.names.now c.names.name-index c.as_str.ensures c.name-item.is)
@@ -18,7 +18,7 @@ names-preserved g c = record {
 
 pub returns-in-Err-clause-goes : goal.returns-in-Err-clause-goes
 returns-in-Err-clause-goes g c =
-    each_stop g.D.Disk.may_leave (session_wanted c.args.path.now)
+    each_stop g.D.Disk.may_leave g.D.Disk.moment g.D.Disk.left_since (session_wanted c.args.path.now)
     (g.F.Folder.content c.args.folder.now) (g.F.Folder.content c.names.folder) c.args.names.now c.names.name-index
     c.as_str.result.now c.args.book.now c.names.book c.in-Err.fault c.add_session.new.book c.names-test.true
     (item_is c.as_str.result.now c.name-item.result c.args.names.now c.names.name-index c.as_str.ensures c.name-item.is)
@@ -26,6 +26,6 @@ returns-in-Err-clause-goes g c =
 
 pub returns-clause-goes : goal.returns-clause-goes
 returns-clause-goes g c =
-    each_end g.D.Disk.may_leave (session_wanted c.args.path.now)
+    each_end g.D.Disk.may_leave g.D.Disk.moment g.D.Disk.left_since (session_wanted c.args.path.now)
     (g.F.Folder.content c.args.folder.now) c.args.names.now c.names.name-index c.args.book.now c.names.book
     (omega (arith, c.names-test.false, c.names.auto.name-index-end)) c.names.invariant.advances

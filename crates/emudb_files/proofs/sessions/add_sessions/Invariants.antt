@@ -7,7 +7,7 @@ use Rattle.emudb_files.proofs.sessions.add_sessions.Given as goal
 -- what came so far was accepted
 abbrev pub invariant-names : goal.invariant-names
 invariant-names g l =
-    Going g.D.Disk.may_leave (g.F.Folder.content l.fn.folder) (g.F.Folder.content l.folder)
+    Going g.D.Disk.may_leave g.D.Disk.moment g.D.Disk.left_since (g.F.Folder.content l.fn.folder) (g.F.Folder.content l.folder)
     (λ content. flat_map (session_wanted l.path content) (take l.name-index l.names)) l.fn.book l.book
     (g.F.Folder.faults l.fn.folder) (g.F.Folder.faults l.folder) (g.F.Folder.misses l.fn.folder)
     (g.F.Folder.misses l.folder) (faults_in g.D.Disk.faults l.fn.book.journal)

@@ -5,13 +5,13 @@ use Rattle.script_runs.proofs.EndLemmas.{told_ended, err_fault}
 use Rattle.script_runs.proofs.in_order.run_opened.Goals as goal
 
 pub returns-in-Err-clause-says : goal.returns-in-Err-clause-says
-returns-in-Err-clause-says g c = λ begin disk keeps over.
-    store_unread g.D.Disk.may_leave g.D.Disk.faults g.D.Disk.reads c.args.book.config c.args.book.history begin disk c.args.book.journal c.requires.stored keeps over.begins over.low (subst (λ j. HasDisk j disk) c.into_journal.ensures.journal over.has) (g.S.Source.left c.args.script.now) (g.S.Source.left c.read_front.new.source) (g.S.Source.faults c.args.script.now) (g.S.Source.faults c.read_front.new.source) (g.P.PatternMaker.refusals c.args.patterns.now) c.in-Err.fault c.unread.result (g.K.Sink.written c.args.out.now) (g.K.Sink.faults c.args.out.now) c.unread.ensures (λ e. c.in-Err.ensures.failed (ap err_fault e))
+returns-in-Err-clause-says g c = λ begin disk keeps over since.
+    store_unread g.D.Disk c.args.book.config c.args.book.history begin disk c.args.book.journal c.requires.stored keeps over.begins over.low since (subst (λ j. HasDisk j disk) c.into_journal.ensures.journal over.has) (g.S.Source.left c.args.script.now) (g.S.Source.left c.read_front.new.source) (g.S.Source.faults c.args.script.now) (g.S.Source.faults c.read_front.new.source) (g.P.PatternMaker.refusals c.args.patterns.now) c.in-Err.fault c.unread.result (g.K.Sink.written c.args.out.now) (g.K.Sink.faults c.args.out.now) c.unread.ensures (λ e. c.in-Err.ensures.failed (ap err_fault e))
 
 pub returns-in-Ok-clause-says : goal.returns-in-Ok-clause-says
-returns-in-Ok-clause-says g c = λ begin disk keeps over.
-    store_says g.D.Disk.may_leave g.D.Disk.faults g.D.Disk.reads c.args.book.config c.args.book.history begin disk c.args.book.journal c.requires.stored keeps over.begins over.low c.run_over-ended.result.journal over.has c.run_over-ended.ensures.stored (g.S.Source.left c.args.script.now) (g.S.Source.left c.read_front.new.source) (g.S.Source.faults c.args.script.now) (g.S.Source.faults c.read_front.new.source) (g.P.PatternMaker.refusals c.args.patterns.now) (g.P.PatternMaker.refusals c.run_over-ended.new.patterns) c.in-Ok.front.past c.in-Ok.front.bytes.items c.in-Ok.ensures.front c.in-Ok.ensures.taken c.run_over-ended.result.ended c.close_run.result (g.K.Sink.written c.args.out.now) (g.K.Sink.written c.run_over-ended.new.out) (g.K.Sink.written c.close_run.new.out) (g.K.Sink.faults c.args.out.now) (g.K.Sink.faults c.run_over-ended.new.out) (g.K.Sink.faults c.close_run.new.out)
-    (λ b l k. rw c.as_slice-bytes.ensures.value at c.run_over-ended.ensures.ran b l k) c.run_over-ended.ensures.cause c.run_over-ended.ensures.later c.close_run.ensures.later c.close_run.ensures.closes
+returns-in-Ok-clause-says g c = λ begin disk keeps over since.
+    store_says g.D.Disk c.args.book.config c.args.book.history begin disk c.args.book.journal c.requires.stored keeps over.begins over.low since c.run_over-ended.result.journal over.has c.run_over-ended.ensures.stored (g.S.Source.left c.args.script.now) (g.S.Source.left c.read_front.new.source) (g.S.Source.faults c.args.script.now) (g.S.Source.faults c.read_front.new.source) (g.P.PatternMaker.refusals c.args.patterns.now) (g.P.PatternMaker.refusals c.run_over-ended.new.patterns) c.in-Ok.front.past c.in-Ok.front.bytes.items c.in-Ok.ensures.front c.in-Ok.ensures.taken c.run_over-ended.result.ended c.close_run.result (g.K.Sink.written c.args.out.now) (g.K.Sink.written c.run_over-ended.new.out) (g.K.Sink.written c.close_run.new.out) (g.K.Sink.faults c.args.out.now) (g.K.Sink.faults c.run_over-ended.new.out) (g.K.Sink.faults c.close_run.new.out)
+    (λ b l s k. rw c.as_slice-bytes.ensures.value at c.run_over-ended.ensures.ran b l s k) c.run_over-ended.ensures.cause c.run_over-ended.ensures.later c.close_run.ensures.later c.close_run.ensures.closes
 
 pub close_run-requires : goal.close_run-requires
 close_run-requires g c = told_ended c.run_over-ended.result.ended _ _ c.run_over-ended.ensures.cause

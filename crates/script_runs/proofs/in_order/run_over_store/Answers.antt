@@ -1,30 +1,30 @@
 use Rattle.std.proofs.Common.{true, sym, subst}
 use Rattle.script_runs.specs.Told.{SaysBy}
-use Rattle.script_runs.proofs.OpenLemmas.{some_opened, some_begins, none_opened, none_begins}
+use Rattle.script_runs.proofs.OpenLemmas.{some_opened, some_begins, some_since, none_opened, none_begins, none_since}
 use Rattle.script_runs.proofs.in_order.run_over_store.Goals as goal
 
-pub returns-in-None : goal.returns-in-None
-returns-in-None g c = record {
-  says = λ begin opened low.
-      let o = none_opened g.D.Disk.may_leave (g.D.Disk.reads begin) 1 c.args.opened.passes c.args.opened.book c.args.opened.journal c.in-None.is opened in
-      subst (λ st. SaysBy g.S.Source g.K.Sink g.D.Disk g.P.PatternMaker true c.args.script.now c.run_fresh.new.script c.args.out.now c.run_fresh.new.out begin c.give_back-in-None.result.disk c.args.patterns.now c.run_fresh.new.patterns st) (sym c.give_back-in-None.ensures.status)
-      (c.run_fresh.ensures.says true begin c.give_back-in-None.result.disk (record {
+pub returns-in-Bare : goal.returns-in-Bare
+returns-in-Bare g c = record {
+  says = λ begin opened low leaves.
+      let o = none_opened g.D.Disk.may_leave (g.D.Disk.reads begin) 1 c.args.opened c.in-Bare.journal c.in-Bare.is opened in
+      subst (λ st. SaysBy g.S.Source g.K.Sink g.D.Disk g.P.PatternMaker true c.args.script.now c.run_fresh.new.script c.args.out.now c.run_fresh.new.out begin c.give_back-in-Bare.result.disk c.args.patterns.now c.run_fresh.new.patterns st) (sym c.give_back-in-Bare.ensures.status)
+      (c.run_fresh.ensures.says true begin c.give_back-in-Bare.result.disk (record {
         stored = o.stored;
         begins = o.begins;
-        low = none_begins g.D.Disk.faults c.args.opened.book c.args.opened.journal begin c.in-None.is low;
-        has = c.give_back-in-None.ensures.disk;
-      }));
+        low = none_begins g.D.Disk.faults c.args.opened c.in-Bare.journal begin c.in-Bare.is low;
+        has = c.give_back-in-Bare.ensures.disk;
+      }) (none_since g.D.Disk c.args.opened c.in-Bare.journal begin (g.D.Disk.may_leave begin) c.in-Bare.is leaves));
 }
 
-pub returns-in-None-journal : goal.returns-in-None-journal
-returns-in-None-journal g c = record {
-  says = λ begin opened low.
-      let o = some_opened g.D.Disk.may_leave (g.D.Disk.reads begin) 1 c.args.opened.passes c.args.opened.book c.args.opened.journal c.in-Some.book c.in-Some.is opened in
+pub returns-in-Stored : goal.returns-in-Stored
+returns-in-Stored g c = record {
+  says = λ begin opened low leaves.
+      let o = some_opened g.D.Disk.may_leave (g.D.Disk.reads begin) 1 c.args.opened c.in-Stored.book c.in-Stored.passes c.in-Stored.is opened in
       subst (λ st. SaysBy g.S.Source g.K.Sink g.D.Disk g.P.PatternMaker true c.args.script.now c.run_opened.new.script c.args.out.now c.run_opened.new.out begin c.give_back.result.disk c.args.patterns.now c.run_opened.new.patterns st) (sym c.give_back.ensures.status)
       (c.run_opened.ensures.says begin c.give_back.result.disk o.keeps (record {
         stored = o.stored;
         begins = o.begins;
-        low = some_begins g.D.Disk.faults c.args.opened.book c.args.opened.journal c.in-Some.book begin c.in-Some.is low;
+        low = some_begins g.D.Disk.faults c.args.opened c.in-Stored.book c.in-Stored.passes begin c.in-Stored.is low;
         has = c.give_back.ensures.disk;
-      }));
+      }) (some_since g.D.Disk c.args.opened c.in-Stored.book c.in-Stored.passes begin (g.D.Disk.may_leave begin) c.in-Stored.is leaves));
 }
