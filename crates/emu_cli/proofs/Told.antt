@@ -1,5 +1,5 @@
 -- What a command that reads a book tells of its version, told of its history.
-use Rattle.std.proofs.Common.{◌≡◌, ◌⊎◌, inl, inr, ℕ, List, length, take, Option, Result, Ok, Err, refl, sym, ◌∙◌, ap, subst}
+use Rattle.std.proofs.Common.{◌≡◌, ◌⊎◌, inl, inr, ℕ, List, length, take, Option, None, Result, Ok, Err, refl, sym, ◌∙◌, ap, subst}
 use Rattle.std.proofs.Math.Seq.{take-length}
 use Rattle.db_config.specs.declared.parts.ConfigParts.{ConfigParts}
 use Rattle.edit_rules.specs.declared.edit.Entry.{Entry}
@@ -29,8 +29,8 @@ module _ (config : ConfigParts) (history : List Entry) (version : VersionParts) 
 
   answered_same : (time : Option (List ℕ)) (query : Made) → answered version query time ≡ answered_after config history time query
   answered_same time query =
-      ap (λ n. asked_text n (answer_over (state_of version) (record { prepared = query; time = time }))) is.number
-      ∙ ap (λ (d : DatabaseParts). asked_text (length history) (answer_over d (record { prepared = query; time = time })))
+      ap (λ n. asked_text n (answer_over (state_of version) (record { prepared = query; time = time; requery = None }))) is.number
+      ∙ ap (λ (d : DatabaseParts). asked_text (length history) (answer_over d (record { prepared = query; time = time; requery = None })))
       (sym database_is ∙ ap (λ (h : List Entry). database_after config h) (sym (take-length history)))
 
   asked_as : (made : Result (List ℕ) CommandFault) (eql : List ℕ) (time : Option (List ℕ)) (refused : Refusals) → TellsMade made eql time version refused.before refused.after → IsOutOfMemory refused made ⊎ IsAsked refused eql time config history made

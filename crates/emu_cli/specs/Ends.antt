@@ -90,7 +90,7 @@ reads_book command = false
 -- where one is given
 abbrev pub answered_after : ConfigParts → List Entry → Option (List ℕ) → Made → Result (List ℕ) Refused
 answered_after config history time query =
-    asked_text (length history) (answer_at config history (length history) (record { prepared = query; time = time }))
+    asked_text (length history) (answer_at config history (length history) (record { prepared = query; time = time; requery = None }))
 
 -- the answer to a query goes with what the maker of patterns made of its text
 pub record IsAsked (refused : Refusals) (eql : List ℕ) (time : Option (List ℕ)) (config : ConfigParts)

@@ -9,6 +9,10 @@ use Rattle.eql_resolve.specs.Asked.{AskedParts}
 use Rattle.eql_resolve.specs.Prepared.{PreparedParts}
 use Rattle.eql_resolve.specs.Resolve.{asked}
 use Rattle.eql_model.specs.declared.row.Row.{Row}
+use Rattle.requery.specs.declared.target.Requery.{Requery}
+use Rattle.requery.specs.Target.{ReachedParts}
+use Rattle.requery.specs.Asks.{reached}
+use Rattle.requery.specs.Carried.{carried_list}
 use Rattle.eql_model.specs.Rows.{segment_list, any_has_too_many}
 use Rattle.session_core.specs.declared.line.Answer.{Answer}
 use Rattle.session_core.specs.declared.line.Answer.TheVariants.{Done, Refused}
@@ -19,7 +23,7 @@ use Rattle.session_core.specs.declared.line.Reply.{Reply}
 use Rattle.session_core.specs.declared.line.Request.{Request}
 use Rattle.session_core.specs.declared.line.Request.TheVariants as requests
 use Rattle.session_core.specs.declared.slots.Held.{Held}
-use Rattle.session_core.specs.Answers.{answer_over, grid_answer, grid_number, listed_answer, memory, prepare_answer, prepared_answer, reply_to, resolved_answer}
+use Rattle.session_core.specs.Answers.{answer_over, asked_answer, grid_answer, grid_number, listed_answer, memory, prepare_answer, prepared_answer, reached_answer, reply_to, resolved_answer}
 use Rattle.session_core.specs.Inner.Kept.{held_answer, look_answer, look_closed}
 use Rattle.session_core.specs.Legal.{accepting, is_disk}
 use Rattle.session_core.specs.Queries.{is_memory_of, lacks_memory}
@@ -77,16 +81,27 @@ resolved_calm database (Err fault) = refl
 resolved_calm database (Ok a) =
     listed_calm (segment_list database.config database.bundles a) (any_has_too_many database.config database.bundles a)
 
+reached_calm : (database : DatabaseParts) (r : Result ReachedParts AskFault) → is_disk (reached_answer database r) ≡ false
+reached_calm database (Err fault) = refl
+reached_calm database (Ok r) =
+    listed_calm (carried_list database.config database.bundles r) (any_has_too_many database.config database.bundles r.asked)
+
+asked_calm : (database : DatabaseParts) (prepared : PreparedParts) (time : Option (List ℕ)) (requery : Option Requery) →
+    is_disk (asked_answer database prepared time requery) ≡ false
+asked_calm database prepared time None = resolved_calm database (asked database.config prepared.query time)
+asked_calm database prepared time (Some requery) = reached_calm database (reached database.config prepared.query requery time)
+
 prepare_calm : (fault : PrepareFault) (b : Bool) → is_disk (prepare_answer fault b) ≡ false
 prepare_calm fault true = refl
 prepare_calm fault false = refl
 
-prepared_calm : (database : DatabaseParts) (r : Result PreparedParts PrepareFault) (time : Option (List ℕ)) → is_disk (prepared_answer database r time) ≡ false
-prepared_calm database (Err fault) time = prepare_calm fault (is_memory_of fault)
-prepared_calm database (Ok prepared) time = resolved_calm database (asked database.config prepared.query time)
+prepared_calm : (database : DatabaseParts) (r : Result PreparedParts PrepareFault) (time : Option (List ℕ)) (requery : Option Requery) →
+    is_disk (prepared_answer database r time requery) ≡ false
+prepared_calm database (Err fault) time requery = prepare_calm fault (is_memory_of fault)
+prepared_calm database (Ok prepared) time requery = asked_calm database prepared time requery
 
 answer_calm : (database : DatabaseParts) (ask : Ask) → is_disk (answer_over database ask) ≡ false
-answer_calm database ask = prepared_calm database ask.prepared ask.time
+answer_calm database ask = prepared_calm database ask.prepared ask.time ask.requery
 
 -- Each kind of reply.
 

@@ -2,7 +2,10 @@
 #![tactic(auto)]
 
 mod answers;
+mod carried;
+mod question;
 mod walk;
 
 pub use answers::answer_over;
-pub use walk::answer;
+pub use carried::reach;
+pub use walk::{answer, answer_requery};

@@ -38,6 +38,7 @@ use Rattle.script_lines.specs.Faults.{form, config_form}
 use Rattle.script_lines.specs.Forms.{session_at, session_in, if_session, key_at, id_at, position_at, rate_at, time_at}
 use Rattle.script_lines.specs.Edits.{asks, grid_edit, grid_annot, bundle_request, textgrid_request, drop_request, item_request, remove_request, label_request, segment_request, boundary_request, point_request, split_request, merge_request, link_request, unlink_request}
 use Rattle.script_lines.specs.Values.{is_blank, json_of, word_of_line}
+use Rattle.script_lines.specs.Requeries.{requery_at}
 use Rattle.script_lines.specs.Questions.{Question, question_at, question_command, time_name_at}
 use Rattle.eql_resolve.specs.Made.{Made}
 use Rattle.script_lines.specs.Lines.{request_of, blank_line, json_line, value_line, told_line, asking_line, question_request, placed_line, config_line, line_in, if_command, command_named, members_of, after_request, if_earlier}
@@ -340,7 +341,8 @@ question_place s q h =
     let session : _ = taken (session_at s) _ q h in
     let eql : _ = taken (text_member (codes "eql") s) _ q session.rest_is in
     let time : _ = taken (time_name_at s) _ q eql.rest_is in
-    subst (λ (x : Question). x.session.0 < session_places) (question_is time.rest_is)
+    let requery : _ = taken (requery_at s) _ q time.rest_is in
+    subst (λ (x : Question). x.session.0 < session_places) (question_is requery.rest_is)
     (session_place s session.value session.first_is)
 
 -- a question's command brings the request
@@ -354,7 +356,7 @@ word_asks false false earlier command h = absurd (cc)
 
 asked_known : (number : ℕ) (earlier : List ℕ) (command : Command) (made : Made) (question : Result Question Shape) (read : ReadLine) → Asks command earlier → ((q : Question) → question ≡ Ok q → q.session.0 < session_places) → asking_line false number command made question ≡ Ok read → Known number false earlier read
 asked_known number earlier command made (Ok q) read asks place h =
-    let ours : IsRequestOf command earlier (question_request command (record { prepared = made; time = q.time })) = asks _ in
+    let ours : IsRequestOf command earlier (question_request command (record { prepared = made; time = q.time; requery = q.requery })) = asks _ in
     subst (λ r. Known number false earlier r) (read_is h) (record { number = refl; place = place q refl; command = ours.command; names = ours.names })
 asked_known number earlier command made (Err fault) read asks place h = absurd (cc)
 

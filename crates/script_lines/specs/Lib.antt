@@ -2,6 +2,7 @@ pub mod Faults
 pub mod Forms
 pub mod Edits
 pub mod Values
+pub mod Requeries
 pub mod Questions
 pub mod Made
 pub mod Lines

@@ -117,7 +117,7 @@ question_line number command made q = reads.Request (record {
   line = number;
   session = q.session;
   command = command;
-  request = question_request command (record { prepared = made; time = q.time });
+  request = question_request command (record { prepared = made; time = q.time; requery = q.requery });
 })
 
 -- a question, where the configuration does not have to stand

@@ -9,7 +9,9 @@ use Rattle.config_json.specs.Forms.{text_member}
 use Rattle.emu_names.specs.Texts.{same_text}
 use Rattle.session_core.specs.declared.line.Command.{Command}
 use Rattle.session_core.specs.declared.line.Command.TheVariants as commands
+use Rattle.requery.specs.declared.target.Requery.{Requery}
 use Rattle.script_lines.specs.Forms.{session_at}
+use Rattle.script_lines.specs.Requeries.{requery_at}
 
 -- the command of a question's word
 abbrev pub question_command : List ℕ → Option Command
@@ -18,11 +20,13 @@ question_command word =
     else if same_text word (codes "look") then Some commands.Look
     else None
 
--- the session that asks, the text of the query, and the name of the level of the times where it is given
+-- the session that asks, the text of the query, the name of the level of the times where it is given, and
+-- where the results are carried, where they are
 pub record Question : Type 0 where
   pub session : SessionNo
   pub eql : List ℕ
   pub time : Option (List ℕ)
+  pub requery : Option Requery
 
 -- the name of the level of the times, which may be missing
 unfoldable pub time_name_at : Seen → Result (Option (List ℕ)) Shape
@@ -34,4 +38,5 @@ question_at s = do
   session ← session_at s
   eql ← text_member (codes "eql") s
   time ← time_name_at s
-  Ok (record { session = session; eql = eql; time = time })
+  requery ← requery_at s
+  Ok (record { session = session; eql = eql; time = time; requery = requery })

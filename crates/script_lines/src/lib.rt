@@ -16,6 +16,7 @@ mod questions;
 mod read;
 mod refusals;
 mod replies;
+mod requeries;
 mod requests;
 
 pub use faults::{LineFault, ReadLine};

@@ -11,10 +11,12 @@ ghost use Rattle.script_lines.specs.Questions.{question_command, question_at, ti
 use crate::faults::{LineFault, ReadLine};
 use crate::forms::{owned, session_at, text_member};
 use crate::place::Place;
+use crate::requeries::requery_at;
 use emu_names::{SessionNo, Text};
 use eql_resolve::made_of;
 use json_view::{View, ViewFault};
 use label_match::PatternMaker;
+use requery::Requery;
 use session_core::{Ask, Command, Line, Request};
 use std::alloc::Global;
 
@@ -26,6 +28,8 @@ struct Question {
     eql: Text,
     // The name of the level of the times, where it is given.
     time: Option<Text>,
+    // Where the results are carried, where they are.
+    requery: Option<Requery>,
 }
 
 /// The command of a question's word.
@@ -53,13 +57,23 @@ fn time_name_at(alloc: Global, view: &View) -> Result<Option<Text>, ViewFault>
 // The members of a question.
 #[tactic(auto, unfolding(crate::specs::Questions::question_at))]
 fn question_at(alloc: Global, view: &View) -> Result<Question, ViewFault>
-    ensures { Gives (λ q. record { session = q.session; eql = q.eql; time = q.time }) result
-        (question_at (seen_at view.now)) }
+    ensures { Gives (λ q. record {
+      session = q.session;
+      eql = q.eql;
+      time = q.time;
+      requery = q.requery;
+    }) result (question_at (seen_at view.now)) }
 {
     let session = session_at(view)?;
     let eql = text_member(alloc, view, "eql")?;
     let time = time_name_at(alloc, view)?;
-    Ok(Question { session, eql, time })
+    let requery = requery_at(alloc, view)?;
+    Ok(Question {
+        session,
+        eql,
+        time,
+        requery,
+    })
 }
 
 // What a question asks for.
@@ -82,7 +96,12 @@ fn asked_line<P: PatternMaker>(
 ) -> Result<ReadLine, LineFault>
     ensures { ReadsMade result (Some question.eql) (λ made. asking_line place.now.wants_config
         place.now.number command made
-        (Ok (record { session = question.session; eql = question.eql; time = question.time })))
+        (Ok (record {
+          session = question.session;
+          eql = question.eql;
+          time = question.time;
+          requery = question.requery;
+        })))
         (P.refusals maker.old) (P.refusals maker.new) }
 {
     let Ok(prepared) = made_of(alloc, maker, question.eql.as_str()) else {
@@ -94,6 +113,7 @@ fn asked_line<P: PatternMaker>(
     let ask = Ask {
         prepared,
         time: question.time,
+        requery: question.requery,
     };
     Ok(ReadLine::Request(Line {
         line: place.number,

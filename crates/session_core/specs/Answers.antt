@@ -14,6 +14,10 @@ use Rattle.eql_resolve.specs.Asked.{AskedParts}
 use Rattle.eql_resolve.specs.Resolve.{asked}
 use Rattle.eql_model.specs.declared.row.Row.{Row}
 use Rattle.eql_model.specs.Rows.{segment_list, any_has_too_many}
+use Rattle.requery.specs.declared.target.Requery.{Requery}
+use Rattle.requery.specs.Target.{ReachedParts}
+use Rattle.requery.specs.Asks.{reached}
+use Rattle.requery.specs.Carried.{carried_list}
 use Rattle.session_core.specs.declared.line.Ask.{Ask}
 use Rattle.session_core.specs.declared.line.Answer.{Answer}
 use Rattle.session_core.specs.declared.line.Answer.TheVariants.{Segments, Refused}
@@ -47,16 +51,29 @@ resolved_answer database (Ok a) =
     listed_answer (segment_list database.config database.bundles a)
     (any_has_too_many database.config database.bundles a)
 
--- what was prepared, and the name of the level of the times where it is given
-abbrev pub prepared_answer : DatabaseParts → Result PreparedParts PrepareFault → Option (List ℕ) → Answer
-prepared_answer database (Err fault) time = prepare_answer fault (is_memory_of fault)
-prepared_answer database (Ok prepared) time =
-    resolved_answer database (asked database.config prepared.query time)
+-- the same of a query whose results are carried: the rows are those of what the results reach
+abbrev pub reached_answer : DatabaseParts → Result ReachedParts AskFault → Answer
+reached_answer database (Err fault) = Refused (refusals.Resolve fault)
+reached_answer database (Ok r) =
+    listed_answer (carried_list database.config database.bundles r)
+    (any_has_too_many database.config database.bundles r.asked)
+
+-- what a text was prepared to, with the name of the level of the times where it is given, and with its
+-- requery where its results are carried
+abbrev pub asked_answer : DatabaseParts → PreparedParts → Option (List ℕ) → Option Requery → Answer
+asked_answer database prepared time None = resolved_answer database (asked database.config prepared.query time)
+asked_answer database prepared time (Some requery) =
+    reached_answer database (reached database.config prepared.query requery time)
+
+-- the same, or the fault of the text or of its patterns
+abbrev pub prepared_answer : DatabaseParts → Result PreparedParts PrepareFault → Option (List ℕ) → Option Requery → Answer
+prepared_answer database (Err fault) time requery = prepare_answer fault (is_memory_of fault)
+prepared_answer database (Ok prepared) time requery = asked_answer database prepared time requery
 
 -- The answer to a query over a database is the first of these: the fault of its text or of its patterns,
 -- the fault of its names and levels, that it has too many tuples in some bundle, its segment list.
 abbrev pub answer_over : DatabaseParts → Ask → Answer
-answer_over database ask = prepared_answer database ask.prepared ask.time
+answer_over database ask = prepared_answer database ask.prepared ask.time ask.requery
 
 -- the answer to a query over the state after the first n entries
 abbrev pub answer_at : ConfigParts → List Entry → ℕ → Ask → Answer

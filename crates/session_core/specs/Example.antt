@@ -91,6 +91,7 @@ example_ask = record {
     patterns = [];
   });
   time = None;
+  requery = None;
 }
 
 -- line 3 asks for m

@@ -3,6 +3,7 @@ use edit_rules::Edit;
 use emu_names::{Broken, Series, SessionNo, Text};
 use eql_model::SegmentList;
 use eql_resolve::{AskFault, PrepareFault, Prepared};
+use requery::Requery;
 use textgrid::GridFault;
 
 /// The commands of a script.
@@ -46,13 +47,15 @@ pub enum Command {
     After,
 }
 
-/// A query, and the level of its times.
+/// A query, the level of its times, and where its results are carried.
 #[derive(Drop)]
 pub struct Ask {
     /// The query of the text with its patterns compiled, or the fault of the text or of its patterns.
     pub prepared: Result<Prepared, PrepareFault>,
     /// The name of the SEGMENT level on which items without times have their times, where it is given.
     pub time: Option<Text>,
+    /// Where its results are carried, where they are: the rows are then those of what they reach.
+    pub requery: Option<Requery>,
 }
 
 /// What a line asks for.

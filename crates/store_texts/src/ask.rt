@@ -1,8 +1,10 @@
 //! The answer to a query over a store.
 ghost use Rattle.std.specs.Prelude.{◌≡◌, ◌≤◌, IfOk};
 ghost use Rattle.std.specs.Option.{option_copied};
+ghost use Rattle.session_core.specs.Answers.{answer_over};
+ghost use Rattle.version_tree.specs.Version.{state_of};
 ghost use Rattle.store_texts.specs.Asked.{asked_text};
-ghost use Rattle.store_texts.specs.Inner.Asked.{TellsAsked, answered};
+ghost use Rattle.store_texts.specs.Inner.Asked.{TellsAsked};
 ghost use Rattle.store_texts.specs.Commands.{Tells};
 
 use crate::faults::{CommandFault, Refused};
@@ -51,7 +53,7 @@ fn made_text<R: Threads + Sync, G: Gate + Sync>(
     gate: &G,
 ) -> Result<Text, CommandFault>
     requires workers { (1 ≤ workers) × (workers ≤ 8) }
-    ensures { Tells result (answered version.now ask.now.prepared ask.now.time) }
+    ensures { Tells result (asked_text version.now.number (answer_over (state_of version.now) ask.now)) }
 {
     match answer_over(rt, alloc, version, ask, workers, NO_LINE, gate) {
         Ok(answer) => told(alloc, version.number(), answer),
@@ -86,6 +88,10 @@ pub fn ask_text<R: Threads + Sync, P: PatternMaker, G: Gate + Sync>(
     let Ok(prepared) = made_of(alloc, patterns, eql) else {
         return Err(CommandFault::Memory);
     };
-    let ask = Ask { prepared, time };
+    let ask = Ask {
+        prepared,
+        time,
+        requery: None,
+    };
     made_text(rt, alloc, version, &ask, workers, gate)
 }

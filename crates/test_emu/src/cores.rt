@@ -20,6 +20,7 @@ fn query(alloc: Global) -> Request {
     Request::Query(Ask {
         prepared,
         time: None,
+        requery: None,
     })
 }
 

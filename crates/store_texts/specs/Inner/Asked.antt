@@ -1,5 +1,5 @@
 -- What a query of a version is answered.
-use Rattle.std.specs.Prelude.{◌≤◌, ℕ, List, Option, Result, Err}
+use Rattle.std.specs.Prelude.{◌≤◌, ℕ, List, Option, None, Result, Err}
 use Rattle.emu_names.specs.Count.{RoseBy}
 use Rattle.eql_resolve.specs.Made.{Made, IsMade, times_too_large}
 use Rattle.version_tree.specs.Version.{VersionParts, state_of}
@@ -14,7 +14,7 @@ use Rattle.store_texts.specs.Asked.{asked_text}
 -- one is given
 abbrev pub answered : VersionParts → Made → Option (List ℕ) → Result (List ℕ) Refused
 answered version made time =
-    asked_text version.number (answer_over (state_of version) (record { prepared = made; time = time }))
+    asked_text version.number (answer_over (state_of version) (record { prepared = made; time = time; requery = None }))
 
 -- an answer goes with what a maker of patterns made of the text, whose refusals were and are so many
 pub record TellsMade (result : Result (List ℕ) CommandFault) (text : List ℕ) (time : Option (List ℕ))

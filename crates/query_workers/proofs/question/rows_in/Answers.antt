@@ -1,6 +1,6 @@
 use Rattle.std.proofs.Common.{rules}
 use Rattle.eql_model.proofs.Shown.{answer_there}
-use Rattle.query_workers.proofs.walk.rows_in.Goals as goal
+use Rattle.query_workers.proofs.question.rows_in.Goals as goal
 
 pub rows_of-requires-clause-spans : goal.rows_of-requires-clause-spans
 rows_of-requires-clause-spans c =

@@ -1,0 +1,8 @@
+pub mod Members
+pub mod Unions
+mod RowEnds
+mod Kin
+pub mod KinFound
+pub mod Levels
+pub mod Lists
+mod Checkable

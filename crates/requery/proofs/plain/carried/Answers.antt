@@ -1,0 +1,21 @@
+use Rattle.std.proofs.Common.{rules}
+use Rattle.std.specs.List.{filter_map}
+use Rattle.eql_resolve.specs.Asked.{result_level}
+use Rattle.requery.specs.Target.{level_reached}
+use Rattle.requery.specs.Reach.{reach}
+use Rattle.requery.proofs.Levels.{reached_within}
+use Rattle.requery.proofs.Lists.{reached_there, there_same}
+use Rattle.requery.proofs.plain.carried.Goals as goal
+
+pub rows_at-requires-clause-level : goal.rows_at-requires-clause-level
+rows_at-requires-clause-level c =
+    rw c.level-level.ensures
+    (reached_within c.args.config.now c.args.reached.now.asked c.args.reached.now.target c.requires.resolved.asked c.requires.resolved.target)
+
+pub rows_at-requires-clause-spans : goal.rows_at-requires-clause-spans
+rows_at-requires-clause-spans c =
+    let level = result_level c.args.reached.now.asked.query in
+    there_same c.args.config.now c.args.bundle.now (level_reached level c.args.reached.now.target) c.level-level.result
+    (filter_map (reach c.args.bundle.now c.args.reached.now.target) c.args.spans.now) c.as_slice.result.now
+    (search (rules, c.as_slice.ensures, c.made.view_is, c.in_ok-made.ensures)) c.level-level.ensures
+    (reached_there c.args.config.now c.args.bundle.now level c.args.reached.now.target c.args.spans.now c.requires.resolved.target c.requires.spans)

@@ -1,0 +1,6 @@
+pub mod Target
+pub mod Asks
+pub mod Reach
+pub mod Carried
+pub mod Laws
+pub mod Inner
