@@ -2,9 +2,13 @@
 #![tactic(auto)]
 
 #[cfg(test)]
+mod commands;
+#[cfg(test)]
 mod cores;
 #[cfg(test)]
 mod counts;
+#[cfg(test)]
+mod databases;
 #[cfg(test)]
 mod limits;
 #[cfg(test)]
