@@ -137,7 +137,9 @@ run_not_stored (forms.Ask eql time) store e is = no_flag store e
 run_not_stored (forms.Load name) store e is = no_flag store e
 run_not_stored (forms.Import session bundle rate file) store e is = no_flag store e
 run_not_stored (forms.Export session bundle) store e is = no_flag store e
+run_not_stored (forms.TextGrid session bundle) store e is = no_flag store e
 run_not_stored forms.History store e is = no_flag store e
+run_not_stored forms.Config store e is = no_flag store e
 run_not_stored (forms.Work number bundles) store e is = not_both false is refl
 
 live_not_stored : (asked : Words) (store : Bool) → live_asked asked ≡ Some store → is_of_store asked ≡ true → ⊥
@@ -147,7 +149,9 @@ live_not_stored (forms.Ask eql time) store e is = no_flag store e
 live_not_stored (forms.Load name) store e is = no_flag store e
 live_not_stored (forms.Import session bundle rate file) store e is = no_flag store e
 live_not_stored (forms.Export session bundle) store e is = no_flag store e
+live_not_stored (forms.TextGrid session bundle) store e is = no_flag store e
 live_not_stored forms.History store e is = no_flag store e
+live_not_stored forms.Config store e is = no_flag store e
 live_not_stored (forms.Work number bundles) store e is = not_both false is refl
 
 pub runs_no_store : (words : List (List ℕ)) (asked : Words) (store : Bool) → words_of words ≡ Some asked → run_asked asked ≡ Some store → AsksForStore words → ⊥

@@ -21,7 +21,7 @@ returns-in-Stored g c = record {
   says = λ begin opened low.
       let o = some_opened g.D.Disk.may_leave (g.D.Disk.reads begin) c.args.spread.readers c.args.opened c.in-Stored.book c.in-Stored.passes c.in-Stored.is opened in
       subst (λ st. SaysLiveBy g.S.Source g.K.Sink g.D.Disk g.P.PatternMaker true c.args.script.now c.live_opened.new.script c.args.out.now c.live_opened.new.out begin c.give_back.result.disk c.args.patterns.now c.live_opened.new.patterns st) (sym c.give_back.ensures.status)
-      (c.live_opened.ensures.says begin c.give_back.result.disk o.keeps (record {
+      (c.live_opened.ensures.says begin c.give_back.result.disk (record {
         stored = o.stored;
         begins = o.begins;
         low = some_begins g.D.Disk.faults c.args.opened c.in-Stored.book c.in-Stored.passes begin c.in-Stored.is low;
