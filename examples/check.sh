@@ -118,6 +118,8 @@ wide() {
 }
 same "make-wide.sh 1000 1000" "$(wide 1000)" "1000 1000 1000"
 same "make-wide.sh 1001 1000" "$(wide 1001)" "TooManyTuples 1000 1001"
+# A word that is no text asks for nothing.
+same "a word that is no text" "$("$binary" ask $'\xff' </dev/null | tr -d '\n'; echo "${PIPESTATUS[0]}")" '{"cause":"Usage","status":2}2'
 # A history of 100,000 edits takes none more, of an item that is there or of one that is not: its last three replies.
 same "make-history.sh" "$(sh ./make-history.sh 99999 | "$binary" run | tail -n 3 | paste -s -d ' ')" \
     '{"line":100001,"n":100000,"ok":"set_label"} {"line":100002,"n":100000,"refused":{"rule":"HistoryFull"}} {"line":100003,"n":100000,"refused":{"rule":"HistoryFull"}}'

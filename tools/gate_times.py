@@ -3,9 +3,9 @@
 
     tools/gate_times.py                 runs rt ci, and prints the table when it ends
     tools/gate_times.py COMMAND WORD..  the same of another command
-    tools/gate_times.py --watch         runs nothing, and prints the table again every minute until it is interrupted
+    tools/gate_times.py --watch         runs nothing, and prints the table of every `rt ci` again each minute until it is interrupted
 
-A row has the seconds for the library, for its tests, for its edits with their ground, and for what the compilers took.
+A row has the seconds for the library or program, for its tests, and for its edits with their ground.
 Read once a second from /proc, so a check that ends within a second may be missed.
 """
 import collections
@@ -14,7 +14,7 @@ import subprocess
 import sys
 import time
 
-KINDS = ("library", "tests", "edits", "builds")
+KINDS = ("library", "tests", "edits")
 TICKS = os.sysconf("SC_CLK_TCK")
 
 
@@ -34,40 +34,55 @@ def kind_of(process, words):
         folder = ""
     if os.path.basename(folder).startswith("rt-edit"):
         return "edits"
-    if len(words) > 1 and words[1] != "check":
-        return "builds"
     return "tests" if "--test" in words else "library"
 
 
-def seconds_of(process):
-    """Its own processor seconds and those of its children that have ended."""
+def fields_of(process):
+    """The numbers of /proc/PROCESS/stat from the state on, where the process is still there."""
     try:
         with open(f"/proc/{process}/stat", encoding="ascii", errors="replace") as file:
-            fields = file.read().rpartition(")")[2].split()
+            return file.read().rpartition(")")[2].split()
     except OSError:
-        return 0.0
-    return sum(int(it) for it in fields[11:15]) / TICKS
+        return None
+
+
+def is_gate(words):
+    """Whether these are the words of an `rt ci`."""
+    names = [os.path.basename(word) for word in words[:3]]
+    return any(one == "rt" and other == "ci" for one, other in zip(names, names[1:]))
 
 
 class Times:
-    """The seconds of each process of the prover that was seen, with its crate and kind."""
+    """The seconds of each process of the prover that was seen below a command, or below any `rt ci`, with its crate and kind."""
 
-    def __init__(self):
-        self.known, self.seconds = {}, {}
+    def __init__(self, root=None):
+        self.root, self.known, self.seconds = root, {}, {}
+
+    def is_below(self, process, parents):
+        while process in parents:
+            if process == self.root or (self.root is None and is_gate(words_of(process))):
+                return True
+            process = parents[process]
+        return False
 
     def look(self):
-        for process in filter(str.isdigit, os.listdir("/proc")):
-            words = words_of(process)
-            if words and os.path.basename(words[0]) == "rattle" and "--crate-name" in words:
-                if process not in self.known:
-                    crate = words[words.index("--crate-name") + 1]
-                    self.known[process] = (crate, kind_of(process, words))
-                key = (process, *self.known[process])
-                self.seconds[key] = max(self.seconds.get(key, 0.0), seconds_of(process))
+        fields = {it: fields_of(it) for it in filter(str.isdigit, os.listdir("/proc"))}
+        parents = {it: found[1] for it, found in fields.items() if found}
+        for process in parents:
+            begun = (process, fields[process][19])
+            if begun not in self.known:
+                words = words_of(process)
+                is_prover = words and os.path.basename(words[0]) == "rattle" and "--crate-name" in words
+                if not is_prover or not self.is_below(process, parents):
+                    continue
+                self.known[begun] = (words[words.index("--crate-name") + 1], kind_of(process, words))
+            seconds = sum(int(it) for it in fields[process][11:15]) / TICKS
+            self.seconds[begun] = max(self.seconds.get(begun, 0.0), seconds)
 
     def table(self):
         rows = collections.defaultdict(lambda: dict.fromkeys(KINDS, 0.0))
-        for (_, crate, kind), seconds in self.seconds.items():
+        for begun, seconds in self.seconds.items():
+            crate, kind = self.known[begun]
             rows[crate][kind] += seconds
         total = dict.fromkeys(KINDS, 0.0)
         lines = ["| Crate | " + " | ".join(KINDS) + " | all |", "|---|" + "---|" * (len(KINDS) + 1)]
@@ -80,8 +95,9 @@ class Times:
 
 
 def main():
-    times, begin = Times(), time.monotonic()
+    begin = time.monotonic()
     if sys.argv[1:] == ["--watch"]:
+        times = Times()
         try:
             while True:
                 for _ in range(60):
@@ -91,6 +107,7 @@ def main():
         except KeyboardInterrupt:
             return 0
     command = subprocess.Popen(sys.argv[1:] or ["rt", "ci"])
+    times = Times(str(command.pid))
     while command.poll() is None:
         times.look()
         time.sleep(1)
