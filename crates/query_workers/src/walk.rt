@@ -27,12 +27,12 @@ fn add_bundle(
     list: &mut SegmentList,
     config: &Config,
     indexed: &Indexed,
-    question: Question,
+    question: &Question,
 ) -> Result<(), MatchFault>
-    requires resolved { IsAskedOf config.now question }
+    requires resolved { IsAskedOf config.now question.now }
     requires fits { FitsConfig config.now indexed.now.bundle }
-    ensures { AddsRows result (rows_for question config.now indexed.now.bundle)
-        (too_many_for question config.now indexed.now.bundle) list.old list.new }
+    ensures { AddsRows result (rows_for question.now config.now indexed.now.bundle)
+        (too_many_for question.now config.now indexed.now.bundle) list.old list.new }
 {
     let more = match question.rows_in(alloc, config, indexed) {
         Ok(more) => more,
@@ -52,14 +52,16 @@ fn add_bundle(
 fn walk<G: Gate + Sync>(
     alloc: Global,
     version: &Version,
-    question: Question,
+    question: &Question,
     line: u32,
     gate: &G,
 ) -> Result<SegmentList, MatchFault>
-    requires { IsAskedOf version.now.config question }
+    requires { IsAskedOf version.now.config question.now }
     ensures { GivesRows result
-        (flat_map (λ b. rows_for question version.now.config b) (bundles_of version.now.bundles))
-        (list_any (λ b. too_many_for question version.now.config b) (bundles_of version.now.bundles)) }
+        (flat_map (λ b. rows_for question.now version.now.config b)
+        (bundles_of version.now.bundles))
+        (list_any (λ b. too_many_for question.now version.now.config b)
+        (bundles_of version.now.bundles)) }
 {
     let config = version.config();
     let mut list = SegmentList::new(alloc);
@@ -95,7 +97,7 @@ pub fn answer<R: Threads + Sync, G: Gate + Sync>(
     requires resolved { IsResolvedBy version.now.config asked.now }
     ensures { ListsRows result version.now.config (bundles_of version.now.bundles) asked.now }
 {
-    walk(alloc, version, Question::Rows(asked), line, gate)
+    walk(alloc, version, &Question::Rows(&*asked), line, gate)
 }
 
 /// The segment list of a query over a version whose results are carried: the rows of what the results reach,
@@ -114,5 +116,5 @@ pub fn answer_requery<R: Threads + Sync, G: Gate + Sync>(
     requires resolved { IsReachedBy version.now.config reached.now }
     ensures { ListsCarried result version.now.config (bundles_of version.now.bundles) reached.now }
 {
-    walk(alloc, version, Question::Carried(reached), line, gate)
+    walk(alloc, version, &Question::Carried(&*reached), line, gate)
 }

@@ -8,7 +8,7 @@ use Rattle.query_workers.proofs.walk.walk.Goals as goal
 pub returns-in-Err : goal.returns-in-Err
 returns-in-Err g c =
     let list = c.args.version.now.bundles in
-    let question = c.args.question in
+    let question = c.args.question.now in
     let config = c.config-config.result.now in
     let here = c.at-indexed.result.now in
     rw c.config-config.ensures at
@@ -21,7 +21,7 @@ returns-in-Err g c =
 pub loop-place-preserved : goal.loop-place-preserved
 loop-place-preserved g c =
     let list = c.args.version.now.bundles in
-    let question = c.args.question in
+    let question = c.args.question.now in
     let config = c.config-config.result.now in
     let here = c.at-indexed.result.now in
     let left = bundles_of (drop c.loop-place.place list) in
