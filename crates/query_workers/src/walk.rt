@@ -97,7 +97,7 @@ pub fn answer<R: Threads + Sync, G: Gate + Sync>(
     requires resolved { IsResolvedBy version.now.config asked.now }
     ensures { ListsRows result version.now.config (bundles_of version.now.bundles) asked.now }
 {
-    walk(alloc, version, &Question::Rows(&*asked), line, gate)
+    walk(alloc, version, &Question::Rows(asked), line, gate)
 }
 
 /// The segment list of a query over a version whose results are carried: the rows of what the results reach,
@@ -116,5 +116,5 @@ pub fn answer_requery<R: Threads + Sync, G: Gate + Sync>(
     requires resolved { IsReachedBy version.now.config reached.now }
     ensures { ListsCarried result version.now.config (bundles_of version.now.bundles) reached.now }
 {
-    walk(alloc, version, &Question::Carried(&*reached), line, gate)
+    walk(alloc, version, &Question::Carried(reached), line, gate)
 }
