@@ -1,6 +1,6 @@
 mod Members
 mod Terms
 mod Parts
-mod Brackets
+mod Grouped
 mod Ends
 mod Forward

@@ -1,4 +1,4 @@
-use Rattle.eql_laws.proofs.Brackets.{brackets_free}
+use Rattle.eql_laws.proofs.Grouped.{brackets_free}
 use Rattle.eql_laws.proofs.laws.brackets_are_free.Goals as goal
 
 pub returns : goal.returns
