@@ -1,0 +1,6 @@
+mod Members
+mod Terms
+mod Parts
+mod Grouped
+mod Ends
+mod Forward

@@ -1,0 +1,127 @@
+-- What a user can check of the tuples, results and rows of queries that go together (EMU-SDMS Manual, "The EMU
+-- Query Language (EQL)": conjunction, sequence, domination, position and count functions, the columns of a
+-- segment list), each law said by itself.
+use Rattle.std.specs.Prelude.{◌≡◌, ◌≤◌, ◌<◌, ◌↔◌, not, ℕ, Bool, true, false, List, length, filter, All, Contains, Option, Some, None, if◌then◌else◌}
+use Rattle.level_items.specs.declared.items.Item.{Item}
+use Rattle.db_config.specs.declared.parts.AttributePlace.{AttributePlace}
+use Rattle.db_config.specs.declared.parts.ConfigParts.{ConfigParts}
+use Rattle.bundle_state.specs.Bundle.{BundleParts}
+use Rattle.bundle_state.specs.Built.{FitsConfig}
+use Rattle.bundle_state.specs.Valid.{KeepsBundleRules}
+use Rattle.hier_closure.specs.Dominance.{ids_at}
+use Rattle.eql_syntax.specs.declared.query.Compare.TheVariants.{Eq}
+use Rattle.eql_syntax.specs.declared.query.Place.{Place}
+use Rattle.eql_syntax.specs.declared.query.Place.TheVariants.{Start, End}
+use Rattle.eql_resolve.specs.Asked.{AskedTerm, number, AskedQuery, terms, sequence, dominance, AskedParts, is_marked, shown_place, AreOnOneLevel}
+use Rattle.eql_model.specs.declared.tuple.Span.{Span}
+use Rattle.eql_model.specs.declared.row.Row.{Row}
+use Rattle.eql_model.specs.Positions.{below, makes_stand}
+use Rattle.eql_model.specs.Meaning.{meets, tuples}
+use Rattle.eql_model.specs.Results.{stretches, results}
+use Rattle.eql_model.specs.Rows.{row_of, segment_list}
+
+-- ---- conjunctions
+
+-- two lists have the same conditions, in whatever order and however often
+abbrev pub HaveSameTerms : List AskedTerm → List AskedTerm → Type 0
+HaveSameTerms ts us = (t : AskedTerm) → Contains ts t ↔ Contains us t
+
+-- Neither the order of the conditions of a conjunction nor one that stands twice changes a tuple, nor a
+-- stretch that is shown. What changes is the attribute that is shown; where that is the same, so are the
+-- results.
+abbrev pub OrderIsFree : Type 0
+OrderIsFree =
+    (c : ConfigParts) (b : BundleParts) (ts us : List AskedTerm) →
+    AreOnOneLevel (terms ts) → HaveSameTerms ts us →
+    (tuples c b (terms ts) ≡ tuples c b (terms us))
+    × (stretches c b (terms ts) ≡ stretches c b (terms us))
+    × (shown_place (terms ts) ≡ shown_place (terms us) → results c b (terms ts) ≡ results c b (terms us))
+
+-- ---- parts
+
+-- each of these results is one of those
+abbrev pub AreAmong : List Span → List Span → Type 0
+AreAmong found others = All (Contains others) found
+
+-- the results of a dominance without a mark are among those of its left part
+abbrev pub DominanceSelects : Type 0
+DominanceSelects =
+    (c : ConfigParts) (b : BundleParts) (p q : AskedQuery) →
+    is_marked (dominance p q) ≡ false → AreAmong (results c b (dominance p q)) (results c b p)
+
+-- of two parts, the one that has the mark
+abbrev pub marked_part : AskedQuery → AskedQuery → AskedQuery
+marked_part p q = if is_marked p then p else q
+
+-- the results of a sequence or a dominance of which one part has the mark are among those of that part
+abbrev pub MarkedPartSelects : Type 0
+MarkedPartSelects =
+    (c : ConfigParts) (b : BundleParts) (p q : AskedQuery) →
+    is_marked p ≡ not (is_marked q) →
+    AreAmong (results c b (sequence p q)) (results c b (marked_part p q))
+    × AreAmong (results c b (dominance p q)) (results c b (marked_part p q))
+
+-- ---- sequences
+
+-- a sequence of three parts has the same tuples and the same results wherever its inner brackets stand
+abbrev pub BracketsAreFree : Type 0
+BracketsAreFree =
+    (c : ConfigParts) (b : BundleParts) (p q r : AskedQuery) →
+    (tuples c b (sequence (sequence p q) r) ≡ tuples c b (sequence p (sequence q r)))
+    × (results c b (sequence (sequence p q) r) ≡ results c b (sequence p (sequence q r)))
+
+-- ---- positions
+
+-- how many items of a lower level an item dominates
+abbrev pub count_below : BundleParts → ℕ → Item → ℕ
+count_below b lower item = length (below b.links (ids_at b.levels lower) item.id.0)
+
+-- the items of a lower level, by their ids, that an item dominates and makes stand at the place
+abbrev pub standing : BundleParts → ℕ → Place → Item → List ℕ
+standing b lower place item =
+    filter (λ x. makes_stand b.links (ids_at b.levels lower) place x item.id.0) (ids_at b.levels lower)
+
+-- an item with anything below it makes exactly one item stand first and exactly one stand last
+abbrev pub OneStartOneEnd : Type 0
+OneStartOneEnd =
+    (b : BundleParts) (lower : ℕ) (item : Item) →
+    KeepsBundleRules b → 0 < count_below b lower item →
+    (length (standing b lower Start item) ≡ 1) × (length (standing b lower End item) ≡ 1)
+
+-- an item with anything below it makes the same item stand first and last exactly where it meets
+-- `Num(..) == 1`
+abbrev pub OneIsBothEnds : Type 0
+OneIsBothEnds =
+    (c : ConfigParts) (b : BundleParts) (marked : Bool) (upper : AttributePlace) (lower : ℕ) (item : Item) →
+    KeepsBundleRules b → 0 < count_below b lower item →
+    (meets c b (number marked upper lower Eq 1) item ≡ true)
+    ↔ (standing b lower Start item ≡ standing b lower End item)
+
+-- ---- rows
+
+-- both are there, and the first is not past the second; or neither is there
+abbrev pub IsNotPast : Option ℕ → Option ℕ → Type 0
+IsNotPast None None = Unit {0}
+IsNotPast None (Some end) = ⊥
+IsNotPast (Some start) None = ⊥
+IsNotPast (Some start) (Some end) = start ≤ end
+
+-- a row has a start and an end, and samples of both, none past its end; or it has none of the four
+abbrev pub GoesForward : Row → Type 0
+GoesForward row = IsNotPast row.start row.end × IsNotPast row.sample_start row.sample_end
+
+-- the bundle keeps the rules, and has the levels and link definitions of the configuration
+abbrev pub IsBundleOf : ConfigParts → BundleParts → Type 0
+IsBundleOf c b = KeepsBundleRules b × FitsConfig c b
+
+-- the row of a stretch of items does not end before it starts
+abbrev pub RowsGoForward : Type 0
+RowsGoForward =
+    (c : ConfigParts) (b : BundleParts) (time : Option ℕ) (span : Span) →
+    IsBundleOf c b → GoesForward (row_of c b time span)
+
+-- nor does a row of a segment list
+abbrev pub SegmentListsGoForward : Type 0
+SegmentListsGoForward =
+    (c : ConfigParts) (bundles : List BundleParts) (a : AskedParts) →
+    All (IsBundleOf c) bundles → All GoesForward (segment_list c bundles a)

@@ -1,0 +1,51 @@
+//! Laws with nothing to run: what a user can check of the tuples, results and rows of queries that go together
+//! (EMU-SDMS Manual, "The EMU Query Language (EQL)": conjunction, sequence, domination, position and count
+//! functions, the columns of a segment list).
+ghost use Rattle.eql_laws.specs.Laws.{OrderIsFree, DominanceSelects, MarkedPartSelects, BracketsAreFree, OneStartOneEnd, OneIsBothEnds, RowsGoForward, SegmentListsGoForward};
+
+/// `[A == a & B == b]` and `[B == b & A == a]` find the same items: neither the order of conditions nor one
+/// that stands twice changes a tuple. What is shown of them is the attribute of the marked condition, else
+/// of the first one; where that is the same attribute, the results are the same.
+pub fn order_is_free()
+    ensures { OrderIsFree }
+{}
+
+/// Each result of `[A ^ B]` without a mark is one of `A`.
+pub fn dominance_selects()
+    ensures { DominanceSelects }
+{}
+
+/// Each result of `[#A -> B]` and of `[#A ^ B]` is one of `#A`, and each of `[A -> #B]` and of `[A ^ #B]`
+/// one of `#B`. This holds of any parts, be they conjunctions or in brackets. A sequence without a mark has
+/// longer results than its parts.
+pub fn marked_part_selects()
+    ensures { MarkedPartSelects }
+{}
+
+/// `[[A -> B] -> C]` and `[A -> [B -> C]]` have the same tuples and the same results. The two may differ in
+/// whether some part has over 1,000,000 tuples, since `[A -> B]` is a part of the one alone.
+pub fn brackets_are_free()
+    ensures { BracketsAreFree }
+{}
+
+/// An item with anything below it on a lower level makes exactly one item of it meet `Start(..) == 1` and
+/// exactly one meet `End(..) == 1`.
+pub fn one_start_one_end()
+    ensures { OneStartOneEnd }
+{}
+
+/// These two are one item exactly where the item above them meets `Num(..) == 1`.
+pub fn one_is_both_ends()
+    ensures { OneIsBothEnds }
+{}
+
+/// The row of a stretch of items has a `start` and an `end` or neither, and its `start` is not past its
+/// `end`; so it is with `sampleStart` and `sampleEnd`. Rows of requeries are such rows too.
+pub fn rows_go_forward()
+    ensures { RowsGoForward }
+{}
+
+/// No row of a segment list starts past its end.
+pub fn segment_lists_go_forward()
+    ensures { SegmentListsGoForward }
+{}
