@@ -1,8 +1,18 @@
-use Rattle.std.proofs.Common.{◌∙◌, [], ◌∷◌, flat_map, map, sym, le_trans, arith}
+use Rattle.std.proofs.Common.{◌∙◌, [], ◌∷◌, flat_map, map, refl, sym, le_trans, arith}
 use Rattle.std.proofs.lemmas.List.Concat.{flat_map_single}
 use Rattle.emudb_files.specs.Wanted.{bundle_wanted}
-use Rattle.emudb_files.proofs.Going.{each_step, each_stop, each_end, item_is, same_wanted, stop_wanted}
+use Rattle.emudb_files.proofs.Going.{each_step, each_stop, each_end, item_is, nothing_yet, same_wanted, stop_wanted}
 use Rattle.emudb_files.proofs.bundles.add_bundles.Goals as goal
+
+pub names-init : goal.names-init
+names-init g c = record {
+  advances = nothing_yet g.D.Disk.may_leave g.D.Disk.moment g.D.Disk.left_since (g.F.Folder.content c.args.folder.now)
+      c.args.book.now c.requires;
+  same = refl;
+  faults = omega arith;
+  misses = omega arith;
+  disk = omega arith;
+}
 
 pub names-preserved : goal.names-preserved
 names-preserved g c = record {

@@ -1,7 +1,17 @@
-use Rattle.std.proofs.Common.{◌∙◌, le_trans, arith}
+use Rattle.std.proofs.Common.{◌∙◌, refl, le_trans, arith}
 use Rattle.emudb_files.specs.Wanted.{session_wanted}
-use Rattle.emudb_files.proofs.Going.{each_step, each_stop, each_end, item_is}
+use Rattle.emudb_files.proofs.Going.{each_step, each_stop, each_end, item_is, nothing_yet}
 use Rattle.emudb_files.proofs.sessions.add_sessions.Goals as goal
+
+pub names-init : goal.names-init
+names-init g c = record {
+  advances = nothing_yet g.D.Disk.may_leave g.D.Disk.moment g.D.Disk.left_since (g.F.Folder.content c.args.folder.now)
+      c.args.book.now c.requires;
+  same = refl;
+  faults = omega arith;
+  misses = omega arith;
+  disk = omega arith;
+}
 
 pub names-preserved : goal.names-preserved
 names-preserved g c = record {
