@@ -12,6 +12,7 @@ use Rattle.std.proofs.sync.OnceToken.TheSendSync as token
 use Rattle.eql_resolve.proofs.Threads.{prepared_sync}
 use Rattle.edit_rules.proofs.edit.Edit.TheSendSync as edit
 use Rattle.textgrid.proofs.fault.GridFault.TheSendSync as fault
+use Rattle.requery.proofs.target.Requery.TheSendSync as requery
 use Rattle.version_gate.proofs.pass.Pass.TheSendSync as pass
 use Rattle.live_book.proofs.live.Share.TheSendSync as share
 use Rattle.live_book.proofs.published.Published.TheSendSync as published
@@ -26,10 +27,16 @@ use Rattle.live_seats.specs.contracts.notes.Told as told
 use Rattle.live_seats.specs.contracts.seat.Seat as seat
 
 pub ask_sync : IsSync ask.the_row
-ask_sync = declared_sync ask.the_type (search (prepared_sync, crosses, sendable) depth 30, (search (crosses, sendable) depth 30, tt))
+ask_sync = declared_sync ask.the_type (
+  search (prepared_sync, crosses, sendable) depth 30,
+  (search (crosses, sendable) depth 30, (search (requery.the_sync, option.the_sync, option.the_field_sync, crosses, sendable) depth 30, tt)),
+)
 
 pub ask_field_sync : IsSync (ask.the_field).row
-ask_field_sync = struct_sync (struct_shape ask.the_type) (search (prepared_sync, crosses, sendable) depth 30, (search (crosses, sendable) depth 30, tt))
+ask_field_sync = struct_sync (struct_shape ask.the_type) (
+  search (prepared_sync, crosses, sendable) depth 30,
+  (search (crosses, sendable) depth 30, (search (requery.the_sync, option.the_sync, option.the_field_sync, crosses, sendable) depth 30, tt)),
+)
 
 request_choice : IsSync (Enum (shape request.the_type))
 request_choice =
