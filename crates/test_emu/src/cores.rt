@@ -88,11 +88,18 @@ fn expect_reply<R: Abort>(
 fn a_query_is_run(rt: HostRuntime) -> Result<(), Fail> {
     let alloc = rt.alloc();
     let request = query(alloc, "Word == m", None);
-    expect_reply(&rt, alloc, Entries::new(alloc), request, "{\"line\":2,\"n\":0,\"segments\":[]}\n")
+    expect_reply(
+        &rt,
+        alloc,
+        Entries::new(alloc),
+        request,
+        "{\"line\":2,\"n\":0,\"segments\":[]}\n",
+    )
 }
 
 /// The row of the second and the third word of a bundle of three.
-const ROW: &str = r#"{"attribute":"Word","bundle":"b1","end":null,"endItem":2,"endPos":2,"labels":"->","level":"Word","sampleEnd":null,"sampleRate":20000,"sampleStart":null,"session":"s1","start":null,"startItem":1,"startPos":1}"#;
+const ROW: &str =
+    r#"{"attribute":"Word","bundle":"b1","end":null,"endItem":2,"endPos":2,"labels":"->","level":"Word","sampleEnd":null,"sampleRate":20000,"sampleStart":null,"session":"s1","start":null,"startItem":1,"startPos":1}"#;
 
 /// Of three words, the two behind each: the first has two behind it, the second one and the third none.
 #[test]
@@ -107,7 +114,13 @@ fn results_are_moved(rt: HostRuntime) -> Result<(), Fail> {
         length: 2,
     };
     let wanted = format!(in alloc; "{{\"line\":2,\"n\":1,\"segments\":[{}]}}\n", ROW)?;
-    expect_reply(&rt, alloc, history, query(alloc, "Word != m", Some(behind)), wanted.as_str())
+    expect_reply(
+        &rt,
+        alloc,
+        history,
+        query(alloc, "Word != m", Some(behind)),
+        wanted.as_str(),
+    )
 }
 
 /// The entry that adds a bundle of so many words.
