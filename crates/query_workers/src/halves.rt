@@ -1,11 +1,11 @@
 //! The rows that are asked for in a run of bundles of a version, by several threads.
 ghost use Rattle.std.specs.Prelude.{◌≡◌, ◌≤◌, ◌<◌, ◌+◌, ◌++◌, ◌||◌, Bool, List, length};
-ghost use Rattle.std.specs.List.{flat_map, list_any};
 ghost use Rattle.std.specs.Thread.{IsSync};
 ghost use Rattle.emu_names.specs.declared.limits.TheConstants.{BUNDLES};
 ghost use Rattle.eql_model.specs.declared.row.Row.{Row};
 ghost use Rattle.eql_model.specs.Inner.Rows.{GivesRows};
-ghost use Rattle.query_workers.specs.Inner.Questions.{GivesRun, IsAskedOf, IsRun};
+ghost use Rattle.query_workers.specs.Inner.Questions.{IsAskedOf};
+ghost use Rattle.query_workers.specs.Inner.Runs.{GivesRun, IsRun, refusal};
 
 use crate::question::Question;
 use crate::walk::walk;
@@ -37,7 +37,7 @@ fn middle(from: usize, to: usize, near: usize, workers: usize) -> usize
 fn fault_beside(right: &Result<SegmentList, MatchFault>) -> MatchFault
     ensures { (more : List Row) (many : Bool) → GivesRows right.now more many
         → (rows : List Row) (other : Bool)
-        → GivesRows (Err {T = List Row} result) rows (other || many) }
+        → GivesRows (refusal result) rows (other || many) }
 {
     match right {
         Err(MatchFault::TooManyTuples) => MatchFault::TooManyTuples,
@@ -51,7 +51,7 @@ fn behind(
     right: Result<SegmentList, MatchFault>,
 ) -> Result<SegmentList, MatchFault>
     ensures { (more : List Row) (many : Bool) → GivesRows right more many
-        → GivesRows result (list.entry ++ more) many }
+        → GivesRows result (list ++ more) many }
 {
     match right {
         Err(fault) => Err(fault),
@@ -109,22 +109,16 @@ pub(crate) fn halves<R: Threads + Sync, G: Gate + Sync>(
     let near = workers / 2;
     let far = workers - near;
     let cut = middle(from, to, near, workers);
-    let (left, right) = join(
-        rt,
-        || -> Result<SegmentList, MatchFault>
-            requires { IsSync R.row × IsSync G.row × IsAskedOf version.now.config question
-                × IsRun version.now from cut × (near ≤ WORKERS) }
-            ensures { GivesRun result question.entry version.entry.now from cut }
-        {
-            halves(rt, alloc, version, question, line, gate, near, from, cut)
-        },
-        || -> Result<SegmentList, MatchFault>
-            requires { IsSync R.row × IsSync G.row × IsAskedOf version.now.config question
-                × IsRun version.now cut to × (far ≤ WORKERS) }
-            ensures { GivesRun result question.entry version.entry.now cut to }
-        {
-            halves(rt, alloc, version, question, line, gate, far, cut, to)
-        },
-    );
-    both(left, right)
+    let left = move || -> Result<SegmentList, MatchFault>
+        requires { IsSync R.row × IsSync G.row × IsAskedOf version.now.config question
+            × IsRun version.now from cut × (near ≤ WORKERS) }
+        ensures { GivesRun result question.entry version.entry.now from cut }
+    { halves(rt, alloc, version, question, line, gate, near, from, cut) };
+    let right = move || -> Result<SegmentList, MatchFault>
+        requires { IsSync R.row × IsSync G.row × IsAskedOf version.now.config question
+            × IsRun version.now cut to × (far ≤ WORKERS) }
+        ensures { GivesRun result question.entry version.entry.now cut to }
+    { halves(rt, alloc, version, question, line, gate, far, cut, to) };
+    let (first, second) = join(rt, left, right);
+    both(first, second)
 }

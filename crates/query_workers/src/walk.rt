@@ -32,8 +32,8 @@ fn add_bundle(
 ) -> Result<(), MatchFault>
     requires resolved { IsAskedOf config.now question }
     requires fits { FitsConfig config.now indexed.now.bundle }
-    ensures { AddsRows result (rows_for question config.now indexed.now.bundle)
-        (too_many_for question config.now indexed.now.bundle) list.old list.new }
+    ensures { AddsRows result (rows_for question.entry config.now indexed.now.bundle)
+        (too_many_for question.entry config.now indexed.now.bundle) list.old list.new }
 {
     let more = match question.rows_in(alloc, config, indexed) {
         Ok(more) => more,

@@ -1,5 +1,5 @@
 -- Runs of the bundles of a version, and the rows that are asked for in one.
-use Rattle.std.specs.Prelude.{◌≤◌, ◌-◌, ℕ, List, Result, length, take, drop}
+use Rattle.std.specs.Prelude.{◌≤◌, ◌-◌, ℕ, List, Result, Err, length, take, drop}
 use Rattle.std.specs.List.{flat_map, list_any}
 use Rattle.emu_names.specs.declared.limits.TheConstants.{BUNDLES}
 use Rattle.bundle_state.specs.Bundle.{BundleParts}
@@ -9,6 +9,10 @@ use Rattle.eql_model.specs.Inner.Rows.{GivesRows}
 use Rattle.version_tree.specs.Version.{VersionParts, bundles_of}
 use Rattle.query_workers.specs.declared.question.Question.{Question}
 use Rattle.query_workers.specs.Inner.Questions.{rows_for, too_many_for}
+
+-- a refusal
+abbrev pub refusal : MatchFault → Result (List Row) MatchFault
+refusal fault = Err fault
 
 -- the places from one to before another are those of bundles of the version
 pub record IsRun (version : VersionParts) (from to : ℕ) : Type 0 where

@@ -1,0 +1,21 @@
+use Rattle.std.proofs.Common.{Bool, List}
+use Rattle.std.specs.List.{flat_map, list_any}
+use Rattle.bundle_state.specs.Bundle.{BundleParts}
+use Rattle.eql_model.specs.declared.row.Row.{Row}
+use Rattle.version_tree.specs.Version.{bundles_of}
+use Rattle.query_workers.specs.Inner.Questions.{rows_for, too_many_for}
+use Rattle.query_workers.specs.Inner.Runs.{run_of}
+use Rattle.query_workers.proofs.Runs.{run_joined}
+use Rattle.query_workers.proofs.halves.+cut.Goals as goal
+
+pub returns : goal.returns
+returns g t c =
+    let version = c.args.version.now in
+    let first = bundles_of (run_of c.args.from c.middle-cut.result version.bundles) in
+    let second = bundles_of (run_of c.middle-cut.result c.args.to version.bundles) in
+    let rows : BundleParts → List Row = λ b. rows_for c.args.question version.config b in
+    let many : BundleParts → Bool = λ b. too_many_for c.args.question version.config b in
+    run_joined c.both.result c.args.question version c.args.from c.middle-cut.result c.args.to
+    c.middle-cut.ensures.low c.middle-cut.ensures.high
+    (c.both.ensures (flat_map rows first) (flat_map rows second) (list_any many first) (list_any many second)
+    c.join-first.ensures.first c.join-first.ensures.second)
