@@ -18,8 +18,6 @@ IMPORT = re.compile(r"use Rattle\.([a-z_0-9]+)\.specs\.([A-Za-z][A-Za-z0-9_.]*)\
 ALIAS = re.compile(r"use Rattle\.([a-z_0-9]+)\.specs\.([A-Za-z][A-Za-z0-9_.]*) as ([A-Za-z_0-9]+)")
 TRAITS = ("emu_io", "emu_disk", "label_match")
 PAGE = "docs/DEFINITIONS.md"
-# What a public call says that no command makes yet; it stands in specs/ all the same.
-WAITING = {("eql_resolve", "untimed")}
 
 
 def text_of(path):
@@ -277,7 +275,7 @@ def main():
         for it in file.definitions:
             if inner and id(it) in believed:
                 faults.append(f"{it.path}:{it.line}: `{it.name}` is reached by a promise or a law, so it stands in specs/")
-            if not inner and id(it) not in believed and (it.place[0], it.name) not in WAITING:
+            if not inner and id(it) not in believed:
                 faults.append(f"{it.path}:{it.line}: `{it.name}` is reached by no promise and no law, so it stands in specs/Inner/")
     print("\n".join(faults) or f"{PAGE} is up to date")
     return 1 if faults else 0

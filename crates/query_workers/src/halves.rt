@@ -90,17 +90,17 @@ pub(crate) fn halves<R: Threads + Sync, G: Gate + Sync>(
     rt: &R,
     alloc: Global,
     version: &Version,
-    question: Question,
+    question: &Question,
     line: u32,
     gate: &G,
     workers: usize,
     from: usize,
     to: usize,
 ) -> Result<SegmentList, MatchFault>
-    requires asked { IsAskedOf version.now.config question }
+    requires asked { IsAskedOf version.now.config question.now }
     requires run { IsRun version.now from to }
     requires few { workers ≤ WORKERS }
-    ensures { GivesRun result question.entry version.now from to }
+    ensures { GivesRun result question.now version.now from to }
 {
     let workers = workers.min(to - from);
     if workers <= 1 {
@@ -110,14 +110,14 @@ pub(crate) fn halves<R: Threads + Sync, G: Gate + Sync>(
     let far = workers - near;
     let cut = middle(from, to, near, workers);
     let left = move || -> Result<SegmentList, MatchFault>
-        requires { IsSync R.row × IsSync G.row × IsAskedOf version.now.config question
+        requires { IsSync R.row × IsSync G.row × IsAskedOf version.now.config question.now
             × IsRun version.now from cut × (near ≤ WORKERS) }
-        ensures { GivesRun result question.entry version.entry.now from cut }
+        ensures { GivesRun result question.entry.now version.entry.now from cut }
     { halves(rt, alloc, version, question, line, gate, near, from, cut) };
     let right = move || -> Result<SegmentList, MatchFault>
-        requires { IsSync R.row × IsSync G.row × IsAskedOf version.now.config question
+        requires { IsSync R.row × IsSync G.row × IsAskedOf version.now.config question.now
             × IsRun version.now cut to × (far ≤ WORKERS) }
-        ensures { GivesRun result question.entry version.entry.now cut to }
+        ensures { GivesRun result question.entry.now version.entry.now cut to }
     { halves(rt, alloc, version, question, line, gate, far, cut, to) };
     let (first, second) = join(rt, left, right);
     both(first, second)

@@ -28,12 +28,12 @@ fn add_bundle(
     list: &mut SegmentList,
     config: &Config,
     indexed: &Indexed,
-    question: Question,
+    question: &Question,
 ) -> Result<(), MatchFault>
-    requires resolved { IsAskedOf config.now question }
+    requires resolved { IsAskedOf config.now question.now }
     requires fits { FitsConfig config.now indexed.now.bundle }
-    ensures { AddsRows result (rows_for question.entry config.now indexed.now.bundle)
-        (too_many_for question.entry config.now indexed.now.bundle) list.old list.new }
+    ensures { AddsRows result (rows_for question.now config.now indexed.now.bundle)
+        (too_many_for question.now config.now indexed.now.bundle) list.old list.new }
 {
     let more = match question.rows_in(alloc, config, indexed) {
         Ok(more) => more,
@@ -54,15 +54,15 @@ fn add_bundle(
 pub(crate) fn walk<G: Gate + Sync>(
     alloc: Global,
     version: &Version,
-    question: Question,
+    question: &Question,
     line: u32,
     gate: &G,
     from: usize,
     to: usize,
 ) -> Result<SegmentList, MatchFault>
-    requires asked { IsAskedOf version.now.config question }
+    requires asked { IsAskedOf version.now.config question.now }
     requires run { IsRun version.now from to }
-    ensures { GivesRun result question.entry version.now from to }
+    ensures { GivesRun result question.now version.now from to }
 {
     let config = version.config();
     let mut list = SegmentList::new(alloc);
@@ -82,14 +82,14 @@ fn walk_all<R: Threads + Sync, G: Gate + Sync>(
     rt: &R,
     alloc: Global,
     version: &Version,
-    question: Question,
+    question: &Question,
     workers: u32,
     line: u32,
     gate: &G,
 ) -> Result<SegmentList, MatchFault>
     requires workers { (1 ≤ workers) × (workers ≤ 8) }
-    requires asked { IsAskedOf version.now.config question }
-    ensures { GivesOver result question.entry version.now (bundles_of version.now.bundles) }
+    requires asked { IsAskedOf version.now.config question.now }
+    ensures { GivesOver result question.now version.now (bundles_of version.now.bundles) }
 {
     let count = version.len();
     halves(rt, alloc, version, question, line, gate, workers as usize, 0, count)
@@ -117,7 +117,7 @@ pub fn answer<R: Threads + Sync, G: Gate + Sync>(
     requires resolved { IsResolvedBy version.now.config asked.now }
     ensures { ListsRows result version.now.config (bundles_of version.now.bundles) asked.now }
 {
-    walk_all(rt, alloc, version, Question::Rows(asked), workers, line, gate)
+    walk_all(rt, alloc, version, &Question::Rows(&*asked), workers, line, gate)
 }
 
 /// The segment list of a query over a version whose results are carried: the rows of what the results reach,
@@ -136,5 +136,5 @@ pub fn answer_requery<R: Threads + Sync, G: Gate + Sync>(
     requires resolved { IsReachedBy version.now.config reached.now }
     ensures { ListsCarried result version.now.config (bundles_of version.now.bundles) reached.now }
 {
-    walk_all(rt, alloc, version, Question::Carried(reached), workers, line, gate)
+    walk_all(rt, alloc, version, &Question::Carried(&*reached), workers, line, gate)
 }

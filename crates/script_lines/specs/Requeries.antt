@@ -1,6 +1,6 @@
 -- The member `requery` of a question (EMU-SDMS Manual, "The EMU Query Language (EQL)": requery).
 use Rattle.std.specs.Prelude.{ℕ, Bool, true, false, List, Option, Some, None, Result, Ok, Err, nat_le, if◌then◌else◌, codes, option_and_then, ok_or}
-use Rattle.serde_json.specs.Lookups.{as_str}
+use Rattle.serde_json.specs.Find.{as_str}
 use Rattle.json_view.specs.declared.wants.Wanted.TheVariants as wanted
 use Rattle.json_view.specs.declared.faults.Shape.{Shape}
 use Rattle.json_view.specs.Seen.{Seen}

@@ -229,8 +229,8 @@ fn answer_carried(
 /// patterns (`Prepare`); the fault of its names and levels under the configuration (`Resolve`);
 /// `TooManyTuples`, exactly where some part of the query has over 1,000,000 tuples in some bundle; its
 /// segment list, the rows of one bundle after another in the order of their keys, or where its results are
-/// carried the rows of what they reach (EMU-SDMS Manual, "The EMU Query Language (EQL)"). A fault that is want of memory is answered `Memory`. The only failure is
-/// want of memory.
+/// carried the rows of what they reach (EMU-SDMS Manual, "The EMU Query Language (EQL)"). A fault that is want
+/// of memory is answered `Memory`. The only failure is want of memory.
 pub fn answer(alloc: Global, database: &Database, ask: &Ask) -> Result<Answer, Memory>
     ensures { IfOk result (λ given. given ≡ answer_over database.now ask.now) }
 {

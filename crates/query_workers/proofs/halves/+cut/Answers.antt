@@ -13,9 +13,9 @@ returns g t c =
     let version = c.args.version.now in
     let first = bundles_of (run_of c.args.from c.middle-cut.result version.bundles) in
     let second = bundles_of (run_of c.middle-cut.result c.args.to version.bundles) in
-    let rows : BundleParts → List Row = λ b. rows_for c.args.question version.config b in
-    let many : BundleParts → Bool = λ b. too_many_for c.args.question version.config b in
-    run_joined c.both.result c.args.question version c.args.from c.middle-cut.result c.args.to
+    let rows : BundleParts → List Row = λ b. rows_for c.args.question.now version.config b in
+    let many : BundleParts → Bool = λ b. too_many_for c.args.question.now version.config b in
+    run_joined c.both.result c.args.question.now version c.args.from c.middle-cut.result c.args.to
     c.middle-cut.ensures.low c.middle-cut.ensures.high
     (c.both.ensures (flat_map rows first) (flat_map rows second) (list_any many first) (list_any many second)
     c.join-first.ensures.first c.join-first.ensures.second)

@@ -10,7 +10,7 @@ use Rattle.query_workers.proofs.walk.walk.Goals as goal
 pub returns-in-Err : goal.returns-in-Err
 returns-in-Err g c =
     let list = c.args.version.now.bundles in
-    let question = c.args.question in
+    let question = c.args.question.now in
     let config = c.config-config.result.now in
     let here = c.at-indexed.result.now in
     rw c.config-config.ensures at
@@ -24,7 +24,7 @@ returns-in-Err g c =
 pub loop-place-preserved : goal.loop-place-preserved
 loop-place-preserved g c =
     let list = c.args.version.now.bundles in
-    let question = c.args.question in
+    let question = c.args.question.now in
     let config = c.config-config.result.now in
     let here = c.at-indexed.result.now in
     let left = bundles_of (run_of c.loop-place.place c.args.to list) in

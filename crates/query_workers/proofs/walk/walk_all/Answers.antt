@@ -8,5 +8,5 @@ use Rattle.query_workers.proofs.walk.walk_all.Goals as goal
 pub returns : goal.returns
 returns g c =
     let version = c.args.version.now in
-    subst (λ (bundles : List BundleParts). GivesOver c.halves.result c.args.question version bundles)
+    subst (λ (bundles : List BundleParts). GivesOver c.halves.result c.args.question.now version bundles)
     (ap bundles_of (run_all version.bundles c.len-count.result c.len-count.ensures.length)) c.halves.ensures
