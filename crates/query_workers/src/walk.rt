@@ -92,7 +92,17 @@ fn walk_all<R: Threads + Sync, G: Gate + Sync>(
     ensures { GivesOver result question.now version.now (bundles_of version.now.bundles) }
 {
     let count = version.len();
-    halves(rt, alloc, version, question, line, gate, workers as usize, 0, count)
+    halves(
+        rt,
+        alloc,
+        version,
+        question,
+        line,
+        gate,
+        workers as usize,
+        0,
+        count,
+    )
 }
 
 /// The segment list of a query over a version: the rows of one bundle after another in the order of their
@@ -117,7 +127,15 @@ pub fn answer<R: Threads + Sync, G: Gate + Sync>(
     requires resolved { IsResolvedBy version.now.config asked.now }
     ensures { ListsRows result version.now.config (bundles_of version.now.bundles) asked.now }
 {
-    walk_all(rt, alloc, version, &Question::Rows(&*asked), workers, line, gate)
+    walk_all(
+        rt,
+        alloc,
+        version,
+        &Question::Rows(&*asked),
+        workers,
+        line,
+        gate,
+    )
 }
 
 /// The segment list of a query over a version whose results are carried: the rows of what the results reach,
@@ -136,5 +154,13 @@ pub fn answer_requery<R: Threads + Sync, G: Gate + Sync>(
     requires resolved { IsReachedBy version.now.config reached.now }
     ensures { ListsCarried result version.now.config (bundles_of version.now.bundles) reached.now }
 {
-    walk_all(rt, alloc, version, &Question::Carried(&*reached), workers, line, gate)
+    walk_all(
+        rt,
+        alloc,
+        version,
+        &Question::Carried(&*reached),
+        workers,
+        line,
+        gate,
+    )
 }

@@ -82,12 +82,11 @@ waits_come : (before : List Line) (line : ℕ) (others : List ℕ) → Each (IsB
 waits_come before line [] below named = tt
 waits_come before line (earlier ∷ others) below named =
     let next : ComesNext before (awaiting line earlier) = record { rises = below; place = omega arith; command = refl; earlier = named.0 } in
-    let more = below_more line (suc line) before (omega arith) below in
-    (
+    let more = below_more line (suc line) before (omega arith) below in (
       next,
       waits_come (before ++ awaiting line earlier ∷ []) (suc line) others
-      (each_both (IsBelow (suc line)) before (awaiting line earlier ∷ []) more (omega arith, tt))
-      (names_more before (awaiting line earlier) others named.1),
+          (each_both (IsBelow (suc line)) before (awaiting line earlier ∷ []) more (omega arith, tt))
+          (names_more before (awaiting line earlier) others named.1),
     )
 
 last_low : (count session : ℕ) → 1 ≤ session → session ≤ count → last_of count session < count
@@ -113,12 +112,11 @@ all_named number count =
 
 waits_below : (line : ℕ) (others : List ℕ) → Each (IsBelow (line + length (waits_from line others))) (waits_from line others)
 waits_below line [] = tt
-waits_below line (earlier ∷ others) =
-    (
-      omega arith,
-      below_more (suc line + length (waits_from (suc line) others)) (line + length (waits_from line (earlier ∷ others))) (waits_from (suc line) others) (omega arith)
+waits_below line (earlier ∷ others) = (
+  omega arith,
+  below_more (suc line + length (waits_from (suc line) others)) (line + length (waits_from line (earlier ∷ others))) (waits_from (suc line) others) (omega arith)
       (waits_below (suc line) others),
-    )
+)
 
 -- Queries.
 
@@ -134,11 +132,10 @@ asks_come before line (text ∷ texts) (l ∷ ls) below asking =
       place = omega (arith, session);
       command = rw (asking.0.command, asking.0.request) refl;
       earlier = subst (NamesEarlier before) (sym asking.0.request) tt;
-    } in
-    (
+    } in (
       next,
       asks_come (before ++ l ∷ []) (suc line) texts ls
-      (each_both (IsBelow (suc line)) before (l ∷ []) (below_more line (suc line) before (omega arith) below) (omega (arith, own), tt)) asking.1,
+          (each_both (IsBelow (suc line)) before (l ∷ []) (below_more line (suc line) before (omega arith) below) (omega (arith, own), tt)) asking.1,
     )
 
 -- the lines of the script come in order

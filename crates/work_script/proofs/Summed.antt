@@ -67,7 +67,7 @@ module _ (number count : ℕ) (lines : List Line) (script : IsScript number coun
       let n : t.reply.n ≡ Some (length H) = ap (λ (r : Reply). r.n) from.value ∙ has.number in
       let answer : t.reply.answer ≡ Segments has.rows = ap (λ (r : Reply). r.answer) from.value ∙ has.answer in
       let right = right_for work_config lines replies H store before now legal t t.line (requests.Query asks.ask) from.there refl asks.request in
-      let given : IsRightQuery work_config H asks.ask (length H) (Segments has.rows) = 
+      let given : IsRightQuery work_config H asks.ask (length H) (Segments has.rows) =
       query_right work_config lines replies H store before now legal t.line asks.ask (length H) t.reply.n t.reply.answer (Segments has.rows) n answer right in
       let state : answer_at work_config H (length H) asks.ask ≡ answer_over (database_after work_config H) asks.ask =
       ap (λ (es : List Entry). answer_over (database_after work_config es) asks.ask) (take_all (length H) H (omega arith)) in

@@ -6,7 +6,9 @@ ghost use Rattle.work_script.specs.Script.{each, item_of, label_of, letter, link
 
 use crate::letters::{LETTERS, SEGMENTS, STRIDE, WORDS};
 use emu_names::{ItemId, LevelKind, Memory, Series, Text};
-use level_items::{Annot, AnnotItem, AnnotItems, AnnotLabel, AnnotLevel, AnnotLevels, AnnotLink, AnnotLinks, Time};
+use level_items::{
+    Annot, AnnotItem, AnnotItems, AnnotLabel, AnnotLevel, AnnotLevels, AnnotLink, AnnotLinks, Time,
+};
 use std::alloc::Global;
 
 /// The letter at a place of `abcde`.
@@ -34,7 +36,13 @@ fn label_of(number: u64, bundle: u32, segment: u32) -> &'static str
 }
 
 /// An item with one label, for the attribute of its level's name. The only refusal is want of memory.
-fn item_of(alloc: Global, id: u32, time: Time, level: &str, label: &str) -> Result<AnnotItem, Memory>
+fn item_of(
+    alloc: Global,
+    id: u32,
+    time: Time,
+    level: &str,
+    label: &str,
+) -> Result<AnnotItem, Memory>
     ensures { IfOk result (λ made. made ≡ item_of id time level.now label.now) }
 {
     let mut labels = Series::new(alloc);

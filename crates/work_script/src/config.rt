@@ -3,7 +3,10 @@ ghost use Rattle.std.specs.Prelude.{◌≡◌, true, IfOk};
 ghost use Rattle.emu_names.specs.Name.{is_name};
 ghost use Rattle.work_script.specs.Script.{level_of, work_config};
 
-use db_config::{AttributeDef, AttributeDefs, Config, ConfigParts, GroupDefs, LevelDef, LevelDefs, LinkDef, LinkDefs, PartsFault};
+use db_config::{
+    AttributeDef, AttributeDefs, Config, ConfigParts, GroupDefs, LevelDef, LevelDefs, LinkDef,
+    LinkDefs, PartsFault,
+};
 use emu_names::{LevelKind, LinkKind, Memory, Name, NameFault, Series, Text};
 use std::alloc::Global;
 

@@ -35,11 +35,7 @@ const WORKERS: u32 = 4;
 /// The summary of a run: of the state after all its entries, of which there is one for each bundle, and of the
 /// replies to the last four lines, which were given over that state. The only refusal is want of memory: also
 /// where a line was refused, for which nothing else is a cause.
-fn sum_up<D: Disk>(
-    book: &Book<D>,
-    ended: &Ended,
-    lines: &Lines,
-) -> Result<Summary, Memory>
+fn sum_up<D: Disk>(book: &Book<D>, ended: &Ended, lines: &Lines) -> Result<Summary, Memory>
     ensures { IfOk result (IsSummedUp book.now.config book.now.history ended.now.replies
         (length lines.now + 1)) }
 {

@@ -57,12 +57,7 @@ pub(crate) fn summary_text(alloc: Global, summary: Summary) -> Result<Text, Memo
 {
     let text = format!(in alloc;
         "{{\"bundles\":{},\"items\":{},\"rows\":[{},{},{},{}]}}\n",
-        summary.bundles,
-        summary.items,
-        summary.first,
-        summary.second,
-        summary.third,
-        summary.fourth
+        summary.bundles, summary.items, summary.first, summary.second, summary.third, summary.fourth
     )?;
     Text::from_string(text)
 }
