@@ -1,4 +1,5 @@
 pub mod Additions
+mod Labels
 mod Lists
 mod Replied
 mod Scripted

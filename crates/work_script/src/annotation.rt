@@ -26,6 +26,7 @@ fn letter_at(place: u64) -> &'static str
 }
 
 /// The label of a segment of a bundle. The number is reduced before the sum is made, so that no sum is cut.
+#[tactic(auto, using(crate::proofs::Labels::reduced))]
 fn label_of(number: u64, bundle: u32, segment: u32) -> &'static str
     requires bundle { bundle < BUNDLES }
     requires segment { segment < SEGMENTS }
