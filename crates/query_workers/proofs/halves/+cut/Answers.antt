@@ -5,7 +5,10 @@ use Rattle.eql_model.specs.declared.row.Row.{Row}
 use Rattle.version_tree.specs.Version.{bundles_of}
 use Rattle.query_workers.specs.Inner.Questions.{rows_for, too_many_for}
 use Rattle.query_workers.specs.Inner.Runs.{run_of}
+use denote.Param.Send.{sendable}
+use Rattle.std.proofs.Crossing.{crosses}
 use Rattle.query_workers.proofs.Runs.{run_joined}
+use Rattle.query_workers.proofs.Threads.{question_sync}
 use Rattle.query_workers.proofs.halves.+cut.Goals as goal
 
 pub returns : goal.returns
@@ -19,3 +22,6 @@ returns g t c =
     c.middle-cut.ensures.low c.middle-cut.ensures.high
     (c.both.ensures (flat_map rows first) (flat_map rows second) (list_any many first) (list_any many second)
     c.join-first.ensures.first c.join-first.ensures.second)
+
+pub join-first-requires-send-F : goal.join-first-requires-send-F
+join-first-requires-send-F g c κs within = search (question_sync, crosses, sendable) depth 30
