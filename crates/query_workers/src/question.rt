@@ -16,11 +16,11 @@ use std::alloc::Global;
 
 /// A query, or one whose results are carried.
 #[derive(Clone, Copy)]
-pub(crate) enum Question<'q> {
+pub(crate) enum Question<'q, 'a> {
     /// The rows of its results are asked for.
-    Rows(&'q Asked<'q>),
+    Rows(&'q Asked<'a>),
     /// The rows of what its results reach are asked for.
-    Carried(&'q Reached<'q>),
+    Carried(&'q Reached<'a>),
 }
 
 /// The rows of a query in one bundle, in order of first and last position, each result once.
@@ -45,7 +45,7 @@ fn rows_in(
     }
 }
 
-impl Question<'_> {
+impl Question<'_, '_> {
     /// The rows that are asked for in one bundle. `TooManyTuples` comes exactly where the bundle has too many.
     /// The only other refusal is want of memory.
     pub(crate) fn rows_in(

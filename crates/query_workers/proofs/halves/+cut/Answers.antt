@@ -24,4 +24,4 @@ returns g t c =
     c.join-first.ensures.first c.join-first.ensures.second)
 
 pub join-first-requires-send-F : goal.join-first-requires-send-F
-join-first-requires-send-F g c κs within = search (question_sync, crosses, sendable) depth 30
+join-first-requires-send-F g t c κs within = search (question_sync, crosses, sendable) depth 30
