@@ -5,7 +5,8 @@ use Rattle.eql_model.specs.declared.row.Row.{Row}
 use Rattle.version_tree.specs.Version.{bundles_of}
 use Rattle.query_workers.specs.Inner.Questions.{rows_for, too_many_for}
 use Rattle.query_workers.specs.Inner.Runs.{run_of}
-use denote.Param.Send.{sendable}
+use mathlib.Core.Dec.{no}
+use denote.Param.Send.{sendable, param_send, param_sync, arg_send}
 use Rattle.std.proofs.Crossing.{crosses}
 use Rattle.query_workers.proofs.Runs.{run_joined}
 use Rattle.query_workers.proofs.Threads.{question_sync}
@@ -24,4 +25,5 @@ returns g t c =
     c.join-first.ensures.first c.join-first.ensures.second)
 
 pub join-first-requires-send-F : goal.join-first-requires-send-F
-join-first-requires-send-F g t c κs within = search (question_sync, crosses, sendable) depth 30
+join-first-requires-send-F g t c κs within =
+    param_send 1 _ (arg_send _ no _ (search (question_sync, param_sync, crosses, sendable) depth 30))
