@@ -5,7 +5,7 @@ use Rattle.eql_model.specs.declared.row.Row.{Row}
 use Rattle.version_tree.specs.Version.{bundles_of}
 use Rattle.query_workers.specs.Inner.Questions.{rows_for, too_many_for}
 use Rattle.query_workers.specs.Inner.Runs.{run_of}
-use mathlib.Core.Dec.{no}
+use denote.Exit.{no}
 use denote.Param.Send.{sendable, param_send, param_sync, arg_send}
 use Rattle.std.proofs.Crossing.{crosses}
 use Rattle.query_workers.proofs.Runs.{run_joined}
