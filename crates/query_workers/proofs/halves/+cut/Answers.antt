@@ -6,10 +6,12 @@ use Rattle.version_tree.specs.Version.{bundles_of}
 use Rattle.query_workers.specs.Inner.Questions.{rows_for, too_many_for}
 use Rattle.query_workers.specs.Inner.Runs.{run_of}
 use denote.Exit.{no}
-use denote.Param.Send.{sendable, param_send, param_sync, arg_send}
-use Rattle.std.proofs.Crossing.{crosses}
+use denote.Param.{param}
+use denote.Param.Send.{IsSync, sendable, arg_send, param_send}
+use denote.Ref.{NamedLft}
+use mir.Syntax.{named}
 use Rattle.query_workers.proofs.Runs.{run_joined}
-use Rattle.query_workers.proofs.Threads.{question_sync}
+use Rattle.query_workers.proofs.Threads.{half_send}
 use Rattle.query_workers.proofs.halves.+cut.Goals as goal
 
 pub returns : goal.returns
@@ -26,4 +28,12 @@ returns g t c =
 
 pub join-first-requires-send-F : goal.join-first-requires-send-F
 join-first-requires-send-F g t c κs within =
-    param_send 1 _ (arg_send _ no _ (search (question_sync, param_sync, crosses, sendable) depth 30))
+    let rt : IsSync (param 0 g.row.R) = search sendable in
+    let gate : IsSync (param 1 g.row.G) = search sendable in
+    let r : NamedLft = record { mir = named 6; lft = κs.1.1.1.1.1.1.0 } in
+    let v : NamedLft = record { mir = named 7; lft = κs.1.1.1.1.1.1.1.0 } in
+    let l : NamedLft = record { mir = named 8; lft = κs.1.1.1.1.1.1.1.1.0 } in
+    let q : NamedLft = record { mir = named 9; lft = κs.1.1.1.1.1.1.1.1.1.0 } in
+    let a : NamedLft = record { mir = named 10; lft = κs.1.1.1.1.1.1.1.1.1.1.0 } in
+    let e : NamedLft = record { mir = named 11; lft = κs.1.1.1.1.1.1.1.1.1.1.1.0 } in
+    param_send 1 _ (arg_send _ no _ (half_send r v l q a e (param 0 g.row.R) (param 1 g.row.G) _ rt gate))
