@@ -3,6 +3,7 @@
 
 mod answers;
 mod carried;
+mod halves;
 mod question;
 mod walk;
 

@@ -1,14 +1,15 @@
 //! The rows that are asked for in each bundle of a version, bundle by bundle.
 ghost use Rattle.std.specs.Prelude.{◌≤◌};
-ghost use Rattle.std.specs.List.{flat_map, list_any};
 ghost use Rattle.bundle_state.specs.Built.{FitsConfig};
 ghost use Rattle.eql_resolve.specs.Inner.Sound.{IsResolvedBy};
-ghost use Rattle.eql_model.specs.Inner.Rows.{AddsRows, GivesRows, ListsRows};
+ghost use Rattle.eql_model.specs.Inner.Rows.{AddsRows, ListsRows};
 ghost use Rattle.requery.specs.Inner.Answers.{ListsCarried};
 ghost use Rattle.requery.specs.Inner.Sound.{IsReachedBy};
 ghost use Rattle.version_tree.specs.Version.{bundles_of};
 ghost use Rattle.query_workers.specs.Inner.Questions.{IsAskedOf, rows_for, too_many_for};
+ghost use Rattle.query_workers.specs.Inner.Runs.{GivesRun, GivesOver, IsRun};
 
+use crate::halves::halves;
 use crate::question::Question;
 use bundle_index::Indexed;
 use db_config::Config;
@@ -44,28 +45,28 @@ fn add_bundle(
     }
 }
 
-/// The rows that are asked for over a version, one bundle after another in the order of their keys.
-/// `TooManyTuples` comes exactly where some bundle has too many. The only other refusal is want of memory.
+/// The rows that are asked for in the bundles of a version from one place to before another, in their order.
+/// `TooManyTuples` comes exactly where some of these bundles has too many. The only other refusal is want of
+/// memory.
 ///
 /// Before each bundle the gate is told that the line, counted from 1, is at the piece of the bundle's place
 /// in the version.
-fn walk<G: Gate + Sync>(
+pub(crate) fn walk<G: Gate + Sync>(
     alloc: Global,
     version: &Version,
     question: &Question,
     line: u32,
     gate: &G,
+    from: usize,
+    to: usize,
 ) -> Result<SegmentList, MatchFault>
-    requires { IsAskedOf version.now.config question.now }
-    ensures { GivesRows result
-        (flat_map (λ b. rows_for question.now version.now.config b)
-        (bundles_of version.now.bundles))
-        (list_any (λ b. too_many_for question.now version.now.config b)
-        (bundles_of version.now.bundles)) }
+    requires asked { IsAskedOf version.now.config question.now }
+    requires run { IsRun version.now from to }
+    ensures { GivesRun result question.now version.now from to }
 {
     let config = version.config();
     let mut list = SegmentList::new(alloc);
-    for place in 0..version.len() {
+    for place in from..to {
         gate.at(line, Moment::Piece(place as u32));
         let indexed = version.at(place);
         match add_bundle(alloc, &mut list, config, indexed, question) {
@@ -76,16 +77,45 @@ fn walk<G: Gate + Sync>(
     Ok(list)
 }
 
+/// The rows that are asked for over a version, one bundle after another in the order of their keys.
+fn walk_all<R: Threads + Sync, G: Gate + Sync>(
+    rt: &R,
+    alloc: Global,
+    version: &Version,
+    question: &Question,
+    workers: u32,
+    line: u32,
+    gate: &G,
+) -> Result<SegmentList, MatchFault>
+    requires workers { (1 ≤ workers) × (workers ≤ 8) }
+    requires asked { IsAskedOf version.now.config question.now }
+    ensures { GivesOver result question.now version.now (bundles_of version.now.bundles) }
+{
+    let count = version.len();
+    halves(
+        rt,
+        alloc,
+        version,
+        question,
+        line,
+        gate,
+        workers as usize,
+        0,
+        count,
+    )
+}
+
 /// The segment list of a query over a version: the rows of one bundle after another in the order of their
 /// keys (EMU-SDMS Manual, "The EMU Query Language (EQL)": segment lists). `TooManyTuples` comes exactly
 /// where some part of the query has over 1,000,000 tuples in some bundle. The only other refusal is want of
 /// memory.
 ///
 /// Before each bundle the gate is told that the line, counted from 1, is at the piece of the bundle's place
-/// in the version. The query was resolved by the version's configuration. There are 1 to 8 workers. So far
-/// the calling thread does all the work, whatever their number, and no thread is started.
+/// in the version, by the thread that matches the bundle. The query was resolved by the version's
+/// configuration. There are 1 to 8 workers, which match the bundles beside one another, and the list is the
+/// same for every number of them. Where no thread can be made the calling thread does the work.
 pub fn answer<R: Threads + Sync, G: Gate + Sync>(
-    _rt: &R,
+    rt: &R,
     alloc: Global,
     version: &Version,
     asked: &Asked,
@@ -97,14 +127,22 @@ pub fn answer<R: Threads + Sync, G: Gate + Sync>(
     requires resolved { IsResolvedBy version.now.config asked.now }
     ensures { ListsRows result version.now.config (bundles_of version.now.bundles) asked.now }
 {
-    walk(alloc, version, &Question::Rows(asked), line, gate)
+    walk_all(
+        rt,
+        alloc,
+        version,
+        &Question::Rows(asked),
+        workers,
+        line,
+        gate,
+    )
 }
 
 /// The segment list of a query over a version whose results are carried: the rows of what the results reach,
 /// in their order, one bundle after another in the order of their keys (EMU-SDMS Manual, "The EMU Query
 /// Language (EQL)": `requery_hier`, `requery_seq`). All else is as `answer` says it.
 pub fn answer_requery<R: Threads + Sync, G: Gate + Sync>(
-    _rt: &R,
+    rt: &R,
     alloc: Global,
     version: &Version,
     reached: &Reached,
@@ -116,5 +154,13 @@ pub fn answer_requery<R: Threads + Sync, G: Gate + Sync>(
     requires resolved { IsReachedBy version.now.config reached.now }
     ensures { ListsCarried result version.now.config (bundles_of version.now.bundles) reached.now }
 {
-    walk(alloc, version, &Question::Carried(reached), line, gate)
+    walk_all(
+        rt,
+        alloc,
+        version,
+        &Question::Carried(reached),
+        workers,
+        line,
+        gate,
+    )
 }

@@ -9,3 +9,5 @@ mod live;
 mod scripts;
 #[cfg(test)]
 mod stores;
+#[cfg(test)]
+mod workers;

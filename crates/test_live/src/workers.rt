@@ -1,0 +1,76 @@
+//! Queries by several workers: a gate that holds each of two bundles until the other is looked at, and lists that are
+//! the same for every number of workers.
+use crate::scripts::{BUNDLE, CONFIG, run_on};
+use emu_disk::MemoryDisk;
+use emu_io::{Hold, HoldGate, LineMoment, Moment};
+use std::alloc::Global;
+use std::process::Abort;
+use std::sync::Wait;
+use std::test::Fail;
+use std::thread::Threads;
+
+/// Two bundles of the same annotation, and a query that finds a row in each.
+const TWO: [&str; 4] = [
+    CONFIG,
+    BUNDLE,
+    r#"{"s":1,"do":"add_bundle","session":"s1","bundle":"b2","annot":{"annotates":"b1.wav","sampleRate":20000,"levels":[{"name":"Phonetic","type":"SEGMENT","items":[{"id":1,"sampleStart":3749,"sampleDur":1389,"labels":[{"name":"Phonetic","value":"V"}]},{"id":2,"sampleStart":5139,"sampleDur":1664,"labels":[{"name":"Phonetic","value":"m"}]}]}],"links":[]}}"#,
+    r#"{"s":1,"do":"query","eql":"Phonetic == m"}"#,
+];
+
+/// What that script is answered, by whatever number of workers.
+const TWO_OUTPUT: [&str; 7] = [
+    r#"{"line":1,"n":0,"ok":"config"}"#,
+    r#"{"line":2,"n":1,"ok":"add_bundle"}"#,
+    r#"{"line":3,"n":2,"ok":"add_bundle"}"#,
+    r#"{"line":4,"n":2,"segments":[{"attribute":"Phonetic","bundle":"b1","end":340175,"endItem":2,"endPos":1,"labels":"m","level":"Phonetic","sampleEnd":6803,"sampleRate":20000,"sampleStart":5139,"session":"s1","start":256925,"startItem":2,"startPos":1},{"attribute":"Phonetic","bundle":"b2","end":340175,"endItem":2,"endPos":1,"labels":"m","level":"Phonetic","sampleEnd":6803,"sampleRate":20000,"sampleStart":5139,"session":"s1","start":256925,"startItem":2,"startPos":1}]}"#,
+    r#"{"from":0}"#,
+    r#"{"at":1,"line":2,"s":1}"#,
+    r#"{"at":2,"line":3,"s":1}"#,
+];
+
+/// The moment at which the query of line 4 is about to look at the bundle of a place.
+const fn piece(place: u32) -> LineMoment {
+    LineMoment {
+        line: 4,
+        moment: Moment::Piece(place),
+    }
+}
+
+/// Each of the two bundles is held until the other is looked at.
+const CROSSED: [Hold; 2] = [
+    Hold {
+        first: piece(0),
+        second: piece(1),
+    },
+    Hold {
+        first: piece(1),
+        second: piece(0),
+    },
+];
+
+/// Runs the script by these words behind the gate, and says whether the gate gave up.
+fn gives_up<R: Abort + Threads + Wait + Sync>(
+    rt: &R,
+    alloc: Global,
+    words: &[&str],
+) -> Result<bool, Fail> {
+    let gate = HoldGate::new(alloc, &CROSSED)?;
+    let disk = MemoryDisk::new(alloc, &[])?;
+    let ran = run_on(rt, alloc, words, &TWO, &[], disk, &gate)?;
+    assert!(rt; ran.gave(0, &TWO_OUTPUT) && gate.saw_all());
+    Ok(gate.gave_up())
+}
+
+#[test]
+fn two_workers_look_at_two_bundles_at_once(rt: HostRuntime) -> Result<(), Fail> {
+    let gave_up = gives_up(&rt, rt.alloc(), &["live", "--workers", "2"])?;
+    assert!(rt; !gave_up);
+    Ok(())
+}
+
+#[test]
+fn one_worker_looks_at_one_bundle_after_another(rt: HostRuntime) -> Result<(), Fail> {
+    let gave_up = gives_up(&rt, rt.alloc(), &["live", "--workers", "1"])?;
+    assert!(rt; gave_up);
+    Ok(())
+}
