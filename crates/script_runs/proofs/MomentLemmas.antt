@@ -197,16 +197,16 @@ module _ {D : Type 0} (disk : disks.Ghosts D) (base : Base) (begin : D) where
     abbrev o : Outage
     o = t.answers.outage
 
-    abbrev next : Parsed
-    next = with_read p (reads.Request l)
+    abbrev behind : Parsed
+    behind = with_read p (reads.Request l)
 
     abbrev was : List Entry
     was = history_by base p outages
 
     abbrev is_now : List Entry
-    is_now = history_by base next (outages ++ o ∷ [])
+    is_now = history_by base behind (outages ++ o ∷ [])
 
-    lost : Option Entry
+    abbrev lost : Option Entry
     lost = (before disk.may_leave disk.faults base (disk.faults begin) disk.moment disk.left_since config p outages running new l reply t at d.kept).lost
 
     went : Goes disk running.core.book new.core.book l reply lost
@@ -218,23 +218,23 @@ module _ {D : Type 0} (disk : disks.Ghosts D) (base : Base) (begin : D) where
     now_is : is_now ≡ was ++ went.more
     now_is = new_history disk.may_leave disk.faults base (disk.faults begin) disk.moment disk.left_since config p outages running new l reply t at d.kept ∙ went.grew ∙ ap (λ h. h ++ went.more) (sym old_is)
 
-    replies_now : replies_by base next (outages ++ o ∷ []) ≡ replies_by base p outages ++ reply ∷ []
+    replies_now : replies_by base behind (outages ++ o ∷ []) ≡ replies_by base p outages ++ reply ∷ []
     replies_now = replies_are disk.may_leave disk.faults base (disk.faults begin) disk.moment disk.left_since config p outages running new l reply t at d.kept
 
     abbrev P : List ℕ → Type 0
     P = AtMomentOf (disk.may_leave begin) base p outages
 
     abbrev Q : List ℕ → Type 0
-    Q = AtMomentOf (disk.may_leave begin) base next (outages ++ o ∷ [])
+    Q = AtMomentOf (disk.may_leave begin) base behind (outages ++ o ∷ [])
 
     earlier : (c : List ℕ) → P c → Q c
     earlier c (inl h) = inl h
     earlier c (inr (inl h)) = inr (inl h)
-    earlier c (inr (inr h)) = inr (inr (of_more_in (opening_by base) p.requests (replies_by base p outages) was went.more is_now l reply (replies_by base next (outages ++ o ∷ [])) c replies_now now_is (config_by base p.config) h))
+    earlier c (inr (inr h)) = inr (inr (of_more_in (opening_by base) p.requests (replies_by base p outages) was went.more is_now l reply (replies_by base behind (outages ++ o ∷ [])) c replies_now now_is (config_by base p.config) h))
 
     of_this : (c : List ℕ) → DuringLine config was went.more l reply lost c → Q c
-    of_this c h = inr (inr (subst (λ given. IsOfRunIn given (opening_by base) (p.requests ++ l ∷ []) (replies_by base next (outages ++ o ∷ [])) is_now c) (sym at.begun)
-        (of_line (opening_by base) p.requests (replies_by base p outages) was went.more is_now l reply (replies_by base next (outages ++ o ∷ [])) c replies_now now_is config
+    of_this c h = inr (inr (subst (λ given. IsOfRunIn given (opening_by base) (p.requests ++ l ∷ []) (replies_by base behind (outages ++ o ∷ [])) is_now c) (sym at.begun)
+        (of_line (opening_by base) p.requests (replies_by base p outages) was went.more is_now l reply (replies_by base behind (outages ++ o ∷ [])) c replies_now now_is config
         (counts disk.may_leave disk.faults base (disk.faults begin) disk.moment disk.left_since config p outages running new l reply t at d.kept) d.longer lost
         (before disk.may_leave disk.faults base (disk.faults begin) disk.moment disk.left_since config p outages running new l reply t at d.kept).why h)))
 

@@ -193,6 +193,7 @@ module _ (store : Bool) (stored left left_after : Option (List ℕ)) (r rs m n f
   })
 
   pub says_read : (now : Option (List ℕ)) (w : ℕ) → Rose r rs → Done (read_from (wants_by base)) [] → Said statuses.Read now now w w
+  unfolding says_unopened
   says_read now w cause d = (
     says_unopened store stored left left_after r rs m n f fs base begins before_images images now w cause d.done,
     subst (λ h. Moments base (read_from (wants_by base)) [] h before_images since_images) (opening_is base) d.moments,
