@@ -11,6 +11,10 @@ if [ $# != 2 ] || [ ! -d "$from" ] || [ -e "$to" ]; then
     echo "export-folder.sh FROM_emuDB TO_emuDB: FROM_emuDB has to be there, TO_emuDB not" >&2
     exit 2
 fi
+if ! "$emu" history >/dev/null; then
+    echo "export-folder.sh: this folder has no store that can be read" >&2
+    exit 1
+fi
 config=$(echo "$from"/*_DBconfig.json)
 cp -rL "$from" "$to" || exit 1
 {
@@ -28,7 +32,7 @@ cp -rL "$from" "$to" || exit 1
         rm "$folder/new"
         echo "$session $bundle is not in the store; $folder is as it was"
     else
-        echo "$session $bundle: status $status" >&2
+        echo "$session $bundle: status $status $(cat "$folder/new")" >&2
         exit 1
     fi
 done

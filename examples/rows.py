@@ -43,6 +43,10 @@ def ask(eql, time=None, program="emu"):
 
 
 if __name__ == "__main__":
+    replies = sys.stdin.readlines()
+    if not replies:
+        raise SystemExit("emu gave no reply: see its status")
+    table = list(rows(replies))
     out = csv.DictWriter(sys.stdout, NAMES, lineterminator="\n")
     out.writeheader()
-    out.writerows(rows(sys.stdin))
+    out.writerows(table)

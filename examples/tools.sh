@@ -97,7 +97,7 @@ fi
 
 # The picture: a line for each of the 20 links of a bundle, and drawn where dot is there.
 emu export spk1 b01 | jq -r -f "$here/hierarchy.jq" >../picture
-{ grep -c ' -> [0-9]' ../picture; grep -o '[0-9]* \[label="model\|[0-9]* \[label="C / model' ../picture; } >../found
+{ grep -c '^[0-9]* -> [0-9]' ../picture; grep -o '[0-9]* \[label="model\|[0-9]* \[label="C / model' ../picture; } >../found
 agree hierarchy.jq ../found <<<$'20\n2 [label="C / model'
 if command -v dot >/dev/null; then
     dot -Tsvg ../picture | grep -c '<g id="edge' >../found
