@@ -5,12 +5,12 @@ use Rattle.emu_cli.proofs.store.import_store.Goals as goal
 
 pub returns-in-Stored : goal.returns-in-Stored
 returns-in-Stored g c =
-    let b = some_opened g.D.Disk.may_leave (g.D.Disk.reads c.args.disk) c.in-Ok.opened c.in-Stored.book c.in-Stored.passes c.in-Stored.is c.in-Ok.ensures.opened in
+    let b = some_opened g.D.Disk.may_leave (g.D.Disk.reads c.args.disk) c.in-Ok.opened c.in-Stored.book c.in-Stored._passes c.in-Stored.is c.in-Ok.ensures.opened in
     inl (
       c.in-Stored.book,
       b.begins,
-      c.import_and_close.ensures c.args.disk (some_later g.D.Disk.faults c.in-Ok.opened c.in-Stored.book c.in-Stored.passes (g.D.Disk.faults c.args.disk) c.in-Stored.is c.in-Ok.ensures.later)
-          (some_leaves g.D.Disk.moment g.D.Disk.left_since (g.D.Disk.may_leave c.args.disk) c.args.disk c.in-Ok.opened c.in-Stored.book c.in-Stored.passes c.in-Stored.is c.in-Ok.ensures.any_moment),
+      c.import_and_close.ensures c.args.disk (some_later g.D.Disk.faults c.in-Ok.opened c.in-Stored.book c.in-Stored._passes (g.D.Disk.faults c.args.disk) c.in-Stored.is c.in-Ok.ensures.later)
+          (some_leaves g.D.Disk.moment g.D.Disk.left_since (g.D.Disk.may_leave c.args.disk) c.args.disk c.in-Ok.opened c.in-Stored.book c.in-Stored._passes c.in-Stored.is c.in-Ok.ensures.any_moment),
     )
 
 pub returns-in-Bare : goal.returns-in-Bare

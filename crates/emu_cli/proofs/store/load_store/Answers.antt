@@ -10,8 +10,8 @@ returns-in-Bare g c =
 
 pub returns-in-Stored : goal.returns-in-Stored
 returns-in-Stored g c =
-    let b = some_opened g.D.Disk.may_leave (g.D.Disk.reads c.args.disk) c.in-Ok.opened c.in-Stored.book c.in-Stored.passes c.in-Stored.is c.in-Ok.ensures.opened in
+    let b = some_opened g.D.Disk.may_leave (g.D.Disk.reads c.args.disk) c.in-Ok.opened c.in-Stored.book c.in-Stored._passes c.in-Stored.is c.in-Ok.ensures.opened in
     inr (
       inl (c.in-Stored.book.config, c.in-Stored.book.history, b.begins, disk_images g.D.Disk.may_leave c.in-Stored.book.journal c.keep_and_close.result.disk c.keep_and_close.ensures.disk c.in-Stored.book.config c.in-Stored.book.history None b.keeps, c.keep_and_close.ensures.ending),
-      some_untouched g.D.Disk.moment g.D.Disk.left_since (g.D.Disk.may_leave c.args.disk) c.args.disk c.keep_and_close.result.disk c.in-Ok.opened c.in-Stored.book c.in-Stored.passes c.in-Stored.is c.keep_and_close.ensures.disk c.in-Ok.ensures.any_moment,
+      some_untouched g.D.Disk.moment g.D.Disk.left_since (g.D.Disk.may_leave c.args.disk) c.args.disk c.keep_and_close.result.disk c.in-Ok.opened c.in-Stored.book c.in-Stored._passes c.in-Stored.is c.keep_and_close.ensures.disk c.in-Ok.ensures.any_moment,
     )

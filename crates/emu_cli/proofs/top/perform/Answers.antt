@@ -50,7 +50,7 @@ pub returns-in-Ok-clause-untouched : goal.returns-in-Ok-clause-untouched
 returns-in-Ok-clause-untouched g c = λ run stores. c.perform_other.ensures.untouched (other_store (texts_of c.args.words.now) c.in-Ok.asked (is_of_store c.in-Ok.asked) refl c.in-Ok.ensures.read stores)
 
 pub returns-clause-says : goal.returns-clause-says
-returns-clause-says g c = inr (inr (inr (inl ((refl, Appends-nil (g.K.Sink.written c.args.out.now)), λ b image. image, λ b left. g.met.D.Disk.only_now c.args.disk b left))))
+returns-clause-says g c = inr (inr (inr (inl ((refl, Appends-nil (g.K.Sink.written c.args.out.now)), λ b image. image, λ b left. (g.met.D.Disk g.world.𝓛 g.world.𝓜 g.world.𝓡 ((λ s x. x), (λ x. x), (λ x. x), λ x. x)).only_now c.args.disk b left))))
 
 pub returns-in-Some-clause-commands : goal.returns-in-Some-clause-commands
 returns-in-Some-clause-commands g c = λ asks faultless. absurd (runs_no_store (texts_of c.args.words.now) c.in-Ok.asked c.in-Some.store c.in-Ok.ensures.read (sym c.in-Some.ensures) asks)
