@@ -2,3 +2,4 @@ pub mod Doubles
 pub mod Tables
 pub mod Tests
 pub mod Above
+pub mod Grown

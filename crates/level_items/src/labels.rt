@@ -1,5 +1,6 @@
 //! The labels of an item, which contracts see as a list of texts.
-ghost use Rattle.std.specs.Prelude.{◌≡◌, ◌<◌, ◌==◌, [], ◌∷◌, ◌++◌, length, IfOk, OnOk, OnErr, slice_get, slice_set, Some};
+ghost use Rattle.std.specs.Prelude.{◌≡◌, ◌<◌, ◌==◌, [], ◌∷◌, ◌++◌, length, replicate, IfOk, OnOk, OnErr, slice_get, slice_set, Some};
+ghost use Rattle.level_items.specs.Levels.{padded};
 ghost use Rattle.level_items.specs.Inner.Held.{held_labels};
 
 use emu_names::{Memory, PlainData, Series, Shared, Text};
@@ -117,6 +118,21 @@ impl Labels {
         Ok(Labels { alloc, held })
     }
 
+    /// These labels with empty ones behind, up to so many in all. The only refusal is want of memory.
+    pub(crate) fn padded(&self, alloc: Global, count: usize) -> Result<Labels, Memory>
+        ensures { IfOk result (λ made. made ≡ padded count self.now) }
+    {
+        if count <= self.len() {
+            return self.copy(alloc);
+        }
+        let mut made = Labels::with_capacity(alloc, count)?;
+        for label in self.as_slice() {
+            made.push(label.copy(alloc)?)?;
+        }
+        push_empty(alloc, &mut made, count - self.len())?;
+        Ok(made)
+    }
+
     /// The same labels again, which shares them. The only refusal is want of memory.
     pub fn copy(&self, alloc: Global) -> Result<Labels, Memory>
         ensures { IfOk result (λ made. made ≡ self.now) }
@@ -143,6 +159,17 @@ impl Held {
             Held::Many(labels) => Ok(Held::Many(labels.copy(alloc)?)),
         }
     }
+}
+
+/// Puts so many empty labels last. The only refusal is want of memory, after which some of them may stand
+/// there.
+fn push_empty(alloc: Global, labels: &mut Labels, count: usize) -> Result<(), Memory>
+    ensures { OnOk result (labels.new ≡ labels.old ++ replicate count []) }
+{
+    for _ in 0..count {
+        labels.push(Text::new(alloc, "")?)?;
+    }
+    Ok(())
 }
 
 /// The list of two labels. The only refusal is want of memory.

@@ -1,6 +1,6 @@
 use Rattle.std.proofs.Common.{◌≡◌, ℕ}
 use Rattle.level_items.specs.Inner.Marked.{is_marked}
-use Rattle.level_items.proofs.moves.mark_behind.Given as goal
+use Rattle.level_items.proofs.moves.renew_all.Given as goal
 
 -- the marked ids are those from before
 abbrev pub invariant-loop-at : goal.invariant-loop-at
