@@ -14,3 +14,4 @@ pub mod NamedLinks
 pub mod Refusals
 pub mod Tests
 pub mod Walks
+pub mod FittedKept

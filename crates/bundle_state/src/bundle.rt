@@ -12,11 +12,13 @@ ghost use Rattle.level_items.specs.Levels.{KeepsLevelRule, are_labels_for, is_sh
 ghost use Rattle.bundle_state.specs.Bundle.{item_count, level_of_id, place_of};
 ghost use Rattle.bundle_state.specs.Built.{built, bundle_of, FitsConfig};
 ghost use Rattle.bundle_state.specs.Changed.{item_added, item_removed, label_set, item_retimed, link_added, link_removed};
+ghost use Rattle.bundle_state.specs.Fitted.{CanFit, fitted};
 ghost use Rattle.bundle_state.specs.Inner.Changed.{attributes_with};
 ghost use Rattle.bundle_state.specs.Inner.Kept.{ArePlacesOf};
 ghost use Rattle.bundle_state.specs.Valid.{KeepsBundleRules};
 
 use crate::changes::{put_item, take_out};
+use crate::fitted::fitted_levels;
 use crate::given_levels::levels_for;
 use crate::given_links::{definition_for, shared_links};
 use crate::handle::Handle;
@@ -329,6 +331,27 @@ impl Bundle {
         ensures kept { OnErr result (self.new ≡ self.old) }
     {
         self.links.remove(from, to)
+    }
+
+    /// The bundle under a configuration that begins with the one that it fits: new levels are empty, and
+    /// new attributes have the empty label. The only refusal is want of memory.
+    pub fn fit(&self, alloc: Global, config: &Config) -> Result<Bundle, Memory>
+        requires { CanFit config.now self.now }
+        ensures { IfOk result (λ made. made ≡ fitted config.now self.now) }
+    {
+        let _rules = self.item_count();
+        let parts = config.parts();
+        let levels = fitted_levels(alloc, parts.levels.as_slice(), self.levels.as_slice())?;
+        let definitions = parts.links.copy(alloc)?;
+        Ok(Bundle {
+            key: self.key.copy(alloc)?,
+            annotates: self.annotates.copy(alloc)?,
+            rate: self.rate,
+            levels,
+            definitions: Handle::new(alloc, definitions)?,
+            links: self.links.copy(alloc)?,
+            places: self.places.copy(alloc)?,
+        })
     }
 
     /// The same bundle again, which shares its levels and links. The only refusal is want of memory.

@@ -1,13 +1,5 @@
-pub mod Cuts
 pub mod KeyPlaces
-pub mod LabelSteps
-pub mod Lookups
-pub mod Next
 pub mod Orders
-pub mod Places
 pub mod Replay
-pub mod Spans
 pub mod Stays
-pub mod Steps
 pub mod Stored
-pub mod Traces

@@ -7,10 +7,10 @@ use Rattle.db_config.specs.Valid.{is_valid}
 use Rattle.bundle_state.specs.Bundle.{BundleParts}
 use Rattle.emu_names.specs.Steps.{onward}
 use Rattle.bundle_state.proofs.LinksKept.{goes_on, ok_same, fine_value}
-use Rattle.edit_rules.specs.declared.edit.Edit.{Edit}
+use Rattle.bundle_edits.specs.declared.edit.Edit.{Edit}
 use Rattle.edit_rules.specs.declared.edit.Entry.{Entry}
-use Rattle.edit_rules.specs.Edits.{key_of}
-use Rattle.edit_rules.specs.Changes.{changed}
+use Rattle.bundle_edits.specs.Edits.{key_of}
+use Rattle.bundle_edits.specs.Changes.{changed}
 use Rattle.edit_rules.specs.Database.{DatabaseParts, empty_database, KeepsDatabaseRules, all_items, bundle_with, counts_of}
 use Rattle.edit_rules.specs.Effects.{put_back, effect, replayed, after, IsLegal, found_or, database_after}
 use Rattle.edit_rules.specs.Laws.{ReplayGoesOn, PrefixesAreLegal, StatesKeepRules}

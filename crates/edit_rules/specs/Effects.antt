@@ -4,11 +4,11 @@ use Rattle.emu_names.specs.declared.rules.Broken.{Broken}
 use Rattle.db_config.specs.declared.parts.ConfigParts.{ConfigParts}
 use Rattle.bundle_state.specs.Bundle.{BundleParts}
 use Rattle.emu_names.specs.Steps.{onward}
-use Rattle.edit_rules.specs.declared.edit.Edit.{Edit}
+use Rattle.bundle_edits.specs.declared.edit.Edit.{Edit}
 use Rattle.edit_rules.specs.declared.edit.Entry.{Entry}
-use Rattle.edit_rules.specs.Edits.{key_of}
+use Rattle.bundle_edits.specs.Edits.{key_of}
 use Rattle.edit_rules.specs.Database.{DatabaseParts, empty_database, with_bundles, bundle_with, put_for, counts_of}
-use Rattle.edit_rules.specs.Changes.{changed}
+use Rattle.bundle_edits.specs.Changes.{changed}
 
 -- the database with this bundle, or none, in the place of that of the edit
 abbrev pub put_back : DatabaseParts → Edit → Option BundleParts → Result DatabaseParts Broken

@@ -6,16 +6,6 @@ pub fn edits_keep_rules()
     ensures { EditsKeepRules }
 {}
 
-/// The ids of a bundle behind an edit are those before it with one put in, with one taken out, or the same.
-pub fn edits_keep_ids()
-    ensures { EditsKeepIds }
-{}
-
-/// The links of a bundle that an edit does not take out stay in their order; a new one stands last.
-pub fn edits_keep_links()
-    ensures { EditsKeepLinks }
-{}
-
 /// One more entry of a history changes the database as its edit does.
 pub fn replay_goes_on()
     ensures { ReplayGoesOn }

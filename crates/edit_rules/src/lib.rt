@@ -10,8 +10,8 @@ mod labels;
 mod laws;
 mod segments;
 
-pub use bundle_change::{Counts, change};
-pub use database::Database;
+pub use bundle_change::{Counts, change, change_own};
+pub use database::{Database, KeyPlace};
 pub use edit::{Edit, Entries, Entry};
 pub use effects::{apply, check};
 pub use laws::{

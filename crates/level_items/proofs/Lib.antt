@@ -4,3 +4,4 @@ pub mod Rules
 pub mod Found
 pub mod Changes
 pub mod Exact
+pub mod Wider

@@ -2,14 +2,14 @@
 use Rattle.std.proofs.Common.{◌≡◌, ℕ, zero, suc, ◌+◌, ◌-◌, ◌≤◌, Bool, true, ◌&&◌, ◌==◌, List, [], ◌∷◌, ◌++◌, length, map, replicate, nat_eq, refl, sym, ap, ◌∙◌, arith}
 use Rattle.std.specs.List.{list_all, list_any}
 use Rattle.std.proofs.lemmas.Bool.{and_parts, and_from, eq-eqb}
-use Rattle.std.proofs.lemmas.List.{length-append, length-replicate}
+use Rattle.std.proofs.lemmas.List.{append-nil, length-append, length-map, length-replicate}
 use Rattle.std.proofs.lemmas.List.Folds.{list_all-append}
 use Rattle.emu_names.specs.declared.kinds.LevelKind.{LevelKind}
 use Rattle.emu_names.specs.declared.kinds.LevelKind.TheVariants as kinds
 use Rattle.level_items.specs.declared.times.Time.{Time}
 use Rattle.level_items.specs.declared.items.Item.{Item}
 use Rattle.level_items.specs.declared.marks.Marks.{Marks}
-use Rattle.level_items.specs.Levels.{level_of, KeepsLevelRule, ids_of, are_different, is_short, are_labels_for, fits_level, are_in_order, are_apart, is_before_first, padded, widened_item}
+use Rattle.level_items.specs.Levels.{Level, level_of, widened, KeepsLevelRule, ids_of, are_different, is_short, are_labels_for, fits_level, are_in_order, are_apart, is_before_first, padded, widened_item}
 use Rattle.level_items.specs.Inner.Kept.{IsKept}
 use Rattle.level_items.proofs.Changes.{parts_of_fit, fit_of_parts}
 
@@ -33,6 +33,9 @@ labels_padded count labels within short =
 pub ids_widened : (count : ℕ) (items : List Item) → ids_of (map (widened_item count) items) ≡ ids_of items
 ids_widened count [] = refl
 ids_widened count (x ∷ xs) = ap (λ ns. x.id.0 ∷ ns) (ids_widened count xs)
+
+pub length_widened : (count : ℕ) (items : List Item) → length (map (widened_item count) items) ≡ length items
+length_widened count items = length-map items (widened_item count)
 
 apart_widened : (count : ℕ) (items : List Item) → are_apart (map (widened_item count) items) ≡ are_apart items
 apart_widened count [] = refl
@@ -77,3 +80,20 @@ kept_widened kind attributes count items marks within kept = record {
   rule = rule_widened kind attributes count items within kept.rule;
   marked = λ q. kept.marked q ∙ ap (λ ns. list_any (nat_eq q) ns) (sym (ids_widened count items));
 }
+
+-- a level with as many attributes as it has is the level itself
+padded_same : (count : ℕ) (labels : List (List ℕ)) → length labels ≡ count → padded count labels ≡ labels
+padded_same count labels same =
+    let none : count - length labels ≡ 0 = omega arith in
+    ap (λ n. labels ++ replicate n []) none ∙ append-nil labels
+
+items_same : (kind : LevelKind) (attributes : ℕ) (items : List Item) → list_all (fits_level kind attributes) items ≡ true → map (widened_item attributes) items ≡ items
+items_same kind attributes [] fits = refl
+items_same kind attributes (x ∷ xs) fits =
+    let parts = and_parts (fits_level kind attributes x) (list_all (fits_level kind attributes) xs) fits in
+    let count = (parts_of_fit kind attributes x parts.0).count in
+    ap (λ ls. record { id = x.id; time = x.time; labels = ls } ∷ map (widened_item attributes) xs) (padded_same attributes x.labels count)
+    ∙ ap (λ ys. x ∷ ys) (items_same kind attributes xs parts.1)
+
+pub widened_same : (level : Level) → KeepsLevelRule level → widened level.attributes level ≡ level
+widened_same level rule = ap (λ items. level_of level.kind level.attributes items) (items_same level.kind level.attributes level.items rule.fitting)

@@ -98,6 +98,13 @@ impl LevelList {
         self.items.len()
     }
 
+    /// How many attributes the level has.
+    pub fn attributes(&self) -> usize
+        ensures { result ≡ self.now.attributes }
+    {
+        self.attributes
+    }
+
     /// Whether there is no item.
     pub fn is_empty(&self) -> bool
         ensures { IsTrue result ↔ (self.now.items ≡ []) }

@@ -1,8 +1,8 @@
 use Rattle.std.proofs.Common.{◌≡◌, Ok, sym, ◌∙◌, ap, subst, option_copied}
 use Rattle.emu_names.specs.declared.names.BundleKey.{BundleKey}
 use Rattle.bundle_state.proofs.LinksKept.{fine_value}
-use Rattle.edit_rules.specs.Edits.{key_of}
-use Rattle.edit_rules.specs.Changes.{changed}
+use Rattle.bundle_edits.specs.Edits.{key_of}
+use Rattle.bundle_edits.specs.Changes.{changed}
 use Rattle.edit_rules.specs.Database.{DatabaseParts, with_bundles, counts_of}
 use Rattle.edit_rules.specs.Inner.KeyPlaces.{IsKeyPlace, found_at, put_at}
 use Rattle.edit_rules.proofs.Stays.{edits_keep_rules, effect_at, changed_as}

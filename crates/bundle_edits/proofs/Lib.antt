@@ -1,0 +1,8 @@
+pub mod Cuts
+pub mod LabelSteps
+pub mod Lookups
+pub mod Next
+pub mod Places
+pub mod Spans
+pub mod Steps
+pub mod Traces
