@@ -1,5 +1,12 @@
+pub mod Beside
+pub mod Bundles
+pub mod Calls
+pub mod Fits
 pub mod KeyPlaces
+pub mod Lists
 pub mod Orders
+pub mod Puts
 pub mod Replay
 pub mod Stays
 pub mod Stored
+pub mod Turns

@@ -26,7 +26,7 @@ use Rattle.bundle_edits.specs.declared.segments.Segment.{Segment}
 use Rattle.bundle_edits.specs.Edits.{key_of}
 use Rattle.bundle_edits.specs.Changes.{unless_too_many, bundle_added, level_found, NumberedLevel, room_fault, id_fault, given_item_fault, put_on, item_put, segment_of, last_of, cut_fault, cut_at, split_in, segment_split, bundle_changed, if_kept, changed}
 use Rattle.edit_rules.specs.Database.{DatabaseParts, with_bundles, same_key, is_before, bundle_with, without, put_in_order, put_for, counts_of, are_keys_rising, KeepsDatabaseRules}
-use Rattle.edit_rules.specs.Effects.{put_back, effect}
+use Rattle.edit_rules.specs.Effects.{put_back, edit_effect}
 use Rattle.edit_rules.specs.Laws.{OrderDoesNotMatter}
 use Rattle.edit_rules.proofs.KeyPlaces.{Apart, above_own, apart_all, apart_find, key_same, same_itself, before_or, rising_tail}
 use Rattle.edit_rules.proofs.Stays.{apart_left, limit_passed, limit_before, changed_stored, old_is, edits_keep_rules}
@@ -214,7 +214,7 @@ pub record Goes (d next : DatabaseParts) (edit : Edit) : Type 0 where
   pub own : IsOfKey (key_of edit) new
   pub is : with_bundles d (put_for (key_of edit) new d.bundles) ≡ next
 
-pub goes : (d next : DatabaseParts) (edit : Edit) → KeepsDatabaseRules d → effect d edit ≡ Ok next → Goes d next edit
+pub goes : (d next : DatabaseParts) (edit : Edit) → KeepsDatabaseRules d → edit_effect d edit ≡ Ok next → Goes d next edit
 goes d next edit keeps is =
     let old : Option BundleParts = bundle_with (key_of edit) d.bundles in
     let on = goes_on (changed d.config (counts_of d.bundles) old edit) (put_back d edit) next is in

@@ -26,7 +26,7 @@ use Rattle.bundle_edits.specs.declared.edit.Edit.TheVariants as edits
 use Rattle.bundle_edits.specs.Edits.{key_of}
 use Rattle.bundle_edits.specs.Changes.{unless_too_many, bundle_added, bundle_changed, is_kept_by, if_kept, missing_changed, changed}
 use Rattle.edit_rules.specs.Database.{DatabaseParts, with_bundles, same_key, is_before, bundle_with, without, put_in_order, put_for, all_items, counts_of, are_keys_rising, IsBundleOf, KeepsDatabaseRules}
-use Rattle.edit_rules.specs.Effects.{put_back, effect}
+use Rattle.edit_rules.specs.Effects.{put_back, edit_effect}
 use Rattle.edit_rules.specs.Inner.Kept.{IsKept}
 use Rattle.edit_rules.specs.Inner.KeyPlaces.{IsKeyPlace, found_at, put_at}
 use Rattle.edit_rules.proofs.KeyPlaces.{Above, Apart, above_own, above_next, key_same, before_or, rising_tail}
@@ -338,7 +338,7 @@ abbrev parts_as : ConfigParts → List BundleParts → DatabaseParts
 parts_as config bundles = record { config = config; bundles = bundles }
 
 -- an edit that breaks no rule leaves a database that keeps the rules
-pub edits_keep_rules : (d next : DatabaseParts) (edit : Edit) → KeepsDatabaseRules d → effect d edit ≡ Ok next → KeepsDatabaseRules next
+pub edits_keep_rules : (d next : DatabaseParts) (edit : Edit) → KeepsDatabaseRules d → edit_effect d edit ≡ Ok next → KeepsDatabaseRules next
 edits_keep_rules d next edit keeps is =
     let key : BundleKey = key_of edit in
     let old : Option BundleParts = bundle_with key d.bundles in
@@ -376,7 +376,7 @@ changed_as config own counts number old there edit next same alike found is =
 
 -- what an edit leaves, by the place of its key
 pub effect_at : (d : DatabaseParts) (edit : Edit) (place : KeyPlace) (next : Option BundleParts) → KeepsDatabaseRules d → IsKeyPlace (key_of edit) d.bundles place →
-    changed d.config (counts_of d.bundles) (found_at d.bundles place) edit ≡ Ok next → effect d edit ≡ Ok (with_bundles d (put_at d.bundles place next))
+    changed d.config (counts_of d.bundles) (found_at d.bundles place) edit ≡ Ok next → edit_effect d edit ≡ Ok (with_bundles d (put_at d.bundles place next))
 effect_at d edit place next keeps at is =
     let key : BundleKey = key_of edit in
     let counts : Counts = counts_of d.bundles in
@@ -389,7 +389,7 @@ effect_at d edit place next keeps at is =
 
 -- the rule that an edit breaks, by the place of its key
 pub fault_at : (d : DatabaseParts) (edit : Edit) (place : KeyPlace) (rule : Broken) → IsKeyPlace (key_of edit) d.bundles place →
-    changed d.config (counts_of d.bundles) (found_at d.bundles place) edit ≡ Err rule → effect d edit ≡ Err rule
+    changed d.config (counts_of d.bundles) (found_at d.bundles place) edit ≡ Err rule → edit_effect d edit ≡ Err rule
 fault_at d edit place rule at is =
     ap (λ (old : Option BundleParts). onward (changed d.config (counts_of d.bundles) old edit) (put_back d edit)) (place_found d.bundles (key_of edit) place at)
     ∙ ap (λ (r : Result (Option BundleParts) Broken). onward r (put_back d edit)) is
