@@ -6,3 +6,4 @@ pub mod Steps
 pub mod Ties
 pub mod Joined
 pub mod Taking
+pub mod Inserted

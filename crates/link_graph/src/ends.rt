@@ -1,6 +1,7 @@
 //! The items at the other ends of an item's links.
 ghost use Rattle.std.specs.Prelude.{◌≡◌, map};
 ghost use Rattle.std.specs.Iterator.{YieldsFirst, item_count};
+ghost use Rattle.link_graph.specs.Inner.Ends.{end_of};
 
 use crate::link::Link;
 use emu_names::ItemId;
@@ -11,6 +12,18 @@ use std::marker::Model;
 pub(crate) enum End {
     From,
     To,
+}
+
+impl End {
+    /// The id at this end of a link.
+    pub(crate) fn of(self, link: Link) -> ItemId
+        ensures { result ≡ end_of self link }
+    {
+        match self {
+            End::From => link.from,
+            End::To => link.to,
+        }
+    }
 }
 
 /// The ids of the items at the other ends of an item's links, in the order in which the links were
