@@ -15,3 +15,4 @@ pub mod Refusals
 pub mod Tests
 pub mod Walks
 pub mod FittedKept
+pub mod LinkPlaces

@@ -11,7 +11,7 @@ ghost use Rattle.emu_names.specs.Inner.Gives.{GivesOrBroken};
 ghost use Rattle.level_items.specs.Levels.{KeepsLevelRule, are_labels_for, is_short};
 ghost use Rattle.bundle_state.specs.Bundle.{item_count, level_of_id, place_of};
 ghost use Rattle.bundle_state.specs.Built.{built, bundle_of, FitsConfig};
-ghost use Rattle.bundle_state.specs.Changed.{item_added, item_removed, label_set, item_retimed, link_added, link_removed};
+ghost use Rattle.bundle_state.specs.Changed.{item_added, item_removed, label_set, item_retimed, link_added, link_inserted, link_removed};
 ghost use Rattle.bundle_state.specs.Fitted.{CanFit, fitted};
 ghost use Rattle.bundle_state.specs.Inner.Changed.{attributes_with};
 ghost use Rattle.bundle_state.specs.Inner.Kept.{ArePlacesOf};
@@ -320,6 +320,27 @@ impl Bundle {
     {
         let number = definition_for(config, self.places.as_ref(), &AnnotLink { from, to })?;
         self.links.add(number, config.link_kind(number), from, to)
+    }
+
+    /// Puts a link at a place of the list of links, before the link that stands there. The refusals are those
+    /// of `add_link`, and last a place past the end (`PositionOut`). A refusal, or want of memory, changes
+    /// nothing.
+    pub fn add_link_at(
+        &mut self,
+        config: &Config,
+        place: u32,
+        from: ItemId,
+        to: ItemId,
+    ) -> Result<(), Fault>
+        requires { FitsConfig config.now self.old }
+        ensures ok { OnOk result (link_inserted place from to self.old ≡ Ok self.new) }
+        ensures broken { (rule : Rule) → result ≡ Err (Fault.Broken rule)
+            → link_inserted place from to self.old ≡ Err rule }
+        ensures kept { OnErr result (self.new ≡ self.old) }
+    {
+        let number = definition_for(config, self.places.as_ref(), &AnnotLink { from, to })?;
+        let kind = config.link_kind(number);
+        self.links.add_at(place as usize, number, kind, from, to)
     }
 
     /// Takes the link of a pair out; the links behind it move up. `NoLink` comes exactly where the pair is not

@@ -9,7 +9,7 @@ ghost use Rattle.bundle_state.specs.Bundle.{BundleParts, all_ids, item_count};
 ghost use Rattle.bundle_state.specs.Built.{FitsConfig};
 ghost use Rattle.bundle_state.specs.Fitted.{CanFit, ExtensionsCanFit, fitted, fitted_levels};
 ghost use Rattle.bundle_state.specs.Valid.{KeepsBundleRules};
-ghost use Rattle.bundle_state.specs.Changed.{item_added, item_removed, label_set, item_retimed, link_added, link_removed};
+ghost use Rattle.bundle_state.specs.Changed.{item_added, item_removed, label_set, item_retimed, link_added, link_inserted, link_removed};
 ghost use Rattle.bundle_state.specs.ChangedLaws.{KeepsForm, KeepsRules, HasRoomFor};
 ghost use Rattle.bundle_state.specs.Laws.{BuiltKeepsRules, BuiltFitsConfig, BuiltKeepLinkRule, BuiltLinksAreGiven, LevelsRefuseExactly, BuildingRefusesExactly};
 
@@ -52,6 +52,8 @@ pub fn changed_bundles_fit()
         → KeepsForm (label_set id attribute label) }
     ensures retimed { (id : ItemId) → (time : Time) → KeepsForm (item_retimed id time) }
     ensures linked { (from : ItemId) → (to : ItemId) → KeepsForm (link_added from to) }
+    ensures placed { (place : ℕ) → (from : ItemId) → (to : ItemId)
+        → KeepsForm (link_inserted place from to) }
     ensures unlinked { (from : ItemId) → (to : ItemId) → KeepsForm (link_removed from to) }
 {}
 
@@ -66,6 +68,8 @@ pub fn changed_bundles_keep_rules()
         → KeepsRules (label_set id attribute label) }
     ensures retimed { (id : ItemId) → (time : Time) → KeepsRules (item_retimed id time) }
     ensures linked { (from : ItemId) → (to : ItemId) → KeepsRules (link_added from to) }
+    ensures placed { (place : ℕ) → (from : ItemId) → (to : ItemId)
+        → KeepsRules (link_inserted place from to) }
     ensures unlinked { (from : ItemId) → (to : ItemId) → KeepsRules (link_removed from to) }
 {}
 

@@ -72,7 +72,7 @@ module _ {X : Type 0} where
       flip false true = refl
       flip false false = refl
 
-  length_insert : (xs : List X) (i : ℕ) (y : X) → length (insert xs i y) ≡ suc (length xs)
+  pub length_insert : (xs : List X) (i : ℕ) (y : X) → length (insert xs i y) ≡ suc (length xs)
   length_insert xs i y =
       let whole = length-append (take i xs) (y ∷ drop i xs) in
       let parts = sym (length-append (take i xs) (drop i xs)) ∙ ap length (take-append-drop i xs) in
