@@ -4,6 +4,7 @@
 # A file NAME.cases has many scripts, parted by empty lines: a line '# TITLE' says what a script shows, '$ WORDS' gives the words of the
 # command line where they are not 'run', '<' stands before each line of the script, and '>' before each line of the output.
 # Then it asks the queries of make-wide.sh, where 1,000,000 tuples are answered and more are not, fills a history, walks over a store (store.sh),
+# reads a store of the first version of its format (first-version.sh),
 # and tries the tools for tables, TextGrids and pictures (tools.sh). BINARY is crates/emu/out/emu where it is not given. The last line says how many agreed; the status is 0 where all did.
 # check.sh --try [NAME.cases ..] compares what 'rt try' gives for the scripts NAME.jsonl, or for the cases of these files, in a minute or two:
 # nothing is built and nothing is proved, statuses are not looked at, and cases with other words are left out.
@@ -124,6 +125,8 @@ same "make-history.sh" "$(sh ./make-history.sh 99999 | "$binary" run | tail -n 3
 # The walk over a store.
 bash ./store.sh "$binary" >"$wrote"
 agree store.sh store.stdout
+bash ./first-version.sh "$binary" >"$wrote"
+agree first-version.sh first-version.stdout
 # The questions of ae.queries, and the tools beside this file.
 if bash ./tools.sh "$binary" >"$wrote"; then
     passed=$((passed + 1))
