@@ -3,3 +3,4 @@ pub mod Tables
 pub mod Tests
 pub mod Above
 pub mod Grown
+pub mod Steps

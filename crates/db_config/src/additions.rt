@@ -1,8 +1,6 @@
 //! Parts of a configuration to which a level, an attribute or a link definition is added.
-ghost use Rattle.std.specs.Prelude.{◌≡◌, ◌<◌, length, IfOk, Some};
-ghost use Rattle.std.specs.List.{slice_get};
+ghost use Rattle.std.specs.Prelude.{◌≡◌, ◌<◌, length, IfOk};
 ghost use Rattle.emu_names.specs.declared.limits.TheConstants.{ATTRIBUTES};
-ghost use Rattle.db_config.specs.declared.parts.LevelDef.{LevelDef as Level};
 ghost use Rattle.emu_names.specs.Inner.Gives.{GivesOrBroken};
 ghost use Rattle.db_config.specs.Added.{level_added, attribute_added, attribute_put, definition_between, definition_put, with_attribute, end_named};
 
@@ -36,6 +34,7 @@ pub(crate) fn level_added(
 
 /// The parts with an attribute put last on the level of a name, or the rule that it breaks first, or want
 /// of memory.
+#[tactic(auto, using(crate::proofs::Steps::added_at, crate::proofs::Steps::added_nowhere))]
 pub(crate) fn attribute_added(
     alloc: Global,
     parts: &ConfigParts,
@@ -45,24 +44,26 @@ pub(crate) fn attribute_added(
     ensures { GivesOrBroken result (attribute_added level.now attribute.now parts.now) }
 {
     match level_named(parts.levels.as_slice(), level.as_str()) {
-        Some(number) => attribute_put(alloc, parts, number, attribute),
+        Some(number) => {
+            let def = parts.levels.get(number);
+            attribute_put(alloc, parts, number, def, attribute)
+        }
         None => Err(Fault::Broken(Broken::NoLevel(level.copy(alloc)?))),
     }
 }
 
-/// The parts with an attribute put last on the level of a number, or the rule that it breaks first, or
-/// want of memory.
+/// The parts with an attribute put last on the level of a number, which has this definition, or the rule
+/// that it breaks first, or want of memory.
 fn attribute_put(
     alloc: Global,
     parts: &ConfigParts,
     number: usize,
+    def: &LevelDef,
     attribute: &AttributeDef,
 ) -> Result<ConfigParts, Fault>
     requires { number < length parts.now.levels }
-    ensures { (def : Level) → slice_get parts.now.levels number ≡ Some def
-        → GivesOrBroken result (attribute_put attribute.now parts.now (number, def)) }
+    ensures { GivesOrBroken result (attribute_put attribute.now parts.now (number, def.now)) }
 {
-    let def = parts.levels.get(number);
     if def.attributes.len() >= ATTRIBUTES {
         return Err(Fault::Broken(Broken::TooMany(What::Attributes)));
     }
@@ -92,6 +93,7 @@ fn with_attribute(
 
 /// The parts with a link definition from the level of the one name to that of the other put last, or the
 /// rule that it breaks first, but for paths that lead round, or want of memory.
+#[tactic(auto, using(crate::proofs::Steps::between_gives, crate::proofs::Steps::no_upper, crate::proofs::Steps::no_lower))]
 pub(crate) fn definition_between(
     alloc: Global,
     parts: &ConfigParts,

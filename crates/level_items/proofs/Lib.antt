@@ -5,3 +5,4 @@ pub mod Found
 pub mod Changes
 pub mod Exact
 pub mod Wider
+pub mod Padded

@@ -1,5 +1,5 @@
 -- A level with more attributes keeps the level rule.
-use Rattle.std.proofs.Common.{◌≡◌, ℕ, zero, suc, ◌+◌, ◌-◌, ◌≤◌, Bool, true, ◌&&◌, ◌==◌, List, [], ◌∷◌, ◌++◌, length, map, replicate, nat_eq, refl, sym, ap, ◌∙◌, arith}
+use Rattle.std.proofs.Common.{◌≡◌, ℕ, zero, suc, ◌+◌, ◌-◌, ◌≤◌, Bool, true, ◌&&◌, ◌==◌, List, [], ◌∷◌, ◌++◌, length, map, replicate, nat_eq, refl, sym, ap, subst, ◌∙◌, arith}
 use Rattle.std.specs.List.{list_all, list_any}
 use Rattle.std.proofs.lemmas.Bool.{and_parts, and_from, eq-eqb}
 use Rattle.std.proofs.lemmas.List.{append-nil, length-append, length-map, length-replicate}
@@ -80,6 +80,12 @@ kept_widened kind attributes count items marks within kept = record {
   rule = rule_widened kind attributes count items within kept.rule;
   marked = λ q. kept.marked q ∙ ap (λ ns. list_any (nat_eq q) ns) (sym (ids_widened count items));
 }
+
+pub kept_copy : (kind : LevelKind) (attributes count : ℕ) (items made : List Item) (marks new : Marks) → attributes ≤ count →
+    IsKept (level_of kind attributes items) marks → made ≡ map (widened_item count) items → new ≡ marks → IsKept (level_of kind count made) new
+kept_copy kind attributes count items made marks new within kept is same =
+    subst (λ zs. IsKept (level_of kind count zs) new) (sym is)
+    (subst (λ m. IsKept (level_of kind count (map (widened_item count) items)) m) (sym same) (kept_widened kind attributes count items marks within kept))
 
 -- a level with as many attributes as it has is the level itself
 padded_same : (count : ℕ) (labels : List (List ℕ)) → length labels ≡ count → padded count labels ≡ labels

@@ -119,6 +119,7 @@ impl Labels {
     }
 
     /// These labels with empty ones behind, up to so many in all. The only refusal is want of memory.
+    #[tactic(auto, using(crate::proofs::Padded::copied_padded, crate::proofs::Padded::pushed_padded))]
     pub(crate) fn padded(&self, alloc: Global, count: usize) -> Result<Labels, Memory>
         ensures { IfOk result (λ made. made ≡ padded count self.now) }
     {
@@ -163,10 +164,11 @@ impl Held {
 
 /// Puts so many empty labels last. The only refusal is want of memory, after which some of them may stand
 /// there.
+#[tactic(auto, using(crate::proofs::Padded::empty_none, crate::proofs::Padded::empty_more))]
 fn push_empty(alloc: Global, labels: &mut Labels, count: usize) -> Result<(), Memory>
     ensures { OnOk result (labels.new ≡ labels.old ++ replicate count []) }
 {
-    for _ in 0..count {
+    for _place in 0..count {
         labels.push(Text::new(alloc, "")?)?;
     }
     Ok(())
