@@ -1,10 +1,10 @@
 -- A bundle that is made to fit a configuration with more parts: it fits it, keeps the rules, and has the same ids and links.
-use Rattle.std.proofs.Common.{◌≡◌, ℕ, zero, suc, ◌+◌, ◌<◌, ◌≤◌, Bool, true, false, cond, List, [], ◌∷◌, ◌++◌, length, map, take, drop, Option, Some, None, IsTrue, nat_eq, refl, sym, ◌∙◌, ap, subst, arith, eqb-true}
+use Rattle.std.proofs.Common.{◌≡◌, ℕ, zero, suc, ◌+◌, ◌<◌, ◌≤◌, Bool, true, false, cond, List, [], ◌∷◌, ◌++◌, length, map, take, drop, Option, Some, None, IfSome, IsTrue, nat_eq, refl, sym, ◌∙◌, ap, subst, arith, eqb-true}
 use Rattle.std.specs.Prelude.{All}
 use Rattle.std.specs.List.{list_any, filter, slice_get, IsDistinct}
 use Rattle.std.specs.Option.{option_map_or}
 use Rattle.std.proofs.lemmas.Bool.{eqb-false}
-use Rattle.std.proofs.lemmas.List.{append-nil, length-map, length-append}
+use Rattle.std.proofs.lemmas.List.{append-nil, length-map, length-append, take_all}
 use Rattle.std.proofs.lemmas.List.Sums.{sum_by-cons}
 use Rattle.std.proofs.lemmas.List.Elements.{All-nil, All-cons, All-head, All-tail}
 use Rattle.std.proofs.lemmas.Option.{slice_get_within}
@@ -21,6 +21,9 @@ use Rattle.db_config.specs.declared.parts.LevelDef.{LevelDef}
 use Rattle.db_config.specs.declared.parts.LinkDef.{LinkDef}
 use Rattle.db_config.specs.declared.parts.ConfigParts.{ConfigParts}
 use Rattle.db_config.specs.Added.{Begins, ExtendsLevel, ExtendLevels, Extends}
+use Rattle.bundle_state.specs.declared.places.Places.{Places}
+use Rattle.bundle_state.specs.Inner.Placed.{level_in}
+use Rattle.bundle_state.specs.Inner.Kept.{IsKept}
 use Rattle.bundle_state.specs.Bundle.{BundleParts, all_ids, item_count, has_id, level_from, level_of_id}
 use Rattle.bundle_state.specs.Built.{form_of, form_asked, FitsConfig}
 use Rattle.bundle_state.specs.Linked.{kind_of, IsBetween, KeepLinkRule}
@@ -229,3 +232,22 @@ can_fit_at (e ∷ defs) (x ∷ levels) zero d l can at is =
     let two : x ≡ l = cc in
     subst (λ y. CanFitLevel y l) one (subst (CanFitLevel e) two can.0)
 can_fit_at (e ∷ defs) (x ∷ levels) (suc n) d l can at is = can_fit_at defs levels n d l can.1 at is
+
+pub can_fit_here : (defs : List LevelDef) (levels : List Level) (n : ℕ) (d : LevelDef) (o : Option Level) → CanFitLevels defs levels → slice_get defs n ≡ Some d → o ≡ slice_get levels n →
+    IfSome o (CanFitLevel d)
+can_fit_here defs levels n d None can at is = tt
+can_fit_here defs levels n d (Some l) can at is = can_fit_at defs levels n d l can at (sym is)
+
+-- the levels of all definitions
+pub fitted_whole : (defs : List LevelDef) (levels made : List Level) (n : ℕ) → length defs ≤ n → made ≡ fitted_levels (take n defs) levels → made ≡ fitted_levels defs levels
+fitted_whole defs levels made n past is = is ∙ ap (λ ds. fitted_levels ds levels) (take_all n defs past)
+
+-- the bundle with its kept levels
+pub fit_kept : (config : ConfigParts) (b new : BundleParts) (places own : Places) → CanFit config b → IsKept b places → new ≡ fitted config b →
+    ((q : ℕ) → level_in own q ≡ level_in places q) → IsKept new own
+fit_kept config b new places own can kept is same =
+    subst (λ x. IsKept x own) (sym is)
+    (record {
+      rules = fitted_rules config b can kept.rules;
+      placed = λ q. same q ∙ kept.placed q ∙ sym (same_level config b can q);
+    })

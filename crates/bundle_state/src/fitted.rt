@@ -12,6 +12,7 @@ use std::alloc::Global;
 
 /// One level for each definition. Levels to which nothing is added stay shared. The only refusal is want of
 /// memory.
+#[tactic(auto, using(crate::proofs::FittedKept::fitted_step, crate::proofs::FittedKept::can_fit_here, crate::proofs::FittedKept::fitted_whole))]
 pub(crate) fn fitted_levels(
     alloc: Global,
     defs: &[LevelDef],
@@ -45,6 +46,7 @@ fn fitted_level(
 
 /// A level with so many attributes, which is shared where it has them already. The only refusal is want of
 /// memory.
+#[tactic(auto, using(level_items::proofs::Wider::widened_same))]
 fn wider_level(
     alloc: Global,
     level: &Handle<LevelList>,

@@ -1,8 +1,10 @@
 -- A database under a configuration with more parts keeps the rules.
-use Rattle.std.proofs.Common.{◌≡◌, true, ◌&&◌, List, [], ◌∷◌, length, map, Ok, IsTrue, refl, sym, ◌∙◌, ap, subst, arith}
+use Rattle.std.proofs.Common.{◌≡◌, ℕ, ◌<◌, true, ◌&&◌, List, [], ◌∷◌, length, map, get_or, Result, Ok, Err, IsTrue, refl, sym, ◌∙◌, ap, subst, arith}
 use Rattle.std.specs.Prelude.{All}
 use Rattle.std.proofs.lemmas.List.{length-map}
 use Rattle.std.proofs.lemmas.List.Elements.{All-nil, All-cons, All-head, All-tail}
+use Rattle.emu_names.specs.declared.rules.Broken.{Broken}
+use Rattle.emu_names.specs.Steps.{onward}
 use Rattle.db_config.specs.declared.parts.ConfigParts.{ConfigParts}
 use Rattle.db_config.specs.Added.{Extends}
 use Rattle.db_config.specs.Valid.{is_valid}
@@ -10,12 +12,18 @@ use Rattle.db_config.proofs.Grown.{level_valid, attribute_valid, definition_vali
 use Rattle.bundle_state.specs.Bundle.{BundleParts, item_count}
 use Rattle.bundle_state.specs.Fitted.{fitted, CanFit}
 use Rattle.bundle_state.proofs.FittedKept.{extensions_can_fit, fitted_fits, fitted_rules, same_count}
+use Rattle.edit_rules.specs.declared.acts.Breach.{Breach}
 use Rattle.edit_rules.specs.declared.acts.ConfigEdit.{ConfigEdit}
 use Rattle.edit_rules.specs.declared.acts.ConfigEdit.TheVariants as additions
 use Rattle.edit_rules.specs.Acts.{config_changed}
 use Rattle.edit_rules.specs.Database.{DatabaseParts, IsBundleOf, KeepsDatabaseRules, all_items, are_keys_rising, is_before}
-use Rattle.edit_rules.specs.Effects.{fitted_database}
+use Rattle.edit_rules.specs.Effects.{at_place, fitted_database, config_effect}
+use Rattle.edit_rules.specs.Inner.Kept.{IsKept}
 use Rattle.edit_rules.proofs.Stays.{items_cons}
+
+-- the database under a configuration, as an answer
+abbrev put_config : DatabaseParts → ConfigParts → Result DatabaseParts Breach
+put_config d config = Ok (fitted_database d config)
 
 -- ---- configurations
 
@@ -77,3 +85,38 @@ fitted_keeps d config keeps more valid =
       bundles = all_fitted d.config config d.bundles more keeps.bundles;
       few_items = omega (arith, items, few_items);
     }
+
+-- the items stay counted
+pub refit_kept : (d : DatabaseParts) (config : ConfigParts) (bundles : List BundleParts) (items : ℕ) → IsKept d items → Extends d.config config → is_valid config ≡ true →
+    bundles ≡ map (fitted config) d.bundles → IsKept (record { config = config; bundles = bundles }) items
+refit_kept d config bundles items kept more valid is =
+    subst (λ bs. IsKept (record { config = config; bundles = bs }) items) (sym is)
+    (record {
+      rules = fitted_keeps d config kept.rules more valid;
+      count = kept.count ∙ sym (items_fitted d.config config d.bundles more kept.rules.bundles);
+    })
+
+pub all_fit_by : (d : DatabaseParts) (config : ConfigParts) → KeepsDatabaseRules d → Extends d.config config → All (CanFit config) d.bundles
+all_fit_by d config keeps more = all_can_fit d.config config d.bundles more keeps.bundles
+
+pub fit_at : (config : ConfigParts) (bs : List BundleParts) (i : ℕ) (b : BundleParts) → All (CanFit config) bs → i < length bs → b ≡ get_or bs i b → CanFit config b
+fit_at config bs i b all within is = subst (CanFit config) (sym is) (all i b within)
+
+-- ---- an edit of the configuration, over what a database shows of it
+
+module _ (edit : ConfigEdit) (d : DatabaseParts) (own : ConfigParts) (same : own ≡ d.config) where
+  from_own : (r : Result ConfigParts Broken) → config_changed edit own ≡ r → config_changed edit d.config ≡ r
+  from_own r is = ap (config_changed edit) (sym same) ∙ is
+
+  pub extends_by : (config : ConfigParts) → config_changed edit own ≡ Ok config → Extends d.config config
+  extends_by config is = config_extends edit d.config config (from_own (Ok config) is)
+
+  pub valid_by : (config : ConfigParts) → KeepsDatabaseRules d → config_changed edit own ≡ Ok config → is_valid config ≡ true
+  valid_by config keeps is = config_valid edit d.config config keeps.config (from_own (Ok config) is)
+
+  pub done_by : (config : ConfigParts) (next : DatabaseParts) → config_changed edit own ≡ Ok config → next ≡ fitted_database d config → config_effect d edit ≡ Ok next
+  done_by config next is made =
+      ap (λ r. onward (at_place 1 r) (λ c. put_config d c)) (from_own (Ok config) is) ∙ ap (λ n. Ok n) (sym made)
+
+  pub refused_by : (rule : Broken) → config_changed edit own ≡ Err rule → config_effect d edit ≡ Err (record { place = 1; rule = rule })
+  refused_by rule is = ap (λ r. onward (at_place 1 r) (λ c. put_config d c)) (from_own (Err rule) is)

@@ -249,6 +249,7 @@ impl Database {
 
     /// Puts the database under a configuration that begins with its own: all bundles are made to fit it. The
     /// only refusal is want of memory, which changes nothing.
+    #[tactic(auto, using(crate::proofs::Fits::all_fit_by, crate::proofs::Fits::refit_kept))]
     pub(crate) fn refit(&mut self, alloc: Global, config: Config) -> Result<(), Memory>
         requires extends { Extends self.old.config config }
         requires valid { IsTrue (is_valid config) }
@@ -277,6 +278,7 @@ impl Database {
 }
 
 /// These bundles, made to fit a configuration. The only refusal is want of memory.
+#[tactic(auto, using(crate::proofs::Fits::fit_at))]
 fn fitted(
     alloc: Global,
     bundles: &[Shared<Bundle>],

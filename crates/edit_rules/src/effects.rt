@@ -24,6 +24,7 @@ fn apply_edits(alloc: Global, database: &mut Database, edits: &Edits) -> Result<
 }
 
 /// Changes a database as an edit of its configuration does.
+#[tactic(auto, using(crate::proofs::Fits::extends_by, crate::proofs::Fits::valid_by, crate::proofs::Fits::done_by, crate::proofs::Fits::refused_by))]
 fn apply_config(
     alloc: Global,
     database: &mut Database,
