@@ -64,7 +64,7 @@ put_written r items old new len count link all same counted some =
 
 -- ---- walks over the blocks
 
-front_is : (blocks : List (List Link)) (i : ℕ) (block : List Link) → i < length blocks → block ≡ get_or blocks i block → drop i blocks ≡ block ∷ drop (suc i) blocks
+pub front_is : (blocks : List (List Link)) (i : ℕ) (block : List Link) → i < length blocks → block ≡ get_or blocks i block → drop i blocks ≡ block ∷ drop (suc i) blocks
 front_is blocks i block within is = drop-cons blocks i block within ∙ ap (λ b. b ∷ drop (suc i) blocks) (sym is)
 
 pub count_more : (blocks : List (List Link)) (i : ℕ) (block : List Link) (total len : ℕ) → i < length blocks → block ≡ get_or blocks i block →

@@ -7,3 +7,4 @@ pub mod Ties
 pub mod Joined
 pub mod Taking
 pub mod Inserted
+pub mod Counted

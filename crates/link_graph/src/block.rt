@@ -1,5 +1,5 @@
 //! Some links that stand behind one another.
-ghost use Rattle.std.specs.Prelude.{◌≡◌, ◌<◌, ◌≤◌, ◌++◌, ◌∷◌, [], length, take, drop, insert, not, slice_get, Some, IfOk, OnOk, OnErr};
+ghost use Rattle.std.specs.Prelude.{◌≡◌, ◌<◌, ◌≤◌, ◌++◌, ◌∷◌, [], length, take, drop, insert, not, slice_get, Some, IfOk, OnOk, OnErr, if◌then◌else◌};
 ghost use Rattle.std.specs.List.{filter, list_any};
 ghost use Rattle.link_graph.specs.Link.{joins};
 ghost use Rattle.link_graph.specs.Inner.Ends.{has_end};
@@ -120,19 +120,24 @@ impl Block {
 }
 
 /// How many of the first of these links lead from an item, or to it.
+#[tactic(auto, using(crate::proofs::Counted::counted_more, crate::proofs::Counted::counted_all))]
 fn count_ends(links: &[Link], place: usize, end: End, id: ItemId) -> usize
     ensures count { result ≡ length (filter (has_end end id.0) (take place links.now)) }
     ensures few { result ≤ length links.now }
 {
+    let last = place.min(links.len());
     let mut count = 0;
-    let mut at = 0;
-    while at < links.len() && at < place {
-        if end.of(links[at]) == id {
-            count += 1;
-        }
-        at += 1;
+    for at in 0..last {
+        count += one_if(end.is_at(links[at], id));
     }
     count
+}
+
+/// One where a test passes, else none.
+fn one_if(test: bool) -> usize
+    ensures { result ≡ (if test then 1 else 0) }
+{
+    if test { 1 } else { 0 }
 }
 
 /// Whether the link of a pair is among some links.

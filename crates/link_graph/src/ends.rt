@@ -1,7 +1,7 @@
 //! The items at the other ends of an item's links.
 ghost use Rattle.std.specs.Prelude.{◌≡◌, map};
 ghost use Rattle.std.specs.Iterator.{YieldsFirst, item_count};
-ghost use Rattle.link_graph.specs.Inner.Ends.{end_of};
+ghost use Rattle.link_graph.specs.Inner.Ends.{has_end};
 
 use crate::link::Link;
 use emu_names::ItemId;
@@ -15,13 +15,13 @@ pub(crate) enum End {
 }
 
 impl End {
-    /// The id at this end of a link.
-    pub(crate) fn of(self, link: Link) -> ItemId
-        ensures { result ≡ end_of self link }
+    /// Whether a link has this item at this end.
+    pub(crate) fn is_at(self, link: Link, id: ItemId) -> bool
+        ensures { result ≡ has_end self id.0 link }
     {
         match self {
-            End::From => link.from,
-            End::To => link.to,
+            End::From => link.from == id,
+            End::To => link.to == id,
         }
     }
 }
