@@ -69,9 +69,9 @@ placed_fine defs level link place links apart free between fine =
     }
 
 -- the rule of a place and of a link, one by one
-record IsFreeAt (b : BundleParts) (place number : ℕ) (from to : ItemId) : Type 0 where
-  free : add_fault (kind_of b.definitions number) number from to b.links ≡ None
-  apart : list_any (joins from to) b.links ≡ false
+pub record IsFreeAt (b : BundleParts) (place number : ℕ) (from to : ItemId) : Type 0 where
+  pub free : add_fault (kind_of b.definitions number) number from to b.links ≡ None
+  pub apart : list_any (joins from to) b.links ≡ false
 
 free_at : (b : BundleParts) (place number : ℕ) (from to : ItemId) →
     option_or (add_fault (kind_of b.definitions number) number from to b.links) (place_fault place b.links) ≡ None → IsFreeAt b place number from to

@@ -225,17 +225,17 @@ named_config c = record {
   groups = c.groups;
 }
 
-record IsReadable (c : ConfigParts) : Type 0 where
-  name : is_name c.name ≡ true
-  made : are_levels c.levels ≡ true
-  groups : are_groups c.groups ≡ true
-  levels : nat_le (length c.levels) LEVELS ≡ true
-  links : nat_le (length c.links) LINK_DEFINITIONS ≡ true
-  tracks : nat_le (length c.tracks) TRACKS ≡ true
-  distinct : are_distinct (all_names c.levels) ≡ true
-  range : list_all (is_in_range (length c.levels)) c.links ≡ true
-  apart : are_apart c.links ≡ true
-  round : leads_round c.links ≡ false
+pub record IsReadable (c : ConfigParts) : Type 0 where
+  pub name : is_name c.name ≡ true
+  pub made : are_levels c.levels ≡ true
+  pub groups : are_groups c.groups ≡ true
+  pub levels : nat_le (length c.levels) LEVELS ≡ true
+  pub links : nat_le (length c.links) LINK_DEFINITIONS ≡ true
+  pub tracks : nat_le (length c.tracks) TRACKS ≡ true
+  pub distinct : are_distinct (all_names c.levels) ≡ true
+  pub range : list_all (is_in_range (length c.levels)) c.links ≡ true
+  pub apart : are_apart c.links ≡ true
+  pub round : leads_round c.links ≡ false
 
 readable : (c : ConfigParts) → is_config c ≡ true → IsReadable c
 readable c is =

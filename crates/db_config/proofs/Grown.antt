@@ -212,13 +212,13 @@ apart_more (d ∷ defs) def apart fresh =
 -- ---- rules
 
 -- the rules of a configuration but for paths, one by one
-record Keeps (c : ConfigParts) : Type 0 where
-  levels : length c.levels ≤ LEVELS
-  links : length c.links ≤ LINK_DEFINITIONS
-  tracks : nat_le (length c.tracks) TRACKS ≡ true
-  distinct : are_distinct (all_names c.levels) ≡ true
-  range : list_all (is_in_range (length c.levels)) c.links ≡ true
-  apart : are_apart c.links ≡ true
+pub record Keeps (c : ConfigParts) : Type 0 where
+  pub levels : length c.levels ≤ LEVELS
+  pub links : length c.links ≤ LINK_DEFINITIONS
+  pub tracks : nat_le (length c.tracks) TRACKS ≡ true
+  pub distinct : are_distinct (all_names c.levels) ≡ true
+  pub range : list_all (is_in_range (length c.levels)) c.links ≡ true
+  pub apart : are_apart c.links ≡ true
 
 within_is : (n most : ℕ) → nat_le n most ≡ true → n ≤ most
 within_is n most h = grind (arith, nat_tests)
@@ -258,9 +258,9 @@ passed_room : {A : Type 0} (full : Bool) (rule : Broken) (rest : Result A Broken
 passed_room true rule rest next is = absurd cc
 passed_room false rule rest next is = (refl, is)
 
-passed_onward : {A B : Type 0} (first : Result A Broken) (then : A → Result B Broken) (next : B) → onward first then ≡ Ok next → (x : A) × ((first ≡ Ok x) × (then x ≡ Ok next))
-passed_onward (Ok x) then next is = (x, (refl, is))
-passed_onward (Err rule) then next is = absurd cc
+passed_onward : {A B : Type 0} (first : Result A Broken) (second : A → Result B Broken) (next : B) → onward first second ≡ Ok next → (x : A) × ((first ≡ Ok x) × (second x ≡ Ok next))
+passed_onward (Ok x) second next is = (x, (refl, is))
+passed_onward (Err rule) second next is = absurd cc
 
 passed_lookup : {A : Type 0} (found : Option A) (rule : Broken) (x : A) → ok_or found rule ≡ Ok x → found ≡ Some x
 passed_lookup None rule x is = absurd cc

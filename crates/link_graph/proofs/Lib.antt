@@ -8,3 +8,4 @@ pub mod Joined
 pub mod Taking
 pub mod Inserted
 pub mod Counted
+pub mod Placed

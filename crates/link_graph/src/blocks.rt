@@ -192,6 +192,7 @@ struct BlockPlace {
 }
 
 /// The block that a link at a place of all stands in, and its place there.
+#[tactic(auto, using(crate::proofs::Placed::place_here, crate::proofs::Placed::place_behind, crate::proofs::Placed::place_last))]
 fn block_at(blocks: &[Block], place: usize) -> BlockPlace
     ensures { IsBlockPlace blocks.now place result }
 {
@@ -220,6 +221,7 @@ fn insert_at(blocks: &mut [Block], at: usize, place: usize, link: Link) -> Resul
 }
 
 /// Puts a link at a place of all blocks.
+#[tactic(auto, using(crate::proofs::Placed::last_inserted, crate::proofs::Placed::block_put, crate::proofs::Placed::found_block, crate::proofs::Placed::found_place))]
 fn put_at(alloc: Global, blocks: &mut Vec<Block>, place: usize, link: Link) -> Result<(), Memory>
     requires { place ≤ length (joined blocks.old.items) }
     ensures ok { OnOk result (joined blocks.new.items ≡ insert (joined blocks.old.items) place link) }
@@ -233,6 +235,7 @@ fn put_at(alloc: Global, blocks: &mut Vec<Block>, place: usize, link: Link) -> R
 }
 
 /// Puts a link at a place of a block, which is cut in two where it is long then.
+#[tactic(auto, using(crate::proofs::Placed::inserted_written))]
 fn put_in(
     alloc: Global,
     blocks: &mut Vec<Block>,
@@ -252,6 +255,7 @@ fn put_in(
 }
 
 /// Cuts a block in two where it is too long. Where memory is wanting it stays long.
+#[tactic(auto, using(crate::proofs::Placed::cut_written))]
 fn cut_long(alloc: Global, blocks: &mut Vec<Block>, at: usize)
     requires { at < length blocks.old.items }
     ensures { joined blocks.new.items ≡ joined blocks.old.items }
@@ -275,6 +279,7 @@ fn truncate_at(blocks: &mut [Block], at: usize, len: usize)
 }
 
 /// How many of the first links of all blocks lead from an item, or to it.
+#[tactic(auto, using(crate::proofs::Counted::block_counted, crate::proofs::Counted::filter_few))]
 fn count_before(blocks: &[Block], place: usize, end: End, id: ItemId) -> usize
     requires { length (joined blocks.now) ≤ BUNDLE_LINKS }
     ensures { result ≡ length (filter (has_end end id.0) (take place (joined blocks.now))) }
