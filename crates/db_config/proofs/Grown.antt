@@ -8,6 +8,7 @@ use Rattle.std.proofs.lemmas.Cmp.{nat_list_eq_equiv}
 use Rattle.std.proofs.lemmas.List.{append-nil, append_assoc, map-append, length-append, length-set}
 use Rattle.std.proofs.lemmas.List.Folds.{list_any-append, list_all-append}
 use Rattle.std.proofs.lemmas.Grind.{flat_map-append}
+use Rattle.std.proofs.Math.Seq.{take-append_seam, drop-append_seam}
 use Rattle.std.proofs.lemmas.List.Quantifiers.{position-Some}
 use Rattle.std.specs.Cmp.Lexicographic.{same_text as text_is}
 use Rattle.emu_names.specs.declared.kinds.LevelKind.TheVariants as kinds
@@ -16,6 +17,9 @@ use Rattle.emu_names.specs.declared.kinds.LinkKind.{LinkKind}
 use Rattle.emu_names.specs.declared.rules.Broken.{Broken}
 use Rattle.emu_names.specs.declared.rules.Broken.TheVariants as rules
 use Rattle.emu_names.specs.declared.rules.What.TheVariants as counted
+use Rattle.emu_names.specs.declared.rules.Fault.{Fault}
+use Rattle.emu_names.specs.declared.rules.Fault.TheVariants as faults
+use Rattle.emu_names.specs.Inner.Gives.{IsFaultOf, broken_in}
 use Rattle.emu_names.specs.Steps.{onward}
 use Rattle.emu_names.specs.Texts.{same_text}
 use Rattle.db_config.specs.declared.attributes.AttributeDef.{AttributeDef}
@@ -451,3 +455,52 @@ definition_extends kind upper lower before after is =
       levels = subst (ExtendLevels before.levels) (append-nil before.levels) (levels_self before.levels []);
       links = (def ∷ [], refl);
     })
+
+-- ---- the same, for the calls
+
+pub level_valid_by : (def : LevelDef) (before after : ConfigParts) → is_valid before ≡ true → level_added def before ≡ Ok after → is_valid after ≡ true
+level_valid_by def before after valid is = level_valid def before after valid is
+
+pub attribute_valid_by : (level : List ℕ) (attribute : AttributeDef) (before after : ConfigParts) → is_valid before ≡ true → attribute_added level attribute before ≡ Ok after → is_valid after ≡ true
+attribute_valid_by level attribute before after valid is = attribute_valid level attribute before after valid is
+
+pub between_keeps : (kind : LinkKind) (upper lower : List ℕ) (before after : ConfigParts) → is_valid before ≡ true → definition_between kind upper lower before ≡ Ok after → keeps_rules after ≡ true
+between_keeps kind upper lower before after valid is =
+    definition_keeps kind upper lower before after (and_parts (keeps_rules before) (not (leads_round before.links)) valid).0 is
+
+pub added_sound : (kind : LinkKind) (upper lower : List ℕ) (before after made : ConfigParts) → definition_between kind upper lower before ≡ Ok after → leads_round after.links ≡ false → made ≡ after →
+    definition_added kind upper lower before ≡ Ok made
+added_sound kind upper lower before after made is sound same =
+    ap (λ r. onward r unless_round) is ∙ ap (λ b. cond b (Err rules.LevelCycle) (Ok after)) sound ∙ ap (λ c. Ok c) (sym same)
+
+pub added_round : (kind : LinkKind) (upper lower : List ℕ) (before after : ConfigParts) → definition_between kind upper lower before ≡ Ok after → leads_round after.links ≡ true →
+    definition_added kind upper lower before ≡ Err rules.LevelCycle
+added_round kind upper lower before after is round = ap (λ r. onward r unless_round) is ∙ ap (λ b. cond b (Err rules.LevelCycle) (Ok after)) round
+
+pub added_refused : (kind : LinkKind) (upper lower : List ℕ) (before : ConfigParts) (fault : Fault) → IsFaultOf (broken_in fault) (definition_between kind upper lower before) →
+    IsFaultOf (broken_in fault) (definition_added kind upper lower before)
+added_refused kind upper lower before (faults.Broken rule) is = ap (λ r. onward r unless_round) is
+added_refused kind upper lower before faults.Memory is = tt
+
+-- the first double behind a list of names
+pub behind_names : (found : Option (List ℕ)) (all own both : List (List ℕ)) (count : ℕ) → both ≡ all ++ own → count ≡ length all → found ≡ first_double (take count both) (drop count both) →
+    found ≡ first_double all own
+behind_names found all own both count is size answer =
+    answer
+    ∙ ap (λ n. first_double (take n both) (drop n both)) size
+    ∙ ap (λ ns. first_double (take (length all) ns) (drop (length all) ns)) is
+    ∙ ap (λ ns. first_double ns (drop (length all) (all ++ own))) (take-append_seam all own)
+    ∙ ap (first_double all) (drop-append_seam all own)
+
+-- an attribute that is the first to share its level's name takes no name
+pub shares_none : (seen : List (List ℕ)) (def : LevelDef) (name : List ℕ) → true ≡ (same_text def.name name && not (has_attribute name def)) → None ≡ first_double seen (new_names def name)
+shares_none seen def name is = ap (λ b. first_double seen (cond b [] (name ∷ []))) is
+
+pub one_double : (seen : List (List ℕ)) (def : LevelDef) (name made : List ℕ) → false ≡ (same_text def.name name && not (has_attribute name def)) → true ≡ list_any (same_text name) seen → made ≡ name →
+    Some made ≡ first_double seen (new_names def name)
+one_double seen def name made own is same =
+    ap (λ n. Some n) same ∙ ap (λ b. cond b (Some name) None) is ∙ ap (λ b. first_double seen (cond b [] (name ∷ []))) own
+
+pub one_fresh : (seen : List (List ℕ)) (def : LevelDef) (name : List ℕ) → false ≡ (same_text def.name name && not (has_attribute name def)) → false ≡ list_any (same_text name) seen →
+    None ≡ first_double seen (new_names def name)
+one_fresh seen def name own is = ap (λ b. cond b (Some name) None) is ∙ ap (λ b. first_double seen (cond b [] (name ∷ []))) own

@@ -202,6 +202,7 @@ impl Config {
     ///
     /// Refused are, in this order: a level over 64 (`TooMany`), and the first of the new names, the level's
     /// before those of its attributes, that an earlier level or attribute has (`DoubleName`).
+    #[tactic(auto, using(crate::proofs::Grown::level_valid_by))]
     pub fn with_level(&self, alloc: Global, def: &LevelDef) -> Result<Config, Fault>
         ensures { GivesOrBroken result (level_added def.now self.now) }
     {
@@ -213,6 +214,7 @@ impl Config {
     ///
     /// Refused are, in this order: a level that is not there (`NoLevel`), an attribute over 16 (`TooMany`),
     /// and a name that a level or attribute has (`DoubleName`). One attribute of a level may share its name.
+    #[tactic(auto, using(crate::proofs::Grown::attribute_valid_by))]
     pub fn with_attribute(
         &self,
         alloc: Global,
@@ -231,6 +233,7 @@ impl Config {
     /// Refused are, in this order: a level that is not there (`UnknownLevel`, of the upper level first), a
     /// definition over 64 (`TooMany`), one between levels that have one (`DoubleLink`), and one with which a
     /// path of definitions leads from a level to itself (`LevelCycle`).
+    #[tactic(auto, using(crate::proofs::Grown::between_keeps, crate::proofs::Grown::added_sound, crate::proofs::Grown::added_round, crate::proofs::Grown::added_refused))]
     pub fn with_definition(
         &self,
         alloc: Global,

@@ -107,6 +107,7 @@ pub fn double_name(alloc: Global, levels: &[LevelDef]) -> Result<Option<Text>, M
 
 /// The first name of a level behind these that an earlier level or attribute has, in reading order. The
 /// only refusal is want of memory.
+#[tactic(auto, using(crate::proofs::Grown::behind_names))]
 pub(crate) fn double_of_level(
     alloc: Global,
     levels: &[LevelDef],
@@ -141,6 +142,7 @@ fn shares_first(def: &LevelDef, name: &str) -> bool
 
 /// The name of a new attribute of one of these levels, where an earlier level or attribute has it; it may
 /// be the first to share its level's name. The only refusal is want of memory.
+#[tactic(auto, using(crate::proofs::Grown::shares_none, crate::proofs::Grown::one_double, crate::proofs::Grown::one_fresh))]
 pub(crate) fn double_of_attribute(
     alloc: Global,
     levels: &[LevelDef],
