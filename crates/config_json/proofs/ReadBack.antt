@@ -2,7 +2,7 @@
 use Rattle.std.proofs.Common.{◌≡◌, ℕ, zero, suc, ◌+◌, ◌<◌, ◌≤◌, Bool, true, false, not, ◌&&◌, ◌||◌, cond, List, [], ◌∷◌, ◌++◌, map, length, take, codes, refl, sym, ap, ◌∙◌, arith}
 use Rattle.std.specs.Prelude.{Result, Ok, Option, Some, None, is_none, nat_le, nat_lt}
 use Rattle.std.specs.List.{list_all, list_any, slice_get, position, position_or_len}
-use Rattle.std.specs.Option.{option_and_then}
+use Rattle.std.specs.Option.{option_and_then, option_map_or}
 use Rattle.std.specs.Result.{result_ok}
 use Rattle.std.proofs.lemmas.Bool.{and_parts, or_parts, or_from, not-true, cond-true, cond-false, lt-ltb, leb-true, ltb-true}
 use Rattle.std.proofs.lemmas.Bool.Decides.{nat_tests}
@@ -321,20 +321,21 @@ before_apart (e ∷ levels) (suc i) d h at =
     let away = or_parts (list_any (same_text e.name) own) (list_any (same_text e.name) (all_names levels)) (sym (list_any-append (same_text e.name) own (all_names levels)) ∙ not-true _ parts.0) in
     or_from (same_text e.name d.name) _ (name_among e.name levels i d away.1 at) (before_apart levels i d (distinct_rest own (all_names levels) parts.1) at)
 
+-- a place of a list has an element
+there_is : {A : Type 0} (xs : List A) (i : ℕ) → i < length xs → slice_get xs i ≡ None → ⊥
+there_is [] i low none = omega (arith, low)
+there_is (x ∷ xs) zero low none = cc
+there_is (x ∷ xs) (suc i) low none = there_is xs i (omega (arith, low)) none
+
 -- a level is found by its name
 level_found : (levels : List LevelDef) (i : ℕ) → are_distinct (all_names levels) ≡ true → i < length levels → level_named (name_of levels i) levels ≡ Some i
 level_found levels i h within = by (slice_get levels i) refl
   where
     by : (o : Option LevelDef) → slice_get levels i ≡ o → level_named (name_of levels i) levels ≡ Some i
-    by (Some d) at =
-        rw at
-        (position_is (λ (e : LevelDef). same_text e.name d.name) levels i d at (nat_list_eq_equiv.refl d.name) (before_apart levels i d h at))
-    by None at = absurd (missing levels i within at)
-      where
-        missing : (xs : List LevelDef) (k : ℕ) → k < length xs → slice_get xs k ≡ None → ⊥
-        missing [] k low none = omega arith
-        missing (x ∷ xs) zero low none = cc
-        missing (x ∷ xs) (suc k) low none = missing xs k (omega arith) none
+    by (Some d) there =
+        ap (λ o. level_named (option_map_or (λ (e : LevelDef). e.name) o []) levels) there
+        ∙ position_is (λ (e : LevelDef). same_text e.name d.name) levels i d there (nat_list_eq_equiv.refl d.name) (before_apart levels i d h there)
+    by None there = absurd (there_is levels i within there)
 
 -- ---- the rules
 
