@@ -14,6 +14,7 @@ use serde_json::{Map, Value, json};
 use std::alloc::Global;
 
 // The values of the lists of a configuration.
+#[derive(Drop)]
 struct ListValues {
     groups: Value,
     levels: Value,

@@ -184,6 +184,7 @@ fn put_last(alloc: Global, blocks: &mut Vec<Block>, link: Link) -> Result<(), Me
 }
 
 /// A place of all blocks.
+#[derive(Drop)]
 struct BlockPlace {
     /// The block, or the number of blocks.
     block: usize,
