@@ -61,13 +61,13 @@ pub no_level_is : (name : List ℕ) (defs : List LevelDef) → level_named name 
 no_level_is name defs none = ap (λ (o : Option ℕ). ok_or (option_and_then (numbered defs) o) (rules.NoLevel name)) none
 
 -- a new item on a level that is found by its name
-pub put_is : (config : ConfigParts) (counts : Counts) (name : List ℕ) (position : Option ℕ) (item : AnnotItem) (b : BundleParts) (k : ℕ) (d : LevelDef) →
-    level_named name config.levels ≡ Some k → slice_get config.levels k ≡ Some d → item_put config counts name position item b ≡ put_on counts position item b (k, d)
-put_is config counts name position item b k d is at = ap (λ (r : Result NumberedLevel Broken). onward r (put_on counts position item b)) (level_is name config.levels k d is at)
+pub put_is : (tested : Bool) (config : ConfigParts) (counts : Counts) (name : List ℕ) (position : Option ℕ) (item : AnnotItem) (b : BundleParts) (k : ℕ) (d : LevelDef) →
+    level_named name config.levels ≡ Some k → slice_get config.levels k ≡ Some d → item_put tested config counts name position item b ≡ put_on tested counts position item b (k, d)
+put_is tested config counts name position item b k d is at = ap (λ (r : Result NumberedLevel Broken). onward r (put_on tested counts position item b)) (level_is name config.levels k d is at)
 
-pub not_put : (config : ConfigParts) (counts : Counts) (name : List ℕ) (position : Option ℕ) (item : AnnotItem) (b : BundleParts) →
-    level_named name config.levels ≡ None → item_put config counts name position item b ≡ Err (rules.NoLevel name)
-not_put config counts name position item b none = ap (λ (r : Result NumberedLevel Broken). onward r (put_on counts position item b)) (no_level_is name config.levels none)
+pub not_put : (tested : Bool) (config : ConfigParts) (counts : Counts) (name : List ℕ) (position : Option ℕ) (item : AnnotItem) (b : BundleParts) →
+    level_named name config.levels ≡ None → item_put tested config counts name position item b ≡ Err (rules.NoLevel name)
+not_put tested config counts name position item b none = ap (λ (r : Result NumberedLevel Broken). onward r (put_on tested counts position item b)) (no_level_is name config.levels none)
 
 -- Attributes by name.
 
@@ -97,22 +97,22 @@ module _ (config : ConfigParts) (b : BundleParts) (fits : FitsConfig config b) (
       let same : length (map form_of b.levels) ≡ length (map form_asked config.levels) = ap length fits.levels in
       omega arith
 
-  given_steps : (name label : List ℕ) → label_given config id name label b ≡ onward (attribute_of name (slice_get config.levels level)) (labelled id label b)
-  given_steps name label = ap (λ (o : Option (ℕ × ℕ)). onward (ok_or o (rules.NoItem id)) (λ place. onward (attribute_of name (slice_get config.levels place.0)) (labelled id label b))) is
+  given_steps : (tested : Bool) (name label : List ℕ) → label_given tested config id name label b ≡ onward (attribute_of name (slice_get config.levels level)) (labelled tested id label b)
+  given_steps tested name label = ap (λ (o : Option (ℕ × ℕ)). onward (ok_or o (rules.NoItem id)) (λ place. onward (attribute_of name (slice_get config.levels place.0)) (labelled tested id label b))) is
 
-  pub given_is : (name label : List ℕ) (def : LevelDef) (number : ℕ) (attribute : AttributeDef) → slice_get config.levels level ≡ Some def →
-      attribute_named name def.attributes ≡ Some number → slice_get def.attributes number ≡ Some attribute → label_given config id name label b ≡ labelled id label b (number, attribute)
-  given_is name label def number attribute there named at =
-      given_steps name label
-      ∙ ap (λ (o : Option LevelDef). onward (attribute_of name o) (labelled id label b)) there
-      ∙ ap (λ (r : Result NumberedAttribute Broken). onward r (labelled id label b)) (attribute_is name def.attributes number attribute named at)
+  pub given_is : (tested : Bool) (name label : List ℕ) (def : LevelDef) (number : ℕ) (attribute : AttributeDef) → slice_get config.levels level ≡ Some def →
+      attribute_named name def.attributes ≡ Some number → slice_get def.attributes number ≡ Some attribute → label_given tested config id name label b ≡ labelled tested id label b (number, attribute)
+  given_is tested name label def number attribute there named at =
+      given_steps tested name label
+      ∙ ap (λ (o : Option LevelDef). onward (attribute_of name o) (labelled tested id label b)) there
+      ∙ ap (λ (r : Result NumberedAttribute Broken). onward r (labelled tested id label b)) (attribute_is name def.attributes number attribute named at)
 
-  pub not_given : (name label : List ℕ) (def : LevelDef) → slice_get config.levels level ≡ Some def → attribute_named name def.attributes ≡ None →
-      label_given config id name label b ≡ Err (rules.NoAttribute name)
-  not_given name label def there none =
-      given_steps name label
-      ∙ ap (λ (o : Option LevelDef). onward (attribute_of name o) (labelled id label b)) there
-      ∙ ap (λ (r : Result NumberedAttribute Broken). onward r (labelled id label b)) (no_attribute_is name def.attributes none)
+  pub not_given : (tested : Bool) (name label : List ℕ) (def : LevelDef) → slice_get config.levels level ≡ Some def → attribute_named name def.attributes ≡ None →
+      label_given tested config id name label b ≡ Err (rules.NoAttribute name)
+  not_given tested name label def there none =
+      given_steps tested name label
+      ∙ ap (λ (o : Option LevelDef). onward (attribute_of name o) (labelled tested id label b)) there
+      ∙ ap (λ (r : Result NumberedAttribute Broken). onward r (labelled tested id label b)) (no_attribute_is name def.attributes none)
 
 -- the number of an attribute is below the number of labels of the items of its level
 pub attribute_low : (config : ConfigParts) (b : BundleParts) (id : ItemId) (level number : ℕ) (def : LevelDef) → FitsConfig config b →

@@ -30,12 +30,13 @@ use Rattle.bundle_state.specs.Linked.{unless_broken, definition_for}
 use Rattle.emu_names.specs.Steps.{onward}
 use Rattle.bundle_state.specs.Made.{label_named, made_labels, made_item}
 use Rattle.bundle_state.specs.Valid.{KeepsBundleRules}
-use Rattle.bundle_state.specs.Changed.{with_levels, change_level, with_item, without_item, with_changed, with_change, without, place_for, new_item_fault, new_time_fault, item_added, item_removed, label_set, item_retimed, link_put, link_added, missing_fault, link_removed}
+use Rattle.bundle_state.specs.Changed.{with_levels, change_level, with_item, without_item, with_changed, with_change, without, place_for, new_item_fault, new_time_fault, item_added, item_removed, label_set, item_retimed, link_put, link_added, link_put_at, link_inserted, missing_fault, link_removed}
 use Rattle.bundle_state.specs.ChangedLaws.{HasRoomFor}
 use Rattle.bundle_state.proofs.Tests.{Each, or_none, cond_none}
 use Rattle.bundle_state.proofs.LinksKept.{goes_on, ok_same, fine_value}
 use Rattle.bundle_state.proofs.BuiltKept.{unbroken}
 use Rattle.bundle_state.proofs.ChangedKept.{added_item_rules, removed_item_rules, label_rules, time_rules, added_link_rules, removed_link_rules, added_item_fits, removed_item_fits, label_fits, time_fits, added_link_fits, removed_link_fits}
+use Rattle.bundle_state.proofs.LinkPlaces.{placed_link_rules, placed_link_fits}
 use Rattle.bundle_edits.specs.declared.bundle_change.Counts.{Counts}
 use Rattle.bundle_edits.specs.declared.edit.Edit.{Edit}
 use Rattle.bundle_edits.specs.declared.edit.Edit.TheVariants as edits
@@ -157,6 +158,17 @@ module _ (config : ConfigParts) (b next : BundleParts) (keeps : KeepsBundleRules
         few = subst (λ (c : BundleParts). item_count c.levels ≤ item_count b.levels + 0) same (omega arith);
       }
 
+  pub placed_next : (place : ℕ) (from to : ItemId) → link_inserted place from to b ≡ Ok next → IsNext config 0 b next
+  placed_next place from to is =
+      let on = goes_on (definition_for b.definitions (record { from = from; to = to }) (level_of_id b.levels from.0) (level_of_id b.levels to.0)) (link_put_at place from to b) next is in
+      let same = (unbroken _ _ next on.second).1 in
+      record {
+        key = ap (λ (c : BundleParts). c.key) (sym same);
+        rules = placed_link_rules place from to b next keeps is;
+        fits = placed_link_fits place from to config b next fits is;
+        few = subst (λ (c : BundleParts). item_count c.levels ≤ item_count b.levels + 0) same (omega arith);
+      }
+
   pub unlinked_next : (from to : ItemId) → link_removed from to b ≡ Ok next → IsNext config 0 b next
   unlinked_next from to is =
       let same = (unbroken (missing_fault from to b.links) _ next is).1 in
@@ -175,20 +187,20 @@ retimed_few b next id time is =
 
 -- Labels.
 
-pub short_of : (def : AttributeDef) (label : List ℕ) → label_fault def label ≡ None → is_short label ≡ true
-short_of def label is =
+pub short_of : (tested : Bool) (def : AttributeDef) (label : List ℕ) → label_fault tested def label ≡ None → is_short label ≡ true
+short_of tested def label is =
     let low : nat_lt LABEL_BYTES (length label) ≡ false = (cond_none (nat_lt LABEL_BYTES (length label)) rules.LabelTooLong _ is).0 in
     le-leb (length label) LABEL_BYTES (ltb-false LABEL_BYTES (length label) low)
 
-given_short : (named : List (List ℕ)) (l : AnnotLabel) (o : Option AttributeDef) → given_label_fault named l o ≡ None → is_short l.value ≡ true
-given_short named l None is = absurd cc
-given_short named l (Some def) is = short_of def l.value (cond_none (list_any (same_text l.name) named) (rules.TwoLabels l.name) (label_fault def l.value) is).1
+given_short : (tested : Bool) (named : List (List ℕ)) (l : AnnotLabel) (o : Option AttributeDef) → given_label_fault tested named l o ≡ None → is_short l.value ≡ true
+given_short tested named l None is = absurd cc
+given_short tested named l (Some def) is = short_of tested def l.value (cond_none (list_any (same_text l.name) named) (rules.TwoLabels l.name) (label_fault tested def l.value) is).1
 
-labels_short : (defs : List AttributeDef) (named : List (List ℕ)) (ls : List AnnotLabel) → new_labels_fault defs named ls ≡ None → Each (λ l. is_short l.value ≡ true) ls
-labels_short defs named [] is = tt
-labels_short defs named (l ∷ ls) is =
-    let parts = or_none (given_label_fault named l (find (λ d. same_text d.name l.name) defs)) (new_labels_fault defs (named ++ l.name ∷ []) ls) is in
-    (given_short named l (find (λ d. same_text d.name l.name) defs) parts.0, labels_short defs (named ++ l.name ∷ []) ls parts.1)
+labels_short : (tested : Bool) (defs : List AttributeDef) (named : List (List ℕ)) (ls : List AnnotLabel) → new_labels_fault tested defs named ls ≡ None → Each (λ l. is_short l.value ≡ true) ls
+labels_short tested defs named [] is = tt
+labels_short tested defs named (l ∷ ls) is =
+    let parts = or_none (given_label_fault tested named l (find (λ d. same_text d.name l.name) defs)) (new_labels_fault tested defs (named ++ l.name ∷ []) ls) is in
+    (given_short tested named l (find (λ d. same_text d.name l.name) defs) parts.0, labels_short tested defs (named ++ l.name ∷ []) ls parts.1)
 
 named_short : (name : List ℕ) (ls : List AnnotLabel) → Each (λ l. is_short l.value ≡ true) ls → is_short (label_named name ls) ≡ true
 named_short name [] each = refl
@@ -202,12 +214,12 @@ all_short : (defs : List AttributeDef) (ls : List AnnotLabel) → Each (λ l. is
 all_short [] ls each = refl
 all_short (d ∷ defs) ls each = and_from (is_short (label_named d.name ls)) (list_all is_short (made_labels defs ls)) (named_short d.name ls each) (all_short defs ls each)
 
-pub labels_fit : (defs : List AttributeDef) (ls : List AnnotLabel) (attributes : ℕ) → attributes ≡ length defs → new_labels_fault defs [] ls ≡ None →
+pub labels_fit : (tested : Bool) (defs : List AttributeDef) (ls : List AnnotLabel) (attributes : ℕ) → attributes ≡ length defs → new_labels_fault tested defs [] ls ≡ None →
     are_labels_for attributes (made_labels defs ls) ≡ true
-labels_fit defs ls attributes same free =
+labels_fit tested defs ls attributes same free =
     and_from (length (made_labels defs ls) == attributes) (list_all is_short (made_labels defs ls))
     (eq-eqb (length (made_labels defs ls)) attributes (length-map defs (λ (d : AttributeDef). label_named d.name ls) ∙ sym same))
-    (all_short defs ls (labels_short defs [] ls free))
+    (all_short defs ls (labels_short tested defs [] ls free))
 
 -- empty labels
 abbrev empties : ℕ → List (List ℕ)
@@ -316,49 +328,49 @@ one_more config counts b next low is = record { more = 1; is = is; room = λ _. 
 
 module _ (config : ConfigParts) (counts : Counts) (b next : BundleParts) (keeps : KeepsBundleRules b) (fits : FitsConfig config b) where
   -- room for an item on a level of the configuration
-  pub has_room : (number : ℕ) (def : LevelDef) (item : AnnotItem) → slice_get config.levels number ≡ Some def → given_item_fault counts b.levels def item ≡ None →
+  pub has_room : (tested : Bool) (number : ℕ) (def : LevelDef) (item : AnnotItem) → slice_get config.levels number ≡ Some def → given_item_fault tested counts b.levels def item ≡ None →
       HasRoomFor number (made_item def.attributes item) b × (counts.items < ALL_ITEMS)
-  has_room number def item there free =
+  has_room tested number def item there free =
       let one = or_none (room_fault counts b.levels) _ free in
       let two = or_none (id_fault item.id b.levels) _ one.1 in
-      let three = or_none (time_fault def.kind item.time) (new_labels_fault def.attributes [] item.labels) two.1 in
+      let three = or_none (time_fault def.kind item.time) (new_labels_fault tested def.attributes [] item.labels) two.1 in
       let room = room_parts counts b.levels one.0 in
       let own : IsLevelFor def b.levels number = level_fitting config.levels b.levels number def fits.levels there in (
         record {
           level = own.level;
           there = own.there;
-          labels = labels_fit def.attributes item.labels own.level.attributes own.attributes three.1;
+          labels = labels_fit tested def.attributes item.labels own.level.attributes own.attributes three.1;
           room = room.0;
         },
         room.1,
       )
 
-  put_next : (position : Option ℕ) (item : AnnotItem) (m : NumberedLevel) → slice_get config.levels m.0 ≡ Some m.1 → put_on counts position item b m ≡ Ok next → HasNext config counts b next
-  put_next position item (number, def) there is =
-      let on = goes_on (unless_broken (given_item_fault counts b.levels def item) b) (item_added number position (made_item def.attributes item)) next is in
-      let passed = unbroken (given_item_fault counts b.levels def item) b on.middle on.first in
+  put_next : (tested : Bool) (position : Option ℕ) (item : AnnotItem) (m : NumberedLevel) → slice_get config.levels m.0 ≡ Some m.1 → put_on tested counts position item b m ≡ Ok next → HasNext config counts b next
+  put_next tested position item (number, def) there is =
+      let on = goes_on (unless_broken (given_item_fault tested counts b.levels def item) b) (item_added number position (made_item def.attributes item)) next is in
+      let passed = unbroken (given_item_fault tested counts b.levels def item) b on.middle on.first in
       let own : item_added number position (made_item def.attributes item) b ≡ Ok next =
       ap (λ (c : BundleParts). item_added number position (made_item def.attributes item) c) passed.1 ∙ on.second in
-      let room = has_room number def item there passed.0 in
+      let room = has_room tested number def item there passed.0 in
       one_more config counts b next room.1 (added_next config b next keeps fits number position (made_item def.attributes item) room.0 own)
 
-  item_next : (level : List ℕ) (position : Option ℕ) (item : AnnotItem) → item_put config counts level position item b ≡ Ok next → HasNext config counts b next
-  item_next level position item is =
-      let on = goes_on (level_found level config.levels) (put_on counts position item b) next is in
-      put_next position item on.middle (level_there level config.levels on.middle on.first) on.second
+  item_next : (tested : Bool) (level : List ℕ) (position : Option ℕ) (item : AnnotItem) → item_put tested config counts level position item b ≡ Ok next → HasNext config counts b next
+  item_next tested level position item is =
+      let on = goes_on (level_found level config.levels) (put_on tested counts position item b) next is in
+      put_next tested position item on.middle (level_there level config.levels on.middle on.first) on.second
 
-  label_next : (id : ItemId) (label : List ℕ) (m : NumberedAttribute) → labelled id label b m ≡ Ok next → HasNext config counts b next
-  label_next id label (number, def) is =
-      let on = goes_on (unless_broken (label_fault def label) b) (label_set id number label) next is in
-      let passed = unbroken (label_fault def label) b on.middle on.first in
+  label_next : (tested : Bool) (id : ItemId) (label : List ℕ) (m : NumberedAttribute) → labelled tested id label b m ≡ Ok next → HasNext config counts b next
+  label_next tested id label (number, def) is =
+      let on = goes_on (unless_broken (label_fault tested def label) b) (label_set id number label) next is in
+      let passed = unbroken (label_fault tested def label) b on.middle on.first in
       let own : label_set id number label b ≡ Ok next = ap (λ (c : BundleParts). label_set id number label c) passed.1 ∙ on.second in
-      same_count config counts b next (labelled_next config b next keeps fits id number label (short_of def label passed.0) own)
+      same_count config counts b next (labelled_next config b next keeps fits id number label (short_of tested def label passed.0) own)
 
-  given_next : (id : ItemId) (attribute label : List ℕ) → label_given config id attribute label b ≡ Ok next → HasNext config counts b next
-  given_next id attribute label is =
-      let one = goes_on (place_for id b.levels) (λ place. onward (attribute_of attribute (slice_get config.levels place.0)) (labelled id label b)) next is in
-      let two = goes_on (attribute_of attribute (slice_get config.levels one.middle.0)) (labelled id label b) next one.second in
-      label_next id label two.middle two.second
+  given_next : (tested : Bool) (id : ItemId) (attribute label : List ℕ) → label_given tested config id attribute label b ≡ Ok next → HasNext config counts b next
+  given_next tested id attribute label is =
+      let one = goes_on (place_for id b.levels) (λ place. onward (attribute_of attribute (slice_get config.levels place.0)) (labelled tested id label b)) next is in
+      let two = goes_on (attribute_of attribute (slice_get config.levels one.middle.0)) (labelled tested id label b) next one.second in
+      label_next tested id label two.middle two.second
 
   twice_next : (first second : ItemId) (t u : Time) → onward (item_retimed first t b) (item_retimed second u) ≡ Ok next → HasNext config counts b next
   twice_next first second t u is =
@@ -441,16 +453,16 @@ module _ (config : ConfigParts) (counts : Counts) (b next : BundleParts) (keeps 
           }
 
 -- the labels that an item is made with are right for its level
-pub has_room_on : (config : ConfigParts) (counts : Counts) (b : BundleParts) (number : ℕ) (def : LevelDef) (item : AnnotItem) (labels : List (List ℕ)) → FitsConfig config b →
-    slice_get config.levels number ≡ Some def → given_item_fault counts b.levels def item ≡ None → labels ≡ made_labels def.attributes item.labels →
+pub has_room_on : (tested : Bool) (config : ConfigParts) (counts : Counts) (b : BundleParts) (number : ℕ) (def : LevelDef) (item : AnnotItem) (labels : List (List ℕ)) → FitsConfig config b →
+    slice_get config.levels number ≡ Some def → given_item_fault tested counts b.levels def item ≡ None → labels ≡ made_labels def.attributes item.labels →
     IfSome (slice_get b.levels number) (λ l. IsTrue (are_labels_for l.attributes labels))
-has_room_on config counts b number def item labels fits there free same =
+has_room_on tested config counts b number def item labels fits there free same =
     let one = or_none (room_fault counts b.levels) _ free in
     let two = or_none (id_fault item.id b.levels) _ one.1 in
-    let three = or_none (time_fault def.kind item.time) (new_labels_fault def.attributes [] item.labels) two.1 in
+    let three = or_none (time_fault def.kind item.time) (new_labels_fault tested def.attributes [] item.labels) two.1 in
     let own : IsLevelFor def b.levels number = level_fitting config.levels b.levels number def fits.levels there in
     subst (λ (o : Option Level). IfSome o (λ l. IsTrue (are_labels_for l.attributes labels))) (sym own.there)
-    (subst (λ (ls : List (List ℕ)). are_labels_for own.level.attributes ls ≡ true) (sym same) (labels_fit def.attributes item.labels own.level.attributes own.attributes three.1))
+    (subst (λ (ls : List (List ℕ)). are_labels_for own.level.attributes ls ≡ true) (sym same) (labels_fit tested def.attributes item.labels own.level.attributes own.attributes three.1))
 
 pub bundle_next : (config : ConfigParts) (counts : Counts) (edit : Edit) (b next : BundleParts) → KeepsBundleRules b → FitsConfig config b →
     bundle_changed config counts edit b ≡ Ok next → HasNext config counts b next
@@ -463,9 +475,9 @@ bundle_next config counts (edits.DropBundle key) b next keeps fits is =
       fits = subst (FitsConfig config) same fits;
       few = subst (λ (c : BundleParts). item_count c.levels ≤ item_count b.levels + 0) same (omega arith);
     })
-bundle_next config counts (edits.AddItem key level position item) b next keeps fits is = item_next config counts b next keeps fits level position item is
+bundle_next config counts (edits.AddItem key level position item) b next keeps fits is = item_next config counts b next keeps fits true level position item is
 bundle_next config counts (edits.RemoveItem key id) b next keeps fits is = same_count config counts b next (removed_next config b next keeps fits id is)
-bundle_next config counts (edits.SetLabel key id attribute label) b next keeps fits is = given_next config counts b next keeps fits id attribute label is
+bundle_next config counts (edits.SetLabel key id attribute label) b next keeps fits is = given_next config counts b next keeps fits true id attribute label is
 bundle_next config counts (edits.SetSegment key id start dur) b next keeps fits is = same_count config counts b next (retimed_next config b next keeps fits id (Span start dur) is)
 bundle_next config counts (edits.MoveBoundary key id start) b next keeps fits is = move_next config counts b next keeps fits id start is
 bundle_next config counts (edits.SetPoint key id at) b next keeps fits is = same_count config counts b next (retimed_next config b next keeps fits id (Point at) is)
@@ -473,3 +485,6 @@ bundle_next config counts (edits.Split key id new_id start) b next keeps fits is
 bundle_next config counts (edits.Merge key id) b next keeps fits is = merge_next config counts b next keeps fits id is
 bundle_next config counts (edits.AddLink key from to) b next keeps fits is = same_count config counts b next (linked_next config b next keeps fits from to is)
 bundle_next config counts (edits.RemoveLink key from to) b next keeps fits is = same_count config counts b next (unlinked_next config b next keeps fits from to is)
+bundle_next config counts (edits.PutItem key level position item) b next keeps fits is = item_next config counts b next keeps fits false level position item is
+bundle_next config counts (edits.PutLabel key id attribute label) b next keeps fits is = given_next config counts b next keeps fits false id attribute label is
+bundle_next config counts (edits.PutLink key from to place) b next keeps fits is = same_count config counts b next (placed_next config b next keeps fits place from to is)

@@ -1,8 +1,9 @@
 -- What an edit leaves of the ids and of the links of a bundle.
-use Rattle.std.proofs.Common.{◌≡◌, ℕ, suc, ◌-◌, true, not, List, [], ◌∷◌, ◌++◌, take, drop, Option, Some, Ok, refl, sym, ◌∙◌, ap, subst, eq-eqb}
+use Rattle.std.proofs.Common.{◌≡◌, ℕ, suc, ◌-◌, ◌≤◌, Bool, true, false, cond, not, List, [], ◌∷◌, ◌++◌, length, insert, take, drop, Option, Some, None, Ok, nat_le, refl, sym, ◌∙◌, ap, subst, eq-eqb}
 use Rattle.std.specs.List.{filter, slice_get}
-use Rattle.std.proofs.lemmas.Bool.{and_from}
+use Rattle.std.proofs.lemmas.Bool.{and_from, leb-true}
 use Rattle.emu_names.specs.declared.kinds.ItemId.{ItemId}
+use Rattle.emu_names.specs.declared.rules.Broken.TheVariants as rules
 use Rattle.level_items.specs.declared.annot.AnnotItem.{AnnotItem}
 use Rattle.level_items.specs.declared.items.Item.{Item}
 use Rattle.level_items.specs.declared.times.Time.{Time}
@@ -10,14 +11,16 @@ use Rattle.level_items.specs.declared.times.Time.TheVariants.{Span, Point}
 use Rattle.std.specs.Option.{option_or}
 use Rattle.level_items.specs.Levels.{Level, ids_of, retimed, relabelled, new_place}
 use Rattle.level_items.proofs.Lists.{around}
-use Rattle.link_graph.specs.Link.{joins, link_of}
+use Rattle.link_graph.specs.declared.link.Link.{Link}
+use Rattle.link_graph.specs.Link.{joins, link_of, add_fault}
 use Rattle.db_config.specs.declared.parts.ConfigParts.{ConfigParts}
 use Rattle.bundle_state.specs.Bundle.{BundleParts, all_ids, level_of_id}
 use Rattle.bundle_state.specs.Built.{FitsConfig}
-use Rattle.bundle_state.specs.Linked.{unless_broken, definition_for}
+use Rattle.bundle_state.specs.Linked.{unless_broken, kind_of, definition_for}
 use Rattle.emu_names.specs.Steps.{onward}
 use Rattle.bundle_state.specs.Made.{made_item}
-use Rattle.bundle_state.specs.Changed.{with_levels, with_links, change_level, with_item, without_item, with_changed, with_change, without, place_for, new_item_fault, new_time_fault, item_added, label_set, item_retimed, link_put, missing_fault}
+use Rattle.bundle_state.specs.Changed.{with_levels, with_links, change_level, with_item, without_item, with_changed, with_change, without, place_for, new_item_fault, new_time_fault, item_added, label_set, item_retimed, link_put, link_put_at, place_fault, missing_fault}
+use Rattle.bundle_state.proofs.Tests.{or_none}
 use Rattle.bundle_state.proofs.LinksKept.{goes_on, ok_same, fine_value}
 use Rattle.bundle_state.proofs.BuiltKept.{unbroken}
 use Rattle.bundle_state.proofs.ChangedLevels.{IsSpliced, ids_inserted, ids_removed, splice_levels, level_around, changed_ids}
@@ -25,7 +28,7 @@ use Rattle.bundle_state.proofs.ChangedKept.{IsPlace, place_parts, place_there, t
 use Rattle.bundle_edits.specs.declared.bundle_change.Counts.{Counts}
 use Rattle.bundle_edits.specs.declared.edit.Edit.TheVariants as edits
 use Rattle.bundle_edits.specs.declared.segments.Segment.{Segment}
-use Rattle.bundle_edits.specs.Changes.{level_found, NumberedLevel, room_fault, id_fault, label_fault, given_item_fault, put_on, NumberedAttribute, attribute_of, labelled, segment_of, next_of, cut_fault, last_of, moved, second_part, cut_at, split_in, joined}
+use Rattle.bundle_edits.specs.Changes.{level_found, NumberedLevel, room_fault, id_fault, label_fault, given_item_fault, put_on, item_put, NumberedAttribute, attribute_of, labelled, label_given, segment_of, next_of, cut_fault, last_of, moved, second_part, cut_at, split_in, joined}
 use Rattle.bundle_edits.specs.Laws.{HasOneMore, EditsKeepIds, EditsKeepLinks}
 use Rattle.bundle_edits.proofs.Cuts.{IsSegmentOf, ArePair, segment_found, pair_found}
 use Rattle.bundle_edits.proofs.Next.{IsLevelFor, level_fitting, level_there}
@@ -35,9 +38,9 @@ use Rattle.bundle_edits.proofs.Next.{IsLevelFor, level_fitting, level_there}
 same_links : (b next : BundleParts) (levels : List Level) → with_levels b levels ≡ next → next.links ≡ b.links
 same_links b next levels is = ap (λ (c : BundleParts). c.links) (sym is)
 
-put_links_same : (counts : Counts) (position : Option ℕ) (item : AnnotItem) (b next : BundleParts) (m : NumberedLevel) → put_on counts position item b m ≡ Ok next → next.links ≡ b.links
-put_links_same counts position item b next (number, def) is =
-    let fault = given_item_fault counts b.levels def item in
+put_links_same : (tested : Bool) (counts : Counts) (position : Option ℕ) (item : AnnotItem) (b next : BundleParts) (m : NumberedLevel) → put_on tested counts position item b m ≡ Ok next → next.links ≡ b.links
+put_links_same tested counts position item b next (number, def) is =
+    let fault = given_item_fault tested counts b.levels def item in
     let made : Item = made_item def.attributes item in
     let on = goes_on (unless_broken fault b) (item_added number position made) next is in
     let passed = unbroken fault b on.middle on.first in
@@ -45,10 +48,10 @@ put_links_same counts position item b next (number, def) is =
     same_links b next (change_level (with_item position made) number b.levels)
     (unbroken (new_item_fault number position made b.levels) (with_levels b (change_level (with_item position made) number b.levels)) next own).1
 
-label_links_same : (id : ItemId) (label : List ℕ) (b next : BundleParts) (m : NumberedAttribute) → labelled id label b m ≡ Ok next → next.links ≡ b.links
-label_links_same id label b next (number, def) is =
-    let on = goes_on (unless_broken (label_fault def label) b) (label_set id number label) next is in
-    let passed = unbroken (label_fault def label) b on.middle on.first in
+label_links_same : (tested : Bool) (id : ItemId) (label : List ℕ) (b next : BundleParts) (m : NumberedAttribute) → labelled tested id label b m ≡ Ok next → next.links ≡ b.links
+label_links_same tested id label b next (number, def) is =
+    let on = goes_on (unless_broken (label_fault tested def label) b) (label_set id number label) next is in
+    let passed = unbroken (label_fault tested def label) b on.middle on.first in
     let own : label_set id number label b ≡ Ok next = ap (λ (c : BundleParts). label_set id number label c) passed.1 ∙ on.second in
     let last = goes_on (place_for id b.levels) (λ place. fine_value (with_change (relabelled number label) place b)) next own in
     same_links b next _ (ok_same (with_change (relabelled number label) last.middle b) next last.second)
@@ -58,19 +61,38 @@ time_links_same id time b next is =
     let on = goes_on (place_for id b.levels) (λ place. unless_broken (new_time_fault place time b.levels) (with_change (retimed time) place b)) next is in
     same_links b next _ (unbroken (new_time_fault on.middle time b.levels) (with_change (retimed time) on.middle b) next on.second).1
 
+item_links_same : (tested : Bool) (config : ConfigParts) (counts : Counts) (level : List ℕ) (position : Option ℕ) (item : AnnotItem) (b next : BundleParts) →
+    item_put tested config counts level position item b ≡ Ok next → next.links ≡ b.links
+item_links_same tested config counts level position item b next is =
+    let on = goes_on (level_found level config.levels) (put_on tested counts position item b) next is in
+    put_links_same tested counts position item b next on.middle on.second
+
+given_links_same : (tested : Bool) (config : ConfigParts) (id : ItemId) (attribute label : List ℕ) (b next : BundleParts) → label_given tested config id attribute label b ≡ Ok next →
+    next.links ≡ b.links
+given_links_same tested config id attribute label b next is =
+    let one = goes_on (place_for id b.levels) (λ place. onward (attribute_of attribute (slice_get config.levels place.0)) (labelled tested id label b)) next is in
+    let two = goes_on (attribute_of attribute (slice_get config.levels one.middle.0)) (labelled tested id label b) next one.second in
+    label_links_same tested id label b next two.middle two.second
+
+own_pair : (number : ℕ) (a c : ItemId) → joins a c (link_of number a c) ≡ true
+own_pair number a c = and_from _ _ (eq-eqb a.0 a.0 refl) (eq-eqb c.0 c.0 refl)
+
+-- a place that breaks no rule is no place past the end
+place_low : (place : ℕ) (links : List Link) → place_fault place links ≡ None → place ≤ length links
+place_low place links none = by (nat_le place (length links)) refl none
+  where
+    by : (t : Bool) → nat_le place (length links) ≡ t → cond t None (Some rules.PositionOut) ≡ None → place ≤ length links
+    by true low is = leb-true place (length links) low
+    by false high is = absurd cc
+
 pub edits_keep_links : EditsKeepLinks
 edits_keep_links config counts (edits.AddBundle key annot) b next is = absurd cc
 edits_keep_links config counts (edits.DropBundle key) b next is = ap (λ (c : BundleParts). c.links) (sym (ok_same b next is))
-edits_keep_links config counts (edits.AddItem key level position item) b next is =
-    let on = goes_on (level_found level config.levels) (put_on counts position item b) next is in
-    put_links_same counts position item b next on.middle on.second
+edits_keep_links config counts (edits.AddItem key level position item) b next is = item_links_same true config counts level position item b next is
 edits_keep_links config counts (edits.RemoveItem key id) b next is =
     let on = goes_on (place_for id b.levels) (λ place. fine_value (without id place b)) next is in
     ap (λ (c : BundleParts). c.links) (sym (ok_same (without id on.middle b) next on.second))
-edits_keep_links config counts (edits.SetLabel key id attribute label) b next is =
-    let one = goes_on (place_for id b.levels) (λ place. onward (attribute_of attribute (slice_get config.levels place.0)) (labelled id label b)) next is in
-    let two = goes_on (attribute_of attribute (slice_get config.levels one.middle.0)) (labelled id label b) next one.second in
-    label_links_same id label b next two.middle two.second
+edits_keep_links config counts (edits.SetLabel key id attribute label) b next is = given_links_same true config id attribute label b next is
 edits_keep_links config counts (edits.SetSegment key id start dur) b next is = time_links_same id (Span start dur) b next is
 edits_keep_links config counts (edits.MoveBoundary key id start) b next is =
     let one = goes_on (segment_of id b.levels) (λ s. onward (next_of b.levels s) (λ n. unless_broken (cut_fault s (last_of n) start) (moved start s n b))) next is in
@@ -93,11 +115,19 @@ edits_keep_links config counts (edits.AddLink key from to) b next is =
       own_pair on.middle from to,
       ap (λ (c : BundleParts). c.links) (sym (unbroken _ (with_links b (b.links ++ link_of on.middle from to ∷ [])) next on.second).1),
     )
-  where
-    own_pair : (number : ℕ) (a c : ItemId) → joins a c (link_of number a c) ≡ true
-    own_pair number a c = and_from _ _ (eq-eqb a.0 a.0 refl) (eq-eqb c.0 c.0 refl)
 edits_keep_links config counts (edits.RemoveLink key from to) b next is =
     ap (λ (c : BundleParts). c.links) (sym (unbroken (missing_fault from to b.links) (with_links b (filter (λ link. not (joins from to link)) b.links)) next is).1)
+edits_keep_links config counts (edits.PutItem key level position item) b next is = item_links_same false config counts level position item b next is
+edits_keep_links config counts (edits.PutLabel key id attribute label) b next is = given_links_same false config id attribute label b next is
+edits_keep_links config counts (edits.PutLink key from to place) b next is =
+    let on = goes_on (definition_for b.definitions (record { from = from; to = to }) (level_of_id b.levels from.0) (level_of_id b.levels to.0)) (link_put_at place from to b) next is in
+    let added = add_fault (kind_of b.definitions on.middle) on.middle from to b.links in
+    let parts = unbroken (option_or added (place_fault place b.links)) (with_links b (insert b.links place (link_of on.middle from to))) next on.second in (
+      link_of on.middle from to,
+      own_pair on.middle from to,
+      place_low place b.links (or_none added (place_fault place b.links) parts.0).1,
+      ap (λ (c : BundleParts). c.links) (sym parts.1),
+    )
 
 -- Ids.
 
@@ -139,18 +169,18 @@ time_ids_same id time b next is =
     let on = goes_on (place_for id b.levels) (λ place. unless_broken (new_time_fault place time b.levels) (with_change (retimed time) place b)) next is in
     changed_same (retimed time) (time_keeps_id time) on.middle b next (unbroken (new_time_fault on.middle time b.levels) (with_change (retimed time) on.middle b) next on.second).1
 
-label_ids_same : (id : ItemId) (label : List ℕ) (b next : BundleParts) (m : NumberedAttribute) → labelled id label b m ≡ Ok next → all_ids next.levels ≡ all_ids b.levels
-label_ids_same id label b next (number, def) is =
-    let on = goes_on (unless_broken (label_fault def label) b) (label_set id number label) next is in
-    let passed = unbroken (label_fault def label) b on.middle on.first in
+label_ids_same : (tested : Bool) (id : ItemId) (label : List ℕ) (b next : BundleParts) (m : NumberedAttribute) → labelled tested id label b m ≡ Ok next → all_ids next.levels ≡ all_ids b.levels
+label_ids_same tested id label b next (number, def) is =
+    let on = goes_on (unless_broken (label_fault tested def label) b) (label_set id number label) next is in
+    let passed = unbroken (label_fault tested def label) b on.middle on.first in
     let own : label_set id number label b ≡ Ok next = ap (λ (c : BundleParts). label_set id number label c) passed.1 ∙ on.second in
     let last = goes_on (place_for id b.levels) (λ place. fine_value (with_change (relabelled number label) place b)) next own in
     changed_same (relabelled number label) (label_keeps_id number label) last.middle b next (ok_same (with_change (relabelled number label) last.middle b) next last.second)
 
-put_ids : (config : ConfigParts) (counts : Counts) (position : Option ℕ) (item : AnnotItem) (b next : BundleParts) (m : NumberedLevel) → FitsConfig config b → slice_get config.levels m.0 ≡ Some m.1 →
-    put_on counts position item b m ≡ Ok next → HasOneMore item.id.0 (all_ids b.levels) (all_ids next.levels)
-put_ids config counts position item b next (number, def) fits there is =
-    let fault = given_item_fault counts b.levels def item in
+put_ids : (tested : Bool) (config : ConfigParts) (counts : Counts) (position : Option ℕ) (item : AnnotItem) (b next : BundleParts) (m : NumberedLevel) → FitsConfig config b → slice_get config.levels m.0 ≡ Some m.1 →
+    put_on tested counts position item b m ≡ Ok next → HasOneMore item.id.0 (all_ids b.levels) (all_ids next.levels)
+put_ids tested config counts position item b next (number, def) fits there is =
+    let fault = given_item_fault tested counts b.levels def item in
     let made : Item = made_item def.attributes item in
     let on = goes_on (unless_broken fault b) (item_added number position made) next is in
     let passed = unbroken fault b on.middle on.first in
@@ -172,22 +202,30 @@ cut_ids b s new_id start p =
     same_around [] bs = changed_ids (retimed (Span s.start (start - 1 - s.start))) (time_keeps_id (Span s.start (start - 1 - s.start))) s.position 0 (p.level ∷ bs)
     same_around (f ∷ fs) bs = ap (λ (ns : List ℕ). ids_of f.items ++ ns) (same_around fs bs)
 
+item_ids : (tested : Bool) (config : ConfigParts) (counts : Counts) (level : List ℕ) (position : Option ℕ) (item : AnnotItem) (b next : BundleParts) → FitsConfig config b →
+    item_put tested config counts level position item b ≡ Ok next → HasOneMore item.id.0 (all_ids b.levels) (all_ids next.levels)
+item_ids tested config counts level position item b next fits is =
+    let on = goes_on (level_found level config.levels) (put_on tested counts position item b) next is in
+    put_ids tested config counts position item b next on.middle fits (level_there level config.levels on.middle on.first) on.second
+
+given_ids_same : (tested : Bool) (config : ConfigParts) (id : ItemId) (attribute label : List ℕ) (b next : BundleParts) → label_given tested config id attribute label b ≡ Ok next →
+    all_ids next.levels ≡ all_ids b.levels
+given_ids_same tested config id attribute label b next is =
+    let one = goes_on (place_for id b.levels) (λ place. onward (attribute_of attribute (slice_get config.levels place.0)) (labelled tested id label b)) next is in
+    let two = goes_on (attribute_of attribute (slice_get config.levels one.middle.0)) (labelled tested id label b) next one.second in
+    label_ids_same tested id label b next two.middle two.second
+
 pub edits_keep_ids : EditsKeepIds
 edits_keep_ids config counts (edits.AddBundle key annot) b next keeps fits is = absurd cc
 edits_keep_ids config counts (edits.DropBundle key) b next keeps fits is = ap (λ (c : BundleParts). all_ids c.levels) (sym (ok_same b next is))
-edits_keep_ids config counts (edits.AddItem key level position item) b next keeps fits is =
-    let on = goes_on (level_found level config.levels) (put_on counts position item b) next is in
-    put_ids config counts position item b next on.middle fits (level_there level config.levels on.middle on.first) on.second
+edits_keep_ids config counts (edits.AddItem key level position item) b next keeps fits is = item_ids true config counts level position item b next fits is
 edits_keep_ids config counts (edits.RemoveItem key id) b next keeps fits is =
     let on = goes_on (place_for id b.levels) (λ place. fine_value (without id place b)) next is in
     let p : IsPlace id.0 b.levels on.middle = place_parts id.0 b.levels on.middle (place_there id b.levels on.middle on.first) in
     subst (λ (n : ℕ). HasOneMore n (all_ids next.levels) (all_ids b.levels)) p.own
     (subst (λ (c : BundleParts). HasOneMore p.item.id.0 (all_ids c.levels) (all_ids b.levels)) (ok_same (without id on.middle b) next on.second)
     (removed_ids on.middle.0 on.middle.1 p.item b.levels p.level p.there p.at))
-edits_keep_ids config counts (edits.SetLabel key id attribute label) b next keeps fits is =
-    let one = goes_on (place_for id b.levels) (λ place. onward (attribute_of attribute (slice_get config.levels place.0)) (labelled id label b)) next is in
-    let two = goes_on (attribute_of attribute (slice_get config.levels one.middle.0)) (labelled id label b) next one.second in
-    label_ids_same id label b next two.middle two.second
+edits_keep_ids config counts (edits.SetLabel key id attribute label) b next keeps fits is = given_ids_same true config id attribute label b next is
 edits_keep_ids config counts (edits.SetSegment key id start dur) b next keeps fits is = time_ids_same id (Span start dur) b next is
 edits_keep_ids config counts (edits.MoveBoundary key id start) b next keeps fits is =
     let one = goes_on (segment_of id b.levels) (λ s. onward (next_of b.levels s) (λ n. unless_broken (cut_fault s (last_of n) start) (moved start s n b))) next is in
@@ -225,3 +263,8 @@ edits_keep_ids config counts (edits.AddLink key from to) b next keeps fits is =
     ap (λ (c : BundleParts). all_ids c.levels) (sym (unbroken _ (with_links b (b.links ++ link_of on.middle from to ∷ [])) next on.second).1)
 edits_keep_ids config counts (edits.RemoveLink key from to) b next keeps fits is =
     ap (λ (c : BundleParts). all_ids c.levels) (sym (unbroken (missing_fault from to b.links) (with_links b (filter (λ link. not (joins from to link)) b.links)) next is).1)
+edits_keep_ids config counts (edits.PutItem key level position item) b next keeps fits is = item_ids false config counts level position item b next fits is
+edits_keep_ids config counts (edits.PutLabel key id attribute label) b next keeps fits is = given_ids_same false config id attribute label b next is
+edits_keep_ids config counts (edits.PutLink key from to place) b next keeps fits is =
+    let on = goes_on (definition_for b.definitions (record { from = from; to = to }) (level_of_id b.levels from.0) (level_of_id b.levels to.0)) (link_put_at place from to b) next is in
+    ap (λ (c : BundleParts). all_ids c.levels) (sym (unbroken _ (with_links b (insert b.links place (link_of on.middle from to))) next on.second).1)

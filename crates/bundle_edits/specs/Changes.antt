@@ -1,6 +1,6 @@
 -- What an edit makes of the bundle that it names, or the rule that it breaks first (EMU-SDMS Manual, "The
 -- emuDB format": `_annot.json` and `legalLabels`).
-use Rattle.std.specs.Prelude.{ℕ, suc, ◌+◌, ◌-◌, Bool, true, false, ◌&&◌, List, [], ◌∷◌, ◌++◌, length, insert, Option, Some, None, option_map, option_and_then, Result, Ok, Err, nat_eq, nat_le, nat_lt, if◌then◌else◌, ok_or, replicate, ◌==◌}
+use Rattle.std.specs.Prelude.{ℕ, suc, ◌+◌, ◌-◌, Bool, true, false, not, ◌&&◌, ◌||◌, List, [], ◌∷◌, ◌++◌, length, insert, Option, Some, None, option_map, option_and_then, Result, Ok, Err, nat_eq, nat_le, nat_lt, if◌then◌else◌, ok_or, replicate, ◌==◌}
 use Rattle.std.specs.List.{list_any, find, slice_get}
 use Rattle.emu_names.specs.declared.limits.TheConstants.{ALL_ITEMS, BUNDLES, BUNDLE_ITEMS, LABEL_BYTES}
 use Rattle.emu_names.specs.declared.kinds.ItemId.{ItemId}
@@ -27,7 +27,7 @@ use Rattle.bundle_state.specs.Built.{built}
 use Rattle.bundle_state.specs.Linked.{unless_broken}
 use Rattle.emu_names.specs.Steps.{onward}
 use Rattle.bundle_state.specs.Made.{made_item}
-use Rattle.bundle_state.specs.Changed.{change_level, with_levels, with_change, without, place_for, item_added, item_removed, label_set, item_retimed, link_added, link_removed}
+use Rattle.bundle_state.specs.Changed.{change_level, with_levels, with_change, without, place_for, item_added, item_removed, label_set, item_retimed, link_added, link_inserted, link_removed}
 use Rattle.bundle_edits.specs.declared.bundle_change.Counts.{Counts}
 use Rattle.bundle_edits.specs.declared.edit.Edit.{Edit}
 use Rattle.bundle_edits.specs.declared.segments.Segment.{Segment}
@@ -73,44 +73,44 @@ room_fault counts levels =
 abbrev pub id_fault : ItemId → List Level → Option Broken
 id_fault id levels = if list_any (nat_eq id.0) (all_ids levels) then Some (rules.IdTaken id) else None
 
--- a label that is too long, or that the attribute does not allow
-abbrev pub label_fault : AttributeDef → List ℕ → Option Broken
-label_fault def label =
+-- a label that is too long, or, where that is tested, that the attribute does not allow
+abbrev pub label_fault : Bool → AttributeDef → List ℕ → Option Broken
+label_fault tested def label =
     if nat_lt LABEL_BYTES (length label) then Some rules.LabelTooLong
-    else if is_legal_for label def then None
+    else if not tested || is_legal_for label def then None
     else Some rules.IllegalLabel
 
 -- a label for an attribute, behind labels for attributes of these names
-abbrev pub given_label_fault : List (List ℕ) → AnnotLabel → Option AttributeDef → Option Broken
-given_label_fault named l None = Some (rules.NoAttribute l.name)
-given_label_fault named l (Some def) =
-    if list_any (same_text l.name) named then Some (rules.TwoLabels l.name) else label_fault def l.value
+abbrev pub given_label_fault : Bool → List (List ℕ) → AnnotLabel → Option AttributeDef → Option Broken
+given_label_fault tested named l None = Some (rules.NoAttribute l.name)
+given_label_fault tested named l (Some def) =
+    if list_any (same_text l.name) named then Some (rules.TwoLabels l.name) else label_fault tested def l.value
 
 -- the labels of a new item, behind labels for attributes of these names: for each an unknown attribute,
 -- one that is named twice, a label that is too long or not allowed
-abbrev pub new_labels_fault : List AttributeDef → List (List ℕ) → List AnnotLabel → Option Broken
-new_labels_fault defs named [] = None
-new_labels_fault defs named (l ∷ ls) =
-    option_or (given_label_fault named l (find (λ d. same_text d.name l.name) defs))
-    (new_labels_fault defs (named ++ l.name ∷ []) ls)
+abbrev pub new_labels_fault : Bool → List AttributeDef → List (List ℕ) → List AnnotLabel → Option Broken
+new_labels_fault tested defs named [] = None
+new_labels_fault tested defs named (l ∷ ls) =
+    option_or (given_label_fault tested named l (find (λ d. same_text d.name l.name) defs))
+    (new_labels_fault tested defs (named ++ l.name ∷ []) ls)
 
 -- the rule that a new item of a level breaks, before its position and its neighbours are looked at
-abbrev pub given_item_fault : Counts → List Level → LevelDef → AnnotItem → Option Broken
-given_item_fault counts levels def item =
+abbrev pub given_item_fault : Bool → Counts → List Level → LevelDef → AnnotItem → Option Broken
+given_item_fault tested counts levels def item =
     option_or (room_fault counts levels)
     (option_or (id_fault item.id levels)
-    (option_or (time_fault def.kind item.time) (new_labels_fault def.attributes [] item.labels)))
+    (option_or (time_fault def.kind item.time) (new_labels_fault tested def.attributes [] item.labels)))
 
 -- a new item on a level
-abbrev pub put_on : Counts → Option ℕ → AnnotItem → BundleParts → NumberedLevel → Result BundleParts Broken
-put_on counts position item b (number, def) =
-    onward (unless_broken (given_item_fault counts b.levels def item) b)
+abbrev pub put_on : Bool → Counts → Option ℕ → AnnotItem → BundleParts → NumberedLevel → Result BundleParts Broken
+put_on tested counts position item b (number, def) =
+    onward (unless_broken (given_item_fault tested counts b.levels def item) b)
     (item_added number position (made_item def.attributes item))
 
 -- a new item on the level of a name
-abbrev pub item_put : ConfigParts → Counts → List ℕ → Option ℕ → AnnotItem → BundleParts → Result BundleParts Broken
-item_put config counts level position item b =
-    onward (level_found level config.levels) (put_on counts position item b)
+abbrev pub item_put : Bool → ConfigParts → Counts → List ℕ → Option ℕ → AnnotItem → BundleParts → Result BundleParts Broken
+item_put tested config counts level position item b =
+    onward (level_found level config.levels) (put_on tested counts position item b)
 
 -- A label.
 
@@ -129,15 +129,15 @@ attribute_of name None = Err (rules.NoAttribute name)
 attribute_of name (Some def) = attribute_found name def.attributes
 
 -- another label of an item for an attribute
-abbrev pub labelled : ItemId → List ℕ → BundleParts → NumberedAttribute → Result BundleParts Broken
-labelled id label b (attribute, def) =
-    onward (unless_broken (label_fault def label) b) (label_set id attribute label)
+abbrev pub labelled : Bool → ItemId → List ℕ → BundleParts → NumberedAttribute → Result BundleParts Broken
+labelled tested id label b (attribute, def) =
+    onward (unless_broken (label_fault tested def label) b) (label_set id attribute label)
 
 -- another label of an item for the attribute of a name
-abbrev pub label_given : ConfigParts → ItemId → List ℕ → List ℕ → BundleParts → Result BundleParts Broken
-label_given config id attribute label b =
+abbrev pub label_given : Bool → ConfigParts → ItemId → List ℕ → List ℕ → BundleParts → Result BundleParts Broken
+label_given tested config id attribute label b =
     onward (place_for id b.levels) (λ place.
-    onward (attribute_of attribute (slice_get config.levels place.0)) (labelled id label b))
+    onward (attribute_of attribute (slice_get config.levels place.0)) (labelled tested id label b))
 
 -- Segments that touch.
 
@@ -240,9 +240,9 @@ segments_merged id b =
 abbrev pub bundle_changed : ConfigParts → Counts → Edit → BundleParts → Result BundleParts Broken
 bundle_changed config counts (edits.AddBundle key annot) b = Err rules.BundleTaken
 bundle_changed config counts (edits.DropBundle key) b = Ok b
-bundle_changed config counts (edits.AddItem key level position item) b = item_put config counts level position item b
+bundle_changed config counts (edits.AddItem key level position item) b = item_put true config counts level position item b
 bundle_changed config counts (edits.RemoveItem key id) b = item_removed id b
-bundle_changed config counts (edits.SetLabel key id attribute label) b = label_given config id attribute label b
+bundle_changed config counts (edits.SetLabel key id attribute label) b = label_given true config id attribute label b
 bundle_changed config counts (edits.SetSegment key id start dur) b = item_retimed id (Span start dur) b
 bundle_changed config counts (edits.MoveBoundary key id start) b = boundary_moved id start b
 bundle_changed config counts (edits.SetPoint key id at) b = item_retimed id (Point at) b
@@ -250,6 +250,9 @@ bundle_changed config counts (edits.Split key id new_id start) b = segment_split
 bundle_changed config counts (edits.Merge key id) b = segments_merged id b
 bundle_changed config counts (edits.AddLink key from to) b = link_added from to b
 bundle_changed config counts (edits.RemoveLink key from to) b = link_removed from to b
+bundle_changed config counts (edits.PutItem key level position item) b = item_put false config counts level position item b
+bundle_changed config counts (edits.PutLabel key id attribute label) b = label_given false config id attribute label b
+bundle_changed config counts (edits.PutLink key from to place) b = link_inserted place from to b
 
 -- whether the bundle is there behind an edit of it
 abbrev pub is_kept_by : Edit → Bool

@@ -1,5 +1,5 @@
 -- Laws over the definitions: what an edit makes of the ids and of the links of its bundle.
-use Rattle.std.specs.Prelude.{◌≡◌, ℕ, not, List, [], ◌∷◌, ◌++◌, Ok, IsTrue}
+use Rattle.std.specs.Prelude.{◌≡◌, ◌≤◌, ℕ, not, List, [], ◌∷◌, ◌++◌, length, insert, Ok, IsTrue}
 use Rattle.std.specs.List.{filter}
 use Rattle.emu_names.specs.declared.kinds.ItemId.{ItemId}
 use Rattle.link_graph.specs.declared.link.Link.{Link}
@@ -23,19 +23,22 @@ pub record HasOneMore (id : ℕ) (short long : List ℕ) : Type 0 where
 -- the ids of a bundle behind an edit: those before it with one put in, with one taken out, or the same
 abbrev pub NewIds : Edit → List ℕ → List ℕ → Type 0
 NewIds (edits.AddItem key level position item) old new = HasOneMore item.id.0 old new
+NewIds (edits.PutItem key level position item) old new = HasOneMore item.id.0 old new
 NewIds (edits.Split key id new_id start) old new = HasOneMore new_id.0 old new
 NewIds (edits.RemoveItem key id) old new = HasOneMore id.0 new old
 NewIds (edits.Merge key id) old new = (other : ItemId) × HasOneMore other.0 new old
 NewIds edit old new = new ≡ old
 
 -- the links of a bundle behind an edit: those that the edit does not take out stay in their order, and a
--- new one stands last
+-- new one stands last, or at the place that is given
 abbrev pub NewLinks : Edit → List Link → List Link → Type 0
 NewLinks (edits.RemoveItem key id) old new = new ≡ filter (λ link. not (names_item id link)) old
 NewLinks (edits.Merge key id) old new =
     (other : ItemId) × (new ≡ filter (λ link. not (names_item other link)) old)
 NewLinks (edits.AddLink key from to) old new =
     (link : Link) × IsTrue (joins from to link) × (new ≡ old ++ link ∷ [])
+NewLinks (edits.PutLink key from to place) old new =
+    (link : Link) × IsTrue (joins from to link) × (place ≤ length old) × (new ≡ insert old place link)
 NewLinks (edits.RemoveLink key from to) old new = new ≡ filter (λ link. not (joins from to link)) old
 NewLinks edit old new = new ≡ old
 

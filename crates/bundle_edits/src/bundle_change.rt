@@ -7,7 +7,7 @@ ghost use Rattle.bundle_edits.specs.Changes.{unless_too_many, bundle_added, bund
 ghost use Rattle.bundle_edits.specs.Inner.Given.{kept};
 
 use crate::edit::Edit;
-use crate::item_changes::{give_label, link, put_item, take_item, unlink, with_time};
+use crate::item_changes::{give_label, link, link_at, put_item, take_item, unlink, with_time};
 use crate::segments::{merge, move_boundary, split};
 use bundle_state::Bundle;
 use db_config::Config;
@@ -87,14 +87,14 @@ pub fn change_own(
             position,
             item,
             ..
-        } => put_item(alloc, config, counts, bundle, level, *position, item),
+        } => put_item(alloc, config, counts, bundle, level, *position, item, true),
         Edit::RemoveItem { id, .. } => take_item(bundle, *id),
         Edit::SetLabel {
             id,
             attribute,
             label,
             ..
-        } => give_label(alloc, config, bundle, *id, attribute, label),
+        } => give_label(alloc, config, bundle, *id, attribute, label, true),
         Edit::SetSegment { id, start, dur, .. } => {
             let time = Time::Span {
                 start: *start,
@@ -113,6 +113,24 @@ pub fn change_own(
         Edit::Merge { id, .. } => merge(bundle, *id),
         Edit::AddLink { from, to, .. } => link(config, bundle, *from, *to),
         Edit::RemoveLink { from, to, .. } => unlink(bundle, *from, *to),
+        Edit::PutItem {
+            level,
+            position,
+            item,
+            ..
+        } => put_item(alloc, config, counts, bundle, level, *position, item, false),
+        Edit::PutLabel {
+            id,
+            attribute,
+            label,
+            ..
+        } => give_label(alloc, config, bundle, *id, attribute, label, false),
+        Edit::PutLink {
+            from,
+            to,
+            place,
+            ..
+        } => link_at(config, bundle, *place, *from, *to),
     }
 }
 

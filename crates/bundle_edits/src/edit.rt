@@ -140,6 +140,40 @@ pub enum Edit {
         /// The id of the lower item.
         to: ItemId,
     },
+    /// Puts an item on a level whose labels need not be legal: `AddItem` without the refusal `IllegalLabel`.
+    PutItem {
+        /// The bundle's session and name.
+        key: BundleKey,
+        /// The level's name.
+        level: Text,
+        /// The item's position on an ITEM level, or none for the end; none on the other levels.
+        position: Option<u32>,
+        /// The item, with the labels that are not empty.
+        item: AnnotItem,
+    },
+    /// Gives an item another label, which need not be legal: `SetLabel` without the refusal `IllegalLabel`.
+    PutLabel {
+        /// The bundle's session and name.
+        key: BundleKey,
+        /// The item's id.
+        id: ItemId,
+        /// The name of the attribute.
+        attribute: Text,
+        /// The label.
+        label: Text,
+    },
+    /// Links an item to one of a level below, with the link at a place of the list of links. Refused is what
+    /// `AddLink` refuses, and last a place past the end (`PositionOut`).
+    PutLink {
+        /// The bundle's session and name.
+        key: BundleKey,
+        /// The id of the upper item.
+        from: ItemId,
+        /// The id of the lower item.
+        to: ItemId,
+        /// How many links stand before it.
+        place: u32,
+    },
 }
 
 impl Edit {
@@ -159,7 +193,10 @@ impl Edit {
             | Edit::Split { key, .. }
             | Edit::Merge { key, .. }
             | Edit::AddLink { key, .. }
-            | Edit::RemoveLink { key, .. } => key,
+            | Edit::RemoveLink { key, .. }
+            | Edit::PutItem { key, .. }
+            | Edit::PutLabel { key, .. }
+            | Edit::PutLink { key, .. } => key,
         }
     }
 
@@ -242,6 +279,47 @@ impl Edit {
                 key,
                 from: *from,
                 to: *to,
+            }),
+            Edit::PutItem {
+                level,
+                position,
+                item,
+                ..
+            } => {
+                let level = level.copy(alloc)?;
+                let item = item.copy(alloc)?;
+                Ok(Edit::PutItem {
+                    key,
+                    level,
+                    position: *position,
+                    item,
+                })
+            }
+            Edit::PutLabel {
+                id,
+                attribute,
+                label,
+                ..
+            } => {
+                let attribute = attribute.copy(alloc)?;
+                let label = label.copy(alloc)?;
+                Ok(Edit::PutLabel {
+                    key,
+                    id: *id,
+                    attribute,
+                    label,
+                })
+            }
+            Edit::PutLink {
+                from,
+                to,
+                place,
+                ..
+            } => Ok(Edit::PutLink {
+                key,
+                from: *from,
+                to: *to,
+                place: *place,
             }),
         }
     }

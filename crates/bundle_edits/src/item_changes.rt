@@ -6,7 +6,7 @@ ghost use Rattle.emu_names.specs.declared.limits.TheConstants.{BUNDLE_ITEMS};
 ghost use Rattle.level_items.specs.Levels.{are_labels_for};
 ghost use Rattle.bundle_state.specs.Bundle.{item_count};
 ghost use Rattle.bundle_state.specs.Built.{FitsConfig};
-ghost use Rattle.bundle_state.specs.Changed.{item_added, item_removed, item_retimed, link_added, link_removed};
+ghost use Rattle.bundle_state.specs.Changed.{item_added, item_removed, item_retimed, link_added, link_inserted, link_removed};
 ghost use Rattle.bundle_state.specs.Inner.Changed.{attributes_with};
 ghost use Rattle.bundle_edits.specs.Changes.{room_fault, id_fault, given_item_fault, put_on, item_put, labelled, label_given};
 
@@ -49,13 +49,20 @@ fn given_item_passes(
     bundle: &Bundle,
     def: &LevelDef,
     item: &AnnotItem,
+    is_tested: bool,
 ) -> Result<(), Fault>
-    ensures { FindsFault result (given_item_fault counts bundle.now.levels def.now item.now) }
+    ensures { FindsFault result
+        (given_item_fault is_tested counts bundle.now.levels def.now item.now) }
 {
     room_passes(counts, bundle)?;
     id_passes(bundle, item.id)?;
     time_passes(def.kind, item.time)?;
-    new_labels_pass(alloc, def.attributes.as_slice(), item.labels.as_slice())
+    new_labels_pass(
+        alloc,
+        def.attributes.as_slice(),
+        item.labels.as_slice(),
+        is_tested,
+    )
 }
 
 /// This bundle with an item put on the level of a number.
@@ -87,18 +94,20 @@ fn put_on(
     def: &LevelDef,
     position: Option<u32>,
     item: &AnnotItem,
+    is_tested: bool,
 ) -> Result<Bundle, Fault>
     requires fits { FitsConfig config.now bundle }
     requires level { slice_get config.now.levels number ≡ Some def.now }
     ensures { GivesOrBroken result
-        (put_on counts position item.now bundle (number, def.now)) }
+        (put_on is_tested counts position item.now bundle (number, def.now)) }
 {
-    given_item_passes(alloc, counts, &bundle, def, item)?;
+    given_item_passes(alloc, counts, &bundle, def, item, is_tested)?;
     let made = made_item(alloc, def.attributes.as_slice(), item)?;
     with_item(config, bundle, number, position, made)
 }
 
-/// The bundle with a new item on the level of this name.
+/// The bundle with a new item on the level of this name. Whether its labels are legal counts where
+/// `is_tested` is true.
 pub(crate) fn put_item(
     alloc: Global,
     config: &Config,
@@ -107,15 +116,18 @@ pub(crate) fn put_item(
     level: &Text,
     position: Option<u32>,
     item: &AnnotItem,
+    is_tested: bool,
 ) -> Result<Bundle, Fault>
     requires { FitsConfig config.now bundle }
     ensures { GivesOrBroken result
-        (item_put config.now counts level.now position item.now bundle) }
+        (item_put is_tested config.now counts level.now position item.now bundle) }
 {
     match config.level_named(level.as_str()) {
         Some(number) => {
             let def = config.parts().levels.get(number);
-            put_on(alloc, config, counts, bundle, number, def, position, item)
+            put_on(
+                alloc, config, counts, bundle, number, def, position, item, is_tested,
+            )
         }
         None => Err(Fault::Broken(Broken::NoLevel(level.copy(alloc)?))),
     }
@@ -138,17 +150,19 @@ fn label_item(
     number: usize,
     def: &AttributeDef,
     label: &Text,
+    is_tested: bool,
 ) -> Result<Bundle, Fault>
     requires { IfSome (attributes_with id.0 next.levels) (λ count. number < count) }
-    ensures { GivesOrBroken result (labelled id label.now next (number, def.now)) }
+    ensures { GivesOrBroken result (labelled is_tested id label.now next (number, def.now)) }
 {
-    label_passes(def, label)?;
+    label_passes(def, label, is_tested)?;
     let label = label.copy(alloc)?;
     next.set_label(id, number, label)?;
     Ok(next)
 }
 
-/// The bundle with another label of an item for the attribute of a name.
+/// The bundle with another label of an item for the attribute of a name. Whether it is legal counts where
+/// `is_tested` is true.
 pub(crate) fn give_label(
     alloc: Global,
     config: &Config,
@@ -156,9 +170,11 @@ pub(crate) fn give_label(
     id: ItemId,
     attribute: &Text,
     label: &Text,
+    is_tested: bool,
 ) -> Result<Bundle, Fault>
     requires { FitsConfig config.now bundle }
-    ensures { GivesOrBroken result (label_given config.now id attribute.now label.now bundle) }
+    ensures { GivesOrBroken result
+        (label_given is_tested config.now id attribute.now label.now bundle) }
 {
     let Some((level, _position)) = bundle.place(id) else {
         return Err(Fault::Broken(Broken::NoItem(id)));
@@ -167,7 +183,7 @@ pub(crate) fn give_label(
     match config.attribute_in(level, attribute.as_str()) {
         Some(number) => {
             let own = def.attributes.get(number);
-            label_item(alloc, bundle, id, number, own, label)
+            label_item(alloc, bundle, id, number, own, label, is_tested)
         }
         None => Err(Fault::Broken(Broken::NoAttribute(attribute.copy(alloc)?))),
     }
@@ -192,6 +208,21 @@ pub(crate) fn link(
     ensures { GivesOrBroken result (link_added from to next) }
 {
     next.add_link(config, from, to)?;
+    Ok(next)
+}
+
+/// The bundle with a link more, put at a place.
+pub(crate) fn link_at(
+    config: &Config,
+    mut next: Bundle,
+    place: u32,
+    from: ItemId,
+    to: ItemId,
+) -> Result<Bundle, Fault>
+    requires { FitsConfig config.now next }
+    ensures { GivesOrBroken result (link_inserted place from to next) }
+{
+    next.add_link_at(config, place, from, to)?;
     Ok(next)
 }
 

@@ -13,14 +13,14 @@ use emu_names::{Broken, Fault, Memory, Text};
 use level_items::{AnnotItem, AnnotLabel, Item, Labels};
 use std::alloc::Global;
 
-/// Tests a label for an attribute.
-pub(crate) fn label_passes(def: &AttributeDef, label: &Text) -> Result<(), Fault>
-    ensures { FindsFault result (label_fault def.now label.now) }
+/// Tests a label for an attribute: its length, and, where `is_tested` is true, whether it is legal.
+pub(crate) fn label_passes(def: &AttributeDef, label: &Text, is_tested: bool) -> Result<(), Fault>
+    ensures { FindsFault result (label_fault is_tested def.now label.now) }
 {
     if label.as_str().len() > LABEL_BYTES {
         return Err(Fault::Broken(Broken::LabelTooLong));
     }
-    if def.is_legal(label.as_str()) {
+    if !is_tested || def.is_legal(label.as_str()) {
         Ok(())
     } else {
         Err(Fault::Broken(Broken::IllegalLabel))
@@ -57,8 +57,9 @@ fn given_label_passes(
     defs: &[AttributeDef],
     before: &[AnnotLabel],
     label: &AnnotLabel,
+    is_tested: bool,
 ) -> Result<(), Fault>
-    ensures { FindsFault result (given_label_fault (names_of before.now) label.now
+    ensures { FindsFault result (given_label_fault is_tested (names_of before.now) label.now
         (find (λ d. same_text d.name label.now.name) defs.now)) }
 {
     let Some(def) = attribute_named(defs, &label.name) else {
@@ -67,7 +68,7 @@ fn given_label_passes(
     if are_labelled(before, &label.name) {
         return Err(Fault::Broken(Broken::TwoLabels(label.name.copy(alloc)?)));
     }
-    label_passes(def, &label.value)
+    label_passes(def, &label.value, is_tested)
 }
 
 /// Tests the labels of a new item.
@@ -75,11 +76,12 @@ pub(crate) fn new_labels_pass(
     alloc: Global,
     defs: &[AttributeDef],
     labels: &[AnnotLabel],
+    is_tested: bool,
 ) -> Result<(), Fault>
-    ensures { FindsFault result (new_labels_fault defs.now [] labels.now) }
+    ensures { FindsFault result (new_labels_fault is_tested defs.now [] labels.now) }
 {
     for place in 0..labels.len() {
-        match given_label_passes(alloc, defs, &labels[..place], &labels[place]) {
+        match given_label_passes(alloc, defs, &labels[..place], &labels[place], is_tested) {
             Ok(()) => {}
             Err(fault) => return Err(fault),
         }

@@ -52,6 +52,9 @@ inner_kept config counts (edits.Split key id new_id start) b is = refl
 inner_kept config counts (edits.Merge key id) b is = refl
 inner_kept config counts (edits.AddLink key from to) b is = refl
 inner_kept config counts (edits.RemoveLink key from to) b is = refl
+inner_kept config counts (edits.PutItem key level position item) b is = refl
+inner_kept config counts (edits.PutLabel key id attribute label) b is = refl
+inner_kept config counts (edits.PutLink key from to place) b is = refl
 
 pub inner_missing : (config : ConfigParts) (counts : Counts) (e : Edit) → is_inner e ≡ true → changed config counts None e ≡ Err rules.NoBundle
 inner_missing config counts (edits.AddBundle key annot) is = absurd (true≢false (sym is))
@@ -66,6 +69,9 @@ inner_missing config counts (edits.Split key id new_id start) is = refl
 inner_missing config counts (edits.Merge key id) is = refl
 inner_missing config counts (edits.AddLink key from to) is = refl
 inner_missing config counts (edits.RemoveLink key from to) is = refl
+inner_missing config counts (edits.PutItem key level position item) is = refl
+inner_missing config counts (edits.PutLabel key id attribute label) is = refl
+inner_missing config counts (edits.PutLink key from to place) is = refl
 
 -- edits of a bundle that stays, as edits of one that may be missing
 abbrev told_some : BundleParts → Result (Option BundleParts) Breach

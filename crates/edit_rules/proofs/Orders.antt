@@ -134,23 +134,23 @@ lists_same (x ∷ xs) (y ∷ ys) up upper alike =
 both_same : {A : Type 0} (r : Result A Broken) (x y : A) → r ≡ Ok x → r ≡ Ok y → x ≡ y
 both_same r x y first second = ok_same x y (sym first ∙ second)
 
-put_alike : (one two : Counts) (position : Option ℕ) (item : AnnotItem) (b x y : BundleParts) (m : NumberedLevel) → put_on one position item b m ≡ Ok x → put_on two position item b m ≡ Ok y → x ≡ y
-put_alike one two position item b x y (number, def) first second =
-    let f = goes_on (unless_broken (given_item_fault one b.levels def item) b) (item_added number position (made_item def.attributes item)) x first in
-    let g = goes_on (unless_broken (given_item_fault two b.levels def item) b) (item_added number position (made_item def.attributes item)) y second in
-    let left = unbroken (given_item_fault one b.levels def item) b f.middle f.first in
-    let right = unbroken (given_item_fault two b.levels def item) b g.middle g.first in
+put_alike : (tested : Bool) (one two : Counts) (position : Option ℕ) (item : AnnotItem) (b x y : BundleParts) (m : NumberedLevel) → put_on tested one position item b m ≡ Ok x → put_on tested two position item b m ≡ Ok y → x ≡ y
+put_alike tested one two position item b x y (number, def) first second =
+    let f = goes_on (unless_broken (given_item_fault tested one b.levels def item) b) (item_added number position (made_item def.attributes item)) x first in
+    let g = goes_on (unless_broken (given_item_fault tested two b.levels def item) b) (item_added number position (made_item def.attributes item)) y second in
+    let left = unbroken (given_item_fault tested one b.levels def item) b f.middle f.first in
+    let right = unbroken (given_item_fault tested two b.levels def item) b g.middle g.first in
     both_same (item_added number position (made_item def.attributes item) b) x y
     (ap (λ (c : BundleParts). item_added number position (made_item def.attributes item) c) left.1 ∙ f.second)
     (ap (λ (c : BundleParts). item_added number position (made_item def.attributes item) c) right.1 ∙ g.second)
 
-item_alike : (config : ConfigParts) (one two : Counts) (level : List ℕ) (position : Option ℕ) (item : AnnotItem) (b x y : BundleParts) →
-    item_put config one level position item b ≡ Ok x → item_put config two level position item b ≡ Ok y → x ≡ y
-item_alike config one two level position item b x y first second =
-    let f = goes_on (level_found level config.levels) (put_on one position item b) x first in
-    let g = goes_on (level_found level config.levels) (put_on two position item b) y second in
+item_alike : (tested : Bool) (config : ConfigParts) (one two : Counts) (level : List ℕ) (position : Option ℕ) (item : AnnotItem) (b x y : BundleParts) →
+    item_put tested config one level position item b ≡ Ok x → item_put tested config two level position item b ≡ Ok y → x ≡ y
+item_alike tested config one two level position item b x y first second =
+    let f = goes_on (level_found level config.levels) (put_on tested one position item b) x first in
+    let g = goes_on (level_found level config.levels) (put_on tested two position item b) y second in
     let same : f.middle ≡ g.middle = ok_same f.middle g.middle (sym f.first ∙ g.first) in
-    put_alike one two position item b x y f.middle f.second (ap (λ (m : NumberedLevel). put_on two position item b m) same ∙ g.second)
+    put_alike tested one two position item b x y f.middle f.second (ap (λ (m : NumberedLevel). put_on tested two position item b m) same ∙ g.second)
 
 split_alike : (one two : Counts) (id new_id : ItemId) (start : ℕ) (b x y : BundleParts) → segment_split one id new_id start b ≡ Ok x → segment_split two id new_id start b ≡ Ok y → x ≡ y
 split_alike one two id new_id start b x y first second =
@@ -166,7 +166,7 @@ split_alike one two id new_id start b x y first second =
 bundle_alike : (config : ConfigParts) (one two : Counts) (edit : Edit) (b x y : BundleParts) → bundle_changed config one edit b ≡ Ok x → bundle_changed config two edit b ≡ Ok y → x ≡ y
 bundle_alike config one two (edits.AddBundle key annot) b x y first second = absurd cc
 bundle_alike config one two (edits.DropBundle key) b x y first second = sym (ok_same b x first) ∙ ok_same b y second
-bundle_alike config one two (edits.AddItem key level position item) b x y first second = item_alike config one two level position item b x y first second
+bundle_alike config one two (edits.AddItem key level position item) b x y first second = item_alike true config one two level position item b x y first second
 bundle_alike config one two (edits.RemoveItem key id) b x y first second = ok_same x y (sym first ∙ second)
 bundle_alike config one two (edits.SetLabel key id attribute label) b x y first second = ok_same x y (sym first ∙ second)
 bundle_alike config one two (edits.SetSegment key id start dur) b x y first second = ok_same x y (sym first ∙ second)
@@ -176,6 +176,9 @@ bundle_alike config one two (edits.Split key id new_id start) b x y first second
 bundle_alike config one two (edits.Merge key id) b x y first second = ok_same x y (sym first ∙ second)
 bundle_alike config one two (edits.AddLink key from to) b x y first second = ok_same x y (sym first ∙ second)
 bundle_alike config one two (edits.RemoveLink key from to) b x y first second = ok_same x y (sym first ∙ second)
+bundle_alike config one two (edits.PutItem key level position item) b x y first second = item_alike false config one two level position item b x y first second
+bundle_alike config one two (edits.PutLabel key id attribute label) b x y first second = ok_same x y (sym first ∙ second)
+bundle_alike config one two (edits.PutLink key from to place) b x y first second = ok_same x y (sym first ∙ second)
 
 added_alike : (config : ConfigParts) (one two : Counts) (key : BundleKey) (annot : Annot) (x y : Option BundleParts) → bundle_added config one key annot ≡ Ok x → bundle_added config two key annot ≡ Ok y → x ≡ y
 added_alike config one two key annot x y first second =
@@ -200,6 +203,9 @@ changed_alike config one two None (edits.Split key id new_id start) x y first se
 changed_alike config one two None (edits.Merge key id) x y first second = absurd cc
 changed_alike config one two None (edits.AddLink key from to) x y first second = absurd cc
 changed_alike config one two None (edits.RemoveLink key from to) x y first second = absurd cc
+changed_alike config one two None (edits.PutItem key level position item) x y first second = absurd cc
+changed_alike config one two None (edits.PutLabel key id attribute label) x y first second = absurd cc
+changed_alike config one two None (edits.PutLink key from to place) x y first second = absurd cc
 changed_alike config one two (Some b) edit x y first second =
     let f = goes_on (bundle_changed config one edit b) (if_kept edit) x first in
     let g = goes_on (bundle_changed config two edit b) (if_kept edit) y second in

@@ -255,6 +255,9 @@ missing_stored config counts (edits.Split key id new_id start) new valid is = ab
 missing_stored config counts (edits.Merge key id) new valid is = absurd cc
 missing_stored config counts (edits.AddLink key from to) new valid is = absurd cc
 missing_stored config counts (edits.RemoveLink key from to) new valid is = absurd cc
+missing_stored config counts (edits.PutItem key level position item) new valid is = absurd cc
+missing_stored config counts (edits.PutLabel key id attribute label) new valid is = absurd cc
+missing_stored config counts (edits.PutLink key from to place) new valid is = absurd cc
 
 pub kept_same : (t : Bool) (b new : BundleParts) → fine_value (cond t (Some b) None) ≡ Ok (Some new) → b ≡ new
 kept_same true b new is = some_same b new (ok_same (Some b) (Some new) is)

@@ -27,6 +27,9 @@ is_inner (edits.Split key id new_id start) = true
 is_inner (edits.Merge key id) = true
 is_inner (edits.AddLink key from to) = true
 is_inner (edits.RemoveLink key from to) = true
+is_inner (edits.PutItem key level position item) = true
+is_inner (edits.PutLabel key id attribute label) = true
+is_inner (edits.PutLink key from to place) = true
 
 -- an edit of the bundle of a key
 abbrev pub has_key : BundleKey → Edit → Bool

@@ -40,7 +40,7 @@ returns-in-Some-attribute_in c =
     let named : attribute_named c.as_str.result.now c.get-def.result.now.attributes ≡ Some c.in-Some-attribute_in.number =
     sym (c.in-Some-attribute_in.ensures ∙ ap (λ (o : Option LevelDef). option_and_then (λ d. attribute_named c.as_str.result.now d.attributes) o) there) in
     subst (λ (r : Result BundleParts Broken). GivesOrBroken c.label_item.result r)
-    (sym (given_is c.args.config.now c.args.bundle c.requires c.args.id c.in-Some.level c.in-Some._position is c.args.attribute.now c.args.label.now
+    (sym (given_is c.args.config.now c.args.bundle c.requires c.args.id c.in-Some.level c.in-Some._position is c.args.is_tested c.args.attribute.now c.args.label.now
     c.get-def.result.now c.in-Some-attribute_in.number c.get-own.result.now there
     (ap (λ (n : List ℕ). attribute_named n c.get-def.result.now.attributes) (sym c.as_str.ensures) ∙ named) c.get-own.ensures))
     c.label_item.ensures
@@ -52,7 +52,7 @@ returns-in_ok-copy-in-None c =
     ap (λ (p : ConfigParts). slice_get p.levels c.in-Some.level) (sym c.parts.ensures.parts) ∙ c.get-def.ensures in
     let none : attribute_named c.as_str.result.now c.get-def.result.now.attributes ≡ None =
     sym (c.in-None.ensures ∙ ap (λ (o : Option LevelDef). option_and_then (λ d. attribute_named c.as_str.result.now d.attributes) o) there) in
-    not_given c.args.config.now c.args.bundle c.requires c.args.id c.in-Some.level c.in-Some._position is c.args.attribute.now c.args.label.now c.get-def.result.now there
+    not_given c.args.config.now c.args.bundle c.requires c.args.id c.in-Some.level c.in-Some._position is c.args.is_tested c.args.attribute.now c.args.label.now c.get-def.result.now there
     (ap (λ (n : List ℕ). attribute_named n c.get-def.result.now.attributes) (sym c.as_str.ensures) ∙ none)
     ∙ ap (λ (n : List ℕ). no_attribute n) (sym c.in_ok-copy-in-None.ensures)
   where

@@ -5,4 +5,4 @@ use Rattle.bundle_edits.proofs.labels.new_labels_pass.Given as goal
 
 abbrev pub invariant-loop-place : goal.invariant-loop-place
 invariant-loop-place l =
-    new_labels_fault l.defs (names_of (take l.place l.labels)) (drop l.place l.labels) ≡ new_labels_fault l.defs [] l.fn.labels
+    new_labels_fault l.is_tested l.defs (names_of (take l.place l.labels)) (drop l.place l.labels) ≡ new_labels_fault l.is_tested l.defs [] l.fn.labels

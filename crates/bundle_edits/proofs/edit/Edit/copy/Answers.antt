@@ -44,3 +44,7 @@ returns-in-AddLink c =
 pub returns-in-RemoveLink : goal.returns-in-RemoveLink
 returns-in-RemoveLink c =
     same_edit (λ k. edits.RemoveLink k c.in-RemoveLink.from c.in-RemoveLink.to) (λ k. refl) c.args.self.now c.in_ok-key.key c.key.result.now c.in-RemoveLink.key c.in_ok-key.ensures c.key.ensures c.in-RemoveLink.is
+
+pub returns-in-PutLink : goal.returns-in-PutLink
+returns-in-PutLink c =
+    same_edit (λ k. edits.PutLink k c.in-PutLink.from c.in-PutLink.to c.in-PutLink.place) (λ k. refl) c.args.self.now c.in_ok-key.key c.key.result.now c.in-PutLink.key c.in_ok-key.ensures c.key.ensures c.in-PutLink.is
