@@ -12,6 +12,7 @@ use Rattle.emu_names.specs.declared.rules.Broken.TheVariants as rules
 use Rattle.emu_names.specs.declared.rules.What.TheVariants as counted
 use Rattle.level_items.specs.declared.annot.AnnotItem.{AnnotItem}
 use Rattle.level_items.specs.declared.annot.AnnotLabel.{AnnotLabel}
+use Rattle.level_items.specs.declared.annot.AnnotLink.{AnnotLink}
 use Rattle.level_items.specs.declared.items.Item.{Item}
 use Rattle.level_items.specs.declared.times.Time.{Time}
 use Rattle.level_items.specs.declared.times.Time.TheVariants.{Span, Point}
@@ -19,6 +20,7 @@ use Rattle.level_items.specs.Levels.{Level, are_labels_for, is_short, retimed, r
 use Rattle.level_items.specs.Faults.{time_fault}
 use Rattle.std.specs.Option.{option_or, option_and_then}
 use Rattle.level_items.proofs.Changes.{length-change_at}
+use Rattle.link_builder.specs.Timed.{timed_pairs}
 use Rattle.db_config.specs.declared.attributes.AttributeDef.{AttributeDef}
 use Rattle.db_config.specs.declared.parts.ConfigParts.{ConfigParts}
 use Rattle.db_config.specs.declared.parts.LevelDef.{LevelDef}
@@ -41,7 +43,7 @@ use Rattle.bundle_edits.specs.declared.bundle_change.Counts.{Counts}
 use Rattle.bundle_edits.specs.declared.edit.Edit.{Edit}
 use Rattle.bundle_edits.specs.declared.edit.Edit.TheVariants as edits
 use Rattle.bundle_edits.specs.declared.segments.Segment.{Segment}
-use Rattle.bundle_edits.specs.Changes.{level_found, numbered, NumberedLevel, room_fault, id_fault, label_fault, given_label_fault, new_labels_fault, given_item_fault, put_on, item_put, NumberedAttribute, attribute_of, labelled, label_given, segment_of, next_of, cut_fault, last_of, moved, second_part, cut_at, boundary_moved, split_in, segment_split, joined, segments_merged, bundle_changed}
+use Rattle.bundle_edits.specs.Changes.{level_found, numbered, NumberedLevel, room_fault, id_fault, label_fault, given_label_fault, new_labels_fault, given_item_fault, put_on, item_put, NumberedAttribute, attribute_of, labelled, label_given, segment_of, next_of, cut_fault, last_of, moved, second_part, cut_at, boundary_moved, split_in, segment_split, joined, segments_merged, items_on, is_linked, timed_fault, pair_linked, pairs_linked, levels_linked, times_linked, bundle_changed}
 use Rattle.bundle_edits.proofs.Spans.{some_same}
 use Rattle.bundle_edits.proofs.Places.{level_here}
 use Rattle.bundle_edits.proofs.Cuts.{IsSegmentOf, ArePair, IsCut, segment_found, pair_found, cut_parts, moved_back, moved_on, merged, cut_short, part_added}
@@ -57,6 +59,14 @@ next_then config n k b mid next first second =
     let one = first.few in
     let two = second.few in
     record { key = second.key ∙ first.key; rules = second.rules; fits = second.fits; few = omega arith }
+
+same_next : (config : ConfigParts) (b next : BundleParts) → KeepsBundleRules b → FitsConfig config b → b ≡ next → IsNext config 0 b next
+same_next config b next keeps fits same = record {
+  key = ap (λ (c : BundleParts). c.key) (sym same);
+  rules = subst KeepsBundleRules same keeps;
+  fits = subst (FitsConfig config) same fits;
+  few = subst (λ (c : BundleParts). item_count c.levels ≤ item_count b.levels + 0) same (omega arith);
+}
 
 -- How many items there are.
 
@@ -178,6 +188,30 @@ module _ (config : ConfigParts) (b next : BundleParts) (keeps : KeepsBundleRules
         fits = removed_link_fits from to config b next fits is;
         few = subst (λ (c : BundleParts). item_count c.levels ≤ item_count b.levels + 0) same (omega arith);
       }
+
+-- links of pairs of items, one after another
+pair_next : (config : ConfigParts) (pair : AnnotLink) (b next : BundleParts) → KeepsBundleRules b → FitsConfig config b → pair_linked pair b ≡ Ok next → IsNext config 0 b next
+pair_next config pair b next keeps fits is = by (is_linked b.links pair) is
+  where
+    by : (t : Bool) → cond t (fine_value b) (link_added pair.from pair.to b) ≡ Ok next → IsNext config 0 b next
+    by true same = same_next config b next keeps fits (ok_same b next same)
+    by false added = linked_next config b next keeps fits pair.from pair.to added
+
+pub pairs_next : (config : ConfigParts) (pairs : List AnnotLink) (b next : BundleParts) → KeepsBundleRules b → FitsConfig config b → pairs_linked pairs b ≡ Ok next → IsNext config 0 b next
+pairs_next config [] b next keeps fits is = same_next config b next keeps fits (ok_same b next is)
+pairs_next config (pair ∷ pairs) b next keeps fits is =
+    let on = goes_on (pair_linked pair b) (pairs_linked pairs) next is in
+    let one : IsNext config 0 b on.middle = pair_next config pair b on.middle keeps fits on.first in
+    next_then config 0 0 b on.middle next one (pairs_next config pairs on.middle next one.rules one.fits on.second)
+
+times_next : (config : ConfigParts) (upper lower : List ℕ) (b next : BundleParts) → KeepsBundleRules b → FitsConfig config b → times_linked config upper lower b ≡ Ok next → IsNext config 0 b next
+times_next config upper lower b next keeps fits is =
+    let one = goes_on (level_found upper config.levels) (λ k. onward (level_found lower config.levels) (levels_linked b k)) next is in
+    let two = goes_on (level_found lower config.levels) (levels_linked b one.middle) next one.second in
+    let pairs = timed_pairs (items_on b.levels one.middle.0) (items_on b.levels two.middle.0) in
+    let three = goes_on (unless_broken (timed_fault b one.middle two.middle) b) (pairs_linked pairs) next two.second in
+    let passed = unbroken (timed_fault b one.middle two.middle) b three.middle three.first in
+    pairs_next config pairs b next keeps fits (ap (λ (c : BundleParts). pairs_linked pairs c) passed.1 ∙ three.second)
 
 pub retimed_few : (b next : BundleParts) (id : ItemId) (time : Time) → item_retimed id time b ≡ Ok next → item_count next.levels ≤ item_count b.levels + 0
 retimed_few b next id time is =
@@ -485,6 +519,7 @@ bundle_next config counts (edits.Split key id new_id start) b next keeps fits is
 bundle_next config counts (edits.Merge key id) b next keeps fits is = merge_next config counts b next keeps fits id is
 bundle_next config counts (edits.AddLink key from to) b next keeps fits is = same_count config counts b next (linked_next config b next keeps fits from to is)
 bundle_next config counts (edits.RemoveLink key from to) b next keeps fits is = same_count config counts b next (unlinked_next config b next keeps fits from to is)
+bundle_next config counts (edits.LinkTimes key upper lower) b next keeps fits is = same_count config counts b next (times_next config upper lower b next keeps fits is)
 bundle_next config counts (edits.PutItem key level position item) b next keeps fits is = item_next config counts b next keeps fits false level position item is
 bundle_next config counts (edits.PutLabel key id attribute label) b next keeps fits is = given_next config counts b next keeps fits false id attribute label is
 bundle_next config counts (edits.PutLink key from to place) b next keeps fits is = same_count config counts b next (placed_next config b next keeps fits place from to is)

@@ -1,16 +1,18 @@
 -- What an edit leaves of the ids and of the links of a bundle.
-use Rattle.std.proofs.Common.{◌≡◌, ℕ, suc, ◌-◌, ◌≤◌, Bool, true, false, cond, not, List, [], ◌∷◌, ◌++◌, length, insert, take, drop, Option, Some, None, Ok, nat_le, refl, sym, ◌∙◌, ap, subst, eq-eqb}
+use Rattle.std.proofs.Common.{◌≡◌, ℕ, suc, ◌-◌, ◌≤◌, Bool, true, false, cond, not, List, [], ◌∷◌, ◌++◌, length, insert, take, drop, Option, Some, None, Ok, nat_le, refl, sym, ◌∙◌, ap, subst, append_assoc, append-nil, eq-eqb}
 use Rattle.std.specs.List.{filter, slice_get}
 use Rattle.std.proofs.lemmas.Bool.{and_from, leb-true}
 use Rattle.emu_names.specs.declared.kinds.ItemId.{ItemId}
 use Rattle.emu_names.specs.declared.rules.Broken.TheVariants as rules
 use Rattle.level_items.specs.declared.annot.AnnotItem.{AnnotItem}
+use Rattle.level_items.specs.declared.annot.AnnotLink.{AnnotLink}
 use Rattle.level_items.specs.declared.items.Item.{Item}
 use Rattle.level_items.specs.declared.times.Time.{Time}
 use Rattle.level_items.specs.declared.times.Time.TheVariants.{Span, Point}
 use Rattle.std.specs.Option.{option_or}
 use Rattle.level_items.specs.Levels.{Level, ids_of, retimed, relabelled, new_place}
 use Rattle.level_items.proofs.Lists.{around}
+use Rattle.link_builder.specs.Timed.{timed_pairs}
 use Rattle.link_graph.specs.declared.link.Link.{Link}
 use Rattle.link_graph.specs.Link.{joins, link_of, add_fault}
 use Rattle.db_config.specs.declared.parts.ConfigParts.{ConfigParts}
@@ -19,7 +21,7 @@ use Rattle.bundle_state.specs.Built.{FitsConfig}
 use Rattle.bundle_state.specs.Linked.{unless_broken, kind_of, definition_for}
 use Rattle.emu_names.specs.Steps.{onward}
 use Rattle.bundle_state.specs.Made.{made_item}
-use Rattle.bundle_state.specs.Changed.{with_levels, with_links, change_level, with_item, without_item, with_changed, with_change, without, place_for, new_item_fault, new_time_fault, item_added, label_set, item_retimed, link_put, link_put_at, place_fault, missing_fault}
+use Rattle.bundle_state.specs.Changed.{with_levels, with_links, change_level, with_item, without_item, with_changed, with_change, without, place_for, new_item_fault, new_time_fault, item_added, label_set, item_retimed, link_added, link_put, link_put_at, place_fault, missing_fault}
 use Rattle.bundle_state.proofs.Tests.{or_none}
 use Rattle.bundle_state.proofs.LinksKept.{goes_on, ok_same, fine_value}
 use Rattle.bundle_state.proofs.BuiltKept.{unbroken}
@@ -28,7 +30,7 @@ use Rattle.bundle_state.proofs.ChangedKept.{IsPlace, place_parts, place_there, t
 use Rattle.bundle_edits.specs.declared.bundle_change.Counts.{Counts}
 use Rattle.bundle_edits.specs.declared.edit.Edit.TheVariants as edits
 use Rattle.bundle_edits.specs.declared.segments.Segment.{Segment}
-use Rattle.bundle_edits.specs.Changes.{level_found, NumberedLevel, room_fault, id_fault, label_fault, given_item_fault, put_on, item_put, NumberedAttribute, attribute_of, labelled, label_given, segment_of, next_of, cut_fault, last_of, moved, second_part, cut_at, split_in, joined}
+use Rattle.bundle_edits.specs.Changes.{level_found, NumberedLevel, room_fault, id_fault, label_fault, given_item_fault, put_on, item_put, NumberedAttribute, attribute_of, labelled, label_given, segment_of, next_of, cut_fault, last_of, moved, second_part, cut_at, split_in, joined, items_on, is_linked, timed_fault, pair_linked, pairs_linked, levels_linked, times_linked}
 use Rattle.bundle_edits.specs.Laws.{HasOneMore, EditsKeepIds, EditsKeepLinks}
 use Rattle.bundle_edits.proofs.Cuts.{IsSegmentOf, ArePair, segment_found, pair_found}
 use Rattle.bundle_edits.proofs.Next.{IsLevelFor, level_fitting, level_there}
@@ -74,6 +76,41 @@ given_links_same tested config id attribute label b next is =
     let two = goes_on (attribute_of attribute (slice_get config.levels one.middle.0)) (labelled tested id label b) next one.second in
     label_links_same tested id label b next two.middle two.second
 
+-- links of pairs of items, which stand behind those that are there
+AreMore : List Link → List Link → Type 0
+AreMore old new = (more : List Link) × (new ≡ old ++ more)
+
+pair_more : (pair : AnnotLink) (b next : BundleParts) → pair_linked pair b ≡ Ok next → AreMore b.links next.links × (next.levels ≡ b.levels)
+pair_more pair b next is = by (is_linked b.links pair) is
+  where
+    by : (t : Bool) → cond t (fine_value b) (link_added pair.from pair.to b) ≡ Ok next → AreMore b.links next.links × (next.levels ≡ b.levels)
+    by true same =
+        let own : b ≡ next = ok_same b next same in
+        (([], ap (λ (c : BundleParts). c.links) (sym own) ∙ sym (append-nil b.links)), ap (λ (c : BundleParts). c.levels) (sym own))
+    by false added =
+        let on = goes_on (definition_for b.definitions (record { from = pair.from; to = pair.to }) (level_of_id b.levels pair.from.0) (level_of_id b.levels pair.to.0)) (link_put pair.from pair.to b) next added in
+        let own = (unbroken _ (with_links b (b.links ++ link_of on.middle pair.from pair.to ∷ [])) next on.second).1 in
+        ((link_of on.middle pair.from pair.to ∷ [], ap (λ (c : BundleParts). c.links) (sym own)), ap (λ (c : BundleParts). c.levels) (sym own))
+
+pairs_more : (pairs : List AnnotLink) (b next : BundleParts) → pairs_linked pairs b ≡ Ok next → AreMore b.links next.links × (next.levels ≡ b.levels)
+pairs_more [] b next is =
+    let own : b ≡ next = ok_same b next is in
+    (([], ap (λ (c : BundleParts). c.links) (sym own) ∙ sym (append-nil b.links)), ap (λ (c : BundleParts). c.levels) (sym own))
+pairs_more (pair ∷ pairs) b next is =
+    let on = goes_on (pair_linked pair b) (pairs_linked pairs) next is in
+    let one = pair_more pair b on.middle on.first in
+    let rest = pairs_more pairs on.middle next on.second in
+    ((one.0.0 ++ rest.0.0, rest.0.1 ∙ ap (λ ls. ls ++ rest.0.0) one.0.1 ∙ append_assoc b.links one.0.0 rest.0.0), rest.1 ∙ one.1)
+
+times_more : (config : ConfigParts) (upper lower : List ℕ) (b next : BundleParts) → times_linked config upper lower b ≡ Ok next → AreMore b.links next.links × (next.levels ≡ b.levels)
+times_more config upper lower b next is =
+    let one = goes_on (level_found upper config.levels) (λ k. onward (level_found lower config.levels) (levels_linked b k)) next is in
+    let two = goes_on (level_found lower config.levels) (levels_linked b one.middle) next one.second in
+    let pairs = timed_pairs (items_on b.levels one.middle.0) (items_on b.levels two.middle.0) in
+    let three = goes_on (unless_broken (timed_fault b one.middle two.middle) b) (pairs_linked pairs) next two.second in
+    let passed = unbroken (timed_fault b one.middle two.middle) b three.middle three.first in
+    pairs_more pairs b next (ap (λ (c : BundleParts). pairs_linked pairs c) passed.1 ∙ three.second)
+
 own_pair : (number : ℕ) (a c : ItemId) → joins a c (link_of number a c) ≡ true
 own_pair number a c = and_from _ _ (eq-eqb a.0 a.0 refl) (eq-eqb c.0 c.0 refl)
 
@@ -117,6 +154,7 @@ edits_keep_links config counts (edits.AddLink key from to) b next is =
     )
 edits_keep_links config counts (edits.RemoveLink key from to) b next is =
     ap (λ (c : BundleParts). c.links) (sym (unbroken (missing_fault from to b.links) (with_links b (filter (λ link. not (joins from to link)) b.links)) next is).1)
+edits_keep_links config counts (edits.LinkTimes key upper lower) b next is = (times_more config upper lower b next is).0
 edits_keep_links config counts (edits.PutItem key level position item) b next is = item_links_same false config counts level position item b next is
 edits_keep_links config counts (edits.PutLabel key id attribute label) b next is = given_links_same false config id attribute label b next is
 edits_keep_links config counts (edits.PutLink key from to place) b next is =
@@ -263,6 +301,7 @@ edits_keep_ids config counts (edits.AddLink key from to) b next keeps fits is =
     ap (λ (c : BundleParts). all_ids c.levels) (sym (unbroken _ (with_links b (b.links ++ link_of on.middle from to ∷ [])) next on.second).1)
 edits_keep_ids config counts (edits.RemoveLink key from to) b next keeps fits is =
     ap (λ (c : BundleParts). all_ids c.levels) (sym (unbroken (missing_fault from to b.links) (with_links b (filter (λ link. not (joins from to link)) b.links)) next is).1)
+edits_keep_ids config counts (edits.LinkTimes key upper lower) b next keeps fits is = ap all_ids (times_more config upper lower b next is).1
 edits_keep_ids config counts (edits.PutItem key level position item) b next keeps fits is = item_ids false config counts level position item b next fits is
 edits_keep_ids config counts (edits.PutLabel key id attribute label) b next keeps fits is = given_ids_same false config id attribute label b next is
 edits_keep_ids config counts (edits.PutLink key from to place) b next keeps fits is =

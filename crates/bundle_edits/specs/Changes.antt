@@ -1,9 +1,11 @@
 -- What an edit makes of the bundle that it names, or the rule that it breaks first (EMU-SDMS Manual, "The
 -- emuDB format": `_annot.json` and `legalLabels`).
-use Rattle.std.specs.Prelude.{ℕ, suc, ◌+◌, ◌-◌, Bool, true, false, not, ◌&&◌, ◌||◌, List, [], ◌∷◌, ◌++◌, length, insert, Option, Some, None, option_map, option_and_then, Result, Ok, Err, nat_eq, nat_le, nat_lt, if◌then◌else◌, ok_or, replicate, ◌==◌}
-use Rattle.std.specs.List.{list_any, find, slice_get}
+use Rattle.std.specs.Prelude.{ℕ, suc, ◌+◌, ◌-◌, Bool, true, false, not, ◌&&◌, ◌||◌, List, [], ◌∷◌, ◌++◌, length, insert, Option, Some, None, option_map, option_and_then, Result, Ok, Err, nat_eq, nat_le, nat_lt, if◌then◌else◌, ok_or, is_some, replicate, ◌==◌}
+use Rattle.std.specs.List.{list_any, list_all, find, position, slice_get}
 use Rattle.emu_names.specs.declared.limits.TheConstants.{ALL_ITEMS, BUNDLES, BUNDLE_ITEMS, LABEL_BYTES}
 use Rattle.emu_names.specs.declared.kinds.ItemId.{ItemId}
+use Rattle.emu_names.specs.declared.kinds.LevelKind.{LevelKind}
+use Rattle.emu_names.specs.declared.kinds.LevelKind.TheVariants as levels
 use Rattle.emu_names.specs.declared.names.BundleKey.{BundleKey}
 use Rattle.emu_names.specs.declared.rules.Broken.{Broken}
 use Rattle.emu_names.specs.declared.rules.Broken.TheVariants as rules
@@ -11,16 +13,21 @@ use Rattle.emu_names.specs.declared.rules.What.TheVariants as counted
 use Rattle.level_items.specs.declared.annot.Annot.{Annot}
 use Rattle.level_items.specs.declared.annot.AnnotItem.{AnnotItem}
 use Rattle.level_items.specs.declared.annot.AnnotLabel.{AnnotLabel}
+use Rattle.level_items.specs.declared.annot.AnnotLink.{AnnotLink}
 use Rattle.level_items.specs.declared.items.Item.{Item}
 use Rattle.level_items.specs.declared.times.Time.{Time}
 use Rattle.level_items.specs.declared.times.Time.TheVariants.{NoTime, Span, Point}
 use Rattle.level_items.specs.Faults.{time_fault}
-use Rattle.std.specs.Option.{option_or}
+use Rattle.std.specs.Option.{option_or, option_map_or}
 use Rattle.level_items.specs.Levels.{Level, with_items, change_at, retimed}
 use Rattle.db_config.specs.declared.attributes.AttributeDef.{AttributeDef}
 use Rattle.db_config.specs.declared.parts.ConfigParts.{ConfigParts}
 use Rattle.db_config.specs.declared.parts.LevelDef.{LevelDef}
-use Rattle.db_config.specs.Lookups.{is_legal_for, level_named, attribute_named}
+use Rattle.db_config.specs.declared.parts.LinkDef.{LinkDef}
+use Rattle.db_config.specs.Lookups.{is_legal_for, level_named, attribute_named, leads}
+use Rattle.link_builder.specs.Timed.{timed_pairs}
+use Rattle.link_graph.specs.declared.link.Link.{Link}
+use Rattle.link_graph.specs.Link.{joins}
 use Rattle.emu_names.specs.Texts.{same_text}
 use Rattle.bundle_state.specs.Bundle.{BundleParts, all_ids, item_count}
 use Rattle.bundle_state.specs.Built.{built}
@@ -234,6 +241,59 @@ abbrev pub segments_merged : ItemId → BundleParts → Result BundleParts Broke
 segments_merged id b =
     onward (segment_of id b.levels) (λ s. onward (next_of b.levels s) (λ next. Ok (joined b s next)))
 
+-- Links that times give.
+
+-- the items of a level of the bundle
+abbrev pub items_on : List Level → ℕ → List Item
+items_on levels number = option_map_or (λ (l : Level). l.items) (slice_get levels number) []
+
+-- the upper level has to be a SEGMENT level, and the items of the lower one have to have times
+abbrev pub timed_kinds_fault : LevelKind → LevelKind → Option Broken
+timed_kinds_fault levels.Item lower = Some rules.TimeKind
+timed_kinds_fault levels.Event lower = Some rules.TimeKind
+timed_kinds_fault levels.Segment levels.Item = Some rules.TimeKind
+timed_kinds_fault levels.Segment levels.Segment = None
+timed_kinds_fault levels.Segment levels.Event = None
+
+-- a definition has to lead from the one level to the other
+abbrev pub definition_fault : List LinkDef → ℕ → ℕ → Option Broken
+definition_fault defs upper lower = if is_some (position (leads upper lower) defs) then None else Some rules.NoLinkDefinition
+
+-- whether a pair of items is a link already
+abbrev pub is_linked : List Link → AnnotLink → Bool
+is_linked links pair = list_any (joins pair.from pair.to) links
+
+-- of these pairs of items one has to be no link yet
+abbrev pub linked_fault : List AnnotLink → List Link → Option Broken
+linked_fault pairs links = if list_all (is_linked links) pairs then Some rules.NothingToLink else None
+
+-- the rule that links from the times of two levels break before the first of them is put
+abbrev pub timed_fault : BundleParts → NumberedLevel → NumberedLevel → Option Broken
+timed_fault b (upper, one) (lower, other) =
+    option_or (timed_kinds_fault one.kind other.kind) (option_or (definition_fault b.definitions upper lower)
+    (linked_fault (timed_pairs (items_on b.levels upper) (items_on b.levels lower)) b.links))
+
+-- a pair of items that is no link yet is linked
+abbrev pub pair_linked : AnnotLink → BundleParts → Result BundleParts Broken
+pair_linked pair b = if is_linked b.links pair then Ok b else link_added pair.from pair.to b
+
+-- these pairs of items, one after another
+abbrev pub pairs_linked : List AnnotLink → BundleParts → Result BundleParts Broken
+pairs_linked [] b = Ok b
+pairs_linked (pair ∷ pairs) b = onward (pair_linked pair b) (pairs_linked pairs)
+
+-- each item of the lower level with the segment of the upper one that holds it
+abbrev pub levels_linked : BundleParts → NumberedLevel → NumberedLevel → Result BundleParts Broken
+levels_linked b upper lower =
+    onward (unless_broken (timed_fault b upper lower) b)
+    (pairs_linked (timed_pairs (items_on b.levels upper.0) (items_on b.levels lower.0)))
+
+-- the same of the levels of two names
+abbrev pub times_linked : ConfigParts → List ℕ → List ℕ → BundleParts → Result BundleParts Broken
+times_linked config upper lower b =
+    onward (level_found upper config.levels) (λ one.
+    onward (level_found lower config.levels) (levels_linked b one))
+
 -- All edits.
 
 -- what an edit makes of a bundle that is there
@@ -250,6 +310,7 @@ bundle_changed config counts (edits.Split key id new_id start) b = segment_split
 bundle_changed config counts (edits.Merge key id) b = segments_merged id b
 bundle_changed config counts (edits.AddLink key from to) b = link_added from to b
 bundle_changed config counts (edits.RemoveLink key from to) b = link_removed from to b
+bundle_changed config counts (edits.LinkTimes key upper lower) b = times_linked config upper lower b
 bundle_changed config counts (edits.PutItem key level position item) b = item_put false config counts level position item b
 bundle_changed config counts (edits.PutLabel key id attribute label) b = label_given false config id attribute label b
 bundle_changed config counts (edits.PutLink key from to place) b = link_inserted place from to b

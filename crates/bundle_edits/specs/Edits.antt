@@ -17,6 +17,7 @@ key_of (edits.Split key id new_id start) = key
 key_of (edits.Merge key id) = key
 key_of (edits.AddLink key from to) = key
 key_of (edits.RemoveLink key from to) = key
+key_of (edits.LinkTimes key upper lower) = key
 key_of (edits.PutItem key level position item) = key
 key_of (edits.PutLabel key id attribute label) = key
 key_of (edits.PutLink key from to place) = key

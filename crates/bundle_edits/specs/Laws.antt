@@ -30,13 +30,14 @@ NewIds (edits.Merge key id) old new = (other : ItemId) × HasOneMore other.0 new
 NewIds edit old new = new ≡ old
 
 -- the links of a bundle behind an edit: those that the edit does not take out stay in their order, and a
--- new one stands last, or at the place that is given
+-- new one stands last, or at the place that is given; those that times give stand last
 abbrev pub NewLinks : Edit → List Link → List Link → Type 0
 NewLinks (edits.RemoveItem key id) old new = new ≡ filter (λ link. not (names_item id link)) old
 NewLinks (edits.Merge key id) old new =
     (other : ItemId) × (new ≡ filter (λ link. not (names_item other link)) old)
 NewLinks (edits.AddLink key from to) old new =
     (link : Link) × IsTrue (joins from to link) × (new ≡ old ++ link ∷ [])
+NewLinks (edits.LinkTimes key upper lower) old new = (more : List Link) × (new ≡ old ++ more)
 NewLinks (edits.PutLink key from to place) old new =
     (link : Link) × IsTrue (joins from to link) × (place ≤ length old) × (new ≡ insert old place link)
 NewLinks (edits.RemoveLink key from to) old new = new ≡ filter (λ link. not (joins from to link)) old

@@ -9,6 +9,7 @@ ghost use Rattle.bundle_edits.specs.Inner.Given.{kept};
 use crate::edit::Edit;
 use crate::item_changes::{give_label, link, link_at, put_item, take_item, unlink, with_time};
 use crate::segments::{merge, move_boundary, split};
+use crate::timed_links::link_times;
 use bundle_state::Bundle;
 use db_config::Config;
 use emu_names::limits::{ALL_ITEMS, BUNDLES};
@@ -113,6 +114,7 @@ pub fn change_own(
         Edit::Merge { id, .. } => merge(bundle, *id),
         Edit::AddLink { from, to, .. } => link(config, bundle, *from, *to),
         Edit::RemoveLink { from, to, .. } => unlink(bundle, *from, *to),
+        Edit::LinkTimes { upper, lower, .. } => link_times(alloc, config, bundle, upper, lower),
         Edit::PutItem {
             level,
             position,

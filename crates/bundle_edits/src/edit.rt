@@ -140,6 +140,20 @@ pub enum Edit {
         /// The id of the lower item.
         to: ItemId,
     },
+    /// Links each item of a level to the segment of another level that holds it, where it is not linked to it
+    /// yet. Refused are a level that is not there (`NoLevel`, of the upper one first), an upper level that is no
+    /// SEGMENT level or a lower one that is an ITEM level (`TimeKind`), levels between which no definition leads
+    /// (`NoLinkDefinition`), and levels between which all such links are there (`NothingToLink`); then for each
+    /// link over 262,144 links (`TooMany`), a second parent (`OneParent`) and a second child (`OneChild`) against
+    /// the definition's kind.
+    LinkTimes {
+        /// The bundle's session and name.
+        key: BundleKey,
+        /// The name of the level of the segments.
+        upper: Text,
+        /// The name of the level of the items that they hold.
+        lower: Text,
+    },
     /// Puts an item on a level whose labels need not be legal: `AddItem` without the refusal `IllegalLabel`.
     PutItem {
         /// The bundle's session and name.
@@ -194,6 +208,7 @@ impl Edit {
             | Edit::Merge { key, .. }
             | Edit::AddLink { key, .. }
             | Edit::RemoveLink { key, .. }
+            | Edit::LinkTimes { key, .. }
             | Edit::PutItem { key, .. }
             | Edit::PutLabel { key, .. }
             | Edit::PutLink { key, .. } => key,
@@ -280,6 +295,11 @@ impl Edit {
                 from: *from,
                 to: *to,
             }),
+            Edit::LinkTimes { upper, lower, .. } => {
+                let upper = upper.copy(alloc)?;
+                let lower = lower.copy(alloc)?;
+                Ok(Edit::LinkTimes { key, upper, lower })
+            }
             Edit::PutItem {
                 level,
                 position,

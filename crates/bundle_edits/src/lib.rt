@@ -7,6 +7,7 @@ mod item_changes;
 mod labels;
 mod laws;
 mod segments;
+mod timed_links;
 
 pub use bundle_change::{Counts, change, change_own};
 pub use edit::Edit;

@@ -176,6 +176,7 @@ bundle_alike config one two (edits.Split key id new_id start) b x y first second
 bundle_alike config one two (edits.Merge key id) b x y first second = ok_same x y (sym first ∙ second)
 bundle_alike config one two (edits.AddLink key from to) b x y first second = ok_same x y (sym first ∙ second)
 bundle_alike config one two (edits.RemoveLink key from to) b x y first second = ok_same x y (sym first ∙ second)
+bundle_alike config one two (edits.LinkTimes key upper lower) b x y first second = ok_same x y (sym first ∙ second)
 bundle_alike config one two (edits.PutItem key level position item) b x y first second = item_alike false config one two level position item b x y first second
 bundle_alike config one two (edits.PutLabel key id attribute label) b x y first second = ok_same x y (sym first ∙ second)
 bundle_alike config one two (edits.PutLink key from to place) b x y first second = ok_same x y (sym first ∙ second)
@@ -203,6 +204,7 @@ changed_alike config one two None (edits.Split key id new_id start) x y first se
 changed_alike config one two None (edits.Merge key id) x y first second = absurd cc
 changed_alike config one two None (edits.AddLink key from to) x y first second = absurd cc
 changed_alike config one two None (edits.RemoveLink key from to) x y first second = absurd cc
+changed_alike config one two None (edits.LinkTimes key upper lower) x y first second = absurd cc
 changed_alike config one two None (edits.PutItem key level position item) x y first second = absurd cc
 changed_alike config one two None (edits.PutLabel key id attribute label) x y first second = absurd cc
 changed_alike config one two None (edits.PutLink key from to place) x y first second = absurd cc

@@ -255,6 +255,7 @@ missing_stored config counts (edits.Split key id new_id start) new valid is = ab
 missing_stored config counts (edits.Merge key id) new valid is = absurd cc
 missing_stored config counts (edits.AddLink key from to) new valid is = absurd cc
 missing_stored config counts (edits.RemoveLink key from to) new valid is = absurd cc
+missing_stored config counts (edits.LinkTimes key upper lower) new valid is = absurd cc
 missing_stored config counts (edits.PutItem key level position item) new valid is = absurd cc
 missing_stored config counts (edits.PutLabel key id attribute label) new valid is = absurd cc
 missing_stored config counts (edits.PutLink key from to place) new valid is = absurd cc

@@ -13,7 +13,7 @@ use Rattle.edit_rules.specs.declared.acts.ConfigEdit.{ConfigEdit}
 use Rattle.edit_rules.specs.declared.acts.ConfigEdit.TheVariants as additions
 use Rattle.edit_rules.specs.Database.{same_key}
 
--- an edit that may stand beside others: it neither adds nor drops its bundle
+-- an edit that may stand beside others: it neither adds nor drops its bundle, nor links by times
 abbrev pub is_inner : Edit → Bool
 is_inner (edits.AddBundle key annot) = false
 is_inner (edits.DropBundle key) = false
@@ -27,6 +27,7 @@ is_inner (edits.Split key id new_id start) = true
 is_inner (edits.Merge key id) = true
 is_inner (edits.AddLink key from to) = true
 is_inner (edits.RemoveLink key from to) = true
+is_inner (edits.LinkTimes key upper lower) = false
 is_inner (edits.PutItem key level position item) = true
 is_inner (edits.PutLabel key id attribute label) = true
 is_inner (edits.PutLink key from to place) = true

@@ -1,6 +1,6 @@
 -- Labels with empty ones behind.
-use Rattle.std.proofs.Common.{◌≡◌, ℕ, ◌+◌, ◌-◌, ◌≤◌, List, [], ◌∷◌, ◌++◌, length, take, replicate, Result, Ok, Err, IfOk, refl, sym, ap, ◌∙◌, arith}
-use Rattle.std.proofs.lemmas.List.{append-nil, append_assoc, take_all, replicate-append-replicate}
+use Rattle.std.proofs.Common.{◌≡◌, ℕ, ◌+◌, ◌-◌, ◌≤◌, List, [], ◌∷◌, ◌++◌, length, replicate, Result, Ok, Err, IfOk, refl, sym, ap, ◌∙◌, arith}
+use Rattle.std.proofs.lemmas.List.{append-nil, append_assoc, replicate-append-replicate}
 use Rattle.level_items.specs.Levels.{padded}
 
 none_wanted : (count : ℕ) (labels : List (List ℕ)) → count ≤ length labels → padded count labels ≡ labels
@@ -14,9 +14,10 @@ copied_padded (Ok made) labels count within is = is ∙ sym (none_wanted count l
 copied_padded (Err fault) labels count within is = tt
 
 -- the labels, and then empty ones
-pub pushed_padded : (labels made next : List (List ℕ)) (at count : ℕ) → length labels ≤ at → made ≡ take at labels → next ≡ made ++ replicate (count - length labels) [] → next ≡ padded count labels
-pushed_padded labels made next at count past is put =
-    put ∙ ap (λ ls. ls ++ replicate (count - length labels) []) (is ∙ take_all at labels past)
+pub pushed_padded : (labels slice made next : List (List ℕ)) (count len more : ℕ) → slice ≡ labels → made ≡ slice → len ≡ length labels → more ≡ count - len →
+    next ≡ made ++ replicate more [] → next ≡ padded count labels
+pushed_padded labels slice made next count len more same is size left put =
+    put ∙ ap (λ ls. ls ++ replicate more []) (is ∙ same) ∙ ap (λ n. labels ++ replicate n []) (left ∙ ap (λ n. count - n) size)
 
 -- no empty label yet
 pub empty_none : (labels : List (List ℕ)) → labels ≡ labels ++ replicate 0 []

@@ -126,10 +126,7 @@ impl Labels {
         if count <= self.len() {
             return self.copy(alloc);
         }
-        let mut made = Labels::with_capacity(alloc, count)?;
-        for label in self.as_slice() {
-            made.push(label.copy(alloc)?)?;
-        }
+        let mut made = copied(alloc, self.as_slice(), count)?;
         push_empty(alloc, &mut made, count - self.len())?;
         Ok(made)
     }
@@ -160,6 +157,17 @@ impl Held {
             Held::Many(labels) => Ok(Held::Many(labels.copy(alloc)?)),
         }
     }
+}
+
+/// Copies of these labels, with room for so many. The only refusal is want of memory.
+fn copied(alloc: Global, labels: &[Text], count: usize) -> Result<Labels, Memory>
+    ensures { IfOk result (λ made. made ≡ labels.now) }
+{
+    let mut made = Labels::with_capacity(alloc, count)?;
+    for label in labels {
+        made.push(label.copy(alloc)?)?;
+    }
+    Ok(made)
 }
 
 /// Puts so many empty labels last. The only refusal is want of memory, after which some of them may stand
