@@ -58,23 +58,24 @@ fn link_pairs(config: &Config, mut next: Bundle, pairs: &[AnnotLink]) -> Result<
     Ok(next)
 }
 
-/// The bundle with the links that the times of two levels of these numbers and definitions give.
+/// The bundle with the links that the times of two levels give, which have these numbers and definitions.
 fn link_levels(
     alloc: Global,
     config: &Config,
     bundle: Bundle,
-    upper: (usize, &LevelDef),
-    lower: (usize, &LevelDef),
+    upper: usize,
+    one: &LevelDef,
+    lower: usize,
+    other: &LevelDef,
 ) -> Result<Bundle, Fault>
     requires fits { FitsConfig config.now bundle }
-    requires upper { slice_get config.now.levels upper.entry.0 ≡ Some upper.entry.1.now }
-    requires lower { slice_get config.now.levels lower.entry.0 ≡ Some lower.entry.1.now }
-    ensures { GivesOrBroken result (levels_linked bundle
-        (upper.entry.0, upper.entry.1.now) (lower.entry.0, lower.entry.1.now)) }
+    requires upper { slice_get config.now.levels upper ≡ Some one.now }
+    requires lower { slice_get config.now.levels lower ≡ Some other.now }
+    ensures { GivesOrBroken result (levels_linked bundle (upper, one.now) (lower, other.now)) }
 {
-    kinds_pass(upper.1.kind, lower.1.kind)?;
-    definition_passes(config, upper.0, lower.0)?;
-    let pairs = timed_pairs(alloc, bundle.level(upper.0), bundle.level(lower.0))?;
+    kinds_pass(one.kind, other.kind)?;
+    definition_passes(config, upper, lower)?;
+    let pairs = timed_pairs(alloc, bundle.level(upper), bundle.level(lower))?;
     pairs_pass(bundle.links(), pairs.as_slice())?;
     link_pairs(config, bundle, pairs.as_slice())
 }
@@ -97,11 +98,5 @@ pub(crate) fn link_times(
         return Err(Fault::Broken(Broken::NoLevel(lower.copy(alloc)?)));
     };
     let defs = &config.parts().levels;
-    link_levels(
-        alloc,
-        config,
-        bundle,
-        (one, defs.get(one)),
-        (other, defs.get(other)),
-    )
+    link_levels(alloc, config, bundle, one, defs.get(one), other, defs.get(other))
 }
