@@ -1,5 +1,5 @@
 -- A link that is put at a place of a list.
-use Rattle.std.proofs.Common.{◌≡◌, ◌≢◌, ℕ, zero, suc, ◌+◌, ◌-◌, ◌<◌, ◌≤◌, Bool, true, false, not, ◌&&◌, ◌||◌, cond, List, [], ◌∷◌, ◌++◌, length, take, drop, get_or, insert, refl, sym, ap, ◌∙◌, subst, append_assoc, append-nil, length-append, arith, eqb, None}
+use Rattle.std.proofs.Common.{◌≡◌, ◌≢◌, ℕ, zero, suc, ◌+◌, ◌-◌, ◌<◌, ◌≤◌, min, Bool, true, false, not, ◌&&◌, ◌||◌, cond, List, [], ◌∷◌, ◌++◌, length, take, drop, get_or, insert, refl, sym, ap, ◌∙◌, subst, append_assoc, append-nil, length-append, arith, eqb, None}
 use Rattle.std.specs.List.{filter, list_any, slice_set, IsDistinct}
 use Rattle.std.proofs.lemmas.Bool.{cond-true, cond-false, eq-eqb, eqb-true, ne_eqb}
 use Rattle.std.proofs.lemmas.Bool.Decides.{nat_tests}
@@ -165,6 +165,37 @@ undone_insert link place links apart =
     filter_insert (λ l. not (joins link.from link.to l)) links place link
     ∙ cond-false (not (joins link.from link.to link)) _ (filter (λ l. not (joins link.from link.to l)) links) (ap not itself)
     ∙ filter_all (joins link.from link.to) links apart
+
+-- the links of an item where one that was put in is taken out again
+pub untaken_at : (p : Link → Bool) (link : Link) (place : ℕ) (links now after : List Link) → list_any (joins link.from link.to) links ≡ false →
+    now ≡ filter p (insert links place link) → after ≡ cond (p link) (filter (λ l. not (joins link.from link.to l)) now) now → after ≡ filter p links
+untaken_at p link place links now after apart is gone = by (p link) refl
+  where
+    gone_from : List Link → List Link
+    gone_from ls = filter (λ l. not (joins link.from link.to l)) ls
+
+    by : (b : Bool) → p link ≡ b → after ≡ filter p links
+    by true own =
+        gone ∙ cond-true (p link) (gone_from now) now own ∙ ap gone_from is
+        ∙ filter_swap (λ l. not (joins link.from link.to l)) p (insert links place link) ∙ ap (filter p) (undone_insert link place links apart)
+    by false other =
+        gone ∙ cond-false (p link) (gone_from now) now other ∙ is
+        ∙ filter_insert p links place link ∙ cond-false (p link) _ (filter p links) other
+
+-- a list of at most one link, and a place past the end
+pub insert_none : (place : ℕ) (link : Link) → link ∷ [] ≡ insert [] place link
+insert_none zero link = refl
+insert_none (suc place) link = refl
+
+pub insert_behind : (place : ℕ) (link other : Link) → place ≢ 0 → link ∷ other ∷ [] ≡ insert (link ∷ []) place other
+insert_behind zero link other some = absurd (some refl)
+insert_behind (suc place) link other some = ap (λ ls. link ∷ ls) (insert_none place other)
+
+pub insert_least : (links : List Link) (place at : ℕ) (link : Link) → at ≡ min place (length links) → insert links at link ≡ insert links place link
+insert_least [] place at link is = sym (insert_none at link) ∙ insert_none place link
+insert_least (x ∷ links) zero at link is = ap (λ n. insert (x ∷ links) n link) is
+insert_least (x ∷ links) (suc place) zero link is = absurd cc
+insert_least (x ∷ links) (suc place) (suc at) link is = ap (λ ls. x ∷ ls) (insert_least links place at link (omega (arith, is)))
 
 -- the links of an item with one put in
 pub inserted_at : (p : Link → Bool) (links old new : List Link) (place rank : ℕ) (link : Link) → old ≡ filter p links → rank ≡ length (filter p (take place links)) →

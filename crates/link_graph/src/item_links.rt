@@ -49,6 +49,7 @@ impl ItemLinks {
 
     /// Puts a link at a place, before the link that stands there; last, where there are not so many. The only
     /// refusal is want of memory, which changes nothing.
+    #[tactic(auto, using(crate::proofs::Inserted::insert_none))]
     pub(crate) fn insert(&mut self, alloc: Global, place: usize, link: Link) -> Result<(), Memory>
         ensures ok { OnOk result (links_of self.new ≡ insert (links_of self.old) place link) }
         ensures err { OnErr result (links_of self.new ≡ links_of self.old) }
@@ -118,6 +119,7 @@ fn both(alloc: Global, first: Link, second: Link) -> Result<Box<Vec<Link>>, Memo
 }
 
 /// A list of a link and another one, which stands at a place. The only refusal is want of memory.
+#[tactic(auto, using(crate::proofs::Inserted::insert_behind))]
 fn in_order(alloc: Global, link: Link, place: usize, other: Link) -> Result<Box<Vec<Link>>, Memory>
     ensures { IfOk result (λ made. made.value.items ≡ insert (link ∷ []) place other) }
 {
@@ -129,6 +131,7 @@ fn in_order(alloc: Global, link: Link, place: usize, other: Link) -> Result<Box<
 
 /// Puts a link at a place, or last where there are not so many links. The only refusal is want of memory,
 /// which changes nothing.
+#[tactic(auto, using(crate::proofs::Inserted::insert_least))]
 fn insert_near(links: &mut Vec<Link>, place: usize, link: Link) -> Result<(), Memory>
     ensures ok { OnOk result (links.new.items ≡ insert links.old.items place link) }
     ensures err { OnErr result (links.new.items ≡ links.old.items) }
