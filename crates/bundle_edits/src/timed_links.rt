@@ -1,5 +1,5 @@
 //! Links that times give.
-ghost use Rattle.std.specs.Prelude.{◌≡◌, ◌<◌, length, Some};
+ghost use Rattle.std.specs.Prelude.{◌≡◌, Some};
 ghost use Rattle.std.specs.List.{slice_get};
 ghost use Rattle.emu_names.specs.Inner.Gives.{GivesOrBroken, FindsFault};
 ghost use Rattle.bundle_state.specs.Built.{FitsConfig};
@@ -17,9 +17,12 @@ use std::alloc::Global;
 fn kinds_pass(upper: LevelKind, lower: LevelKind) -> Result<(), Fault>
     ensures { FindsFault result (timed_kinds_fault upper lower) }
 {
-    match (upper, lower) {
-        (LevelKind::Segment, LevelKind::Segment | LevelKind::Event) => Ok(()),
-        _ => Err(Fault::Broken(Broken::TimeKind)),
+    match upper {
+        LevelKind::Segment => match lower {
+            LevelKind::Item => Err(Fault::Broken(Broken::TimeKind)),
+            LevelKind::Segment | LevelKind::Event => Ok(()),
+        },
+        LevelKind::Item | LevelKind::Event => Err(Fault::Broken(Broken::TimeKind)),
     }
 }
 
