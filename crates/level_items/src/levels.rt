@@ -232,7 +232,6 @@ impl LevelList {
 
     /// The same items on a level of so many attributes, at least as many as there are, with an empty label
     /// for each new one. The only refusal is want of memory.
-    #[tactic(auto, using(crate::proofs::Wider::kept_copy))]
     pub fn widened(&self, alloc: Global, attributes: usize) -> Result<LevelList, Memory>
         requires { self.now.attributes ≤ attributes }
         ensures { IfOk result (λ made. made ≡ widened attributes self.now) }

@@ -56,7 +56,6 @@ pub(crate) fn position_near(
 }
 
 /// The position of an item, where it is one of these places.
-#[tactic(auto, using(crate::proofs::Found::found_at))]
 fn position_within(items: &[Item], first: usize, last: usize, id: ItemId) -> Option<usize>
     requires { IsTrue (are_different (ids_of items.now)) }
     ensures { IfSome result (λ at. Some at ≡ position (λ i. nat_eq i.id.0 id.0) items.now) }
