@@ -15,6 +15,7 @@ ghost use Rattle.eql_match.specs.Inner.Shown.{is_bare};
 
 use crate::evaluate::evaluate;
 use crate::found::Found;
+use crate::ready::Ready;
 use bundle_index::Indexed;
 use db_config::Config;
 use eql_model::{MatchFault, Spans, Tuple, Tuples};
@@ -107,11 +108,31 @@ fn spans_of_found(
     }
 }
 
-/// The results of a query in a bundle, in order of first and last position, each once.
+/// The results of a query in a bundle, in order of first and last position, each once. What the query has ready
+/// serves in bundle after bundle.
 ///
 /// The query was resolved by the configuration, whose levels and link definitions the bundle has.
 /// `TooManyTuples` comes exactly where some part of the query has over 1,000,000 tuples in the bundle.
 /// The only other refusal is want of memory.
+pub fn match_ready(
+    alloc: Global,
+    config: &Config,
+    indexed: &Indexed,
+    ready: &mut Ready,
+    asked: &Asked,
+) -> Result<Spans, MatchFault>
+    requires resolved { IsResolvedBy config.now asked.now }
+    requires fits { FitsConfig config.now indexed.now.bundle }
+    ensures { Matches result config.now indexed.now.bundle asked.now.query }
+{
+    let query = asked.query();
+    match evaluate(alloc, config, indexed, ready, query) {
+        Ok(found) => spans_of_found(alloc, config, indexed, query, found),
+        Err(fault) => Err(fault),
+    }
+}
+
+/// The results of a query in a bundle, for which nothing is ready: what `match_ready` gives.
 pub fn match_bundle(
     alloc: Global,
     config: &Config,
@@ -122,9 +143,8 @@ pub fn match_bundle(
     requires fits { FitsConfig config.now indexed.now.bundle }
     ensures { Matches result config.now indexed.now.bundle asked.now.query }
 {
-    let query = asked.query();
-    match evaluate(alloc, config, indexed, query) {
-        Ok(found) => spans_of_found(alloc, config, indexed, query, found),
-        Err(fault) => Err(fault),
+    match Ready::new(alloc, asked) {
+        Ok(mut ready) => match_ready(alloc, config, indexed, &mut ready, asked),
+        Err(_) => Err(MatchFault::Memory),
     }
 }

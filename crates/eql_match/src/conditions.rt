@@ -21,6 +21,7 @@ use crate::found::{Found, found_where};
 use crate::labels::set_label_bits;
 use crate::patterns::set_pattern_bits;
 use crate::positions::{set_number_bits, set_position_bits};
+use crate::ready::Ready;
 use crate::rows::{all_set, none_set, turn_unless};
 use bundle_index::Indexed;
 use db_config::{AttributePlace, Config};
@@ -59,6 +60,7 @@ fn set_patterns_pass(
     alloc: Global,
     config: &Config,
     indexed: &Indexed,
+    ready: &mut Ready,
     place: AttributePlace,
     found: bool,
     patterns: &[Pattern],
@@ -71,7 +73,7 @@ fn set_patterns_pass(
         (label_of place.attribute item))) (items_at indexed.now.bundle.levels place.level)) }
 {
     let _levels = config.level_count();
-    set_pattern_bits(alloc, indexed, place, patterns, row)?;
+    set_pattern_bits(alloc, indexed, ready, place, patterns, row)?;
     turn_unless(found, row);
     Ok(())
 }
@@ -82,6 +84,7 @@ fn set_test_bits(
     alloc: Global,
     config: &Config,
     indexed: &Indexed,
+    ready: &mut Ready,
     place: AttributePlace,
     found: bool,
     wanted: Wanted,
@@ -99,7 +102,7 @@ fn set_test_bits(
             set_labels_pass(alloc, config, indexed, place, found, labels, row)
         }
         Wanted::Patterns(patterns) => {
-            set_patterns_pass(alloc, config, indexed, place, found, patterns, row)
+            set_patterns_pass(alloc, config, indexed, ready, place, found, patterns, row)
         }
     }
 }
@@ -110,6 +113,7 @@ fn set_term_bits(
     alloc: Global,
     config: &Config,
     indexed: &Indexed,
+    ready: &mut Ready,
     term: &AskedTerm,
     row: &mut BitRow,
 ) -> Result<(), Memory>
@@ -125,7 +129,7 @@ fn set_term_bits(
             found,
             wanted,
             ..
-        } => set_test_bits(alloc, config, indexed, *place, *found, *wanted, row),
+        } => set_test_bits(alloc, config, indexed, ready, *place, *found, *wanted, row),
         AskedTerm::Position {
             place,
             upper,
@@ -165,6 +169,7 @@ fn clear_others(
     alloc: Global,
     config: &Config,
     indexed: &Indexed,
+    ready: &mut Ready,
     level: usize,
     term: &AskedTerm,
     met: &mut BitRow,
@@ -176,7 +181,7 @@ fn clear_others(
         (met_row config.now indexed.now.bundle level (term_in term.now))) }
 {
     let mut row = none_set(alloc, met.len())?;
-    set_term_bits(alloc, config, indexed, term, &mut row)?;
+    set_term_bits(alloc, config, indexed, ready, term, &mut row)?;
     and_into(met, &row);
     Ok(())
 }
@@ -219,6 +224,7 @@ fn met_row(
     alloc: Global,
     config: &Config,
     indexed: &Indexed,
+    ready: &mut Ready,
     level: usize,
     term: &AskedTerm,
 ) -> Result<BitRow, Memory>
@@ -228,7 +234,7 @@ fn met_row(
         ≡ met_row config.now indexed.now.bundle level (term_in term.now)) }
 {
     let mut row = none_set(alloc, item_count(config, indexed, term))?;
-    set_term_bits(alloc, config, indexed, term, &mut row)?;
+    set_term_bits(alloc, config, indexed, ready, term, &mut row)?;
     Ok(row)
 }
 
@@ -238,6 +244,7 @@ fn all_met(
     alloc: Global,
     config: &Config,
     indexed: &Indexed,
+    ready: &mut Ready,
     level: usize,
     terms: &[AskedTerm],
 ) -> Result<BitRow, Memory>
@@ -251,12 +258,12 @@ fn all_met(
     if terms.is_empty() {
         return all_set(alloc, eql_model::items_at(indexed.bundle(), level).len());
     }
-    let mut met = met_row(alloc, config, indexed, level, &terms[0])?;
+    let mut met = met_row(alloc, config, indexed, ready, level, &terms[0])?;
     for at in 1..terms.len() {
         if met.first().is_none() {
             return Ok(met);
         }
-        clear_others(alloc, config, indexed, level, &terms[at], &mut met)?;
+        clear_others(alloc, config, indexed, ready, level, &terms[at], &mut met)?;
     }
     Ok(met)
 }
@@ -311,6 +318,7 @@ pub(crate) fn conjunction(
     alloc: Global,
     config: &Config,
     indexed: &Indexed,
+    ready: &mut Ready,
     level: usize,
     marked: bool,
     terms: &[AskedTerm],
@@ -325,6 +333,6 @@ pub(crate) fn conjunction(
         IsRowOf (length (items_at indexed.now.bundle.levels level)) marked made) }
 {
     let _items = indexed.bundle().item_count();
-    let met = all_met(alloc, config, indexed, level, terms)?;
+    let met = all_met(alloc, config, indexed, ready, level, terms)?;
     found_where(alloc, met, marked)
 }

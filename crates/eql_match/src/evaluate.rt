@@ -8,6 +8,7 @@ ghost use Rattle.eql_match.specs.Inner.Found.{AreFoundFor, FindsAll};
 
 use crate::conditions::{are_marked, conjunction};
 use crate::found::{Found, Sides, dominating, follow, side_by_side};
+use crate::ready::Ready;
 use crate::ways::{dominance, sequence};
 use bundle_index::Indexed;
 use db_config::Config;
@@ -21,6 +22,7 @@ fn conjunction_found(
     alloc: Global,
     config: &Config,
     indexed: &Indexed,
+    ready: &mut Ready,
     level: usize,
     marked: bool,
     conditions: &[AskedTerm],
@@ -33,7 +35,7 @@ fn conjunction_found(
     ensures { FindsAll result config.now indexed.now.bundle (terms (map term_in conditions.now)) }
 {
     let _items = indexed.bundle().item_count();
-    match conjunction(alloc, config, indexed, level, marked, conditions) {
+    match conjunction(alloc, config, indexed, ready, level, marked, conditions) {
         Ok(made) => Ok(made),
         Err(_) => Err(MatchFault::Memory),
     }
@@ -218,6 +220,7 @@ pub(crate) fn evaluate(
     alloc: Global,
     config: &Config,
     indexed: &Indexed,
+    ready: &mut Ready,
     query: &AskedQuery,
 ) -> Result<Found, MatchFault>
     requires fits { FitsConfig config.now indexed.now.bundle }
@@ -230,27 +233,28 @@ pub(crate) fn evaluate(
             alloc,
             config,
             indexed,
+            ready,
             query.level(),
             are_marked(conditions.as_slice()),
             conditions.as_slice(),
         ),
         AskedQuery::Sequence(left, right) => {
-            let lefts = match evaluate(alloc, config, indexed, left) {
+            let lefts = match evaluate(alloc, config, indexed, ready, left) {
                 Ok(found) => found,
                 Err(fault) => return Err(fault),
             };
-            let rights = match evaluate(alloc, config, indexed, right) {
+            let rights = match evaluate(alloc, config, indexed, ready, right) {
                 Ok(found) => found,
                 Err(fault) => return Err(fault),
             };
             sequence_found(alloc, config, indexed, left, right, lefts, rights)
         }
         AskedQuery::Dominance(left, right) => {
-            let lefts = match evaluate(alloc, config, indexed, left) {
+            let lefts = match evaluate(alloc, config, indexed, ready, left) {
                 Ok(found) => found,
                 Err(fault) => return Err(fault),
             };
-            let rights = match evaluate(alloc, config, indexed, right) {
+            let rights = match evaluate(alloc, config, indexed, ready, right) {
                 Ok(found) => found,
                 Err(fault) => return Err(fault),
             };

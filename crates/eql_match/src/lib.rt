@@ -10,8 +10,10 @@ mod labels;
 mod patterns;
 mod positions;
 mod reach;
+mod ready;
 mod rows;
 mod runs;
 mod ways;
 
-pub use bundle::match_bundle;
+pub use bundle::{match_bundle, match_ready};
+pub use ready::Ready;

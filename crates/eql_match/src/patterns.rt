@@ -8,6 +8,7 @@ ghost use Rattle.label_match.specs.Pattern.{matches_label};
 ghost use Rattle.eql_match.specs.Inner.Labels.{AreAnswers, AreNumbersOf, HasColumn, label_at};
 ghost use Rattle.eql_match.specs.Inner.Rows.{IsUnsetFor};
 
+use crate::ready::Ready;
 use crate::rows::{none_set, set_any};
 use bundle_index::Indexed;
 use db_config::AttributePlace;
@@ -58,7 +59,7 @@ fn numbers_within(column: &[u32]) -> usize
 }
 
 /// For each item whether the pattern matches its label. The only refusal is want of memory.
-fn matched_bits(
+pub(crate) fn matched_bits(
     alloc: Global,
     matching: &mut Matching,
     column: &[u32],
@@ -66,7 +67,8 @@ fn matched_bits(
     items: &[Item],
 ) -> Result<BitRow, Memory>
     requires numbers { AreNumbersOf column.now (map (label_of attribute) items.now) }
-    ensures { IfOk result (λ row. row ≡ matched_row attribute items.now matching.old) }
+    ensures row { IfOk result (λ row. row ≡ matched_row attribute items.now matching.old) }
+    ensures same { matching.new ≡ matching.old }
 {
     let mut answers = Series::from_vec(vec![in alloc; None; numbers_within(column)]?);
     let mut row = none_set(alloc, items.len())?;
@@ -81,6 +83,7 @@ fn matched_bits(
 fn pattern_row(
     alloc: Global,
     indexed: &Indexed,
+    ready: &mut Ready,
     place: AttributePlace,
     pattern: &Pattern,
 ) -> Result<BitRow, Memory>
@@ -90,16 +93,14 @@ fn pattern_row(
 {
     let column = indexed.column(place.level, place.attribute);
     let items = eql_model::items_at(indexed.bundle(), place.level);
-    match pattern.matcher(alloc) {
-        Ok(mut matching) => matched_bits(alloc, &mut matching, column, place.attribute, items),
-        Err(_) => Err(Memory),
-    }
+    ready.row(alloc, pattern, column, place.attribute, items)
 }
 
 /// For each pattern the row of the items whose label it matches. The only refusal is want of memory.
 fn pattern_rows(
     alloc: Global,
     indexed: &Indexed,
+    ready: &mut Ready,
     place: AttributePlace,
     patterns: &[Pattern],
 ) -> Result<Series<BitRow>, Memory>
@@ -109,7 +110,7 @@ fn pattern_rows(
 {
     let mut rows = Series::new(alloc);
     for pattern in patterns {
-        rows.push(pattern_row(alloc, indexed, place, pattern)?)?;
+        rows.push(pattern_row(alloc, indexed, ready, place, pattern)?)?;
     }
     Ok(rows)
 }
@@ -119,6 +120,7 @@ fn pattern_rows(
 pub(crate) fn set_pattern_bits(
     alloc: Global,
     indexed: &Indexed,
+    ready: &mut Ready,
     place: AttributePlace,
     patterns: &[Pattern],
     row: &mut BitRow,
@@ -128,7 +130,7 @@ pub(crate) fn set_pattern_bits(
     ensures { OnOk result (row.new ≡ map (λ item. is_matched patterns.now
         (label_of place.attribute item)) (items_at indexed.now.bundle.levels place.level)) }
 {
-    let rows = pattern_rows(alloc, indexed, place, patterns)?;
+    let rows = pattern_rows(alloc, indexed, ready, place, patterns)?;
     set_any(rows.as_slice(), row);
     Ok(())
 }

@@ -1,54 +1,152 @@
--- The least first sample and the greatest last one, item by item; and the ends of a stretch.
-use Rattle.std.proofs.Common.{◌≡◌, ℕ, zero, suc, ◌+◌, ◌-◌, ◌<◌, ◌≤◌, Bool, true, false, cond, ◌&&◌, List, [], ◌∷◌, length, take, drop, map, get_or, Option, None, Some, refl, sym, ap, subst, ◌∙◌, arith, nat_lt, nat_le}
-use Rattle.std.specs.Prelude.{All, min, max, option_map}
-use Rattle.std.specs.List.{filter, list_any, range_with_len}
+-- The samples of those items below a result, where times rise; and the ends of a stretch.
+use Rattle.std.proofs.Common.{◌≡◌, ◌⊎◌, inl, inr, ℕ, zero, suc, ◌+◌, ◌-◌, ◌<◌, ◌≤◌, Bool, true, false, cond, ◌||◌, ◌&&◌, List, [], ◌∷◌, length, take, drop, map, get_or, Option, None, Some, refl, sym, ap, subst, ◌∙◌, arith, nat_lt, nat_le}
+use Rattle.std.specs.Prelude.{All, IsTrue, min, max, option_map}
+use Rattle.std.specs.List.{filter, list_all, list_any, range_with_len}
+use Rattle.std.proofs.lemmas.Bool.{and_parts, cases_lt, ltb-true}
 use Rattle.std.proofs.lemmas.Bool.Decides.{nat_tests}
-use Rattle.std.proofs.lemmas.List.{drop_more, take-map, drop-map, get_or-map, length-map, get_or_default}
-use Rattle.std.proofs.lemmas.List.Elements.{All-weaker}
+use Rattle.std.proofs.lemmas.List.{take-map, drop-map, get_or-map, length-map, get_or_default, get_or_past}
+use Rattle.std.proofs.lemmas.List.Elements.{All-get_or}
+use Rattle.emu_names.specs.declared.kinds.LevelKind.{LevelKind}
+use Rattle.emu_names.specs.declared.kinds.LevelKind.TheVariants as kinds
 use Rattle.level_items.specs.declared.items.Item.{Item}
-use Rattle.level_items.specs.Levels.{ids_of, items_at}
-use Rattle.level_items.specs.Times.{first_sample, last_sample}
+use Rattle.level_items.specs.declared.times.Time.{Time}
+use Rattle.level_items.specs.declared.times.Time.TheVariants.{NoTime, Span as TimeSpan, Point}
+use Rattle.level_items.specs.Levels.{Level, KeepsLevelRule, are_apart, are_in_order, fits_level, ids_of, is_before_first, items_at}
+use Rattle.level_items.specs.Times.{first_sample, fits_kind, is_before, last_sample}
+use Rattle.level_items.proofs.Apart.{first-le-last, starts_rise}
 use Rattle.bundle_state.specs.Bundle.{BundleParts}
 use Rattle.hier_closure.specs.Dominance.{dominates, ids_at, closure_of}
 use Rattle.eql_model.specs.declared.tuple.Span.{Span}
+use Rattle.eql_model.specs.declared.tuple.Tuple.{Tuple}
 use Rattle.eql_model.specs.Tuples.{from_to, stretch, fits_in}
-use Rattle.eql_model.specs.Inner.Joins.{is_under}
+use Rattle.eql_model.specs.Inner.Joins.{bit_at, is_under, positions}
 use Rattle.eql_model.specs.Results.{bare, IsStretchIn}
-use Rattle.eql_model.specs.Rows.{items_of, is_below_some, least, greatest, extent, end_to_end}
-use Rattle.eql_model.specs.Inner.Below.{widened}
+use Rattle.eql_model.specs.Rows.{items_below, items_of, is_below_some, least, greatest, extent, end_to_end}
+use Rattle.eql_model.specs.Inner.Below.{AreEnds, Rise}
 use Rattle.eql_model.proofs.Between.{ids_are, wide_exit}
 use Rattle.eql_model.proofs.Covers.{under_is, taken_by}
+use Rattle.eql_model.proofs.MadeRows.{no_item}
 
--- samples widened to those of these items, one after another
-abbrev pub extended : Option (ℕ × ℕ) → List Item → Option (ℕ × ℕ)
-extended found [] = found
-extended found (s ∷ ss) = extended (Some (widened found s.time)) ss
+-- ---- items whose times rise
 
-extended_from : (a b : ℕ) (ss : List Item) →
-    extended (Some (a, b)) ss ≡ Some (least a (map (λ i. first_sample i.time) ss), greatest b (map (λ i. last_sample i.time) ss))
-extended_from a b [] = refl
-extended_from a b (s ∷ ss) = extended_from (min a (first_sample s.time)) (max b (last_sample s.time)) ss
+-- of items without times
+untimed : (attributes : ℕ) (items : List Item) (i : ℕ) (d : Item) → IsTrue (list_all (fits_level kinds.Item attributes) items) → i < length items →
+    (first_sample (get_or items i d).time ≡ 0) × (last_sample (get_or items i d).time ≡ 0)
+untimed attributes [] i d all h = absurd (omega arith)
+untimed attributes (x ∷ xs) zero d all h =
+    no_time x.time (and_parts (fits_kind kinds.Item x.time) _ (and_parts _ _ all).0).0
+  where
+    no_time : (t : Time) → fits_kind kinds.Item t ≡ true → (first_sample t ≡ 0) × (last_sample t ≡ 0)
+    no_time NoTime fits = (refl, refl)
+    no_time (TimeSpan start dur) fits = absurd cc
+    no_time (Point at) fits = absurd cc
+untimed attributes (x ∷ xs) (suc i) d all h = untimed attributes xs i d (and_parts _ _ all).1 (omega arith)
 
-pub extended_is : (ss : List Item) → extended None ss ≡ extent ss
-extended_is [] = refl
-extended_is (s ∷ ss) = extended_from (first_sample s.time) (last_sample s.time) ss
+ends_rise : (items : List Item) (i j : ℕ) (d : Item) → are_apart items ≡ true → i ≤ j → j < length items →
+    last_sample (get_or items i d).time ≤ last_sample (get_or items j d).time
+ends_rise [] i j d h order within = absurd (omega arith)
+ends_rise (x ∷ xs) zero zero d h order within = omega arith
+ends_rise (x ∷ []) zero (suc j) d h order within = absurd (omega arith)
+ends_rise (x ∷ y ∷ xs) zero (suc j) d h order within =
+    let parts = and_parts (is_before x.time y.time) (are_apart (y ∷ xs)) h in
+    let step = ltb-true (last_sample x.time) (first_sample y.time) parts.0 in
+    let low = first-le-last y.time in
+    let rest = ends_rise (y ∷ xs) zero j d parts.1 (omega arith) (omega arith) in
+    omega arith
+ends_rise (x ∷ xs) (suc i) zero d h order within = absurd (omega arith)
+ends_rise (x ∷ xs) (suc i) (suc j) d h order within =
+    let parts = and_parts (is_before_first x.time xs) (are_apart xs) h in
+    ends_rise xs i j d parts.1 (omega arith) (omega arith)
 
--- one item more, where the test says whether it counts
-by_choice : (b : Bool) (found : Option (ℕ × ℕ)) (x : Item) (kept : List Item) →
-    extended found (cond b (x ∷ kept) kept) ≡ extended (cond b (Some (widened found x.time)) found) kept
-by_choice true found x kept = refl
-by_choice false found x kept = refl
+rise_by : (kind : LevelKind) (attributes : ℕ) (items : List Item) → IsTrue (list_all (fits_level kind attributes) items) →
+    IsTrue (are_in_order kind items) → Rise items
+rise_by kinds.Item attributes items fitting ordered = λ i j d order within.
+    let one = untimed attributes items i d fitting (omega arith) in
+    let other = untimed attributes items j d fitting within in
+    let a = one.0 in let b = one.1 in let p = other.0 in let q = other.1 in
+    (omega arith, omega arith)
+rise_by kinds.Segment attributes items fitting ordered = λ i j d order within.
+    (starts_rise items i j d ordered order within, ends_rise items i j d ordered order within)
+rise_by kinds.Event attributes items fitting ordered = λ i j d order within.
+    (starts_rise items i j d ordered order within, ends_rise items i j d ordered order within)
 
-pub extend_step : (p : Item → Bool) (items : List Item) (at : ℕ) (d : Item) (found more whole : Option (ℕ × ℕ)) (wanted : Bool) →
-    at < length items → extended found (filter p (drop at items)) ≡ whole → wanted ≡ p (get_or items at d) →
-    more ≡ cond wanted (Some (widened found (get_or items at d).time)) found →
-    extended more (filter p (drop (at + 1) items)) ≡ whole
-extend_step p items at d found more whole wanted h so_far is put =
-    ap (λ f. extended f (filter p (drop (at + 1) items)))
-    (put ∙ ap (λ w. cond w (Some (widened found (get_or items at d).time)) found) is)
-    ∙ sym (by_choice (p (get_or items at d)) found (get_or items at d) (filter p (drop (at + 1) items)))
-    ∙ sym (ap (λ xs. extended found (filter p xs)) (drop_more items at d h))
-    ∙ so_far
+-- on a level that keeps its rule neither first nor last samples fall
+pub level_rises : (level : Level) (items : List Item) → KeepsLevelRule level → items ≡ level.items → Rise items
+level_rises level items rule are = subst Rise (sym are) (rise_by level.kind level.attributes level.items rule.fitting rule.ordered)
+
+rise_tail : (x : Item) (xs : List Item) → Rise (x ∷ xs) → Rise xs
+rise_tail x xs rise = λ i j d order within. rise (suc i) (suc j) d (omega arith) (omega arith)
+
+-- ---- the samples of those that pass a test
+
+-- samples that begin before all items do, widened to these items one after another
+abbrev from_to_last : ℕ × ℕ → List Item → ℕ × ℕ
+from_to_last samples [] = samples
+from_to_last samples (s ∷ ss) = from_to_last (min samples.0 (first_sample s.time), max samples.1 (last_sample s.time)) ss
+
+extent_is : (a b : ℕ) (ss : List Item) →
+    (least a (map (λ i. first_sample i.time) ss), greatest b (map (λ i. last_sample i.time) ss)) ≡ from_to_last (a, b) ss
+extent_is a b [] = refl
+extent_is a b (s ∷ ss) = extent_is (min a (first_sample s.time)) (max b (last_sample s.time)) ss
+
+none_kept : (p : Item → Bool) (items : List Item) (d : Item) → ((k : ℕ) → k < length items → p (get_or items k d) ≡ false) → filter p items ≡ []
+none_kept p [] d none = refl
+none_kept p (x ∷ xs) d none =
+    ap (λ b. cond b (x ∷ filter p xs) (filter p xs)) (none 0 (omega arith))
+    ∙ none_kept p xs d (λ k h. none (suc k) (omega arith))
+
+-- all items begin and end no earlier than these samples
+abbrev IsBehind : ℕ × ℕ → List Item → Item → Type 0
+IsBehind samples items d =
+    (k : ℕ) → k < length items →
+    (samples.0 ≤ first_sample (get_or items k d).time) × (samples.1 ≤ last_sample (get_or items k d).time)
+
+last_kept : (p : Item → Bool) (items : List Item) (a b l : ℕ) (d : Item) → Rise items → IsBehind (a, b) items d → l < length items →
+    p (get_or items l d) ≡ true → ((k : ℕ) → l < k → k < length items → p (get_or items k d) ≡ false) →
+    from_to_last (a, b) (filter p items) ≡ (a, last_sample (get_or items l d).time)
+last_kept p [] a b l d rise behind h is none = absurd (omega arith)
+last_kept p (x ∷ xs) a b zero d rise behind h is none =
+    ap (λ c. from_to_last (a, b) (cond c (x ∷ filter p xs) (filter p xs))) is
+    ∙ ap (from_to_last (min a (first_sample x.time), max b (last_sample x.time)))
+    (none_kept p xs d (λ k within. none (suc k) (omega arith) (omega arith)))
+    ∙ (let here = behind 0 (omega arith) in let low = here.0 in let high = here.1 in
+    let one : min a (first_sample x.time) ≡ a = omega arith in
+    let other : max b (last_sample x.time) ≡ last_sample x.time = omega arith in
+    λ i. (one i, other i))
+last_kept p (x ∷ xs) a b (suc l) d rise behind h is none = by (p x)
+  where
+    by : (c : Bool) → from_to_last (a, b) (cond c (x ∷ filter p xs) (filter p xs)) ≡ (a, last_sample (get_or xs l d).time)
+    by true =
+        let here = behind 0 (omega arith) in let low = here.0 in
+        let one : min a (first_sample x.time) ≡ a = omega arith in
+        last_kept p xs (min a (first_sample x.time)) (max b (last_sample x.time)) l d (rise_tail x xs rise)
+        (λ k within. let there = behind (suc k) (omega arith) in let rises = rise 0 (suc k) d (omega arith) (omega arith) in
+        let c = there.0 in let e = there.1 in let f = rises.0 in let g = rises.1 in (omega arith, omega arith))
+        (omega arith) is (λ k from within. none (suc k) (omega arith) (omega arith))
+        ∙ ap (λ n. (n, last_sample (get_or xs l d).time)) one
+    by false =
+        last_kept p xs a b l d (rise_tail x xs rise) (λ k within. behind (suc k) (omega arith)) (omega arith) is
+        (λ k from within. none (suc k) (omega arith) (omega arith))
+
+first_kept : (p : Item → Bool) (items : List Item) (f l : ℕ) (d : Item) → Rise items → f ≤ l → l < length items →
+    p (get_or items f d) ≡ true → p (get_or items l d) ≡ true → ((k : ℕ) → k < f → p (get_or items k d) ≡ false) →
+    ((k : ℕ) → l < k → k < length items → p (get_or items k d) ≡ false) →
+    extent (filter p items) ≡ Some (first_sample (get_or items f d).time, last_sample (get_or items l d).time)
+first_kept p [] f l d rise order h first last before behind = absurd (omega arith)
+first_kept p (x ∷ xs) zero zero d rise order h first last before behind =
+    ap (λ c. extent (cond c (x ∷ filter p xs) (filter p xs))) first
+    ∙ ap (λ ys. extent (x ∷ ys)) (none_kept p xs d (λ k within. behind (suc k) (omega arith) (omega arith)))
+first_kept p (x ∷ xs) zero (suc l) d rise order h first last before behind =
+    ap (λ c. extent (cond c (x ∷ filter p xs) (filter p xs))) first
+    ∙ ap (λ n. Some n) (extent_is (first_sample x.time) (last_sample x.time) (filter p xs)
+    ∙ last_kept p xs (first_sample x.time) (last_sample x.time) l d (rise_tail x xs rise)
+    (λ k within. rise 0 (suc k) d (omega arith) (omega arith)) (omega arith) last
+    (λ k from within. behind (suc k) (omega arith) (omega arith)))
+first_kept p (x ∷ xs) (suc f) zero d rise order h first last before behind = absurd (omega arith)
+first_kept p (x ∷ xs) (suc f) (suc l) d rise order h first last before behind =
+    ap (λ c. extent (cond c (x ∷ filter p xs) (filter p xs))) (before 0 (omega arith))
+    ∙ first_kept p xs f l d (rise_tail x xs rise) (omega arith) (omega arith) first last (λ k less. before (suc k) (omega arith))
+    (λ k from within. behind (suc k) (omega arith) (omega arith))
 
 -- ---- what is below a result
 
@@ -116,16 +214,68 @@ ends_answer b span items d e f l are there first last =
     ))
     ∙ sym (ends_are (items_at b.levels span.level) span.first span.last d there.rises there.within)
 
-pub below_answer : (b : BundleParts) (span : Span) (time at : ℕ) (d : Item) (items : List Item) (rows : List (List Bool)) (wanted : Bool) →
-    IsStretchIn b span → items ≡ items_at b.levels time → rows ≡ closure_of b time span.level → at < length items →
-    wanted ≡ is_under rows (bare span.first span.last) at → wanted ≡ is_below_some b.links (ids_of (items_of b span)) (get_or items at d)
-below_answer b span time at d items rows wanted there are made h told =
-    told ∙ ap (λ rs. is_under rs (bare span.first span.last) at) made
-    ∙ below_is b span time at d there (let same = ap length are in omega arith)
-    ∙ ap (λ xs. is_below_some b.links (ids_of (items_of b span)) (get_or xs at d)) (sym are)
+-- the bit of a place past the rows
+bit_past : (rows : List (List Bool)) (n i k : ℕ) → All (λ row. length row ≡ n) rows → n ≤ k → bit_at rows i k ≡ false
+bit_past rows n i k wide past = by (cases_lt i (length rows))
+  where
+    by : (i < length rows) ⊎ (length rows ≤ i) → bit_at rows i k ≡ false
+    by (inl within) =
+        let long = All-get_or (λ row. length row ≡ n) rows i [] within wide in get_or_past (get_or rows i []) k false (omega arith)
+    by (inr over) = ap (λ row. get_or row k false) (get_or_past rows i [] over)
 
-pub below_wide : (b : BundleParts) (level time at : ℕ) (items : List Item) (rows : List (List Bool)) → items ≡ items_at b.levels time →
-    rows ≡ closure_of b time level → at < length items → All (λ row. at < length row) rows
-below_wide b level time at items rows are made h =
-    All-weaker (λ row. length row ≡ length items) (λ row. at < length row) (λ row same. omega arith) rows
-    (wide_exit b level time rows items made are)
+none_past : (rows : List (List Bool)) (n k : ℕ) (is : List ℕ) → All (λ row. length row ≡ n) rows → n ≤ k → list_any (λ i. bit_at rows i k) is ≡ false
+none_past rows n k [] wide past = refl
+none_past rows n k (i ∷ is) wide past =
+    ap (λ b. b || list_any (λ j. bit_at rows j k) is) (bit_past rows n i k wide past) ∙ none_past rows n k is wide past
+
+within_rows : (rows : List (List Bool)) (n k : ℕ) (t : Tuple) → All (λ row. length row ≡ n) rows → is_under rows t k ≡ true → k < n
+within_rows rows n k t wide set = by (cases_lt k n)
+  where
+    by : (k < n) ⊎ (n ≤ k) → k < n
+    by (inl less) = less
+    by (inr past) = let out = none_past rows n k (positions t) wide past in absurd cc
+
+pub ends_within : (b : BundleParts) (level time f l : ℕ) (items : List Item) (rows : List (List Bool)) (t : Tuple) →
+    items ≡ items_at b.levels time → rows ≡ closure_of b time level → AreEnds (is_under rows t) (Some (f, l)) →
+    (f < length items) × (l < length items)
+ends_within b level time f l items rows t are made ends =
+    let wide = wide_exit b level time rows items made are in
+    (within_rows rows (length items) f t wide ends.0, within_rows rows (length items) l t wide ends.1)
+
+never : (b : Bool) → (b ≡ true → ⊥) → b ≡ false
+never true not_so = absurd (not_so refl)
+never false not_so = refl
+
+pub below_none : (b : BundleParts) (span : Span) (time : ℕ) (rows : List (List Bool)) → IsStretchIn b span →
+    rows ≡ closure_of b time span.level → AreEnds (is_under rows (bare span.first span.last)) None →
+    None ≡ extent (items_below b (Some time) span)
+below_none b span time rows there made none =
+    sym (ap extent (none_kept (is_below_some b.links (ids_of (items_of b span))) (items_at b.levels time) no_item
+    (λ k h. sym (below_is b span time k no_item there h) ∙ sym (ap (λ rs. is_under rs (bare span.first span.last) k) made) ∙ none k)))
+
+pub below_some : (b : BundleParts) (span : Span) (time f l first last : ℕ) (items : List Item) (rows : List (List Bool)) (d e : Item) →
+    IsStretchIn b span → items ≡ items_at b.levels time → Rise items → rows ≡ closure_of b time span.level →
+    AreEnds (is_under rows (bare span.first span.last)) (Some (f, l)) →
+    first ≡ first_sample (get_or items f d).time → last ≡ last_sample (get_or items l e).time →
+    Some (first, last) ≡ extent (items_below b (Some time) span)
+below_some b span time f l first last items rows d e there are rise made ends is_first is_last =
+    (λ i. Some (is_first i, (is_last ∙ ap (λ (x : Item). last_sample x.time) (get_or_default items l e d within.1)) i))
+    ∙ sym (first_kept test items f l d rise (ends.2 f ends.0).1 within.1 (passes f within.0 ∙ ends.0) (passes l within.1 ∙ ends.1)
+    (λ k less. let low = within.0 in passes k (omega arith) ∙ never (under k) (λ set. let e = (ends.2 k set).0 in absurd (omega arith)))
+    (λ k more h. passes k h ∙ never (under k) (λ set. let e = (ends.2 k set).1 in absurd (omega arith))))
+    ∙ ap (λ xs. extent (filter test xs)) are
+  where
+    test : Item → Bool
+    test = is_below_some b.links (ids_of (items_of b span))
+
+    under : ℕ → Bool
+    under = is_under rows (bare span.first span.last)
+
+    within : (f < length items) × (l < length items)
+    within = ends_within b span.level time f l items rows (bare span.first span.last) are made ends
+
+    passes : (k : ℕ) → k < length items → test (get_or items k d) ≡ under k
+    passes k h =
+        ap (λ xs. test (get_or xs k d)) are
+        ∙ sym (below_is b span time k d there (let same = ap length are in omega arith))
+        ∙ sym (ap (λ rs. is_under rs (bare span.first span.last) k) made)

@@ -4,6 +4,7 @@ pub mod Conditions
 pub mod Covers
 mod Edges
 pub mod Extents
+mod FirstLast
 pub mod Fitting
 pub mod Gathers
 pub mod Listed

@@ -1,11 +1,12 @@
 //! The rows of results.
-ghost use Rattle.std.specs.Prelude.{◌≡◌, ◌<◌, ◌++◌, length, map, IfOk, IfSome, OnOk, option_map, string_bytes};
+ghost use Rattle.std.specs.Prelude.{◌≡◌, ◌<◌, ◌++◌, ◌∷◌, [], length, map, IfOk, IfSome, OnOk, option_map, string_bytes};
 ghost use Rattle.bundle_state.specs.Built.{FitsConfig};
 ghost use Rattle.eql_resolve.specs.Asked.{result_level};
 ghost use Rattle.eql_resolve.specs.Inner.Sound.{IsResolvedBy, IsTimeLevel};
-ghost use Rattle.level_items.specs.Levels.{items_at};
+ghost use Rattle.level_items.specs.Levels.{items_at, label_of};
 ghost use Rattle.eql_model.specs.Results.{AreThere, IsSpanIn, IsStretchIn};
 ghost use Rattle.eql_model.specs.Inner.Below.{IsBelow};
+ghost use Rattle.eql_model.specs.Inner.Names.{names_for};
 ghost use Rattle.eql_model.specs.Rows.{attribute_name, id_at, items_of, joined_labels, kind_of, level_name, row_of};
 
 use crate::labels::label_of;
@@ -72,6 +73,16 @@ fn items_of(bundle: &Bundle, span: Span) -> &[Item]
     &items_at(bundle, span.level as usize)[span.first as usize..span.last as usize + 1]
 }
 
+/// The label of an item, whose bytes are shared. The only refusal is want of memory.
+fn label_text(alloc: Global, item: &Item, attribute: usize) -> Result<Text, Memory>
+    ensures { IfOk result (λ made. made ≡ label_of attribute item.now) }
+{
+    match item.labels.as_slice().get(attribute) {
+        Some(label) => label.copy(alloc),
+        None => Text::new(alloc, ""),
+    }
+}
+
 /// Writes the labels of items with `->` between them.
 fn push_labels(out: &mut String, attribute: usize, items: &[Item]) -> Result<(), Memory>
     ensures { OnOk result
@@ -92,9 +103,64 @@ fn push_labels(out: &mut String, attribute: usize, items: &[Item]) -> Result<(),
 fn joined_labels(alloc: Global, attribute: usize, items: &[Item]) -> Result<Text, Memory>
     ensures { IfOk result (λ made. made ≡ joined_labels attribute items.now) }
 {
+    if let [item] = items {
+        return label_text(alloc, item, attribute);
+    }
     let mut text = String::new(alloc);
     push_labels(&mut text, attribute, items)?;
     Text::from_string(text)
+}
+
+/// What the rows of one bundle, level and attribute have in common.
+#[derive(Drop)]
+struct RowNames {
+    session: Text,
+    bundle: Text,
+    level: Text,
+    attribute: Text,
+    /// The attribute's place among those of the level.
+    place: u32,
+}
+
+/// What the rows of a bundle, level and attribute have in common. The only refusal is want of memory.
+fn names_for(
+    alloc: Global,
+    config: &Config,
+    bundle: &Bundle,
+    level: usize,
+    attribute: u32,
+) -> Result<RowNames, Memory>
+    ensures { IfOk result (λ made. made ≡ names_for config.now bundle.now level attribute) }
+{
+    let session = Text::new(alloc, bundle.key().session.as_str())?;
+    let name = Text::new(alloc, bundle.key().bundle.as_str())?;
+    let level_text = Text::new(alloc, level_name(config, level))?;
+    let attribute_text = Text::new(alloc, attribute_name(config, level, attribute as usize))?;
+    Ok(RowNames {
+        session,
+        bundle: name,
+        level: level_text,
+        attribute: attribute_text,
+        place: attribute,
+    })
+}
+
+/// Makes the names anew where another attribute is shown. The only refusal is want of memory.
+fn turn_to(
+    names: &mut RowNames,
+    alloc: Global,
+    config: &Config,
+    bundle: &Bundle,
+    level: usize,
+    attribute: u32,
+) -> Result<(), Memory>
+    requires { names.old ≡ names_for config.now bundle.now level names.old.place }
+    ensures { OnOk result (names.new ≡ names_for config.now bundle.now level attribute) }
+{
+    if names.place != attribute {
+        *names = names_for(alloc, config, bundle, level, attribute)?;
+    }
+    Ok(())
 }
 
 /// The row of a result. The only refusal is want of memory.
@@ -102,9 +168,11 @@ fn row(
     alloc: Global,
     config: &Config,
     bundle: &Bundle,
+    names: &RowNames,
     below: &Option<Below>,
     span: Span,
 ) -> Result<Row, Memory>
+    requires names { names.now ≡ names_for config.now bundle.now span.level span.attribute }
     requires span { IsStretchIn bundle.now span }
     requires level { span.level < length bundle.now.levels }
     requires below { IfSome below.now (IsBelow bundle.now span.level) }
@@ -115,13 +183,10 @@ fn row(
     let kind = kind_of(config, span.level as usize);
     let times = times_of(kind, bundle.rate(), samples_of(bundle, kind, below, span));
     let items = items_at(bundle, span.level as usize);
-    let session = Text::new(alloc, bundle.key().session.as_str())?;
-    let name = Text::new(alloc, bundle.key().bundle.as_str())?;
-    let level = Text::new(alloc, level_name(config, span.level as usize))?;
-    let attribute = Text::new(
-        alloc,
-        attribute_name(config, span.level as usize, span.attribute as usize),
-    )?;
+    let session = names.session.copy(alloc)?;
+    let name = names.bundle.copy(alloc)?;
+    let level = names.level.copy(alloc)?;
+    let attribute = names.attribute.copy(alloc)?;
     let labels = joined_labels(alloc, span.attribute as usize, items_of(bundle, span))?;
     Ok(Row {
         session,
@@ -141,8 +206,32 @@ fn row(
     })
 }
 
-/// The rows of results on a level. The only refusal is want of memory.
-fn rows_below(
+/// Puts the row of a result last, with names that are made anew where another attribute is shown. The only
+/// refusal is want of memory.
+fn push_row(
+    rows: &mut SegmentList,
+    names: &mut RowNames,
+    alloc: Global,
+    config: &Config,
+    bundle: &Bundle,
+    below: &Option<Below>,
+    span: Span,
+) -> Result<(), Memory>
+    requires names { names.old ≡ names_for config.now bundle.now span.level names.old.place }
+    requires span { IsStretchIn bundle.now span }
+    requires level { span.level < length bundle.now.levels }
+    requires below { IfSome below.now (IsBelow bundle.now span.level) }
+    ensures row { OnOk result (rows.new
+        ≡ rows.old ++ row_of config.now bundle.now (option_map (λ b. b.time) below.now) span ∷ []) }
+    ensures names { OnOk result (names.new ≡ names_for config.now bundle.now span.level span.attribute) }
+{
+    turn_to(names, alloc, config, bundle, span.level as usize, span.attribute)?;
+    rows.push(row(alloc, config, bundle, names, below, span)?)
+}
+
+/// The rows of some results on a level, in their order, which on an ITEM level have their times from this time
+/// level, where there is one. The only refusal is want of memory.
+pub fn rows_below(
     alloc: Global,
     config: &Config,
     bundle: &Bundle,
@@ -156,9 +245,16 @@ fn rows_below(
     ensures { IfOk result (λ rows. rows
         ≡ map (row_of config.now bundle.now (option_map (λ b. b.time) below.now)) spans.now) }
 {
+    let Some(first) = spans.first() else {
+        return Ok(Series::new(alloc));
+    };
+    let mut names = names_for(alloc, config, bundle, level, first.attribute)?;
     let mut rows = Series::new(alloc);
     for span in spans {
-        rows.push(row(alloc, config, bundle, below, *span)?)?;
+        match push_row(&mut rows, &mut names, alloc, config, bundle, below, *span) {
+            Ok(()) => {}
+            Err(fault) => return Err(fault),
+        }
     }
     Ok(rows)
 }

@@ -1,13 +1,13 @@
 //! When a result is: its first and its last sample, and its borders in microseconds.
-ghost use Rattle.std.specs.Prelude.{◌≡◌, ◌<◌, ◌≤◌, ◌^◌, All, length, true, IfOk, IfSome, Some, option_map, if◌then◌else◌};
+ghost use Rattle.std.specs.Prelude.{◌≡◌, ◌<◌, ◌≤◌, ◌^◌, All, length, true, IfOk, IfSome, Some, option_map};
 ghost use Rattle.level_items.specs.Times.{ends_in_time, last_sample};
 ghost use Rattle.bundle_state.specs.Built.{FitsConfig};
 ghost use Rattle.level_items.specs.Levels.{items_at};
 ghost use Rattle.eql_model.specs.Rows.{items_below, items_of, extent, end_to_end, samples_of, start_of, end_of};
-ghost use Rattle.eql_model.specs.Inner.Below.{widened, IsBelow, below_of, AreInTime};
+ghost use Rattle.eql_model.specs.Inner.Below.{IsBelow, Rise, below_of, AreInTime};
 ghost use Rattle.eql_model.specs.Results.{IsStretchIn};
 
-use crate::joins::is_under;
+use crate::ends::ends_under;
 use crate::tuple::{Span, Tuple};
 use bundle_state::Bundle;
 use db_config::Config;
@@ -19,9 +19,11 @@ use std::alloc::Global;
 
 /// A time level, and which items of the level of the results dominate which of its items.
 #[derive(Drop)]
-pub(crate) struct Below {
-    time: usize,
-    rows: Closure,
+pub struct Below {
+    /// The number of the time level.
+    pub time: usize,
+    /// A row for each item of the level of the results.
+    pub rows: Closure,
 }
 
 /// When a row begins and ends, in microseconds and in samples.
@@ -56,11 +58,12 @@ pub(crate) fn below_of(
     }
 }
 
-/// The items of a level, whose times end below sample 2^40.
+/// The items of a level, whose times end below sample 2^40. Neither first nor last samples fall.
 fn timed_items(bundle: &Bundle, level: usize) -> &[Item]
     requires { level < length bundle.now.levels }
     ensures items { result.now ≡ items_at bundle.now.levels level }
     ensures in_time { All (λ i. ends_in_time i.time ≡ true) result.now }
+    ensures rise { Rise result.now }
 {
     bundle.level(level).as_slice()
 }
@@ -78,25 +81,8 @@ fn last_sample(time: Time) -> u64
     }
 }
 
-/// Samples widened to those of a time, where it is wanted.
-fn widened(found: Option<(u64, u64)>, wanted: bool, time: Time) -> Option<(u64, u64)>
-    requires time { ends_in_time time ≡ true }
-    requires found { AreInTime found }
-    ensures wide { result ≡ (if wanted then Some (widened found time) else found) }
-    ensures in_time { AreInTime result }
-{
-    if !wanted {
-        return found;
-    }
-    let first = time.first_sample();
-    let last = last_sample(time);
-    match found {
-        Some((least, greatest)) => Some((least.min(first), greatest.max(last))),
-        None => Some((first, last)),
-    }
-}
-
-/// The samples of the items of the time level that some item of the result dominates.
+/// The samples of the items of the time level that some item of the result dominates: since times rise, those
+/// from the first such item to the last.
 fn extent_below(bundle: &Bundle, below: &Below, span: Span) -> Option<(u64, u64)>
     requires below { IsBelow bundle.now span.level below.now }
     requires span { IsStretchIn bundle.now span }
@@ -109,12 +95,10 @@ fn extent_below(bundle: &Bundle, below: &Below, span: Span) -> Option<(u64, u64)
         mark: None,
     };
     let items = timed_items(bundle, below.time);
-    let mut found = None;
-    for at in 0..items.len() {
-        let wanted = is_under(&below.rows, stretch, at);
-        found = widened(found, wanted, items[at].time);
-    }
-    found
+    let Some((first, last)) = ends_under(&below.rows, stretch) else {
+        return None;
+    };
+    Some((items[first].time.first_sample(), last_sample(items[last].time)))
 }
 
 /// The first sample of the first item of a result and the last one of its last item.

@@ -5,13 +5,37 @@ ghost use Rattle.eql_resolve.specs.Asked.{result_level};
 ghost use Rattle.eql_resolve.specs.Inner.Sound.{IsResolvedBy, IsTimeLevel};
 ghost use Rattle.eql_model.specs.Results.{AreThere};
 ghost use Rattle.eql_model.specs.Rows.{row_of};
+ghost use Rattle.eql_model.specs.Inner.Below.{below_of};
 
 use bundle_index::Indexed;
 use db_config::Config;
-use emu_names::Memory;
-use eql_model::{SegmentList, Span};
+use emu_names::{Memory, Series};
+use eql_model::{Below, SegmentList, Span};
 use eql_resolve::Asked;
 use std::alloc::Global;
+
+/// The time level below the level of the results, where there is one, with the rows of the index. The only
+/// refusal is want of memory.
+fn below_of(
+    alloc: Global,
+    config: &Config,
+    indexed: &Indexed,
+    level: usize,
+    time: Option<usize>,
+) -> Result<Option<Below>, Memory>
+    requires fits { FitsConfig config.now indexed.now.bundle }
+    requires level { level < length indexed.now.bundle.levels }
+    requires time { IfSome time (λ t. t < length indexed.now.bundle.levels) }
+    ensures { IfOk result (λ made. made ≡ below_of indexed.now.bundle level time) }
+{
+    match time {
+        Some(time) => {
+            let rows = indexed.closure(alloc, config, level, time)?;
+            Ok(Some(Below { time, rows }))
+        }
+        None => Ok(None),
+    }
+}
 
 /// The rows of some results on a level of an indexed bundle, in their order (EMU-SDMS Manual, "The EMU Query
 /// Language (EQL)": segment lists). Times are whole microseconds. The only refusal is want of memory.
@@ -33,7 +57,11 @@ pub fn rows_at(
     ensures { IfOk result (λ rows. rows
         ≡ map (row_of config.now indexed.now.bundle time) spans.now) }
 {
-    eql_model::rows_at(alloc, config, indexed.bundle(), level, time, spans)
+    if spans.is_empty() {
+        return Ok(Series::new(alloc));
+    }
+    let below = below_of(alloc, config, indexed, level, time)?;
+    eql_model::rows_below(alloc, config, indexed.bundle(), &below, level, spans)
 }
 
 /// The rows of results of a query in an indexed bundle, in their order (EMU-SDMS Manual, "The EMU Query
@@ -54,5 +82,6 @@ pub fn rows_of(
     ensures { IfOk result (λ rows. rows
         ≡ map (row_of config.now indexed.now.bundle asked.now.time) spans.now) }
 {
-    eql_model::rows_of(alloc, config, indexed.bundle(), asked, spans)
+    let level = asked.query().result_level();
+    rows_at(alloc, config, indexed, level, asked.time(), spans)
 }

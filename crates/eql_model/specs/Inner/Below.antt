@@ -1,15 +1,29 @@
 -- The segments below a result, and what a row needs of them.
-use Rattle.std.specs.Prelude.{◌≡◌, ◌<◌, ◌^◌, ℕ, min, max, length, Option, Some, None, IfSome, option_map}
-use Rattle.level_items.specs.declared.times.Time.{Time}
+use Rattle.std.specs.Prelude.{◌≡◌, ◌<◌, ◌≤◌, ◌^◌, ℕ, Bool, true, false, List, min, max, length, get_or, Option, Some, None, IfSome, option_map}
+use Rattle.level_items.specs.declared.items.Item.{Item}
 use Rattle.level_items.specs.Times.{first_sample, last_sample}
 use Rattle.bundle_state.specs.Bundle.{BundleParts}
 use Rattle.hier_closure.specs.Dominance.{closure_of}
 use Rattle.eql_model.specs.declared.times.Below.{Below}
 
--- samples widened to those of a time
-abbrev pub widened : Option (ℕ × ℕ) → Time → ℕ × ℕ
-widened None time = (first_sample time, last_sample time)
-widened (Some samples) time = (min samples.0 (first_sample time), max samples.1 (last_sample time))
+-- neither the first samples of items fall nor their last ones
+abbrev pub Rise : List Item → Type 0
+Rise items =
+    (i j : ℕ) (d : Item) → i ≤ j → j < length items →
+    (first_sample (get_or items i d).time ≤ first_sample (get_or items j d).time)
+    × (last_sample (get_or items i d).time ≤ last_sample (get_or items j d).time)
+
+-- the first and the last place at which a test passes, or none, where it passes at none
+abbrev pub AreEnds : (ℕ → Bool) → Option (ℕ × ℕ) → Type 0
+AreEnds p None = (k : ℕ) → p k ≡ false
+AreEnds p (Some ends) =
+    (p ends.0 ≡ true) × (p ends.1 ≡ true) × ((k : ℕ) → p k ≡ true → (ends.0 ≤ k) × (k ≤ ends.1))
+
+-- the first and the last of the places of two stretches
+abbrev pub together : Option (ℕ × ℕ) → Option (ℕ × ℕ) → Option (ℕ × ℕ)
+together None other = other
+together (Some a) None = Some a
+together (Some a) (Some b) = Some (min a.0 b.0, max a.1 b.1)
 
 -- samples are below 2^40
 abbrev pub AreInTime : Option (ℕ × ℕ) → Type 0

@@ -6,8 +6,8 @@ use Rattle.eql_match.specs.Inner.Labels.{AreNumbersOf}
 use Rattle.eql_match.proofs.Tests.{numbers_of}
 use Rattle.eql_match.proofs.patterns.pattern_row.Goals as goal
 
-pub matched_bits-requires : goal.matched_bits-requires
-matched_bits-requires c = record {
+pub row-requires : goal.row-requires
+row-requires c = record {
   numbers = subst (λ (items : List Item). AreNumbersOf c.column-column.result.now (map (label_of c.args.place.attribute) items))
       (sym (c.items_at-items.ensures ∙ ap (λ (b : BundleParts). items_at b.levels c.args.place.level) c.bundle.ensures))
       (numbers_of c.args.indexed.now.labels c.column-column.result.now c.args.place.attribute
