@@ -14,6 +14,7 @@ use Rattle.level_items.specs.declared.times.Time.TheVariants.{NoTime, Span as Ti
 use Rattle.level_items.specs.Levels.{Level, KeepsLevelRule, are_apart, are_in_order, fits_level, ids_of, is_before_first, items_at}
 use Rattle.level_items.specs.Times.{first_sample, fits_kind, is_before, last_sample}
 use Rattle.level_items.proofs.Apart.{first-le-last, starts_rise}
+use Rattle.level_items.proofs.Changes.{parts_of_fit}
 use Rattle.bundle_state.specs.Bundle.{BundleParts}
 use Rattle.hier_closure.specs.Dominance.{dominates, ids_at, closure_of}
 use Rattle.eql_model.specs.declared.tuple.Span.{Span}
@@ -29,18 +30,22 @@ use Rattle.eql_model.proofs.MadeRows.{no_item}
 
 -- ---- items whose times rise
 
+no_time : (t : Time) → fits_kind kinds.Item t ≡ true → (first_sample t ≡ 0) × (last_sample t ≡ 0)
+no_time NoTime fits = (refl, refl)
+no_time (TimeSpan start dur) fits = absurd cc
+no_time (Point at) fits = absurd cc
+
 -- of items without times
 untimed : (attributes : ℕ) (items : List Item) (i : ℕ) (d : Item) → IsTrue (list_all (fits_level kinds.Item attributes) items) → i < length items →
     (first_sample (get_or items i d).time ≡ 0) × (last_sample (get_or items i d).time ≡ 0)
 untimed attributes [] i d all h = absurd (omega arith)
 untimed attributes (x ∷ xs) zero d all h =
-    no_time x.time (and_parts (fits_kind kinds.Item x.time) _ (and_parts _ _ all).0).0
-  where
-    no_time : (t : Time) → fits_kind kinds.Item t ≡ true → (first_sample t ≡ 0) × (last_sample t ≡ 0)
-    no_time NoTime fits = (refl, refl)
-    no_time (TimeSpan start dur) fits = absurd cc
-    no_time (Point at) fits = absurd cc
-untimed attributes (x ∷ xs) (suc i) d all h = untimed attributes xs i d (and_parts _ _ all).1 (omega arith)
+    no_time x.time
+    (parts_of_fit kinds.Item attributes x
+    (and_parts (fits_level kinds.Item attributes x) (list_all (fits_level kinds.Item attributes) xs) all).0).form
+untimed attributes (x ∷ xs) (suc i) d all h =
+    untimed attributes xs i d (and_parts (fits_level kinds.Item attributes x) (list_all (fits_level kinds.Item attributes) xs) all).1
+    (omega arith)
 
 ends_rise : (items : List Item) (i j : ℕ) (d : Item) → are_apart items ≡ true → i ≤ j → j < length items →
     last_sample (get_or items i d).time ≤ last_sample (get_or items j d).time
@@ -63,7 +68,10 @@ rise_by : (kind : LevelKind) (attributes : ℕ) (items : List Item) → IsTrue (
 rise_by kinds.Item attributes items fitting ordered = λ i j d order within.
     let one = untimed attributes items i d fitting (omega arith) in
     let other = untimed attributes items j d fitting within in
-    let a = one.0 in let b = one.1 in let p = other.0 in let q = other.1 in
+    let a : first_sample (get_or items i d).time ≡ 0 = one.0 in
+    let b : last_sample (get_or items i d).time ≡ 0 = one.1 in
+    let p : first_sample (get_or items j d).time ≡ 0 = other.0 in
+    let q : last_sample (get_or items j d).time ≡ 0 = other.1 in
     (omega arith, omega arith)
 rise_by kinds.Segment attributes items fitting ordered = λ i j d order within.
     (starts_rise items i j d ordered order within, ends_rise items i j d ordered order within)
@@ -109,21 +117,32 @@ last_kept p (x ∷ xs) a b zero d rise behind h is none =
     ap (λ c. from_to_last (a, b) (cond c (x ∷ filter p xs) (filter p xs))) is
     ∙ ap (from_to_last (min a (first_sample x.time), max b (last_sample x.time)))
     (none_kept p xs d (λ k within. none (suc k) (omega arith) (omega arith)))
-    ∙ (let here = behind 0 (omega arith) in let low = here.0 in let high = here.1 in
+    ∙ (let here = behind 0 (omega arith) in
+    let low : a ≤ first_sample x.time = here.0 in
+    let high : b ≤ last_sample x.time = here.1 in
     let one : min a (first_sample x.time) ≡ a = omega arith in
     let other : max b (last_sample x.time) ≡ last_sample x.time = omega arith in
     λ i. (one i, other i))
 last_kept p (x ∷ xs) a b (suc l) d rise behind h is none = by (p x)
   where
+    still : IsBehind (min a (first_sample x.time), max b (last_sample x.time)) xs d
+    still k within =
+        let there = behind (suc k) (omega arith) in
+        let rises = rise 0 (suc k) d (omega arith) (omega arith) in
+        let c : a ≤ first_sample (get_or xs k d).time = there.0 in
+        let e : b ≤ last_sample (get_or xs k d).time = there.1 in
+        let f : first_sample x.time ≤ first_sample (get_or xs k d).time = rises.0 in
+        let g : last_sample x.time ≤ last_sample (get_or xs k d).time = rises.1 in
+        (omega arith, omega arith)
+
     by : (c : Bool) → from_to_last (a, b) (cond c (x ∷ filter p xs) (filter p xs)) ≡ (a, last_sample (get_or xs l d).time)
     by true =
-        let here = behind 0 (omega arith) in let low = here.0 in
+        let here = behind 0 (omega arith) in
+        let low : a ≤ first_sample x.time = here.0 in
         let one : min a (first_sample x.time) ≡ a = omega arith in
-        last_kept p xs (min a (first_sample x.time)) (max b (last_sample x.time)) l d (rise_tail x xs rise)
-        (λ k within. let there = behind (suc k) (omega arith) in let rises = rise 0 (suc k) d (omega arith) (omega arith) in
-        let c = there.0 in let e = there.1 in let f = rises.0 in let g = rises.1 in (omega arith, omega arith))
+        last_kept p xs (min a (first_sample x.time)) (max b (last_sample x.time)) l d (rise_tail x xs rise) still
         (omega arith) is (λ k from within. none (suc k) (omega arith) (omega arith))
-        ∙ ap (λ n. (n, last_sample (get_or xs l d).time)) one
+        ∙ ap (λ (n : ℕ). (n, last_sample (get_or xs l d).time)) one
     by false =
         last_kept p xs a b l d (rise_tail x xs rise) (λ k within. behind (suc k) (omega arith)) (omega arith) is
         (λ k from within. none (suc k) (omega arith) (omega arith))
@@ -246,6 +265,16 @@ never : (b : Bool) → (b ≡ true → ⊥) → b ≡ false
 never true not_so = absurd (not_so refl)
 never false not_so = refl
 
+-- the same by a test of places, which the items pass between two of them
+first_by : (p : Item → Bool) (u : ℕ → Bool) (items : List Item) (f l : ℕ) (d : Item) → Rise items →
+    ((k : ℕ) → k < length items → p (get_or items k d) ≡ u k) → AreEnds u (Some (f, l)) → f < length items → l < length items →
+    extent (filter p items) ≡ Some (first_sample (get_or items f d).time, last_sample (get_or items l d).time)
+first_by p u items f l d rise same ends low high =
+    first_kept p items f l d rise (ends.2 f ends.0).1 high (same f low ∙ ends.0) (same l high ∙ ends.1)
+    (λ k less. same k (omega arith)
+    ∙ never (u k) (λ set. let from : f ≤ k = (ends.2 k set).0 in absurd (omega arith)))
+    (λ k more h. same k h ∙ never (u k) (λ set. let to : k ≤ l = (ends.2 k set).1 in absurd (omega arith)))
+
 pub below_none : (b : BundleParts) (span : Span) (time : ℕ) (rows : List (List Bool)) → IsStretchIn b span →
     rows ≡ closure_of b time span.level → AreEnds (is_under rows (bare span.first span.last)) None →
     None ≡ extent (items_below b (Some time) span)
@@ -259,23 +288,11 @@ pub below_some : (b : BundleParts) (span : Span) (time f l first last : ℕ) (it
     first ≡ first_sample (get_or items f d).time → last ≡ last_sample (get_or items l e).time →
     Some (first, last) ≡ extent (items_below b (Some time) span)
 below_some b span time f l first last items rows d e there are rise made ends is_first is_last =
+    let within = ends_within b span.level time f l items rows (bare span.first span.last) are made ends in
     (λ i. Some (is_first i, (is_last ∙ ap (λ (x : Item). last_sample x.time) (get_or_default items l e d within.1)) i))
-    ∙ sym (first_kept test items f l d rise (ends.2 f ends.0).1 within.1 (passes f within.0 ∙ ends.0) (passes l within.1 ∙ ends.1)
-    (λ k less. let low = within.0 in passes k (omega arith) ∙ never (under k) (λ set. let e = (ends.2 k set).0 in absurd (omega arith)))
-    (λ k more h. passes k h ∙ never (under k) (λ set. let e = (ends.2 k set).1 in absurd (omega arith))))
-    ∙ ap (λ xs. extent (filter test xs)) are
-  where
-    test : Item → Bool
-    test = is_below_some b.links (ids_of (items_of b span))
-
-    under : ℕ → Bool
-    under = is_under rows (bare span.first span.last)
-
-    within : (f < length items) × (l < length items)
-    within = ends_within b span.level time f l items rows (bare span.first span.last) are made ends
-
-    passes : (k : ℕ) → k < length items → test (get_or items k d) ≡ under k
-    passes k h =
-        ap (λ xs. test (get_or xs k d)) are
-        ∙ sym (below_is b span time k d there (let same = ap length are in omega arith))
-        ∙ sym (ap (λ rs. is_under rs (bare span.first span.last) k) made)
+    ∙ sym (first_by (is_below_some b.links (ids_of (items_of b span))) (is_under rows (bare span.first span.last)) items f l d rise
+    (λ k h. ap (λ xs. is_below_some b.links (ids_of (items_of b span)) (get_or xs k d)) are
+    ∙ sym (below_is b span time k d there (let same = ap length are in omega arith))
+    ∙ sym (ap (λ rs. is_under rs (bare span.first span.last) k) made))
+    ends within.0 within.1)
+    ∙ ap (λ xs. extent (filter (is_below_some b.links (ids_of (items_of b span))) xs)) are

@@ -1,14 +1,15 @@
 -- The first and the last place at which a test passes: of a row of bits, of the rows of a stretch, and of items whose
 -- times rise.
-use Rattle.std.proofs.Common.{◌≡◌, ◌⊎◌, inl, inr, ℕ, zero, suc, ◌+◌, ◌-◌, ◌<◌, ◌≤◌, Bool, true, false, cond, ◌||◌, List, [], ◌∷◌, ◌++◌, length, get_or, Option, None, Some, refl, sym, ap, subst, ◌∙◌, arith}
+use Rattle.std.proofs.Common.{◌≡◌, ◌⊎◌, inl, inr, ℕ, zero, suc, ◌+◌, ◌-◌, ◌<◌, ◌≤◌, Bool, true, false, cond, ◌||◌, List, [], ◌∷◌, ◌++◌, length, get_or, Option, None, Some, refl, sym, ap, subst, ◌∙◌, arith, nat_le, nat_lt}
 use Rattle.std.specs.Prelude.{min, max, unwrap_or}
 use Rattle.std.specs.List.{list_any, range_with_len, slice_get}
 use Rattle.std.proofs.Math.Nat.{min-eq_left, min-eq_right, max-eq_left, max-eq_right}
-use Rattle.std.proofs.lemmas.Bool.{cases_lt}
+use Rattle.std.proofs.lemmas.Bool.{and_parts, cases_lt, leb-true}
 use Rattle.std.proofs.lemmas.List.Folds.{list_any-append}
 use Rattle.std.proofs.lemmas.Option.{slice_get_within, get_or_from_slice_get, unwrap_or-slice_get}
 use Rattle.lane_bits.specs.Inner.Row.{NoneWhere, IsFirst, IsLast}
 use Rattle.eql_model.specs.declared.tuple.Tuple.{Tuple}
+use Rattle.eql_model.specs.Tuples.{fits_in}
 use Rattle.eql_model.specs.Inner.Below.{AreEnds, together}
 use Rattle.eql_model.specs.Inner.Flags.{flag_at}
 use Rattle.eql_model.specs.Inner.Joins.{bit_at, is_under}
@@ -158,3 +159,6 @@ ends_more rows first row r found own more so_far ends here h put =
 pub ends_whole : (rows : List (List Bool)) (upper : Tuple) (row : ℕ) (found : Option (ℕ × ℕ)) → AreEndsTo rows upper.first row found →
     row ≡ upper.last + 1 → AreEnds (is_under rows upper) found
 ends_whole rows upper row found so_far end = subst (λ n. AreEndsTo rows upper.first n found) end so_far
+
+pub rises_of : (n : ℕ) (t : Tuple) → fits_in n t ≡ true → t.first ≤ t.last
+rises_of n t fits = leb-true t.first t.last (and_parts (nat_le t.first t.last) (nat_lt t.last n) fits).0

@@ -4,7 +4,7 @@ pub mod Conditions
 pub mod Covers
 mod Edges
 pub mod Extents
-mod FirstLast
+pub mod FirstLast
 pub mod Fitting
 pub mod Gathers
 pub mod Listed

@@ -98,7 +98,9 @@ fn extent_below(bundle: &Bundle, below: &Below, span: Span) -> Option<(u64, u64)
     let Some((first, last)) = ends_under(&below.rows, stretch) else {
         return None;
     };
-    Some((items[first].time.first_sample(), last_sample(items[last].time)))
+    let from = items[first].time.first_sample();
+    let to = last_sample(items[last].time);
+    Some((from, to))
 }
 
 /// The first sample of the first item of a result and the last one of its last item.
