@@ -16,7 +16,7 @@ loop-at-init c =
       bits = filled_none _ _ _ _ c.in_ok-row.ensures refl;
     }
 
-pub returns : goal.returns
-returns c =
+pub returns-clause-row : goal.returns-clause-row
+returns-clause-row c =
     matched_all c.args.matching.now c.args.attribute c.args.items.now c.loop-at.row (length c.args.items.now) c.loop-at.at
     c.loop-at.invariant.bits refl (omega arith)
