@@ -57,7 +57,7 @@ ends_in n t fits =
 
 -- ---- one bit
 
-bit_is : (links : List Link) (uppers lowers : List ℕ) (i j : ℕ) → i < length uppers → j < length lowers →
+pub bit_is : (links : List Link) (uppers lowers : List ℕ) (i j : ℕ) → i < length uppers → j < length lowers →
     bit_at (closure_rows links lowers uppers) i j ≡ dominates links (get_or uppers i 0) (get_or lowers j 0)
 bit_is links uppers lowers i j there here =
     ap (λ row. get_or row j false) (get_or-map (closure_row links lowers) uppers i 0 [] there)

@@ -181,7 +181,7 @@ span_fits b span there =
     subst (λ (n : ℕ). fits_in n (bare span.first span.last) ≡ true) (sym (ids_count_of b span.level))
     (fits_bare (length (items_at b.levels span.level)) span.first span.last there.rises there.within)
 
-stretch_ids : (items : List Item) (first last : ℕ) → from_to (ids_of items) first last ≡ ids_of (from_to items first last)
+pub stretch_ids : (items : List Item) (first last : ℕ) → from_to (ids_of items) first last ≡ ids_of (from_to items first last)
 stretch_ids items first last =
     ap (take (last + 1 - first)) (drop-map (λ (i : Item). i.id.0) first items)
     ∙ take-map (λ (i : Item). i.id.0) (last + 1 - first) (drop first items)
