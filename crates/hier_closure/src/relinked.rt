@@ -1,11 +1,13 @@
 //! The rows of links of a bundle that an edit made: those of the bundle before it, where the edit changed
 //! neither the links nor the ids of the items.
-ghost use Rattle.std.specs.Prelude.{◌≡◌, true, IfOk};
+ghost use Rattle.std.specs.Prelude.{◌≡◌, length, true, IfOk};
 ghost use Rattle.level_items.specs.Levels.{ids_of};
 ghost use Rattle.hier_closure.specs.Dominance.{ids_at};
-ghost use Rattle.hier_closure.specs.Inner.Linked.{AreLinkedIn, HaveSameIdsBut};
+ghost use Rattle.hier_closure.specs.Inner.Linked.{AreAlike, AreLinkedIn, HaveSameIdsBut};
+ghost use Rattle.hier_closure.specs.Inner.Stands.{AreStandsIn};
 
 use crate::linked::{LinkedLevels, linked_levels};
+use crate::stands::{BundleStands, stands_in};
 use bundle_state::Bundle;
 use emu_names::{Memory, PlainData, Series};
 use level_items::Item;
@@ -54,10 +56,8 @@ fn items_of(bundle: &Bundle, level: usize) -> &[Item]
 }
 
 /// Whether two bundles have the same links, and a level of them items with the same ids.
-fn are_alike(old: &Bundle, bundle: &Bundle, level: usize) -> bool
-    ensures links { result ≡ true → bundle.now.links ≡ old.now.links }
-    ensures ids { result ≡ true
-        → ids_at bundle.now.levels level ≡ ids_at old.now.levels level }
+pub fn are_alike(old: &Bundle, bundle: &Bundle, level: usize) -> bool
+    ensures { result ≡ true → AreAlike level old.now bundle.now }
 {
     if !are_same_links(old.links(), bundle.links()) {
         return false;
@@ -74,14 +74,40 @@ pub fn relinked_levels(
     all: &Series<LinkedLevels>,
     bundle: &Bundle,
     level: usize,
+    alike: bool,
 ) -> Result<Series<LinkedLevels>, Memory>
     requires linked { AreLinkedIn old.now all.now }
     requires same { HaveSameIdsBut level old.now.levels bundle.now.levels }
+    requires alike { alike ≡ true → AreAlike level old.now bundle.now }
     ensures { IfOk result (λ made. AreLinkedIn bundle.now made) }
 {
     let _items = bundle.item_count();
-    if !all.is_empty() && are_alike(old, bundle, level) {
+    if alike && !all.is_empty() {
         return all.copy(alloc);
     }
     linked_levels(alloc, bundle)
+}
+
+/// Where the items stand that the items of a bundle link to, from the places of a bundle with as many levels and the
+/// same ids on all levels but one: where the links and the ids of that level are the same too, they are shared, and
+/// looked up anew else. The only refusal is want of memory.
+pub fn stands_again(
+    alloc: Global,
+    old: &Bundle,
+    stands: &BundleStands,
+    bundle: &Bundle,
+    level: usize,
+    alike: bool,
+) -> Result<BundleStands, Memory>
+    requires stands { AreStandsIn old.now stands.now }
+    requires count { length bundle.now.levels ≡ length old.now.levels }
+    requires same { HaveSameIdsBut level old.now.levels bundle.now.levels }
+    requires alike { alike ≡ true → AreAlike level old.now bundle.now }
+    ensures { IfOk result (λ made. AreStandsIn bundle.now made) }
+{
+    let _items = bundle.item_count();
+    if alike {
+        return stands.copy(alloc);
+    }
+    stands_in(alloc, bundle)
 }

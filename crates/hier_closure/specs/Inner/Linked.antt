@@ -24,3 +24,8 @@ pub record AreLinkedIn (bundle : BundleParts) (all : List LinkedLevels) : Type 0
 -- on each level but one the items have the same ids, in the same order
 abbrev pub HaveSameIdsBut : ℕ → List Level → List Level → Type 0
 HaveSameIdsBut level old new = (k : ℕ) → k ≢ level → ids_at new k ≡ ids_at old k
+
+-- two bundles have the same links, and on this level items with the same ids
+pub record AreAlike (level : ℕ) (old new : BundleParts) : Type 0 where
+  pub links : new.links ≡ old.links
+  pub ids : ids_at new.levels level ≡ ids_at old.levels level
