@@ -1,24 +1,28 @@
 -- The places of the items that items link to: how they are put together, and what stands there.
-use Rattle.std.proofs.Common.{◌≡◌, ◌⊎◌, inl, inr, ℕ, suc, ◌+◌, ◌-◌, ◌<◌, ◌≤◌, Bool, List, [], ◌∷◌, ◌++◌, length, map, take, drop, get_or, Option, None, Some, refl, sym, ap, subst, ◌∙◌, arith}
-use Rattle.std.specs.Prelude.{All, IsSome, unwrap_or}
-use Rattle.std.specs.List.{list_any, slice_get}
+use Rattle.std.proofs.Common.{◌≡◌, ◌⊎◌, inl, inr, ℕ, suc, ◌+◌, ◌-◌, ◌<◌, ◌≤◌, Bool, List, [], ◌∷◌, ◌++◌, length, map, take, drop, get_or, Option, None, Some, Result, Ok, Err, refl, sym, ap, subst, ◌∙◌, arith}
+use Rattle.std.specs.Prelude.{All, IfOk, IsSome, unwrap_or}
+use Rattle.std.specs.List.{slice_get}
+use Rattle.std.specs.Option.{option_map_or}
 use Rattle.std.proofs.lemmas.Bool.{cases_lt}
-use Rattle.std.proofs.lemmas.List.{length-append, length-drop, map-append, take_all, take_more, take-append-drop, take-append-le, drop-append-le, get_or_append_left, get_or_push, append_assoc}
+use Rattle.std.proofs.lemmas.List.{length-append, length-drop, map-append, take_all, take_more, take-append-drop, take-append-le, drop-append-le, get_or_append_left, get_or_push, append_assoc, map_more}
 use Rattle.std.proofs.lemmas.List.Elements.{All-nil, All-cons}
 use Rattle.std.proofs.lemmas.Option.{get_or_from_slice_get, slice_get-get_or, slice_get_within, unwrap_or-slice_get}
 use Rattle.emu_names.specs.declared.kinds.ItemId.{ItemId}
-use Rattle.level_items.specs.Levels.{Level}
+use Rattle.level_items.specs.declared.items.Item.{Item}
+use Rattle.level_items.specs.Levels.{Level, ids_of}
 use Rattle.link_graph.specs.Link.{children_of}
 use Rattle.bundle_state.specs.Bundle.{BundleParts, level_of_id, place_of}
 use Rattle.bundle_state.specs.Valid.{KeepsBundleRules}
 use Rattle.bundle_state.proofs.IdLevels.{number_within}
-use Rattle.hier_closure.specs.Dominance.{ids_at, is_or_dominates, closure_row}
+use Rattle.hier_closure.specs.Dominance.{ids_at, is_or_dominates, closure_of, closure_row}
 use Rattle.hier_closure.specs.declared.stands.LevelStands.{LevelStands}
 use Rattle.hier_closure.specs.declared.stands.Stand.{Stand}
-use Rattle.hier_closure.specs.Inner.Ranks.{AreMadeAtItem, AreMadeBelowItem}
+use Rattle.hier_closure.specs.Inner.Linked.{AreAlike, HaveSameIdsBut}
+use Rattle.hier_closure.specs.Inner.Ranks.{AreMadeAtItem, AreMadeBelow, AreMadeBelowItem}
 use Rattle.hier_closure.specs.Inner.Stands.{AddsChildren, AreChildren, AreStandsIn, AreStandsOf, IsCut, IsReady, cut, id_at, item_id, stand_id, start_at}
 use Rattle.hier_closure.proofs.Ids.{Stands, level_is, some_place, stands}
-use Rattle.hier_closure.proofs.Joins.{child_levels, child_more, child_row, children_row, either, is_there, made_at_child, whole_row}
+use Rattle.hier_closure.proofs.Joins.{child_levels, child_more, child_row, children_row, either, is_there, made_at_child, made_at_item, whole_row}
+use Rattle.hier_closure.proofs.Stay.{same_ids}
 
 -- ---- one place
 
@@ -276,3 +280,99 @@ level_at bundle level k rules within =
     let q = get_or (ids_at bundle.levels level) k 0 in
     level_is bundle.levels level q rules.apart
     (is_there (ids_at bundle.levels level) k q (slice_get-get_or (ids_at bundle.levels level) k 0 within))
+
+-- ---- the rows of a level
+
+pub own_of : (bundle : BundleParts) (all : List LevelStands) (level : ℕ) (own : LevelStands) → AreStandsIn bundle all →
+    level < length bundle.levels → own ≡ get_or all level own → AreStandsOf bundle (ids_at bundle.levels level) own
+own_of bundle all level own stands within is =
+    let count = stands.count in
+    stands.each level own (slice_get-get_or all level own (omega arith) ∙ ap (λ (x : LevelStands). Some x) (sym is))
+
+pub ready_at : (bundle : BundleParts) (lower level position : ℕ) (table : List (List (List Bool))) (all : List LevelStands)
+    (own : LevelStands) (children : List Stand) → AreStandsIn bundle all → AreMadeBelow bundle lower table level →
+    level < length bundle.levels → own ≡ get_or all level own → position < length (ids_at bundle.levels level) →
+    children ≡ cut own position → All (IsReady bundle lower table) children
+ready_at bundle lower level position table all own children stands made within is here are =
+    let q = get_or (ids_at bundle.levels level) position 0 in
+    all_ready bundle lower table (item_id q) children stands.rules
+    (made_at_item bundle lower table level q made (level_at bundle level position stands.rules here))
+    (ap (map (id_at bundle)) are ∙ (own_of bundle all level own stands within is).each position here)
+
+pub rows_more : (bundle : BundleParts) (lower level position : ℕ) (all : List LevelStands) (own : LevelStands) (children : List Stand)
+    (row : List Bool) (rows more : List (List Bool)) → AreStandsIn bundle all → level < length bundle.levels →
+    own ≡ get_or all level own → position < length (ids_at bundle.levels level) → children ≡ cut own position →
+    row ≡ children_row bundle lower (map (stand_id bundle) children) →
+    rows ≡ map (closure_row bundle.links (ids_at bundle.levels lower)) (take position (ids_at bundle.levels level)) →
+    more ≡ rows ++ row ∷ [] →
+    more ≡ map (closure_row bundle.links (ids_at bundle.levels lower)) (take (position + 1) (ids_at bundle.levels level))
+rows_more bundle lower level position all own children row rows more stands within is here are made so_far put =
+    put ∙ (λ i. so_far i ++ whole i ∷ [])
+    ∙ sym (map_more (closure_row bundle.links (ids_at bundle.levels lower)) (ids_at bundle.levels level) position 0 here)
+  where
+    whole : row ≡ closure_row bundle.links (ids_at bundle.levels lower) (get_or (ids_at bundle.levels level) position 0)
+    whole =
+        row_whole bundle lower (get_or (ids_at bundle.levels level) position 0) children row
+        (ap (map (id_at bundle)) are ∙ (own_of bundle all level own stands within is).each position here) made
+
+pub rows_whole : (bundle : BundleParts) (lower level position : ℕ) (rows : List (List Bool)) →
+    length (ids_at bundle.levels level) ≤ position →
+    rows ≡ map (closure_row bundle.links (ids_at bundle.levels lower)) (take position (ids_at bundle.levels level)) →
+    rows ≡ closure_of bundle lower level
+rows_whole bundle lower level position rows past so_far =
+    so_far
+    ∙ ap (map (closure_row bundle.links (ids_at bundle.levels lower))) (take_all position (ids_at bundle.levels level) past)
+
+-- ---- places that stay, where neither links nor ids change
+
+children_stay : (old new : BundleParts) (id : ℕ) (stands : List Stand) → ((k : ℕ) → ids_at new.levels k ≡ ids_at old.levels k) →
+    new.links ≡ old.links → AreChildren old id stands → AreChildren new id stands
+children_stay old new id stands ids links are =
+    same_places stands ∙ are ∙ ap (λ ls. map (λ (c : ItemId). Some c.0) (children_of (item_id id) ls)) (sym links)
+  where
+    same_places : (ss : List Stand) → map (id_at new) ss ≡ map (id_at old) ss
+    same_places [] = refl
+    same_places (s ∷ ss) = λ i. slice_get (ids s.level i) s.position ∷ same_places ss i
+
+pub stands_stay : (old new : BundleParts) (level : ℕ) (all : List LevelStands) → KeepsBundleRules new →
+    length new.levels ≡ length old.levels → HaveSameIdsBut level old.levels new.levels → AreAlike level old new →
+    AreStandsIn old all → AreStandsIn new all
+stands_stay old new level all rules count others alike stands = record {
+  rules = rules;
+  count = stands.count ∙ sym count;
+  each = λ k one at.
+      let own = stands.each k one at in
+      let ids = same_ids old.levels new.levels level others alike.ids in
+      subst (λ (qs : List ℕ). AreStandsOf new qs one) (sym (ids k))
+      (record {
+        long = own.long;
+        last = own.last;
+        cuts = own.cuts;
+        each = λ i below. children_stay old new (get_or (ids_at old.levels k) i 0) (cut one i) ids alike.links (own.each i below);
+      });
+}
+
+pub stands_copy : {E : Type 0} (bundle : BundleParts) (all : List LevelStands) (r : Result (List LevelStands) E) →
+    IfOk r (λ made. made ≡ all) → AreStandsIn bundle all → IfOk r (λ made. AreStandsIn bundle made)
+stands_copy bundle all (Ok made) is stands = subst (AreStandsIn bundle) (sym is) stands
+stands_copy bundle all (Err e) is stands = tt
+
+-- ---- the places of a level, item by item
+
+pub level_more : (bundle : BundleParts) (items : List Item) (at : ℕ) (item : Item) (n : ℕ) (now new : LevelStands) → at < length items →
+    item ≡ get_or items at item → AreStandsOf bundle (ids_of (take at items)) now → AddsChildren bundle item.id.0 now.stands new.stands →
+    n ≡ length new.stands → new.starts ≡ now.starts ++ n ∷ [] → AreStandsOf bundle (ids_of (take (at + 1) items)) new
+level_more bundle items at item n now new within is so_far adds count put =
+    subst (λ (ids : List ℕ). AreStandsOf bundle ids new)
+    (sym (ap ids_of (take_more items at item within ∙ ap (λ (x : Item). take at items ++ x ∷ []) (sym is))
+    ∙ map-append (λ (i : Item). i.id.0) (take at items) (item ∷ [])))
+    (stands_more bundle (ids_of (take at items)) item.id.0 n now new so_far adds count put)
+
+pub level_done : (bundle : BundleParts) (n : ℕ) (level : Level) (items : List Item) (at : ℕ) (own : LevelStands) →
+    slice_get bundle.levels n ≡ Some level → items ≡ level.items → length items ≤ at → AreStandsOf bundle (ids_of (take at items)) own →
+    AreStandsOf bundle (ids_at bundle.levels n) own
+level_done bundle n level items at own here same past so_far =
+    subst (λ (ids : List ℕ). AreStandsOf bundle ids own)
+    (ap ids_of (take_all at items past ∙ same)
+    ∙ sym (ap (λ o. option_map_or (λ (l : Level). ids_of l.items) o []) here))
+    so_far

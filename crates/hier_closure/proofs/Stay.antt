@@ -12,7 +12,7 @@ use Rattle.link_graph.specs.declared.link.Link.{Link}
 use Rattle.bundle_state.specs.Bundle.{BundleParts}
 use Rattle.bundle_state.specs.Valid.{KeepsBundleRules}
 use Rattle.hier_closure.specs.Dominance.{ids_at}
-use Rattle.hier_closure.specs.Inner.Linked.{AreLinkedIn, HaveSameIdsBut, linked_of, linked_row}
+use Rattle.hier_closure.specs.Inner.Linked.{AreAlike, AreLinkedIn, HaveSameIdsBut, linked_of, linked_row}
 use Rattle.hier_closure.specs.declared.linked.LinkedLevels.{LinkedLevels}
 
 -- ---- lists that are compared place by place
@@ -68,7 +68,7 @@ rows_stay old new upper lower ids links =
     ∙ ap (λ (lowers : List ℕ). map (linked_row new.links lowers) (ids_at old.levels upper)) (sym (ids lower))
     ∙ ap (map (linked_row new.links (ids_at new.levels lower))) (sym (ids upper))
 
-same_ids : (old new : List Level) (level : ℕ) → HaveSameIdsBut level old new → ids_at new level ≡ ids_at old level →
+pub same_ids : (old new : List Level) (level : ℕ) → HaveSameIdsBut level old new → ids_at new level ≡ ids_at old level →
     (k : ℕ) → ids_at new k ≡ ids_at old k
 same_ids old new level others here k =
     ⊎_elim
@@ -78,13 +78,13 @@ same_ids old new level others here k =
     (cases_Bool (k == level))
 
 pub linked_stay : (old new : BundleParts) (level : ℕ) (all : List LinkedLevels) → KeepsBundleRules new →
-    HaveSameIdsBut level old.levels new.levels → ids_at new.levels level ≡ ids_at old.levels level → new.links ≡ old.links →
-    AreLinkedIn old all → AreLinkedIn new all
-linked_stay old new level all rules others here links linked = record {
+    HaveSameIdsBut level old.levels new.levels → AreAlike level old new → AreLinkedIn old all → AreLinkedIn new all
+linked_stay old new level all rules others alike linked = record {
   rules = rules;
   each = λ k one within.
       linked.each k one within
-      ∙ rows_stay old new (get_or all k one).upper (get_or all k one).lower (same_ids old.levels new.levels level others here) links;
+      ∙ rows_stay old new (get_or all k one).upper (get_or all k one).lower (same_ids old.levels new.levels level others alike.ids)
+      alike.links;
 }
 
 -- so is a copy of the rows

@@ -38,7 +38,8 @@ pub(crate) fn level_rows(
     let mut rows = Series::from_vec(Vec::with_capacity(alloc, count)?);
     for position in 0..count {
         let children = own.of_item(position);
-        rows.push(joined_row(alloc, config, bundle, lower, table, children)?)?;
+        let row = joined_row(alloc, config, bundle, lower, table, children)?;
+        rows.push(row)?;
     }
     Ok(rows)
 }

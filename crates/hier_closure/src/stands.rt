@@ -1,15 +1,14 @@
 //! Where the items stand that the items of a bundle link to. These places are looked up once, when a bundle is
 //! indexed: whoever makes rows of dominance looks up no id.
-ghost use Rattle.std.specs.Prelude.{◌≡◌, ◌<◌, ◌++◌, IfOk, IsSome, OnOk, Some};
+ghost use Rattle.std.specs.Prelude.{◌≡◌, ◌<◌, length, IfOk, IsSome, OnOk, Some};
 ghost use Rattle.bundle_state.specs.Bundle.{level_of_id};
 ghost use Rattle.bundle_state.specs.Valid.{KeepsBundleRules};
-ghost use Rattle.std.specs.Prelude.{length};
 ghost use Rattle.hier_closure.specs.Dominance.{ids_at};
 ghost use Rattle.hier_closure.specs.Inner.Stands.{AddsChildren, AreStandsIn, AreStandsOf, IsCut, cut, id_at};
 
 use crate::children::place_from;
 use bundle_state::Bundle;
-use emu_names::{ItemId, Memory, PlainData, Series, Shared};
+use emu_names::{ItemId, Memory, Series, Shared};
 use std::alloc::Global;
 
 /// Where an item stands.
@@ -41,7 +40,8 @@ impl LevelStands {
     {
         let from = *self.starts.get(position) as usize;
         let to = *self.starts.get(position + 1) as usize;
-        &self.stands.as_slice()[from..to]
+        let all = self.stands.as_slice();
+        &all[from..to]
     }
 }
 
@@ -102,7 +102,8 @@ fn level_stands(alloc: Global, bundle: &Bundle, level: usize) -> Result<LevelSta
     starts.push(0)?;
     for item in items {
         put_children(&mut stands, bundle, item.id)?;
-        starts.push(narrowed(stands.len())?)?;
+        let short = narrowed(stands.len())?;
+        starts.push(short)?;
     }
     Ok(LevelStands { starts, stands })
 }
@@ -114,7 +115,8 @@ pub fn stands_in(alloc: Global, bundle: &Bundle) -> Result<BundleStands, Memory>
     let _items = bundle.item_count();
     let mut all = Series::new(alloc);
     for level in 0..bundle.level_count() {
-        all.push(level_stands(alloc, bundle, level)?)?;
+        let one = level_stands(alloc, bundle, level)?;
+        all.push(one)?;
     }
     Shared::new(alloc, all)
 }
