@@ -111,7 +111,7 @@ stands_more bundle ids id n now new so_far adds count put = record {
     old_start i within = ap (λ ns. get_or ns i 0) put ∙ get_or_append_left now.starts (n ∷ []) 0 i within
 
     last_start : start_at new (length ids + 1) ≡ n
-    last_start = ap (λ ns. get_or ns (length ids + 1) 0) put ∙ get_or_push now.starts n 0 (length ids + 1) (so_far.long ∙ omega arith)
+    last_start = ap (λ ns. get_or ns (length ids + 1) 0) put ∙ get_or_push now.starts n 0 (length ids + 1) (let e : suc (length ids) ≡ length ids + 1 = omega arith in so_far.long ∙ e)
 
     here : (i : ℕ) → length ids ≤ i → i < length (ids ++ id ∷ []) → i ≡ length ids
     here i from below = let b = length-append ids (id ∷ []) in omega arith
@@ -125,7 +125,7 @@ stands_more bundle ids id n now new so_far adds count put = record {
         record { within = omega arith; order = omega arith; end = omega arith }
     cut_of i (inr from) below =
         let at = here i from below in
-        let a = so_far.long in let b = so_far.last in let more = adds.more in
+        let a = so_far.long in let b = so_far.last in let more = adds.more in let whole = count in
         let long = ap length put ∙ length-append now.starts (n ∷ []) in
         let one : start_at new i ≡ length now.stands = ap (start_at new) at ∙ old_start (length ids) (omega arith) ∙ b in
         let other : start_at new (i + 1) ≡ n = ap (λ k. start_at new (k + 1)) at ∙ last_start in
@@ -196,9 +196,6 @@ stood_more bundle level all more one so_far made put = record {
   each = λ k other at. by k other (ap (λ xs. slice_get xs k) (sym put) ∙ at) (cases_lt k (length all));
 }
   where
-    same_some : (x y : LevelStands) → Some x ≡ Some y → x ≡ y
-    same_some x y e = ap (λ o. unwrap_or o x) e
-
     by : (k : ℕ) (other : LevelStands) → slice_get (all ++ one ∷ []) k ≡ Some other → (k < length all) ⊎ (length all ≤ k) →
         AreStandsOf bundle (ids_at bundle.levels k) other
     by k other at (inl before) =

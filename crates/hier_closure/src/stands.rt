@@ -72,9 +72,12 @@ fn stand_of(bundle: &Bundle, near: (usize, usize), id: ItemId) -> Result<Stand, 
     let Some((level, position)) = place_from(bundle, near, id) else {
         return Err(Memory);
     };
-    let level = narrowed(level)?;
-    let position = narrowed(position)?;
-    Ok(Stand { level, position })
+    let on = narrowed(level)?;
+    let at = narrowed(position)?;
+    Ok(Stand {
+        level: on,
+        position: at,
+    })
 }
 
 /// Puts the places of the items that an item links to last. The only refusal is want of memory.
