@@ -172,6 +172,17 @@ stands_more bundle ids id n now new so_far adds count put = record {
         ∙ ap (λ q. map (λ (c : ItemId). Some c.0) (children_of (item_id q) bundle.links))
         (sym (get_or_push ids id 0 (length ids) refl) ∙ ap (λ k. get_or (ids ++ id ∷ []) k 0) (sym at))
 
+-- the two starts of an item are in order, and none is behind the end
+pub cut_order : (level : LevelStands) (i from to : ℕ) → IsCut level i → slice_get level.starts i ≡ Some from →
+    slice_get level.starts (i + 1) ≡ Some to → from ≤ to
+cut_order level i from to is at next =
+    let one = get_or_from_slice_get level.starts i from 0 at in let other = get_or_from_slice_get level.starts (i + 1) to 0 next in
+    let order = is.order in omega arith
+
+pub cut_end : (level : LevelStands) (i to : ℕ) → IsCut level i → slice_get level.starts (i + 1) ≡ Some to → to ≤ length level.stands
+cut_end level i to is next =
+    let other = get_or_from_slice_get level.starts (i + 1) to 0 next in let end = is.end in omega arith
+
 -- the places of an item, by the two starts
 pub cut_is : (level : LevelStands) (i from to : ℕ) → slice_get level.starts i ≡ Some from → slice_get level.starts (i + 1) ≡ Some to →
     take (to - from) (drop from level.stands) ≡ cut level i

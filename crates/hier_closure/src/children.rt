@@ -102,7 +102,8 @@ pub(crate) fn joined_row(
         Ok(row) => row,
         Err(_) => return Err(Memory),
     };
-    for stand in stands {
+    for at in 0..stands.len() {
+        let stand = &stands[at];
         add_stand(&mut row, config, bundle, lower, table, *stand);
     }
     Ok(row)

@@ -38,10 +38,12 @@ impl LevelStands {
         requires { IsCut self.now position }
         ensures { result.now ≡ cut self.now position }
     {
+        let _count = self.starts.len();
         let from = *self.starts.get(position) as usize;
         let to = *self.starts.get(position + 1) as usize;
-        let all = self.stands.as_slice();
-        &all[from..to]
+        let (_, rest) = self.stands.as_slice().split_at(from);
+        let (own, _) = rest.split_at(to - from);
+        own
     }
 }
 

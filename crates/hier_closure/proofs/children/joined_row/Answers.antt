@@ -1,32 +1,38 @@
-use Rattle.std.proofs.Common.{◌≡◌, sym, ap, ◌∙◌, length, map, take, arith}
+use Rattle.std.proofs.Common.{◌≡◌, sym, ap, subst, ◌∙◌, length, map, take, arith}
 use Rattle.std.specs.List.{list_any}
 use Rattle.std.proofs.lemmas.List.{length-map, take_all}
 use Rattle.std.proofs.lemmas.List.Elements.{All-get_or}
 use Rattle.hier_closure.specs.Dominance.{ids_at, is_or_dominates}
 use Rattle.hier_closure.specs.Inner.Stands.{IsReady, stand_id}
+use Rattle.hier_closure.specs.declared.stands.Stand.{Stand}
 use Rattle.hier_closure.proofs.Joins.{children_row, first_row, ids_count}
 use Rattle.hier_closure.proofs.Places.{place_more}
 use Rattle.hier_closure.proofs.children.joined_row.Goals as goal
 
-pub loop-stand-init : goal.loop-stand-init
-loop-stand-init c =
+pub loop-at-init : goal.loop-at-init
+loop-at-init c =
     c.in-Ok.ensures
     ∙ first_row c.args.bundle.now c.args.lower c.len.result
     (ids_count c.args.bundle.now.levels c.args.lower c.level.result.now c.level.ensures.level ∙ sym c.len.ensures.length)
 
 pub add_stand-requires-clause-wide : goal.add_stand-requires-clause-wide
 add_stand-requires-clause-wide c =
-    ap length c.loop-stand.invariant
+    ap length c.loop-at.invariant
     ∙ length-map (ids_at c.args.bundle.now.levels c.args.lower)
-    (λ b. list_any (is_or_dominates c.args.bundle.now.links b) (map (stand_id c.args.bundle.now) (take c.loop-stand.stand-index c.args.stands.now)))
+    (λ b. list_any (is_or_dominates c.args.bundle.now.links b) (map (stand_id c.args.bundle.now) (take c.loop-at.at c.args.stands.now)))
 
-pub loop-stand-preserved : goal.loop-stand-preserved
-loop-stand-preserved c =
-    place_more c.args.bundle.now c.args.lower c.loop-stand.stand-index c.args.stands.now c.stand-item.result c.loop-stand.row c.add_stand.new.row
-    (omega arith) c.stand-item.is c.loop-stand.invariant c.add_stand.ensures
+pub add_stand-requires-clause-ready : goal.add_stand-requires-clause-ready
+add_stand-requires-clause-ready c =
+    subst (λ (s : Stand). IsReady c.args.bundle.now c.args.lower c.args.table.now s) (sym c.index-stands-at.is)
+    (c.requires.ready c.loop-at.at c.index-stands-at.result c.loop-at-test.true)
+
+pub loop-at-preserved : goal.loop-at-preserved
+loop-at-preserved c =
+    place_more c.args.bundle.now c.args.lower c.loop-at.at c.args.stands.now c.index-stands-at.result c.loop-at.row c.add_stand.new.row
+    c.loop-at-test.true c.index-stands-at.is c.loop-at.invariant c.add_stand.ensures
 
 pub returns : goal.returns
 returns c =
-    c.loop-stand.invariant
+    c.loop-at.invariant
     ∙ ap (λ xs. children_row c.args.bundle.now c.args.lower (map (stand_id c.args.bundle.now) xs))
-    (take_all c.loop-stand.stand-index c.args.stands.now (omega arith))
+    (take_all c.loop-at.at c.args.stands.now (omega arith))

@@ -4,5 +4,5 @@ use Rattle.hier_closure.proofs.Joins.{children_row}
 use Rattle.hier_closure.proofs.children.joined_row.Given as goal
 
 -- the row of the places so far
-abbrev pub invariant-loop-stand : goal.invariant-loop-stand
-invariant-loop-stand l = l.row ≡ children_row l.bundle l.lower (map (stand_id l.bundle) (take l.stand-index l.stands))
+abbrev pub invariant-loop-at : goal.invariant-loop-at
+invariant-loop-at l = l.row ≡ children_row l.bundle l.lower (map (stand_id l.bundle) (take l.at l.stands))

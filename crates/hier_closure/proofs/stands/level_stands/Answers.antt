@@ -12,7 +12,7 @@ loop-item-preserved c =
     (record { starts = c.loop-item.starts; stands = c.loop-item.stands })
     (record { starts = c.push-in-loop-item.new.self; stands = c.put_children.new.stands })
     (omega arith) c.item-item.is c.loop-item.invariant c.in_ok-put_children.ensures
-    (c.in_ok-short.ensures ∙ c.len.ensures) c.in_ok-push-in-loop-item.ensures.ok
+    (c.in_ok-short.ensures ∙ c.len.ensures) c.in_ok-push-2.ensures.ok
 
 pub returns : goal.returns
 returns c =

@@ -31,7 +31,7 @@ loop-child-preserved c =
       tt,
       tt,
       (
-        adds_more bundle c.loop-child.yielded c.in-Some.child c.loop-child.initial.stands c.loop-child.stands c.push.new.self c.in_ok-stand.stand
+        adds_more bundle c.loop-child.yielded c.in-Some.child c.args.stands.now c.loop-child.stands c.push.new.self c.in_ok-stand.stand
             c.loop-child.invariant.2.0 c.in_ok-stand.ensures c.in_ok-push.ensures.ok,
         children_end c.loop-child.yielded c.loop-child.child-iterator c.next.new.self c.in-Some.child c.in-Some.ensures.steps ∙ c.loop-child.invariant.2.1,
       ),
