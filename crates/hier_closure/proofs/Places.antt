@@ -265,15 +265,15 @@ all_ready bundle lower table item stands rules made are =
     ready_by bundle lower table item [] stands (children_of item bundle.links) rules made are refl
 
 -- one place more
-pub place_more : (bundle : BundleParts) (lower at : ℕ) (stands : List Stand) (stand : Stand) (row new : List Bool) → at < length stands →
-    stand ≡ get_or stands at stand → row ≡ children_row bundle lower (map (stand_id bundle) (take at stands)) →
-    new ≡ either row (child_row bundle lower (stand_id bundle stand)) →
+pub place_more : (bundle : BundleParts) (lower at : ℕ) (stands : List Stand) (d : Stand) (row new : List Bool) → at < length stands →
+    row ≡ children_row bundle lower (map (stand_id bundle) (take at stands)) →
+    new ≡ either row (child_row bundle lower (stand_id bundle (get_or stands at d))) →
     new ≡ children_row bundle lower (map (stand_id bundle) (take (at + 1) stands))
-place_more bundle lower at stands stand row new within own so_far step =
-    child_more bundle lower (map (stand_id bundle) (take at stands)) (stand_id bundle stand) row new so_far step
+place_more bundle lower at stands d row new within so_far step =
+    child_more bundle lower (map (stand_id bundle) (take at stands)) (stand_id bundle (get_or stands at d)) row new so_far step
     ∙ ap (children_row bundle lower)
-    (sym (ap (map (stand_id bundle)) (take_more stands at stand within ∙ ap (λ (s : Stand). take at stands ++ s ∷ []) (sym own))
-    ∙ map-append (stand_id bundle) (take at stands) (stand ∷ [])))
+    (sym (ap (map (stand_id bundle)) (take_more stands at d within)
+    ∙ map-append (stand_id bundle) (take at stands) (get_or stands at d ∷ [])))
 
 pub row_whole : (bundle : BundleParts) (lower id : ℕ) (stands : List Stand) (row : List Bool) → AreChildren bundle id stands →
     row ≡ children_row bundle lower (map (stand_id bundle) stands) → row ≡ closure_row bundle.links (ids_at bundle.levels lower) id

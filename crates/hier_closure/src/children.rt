@@ -103,8 +103,7 @@ pub(crate) fn joined_row(
         Err(_) => return Err(Memory),
     };
     for at in 0..stands.len() {
-        let stand = &stands[at];
-        add_stand(&mut row, config, bundle, lower, table, *stand);
+        add_stand(&mut row, config, bundle, lower, table, stands[at]);
     }
     Ok(row)
 }

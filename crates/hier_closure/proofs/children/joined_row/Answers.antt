@@ -1,10 +1,8 @@
-use Rattle.std.proofs.Common.{◌≡◌, sym, ap, subst, ◌∙◌, length, map, take, arith}
+use Rattle.std.proofs.Common.{◌≡◌, sym, ap, ◌∙◌, length, map, take, arith}
 use Rattle.std.specs.List.{list_any}
 use Rattle.std.proofs.lemmas.List.{length-map, take_all}
-use Rattle.std.proofs.lemmas.List.Elements.{All-get_or}
 use Rattle.hier_closure.specs.Dominance.{ids_at, is_or_dominates}
-use Rattle.hier_closure.specs.Inner.Stands.{IsReady, stand_id}
-use Rattle.hier_closure.specs.declared.stands.Stand.{Stand}
+use Rattle.hier_closure.specs.Inner.Stands.{stand_id}
 use Rattle.hier_closure.proofs.Joins.{children_row, first_row, ids_count}
 use Rattle.hier_closure.proofs.Places.{place_more}
 use Rattle.hier_closure.proofs.children.joined_row.Goals as goal
@@ -23,13 +21,12 @@ add_stand-requires-clause-wide c =
 
 pub add_stand-requires-clause-ready : goal.add_stand-requires-clause-ready
 add_stand-requires-clause-ready c =
-    subst (λ (s : Stand). IsReady c.args.bundle.now c.args.lower c.args.table.now s) (sym c.index-stands-at.is)
-    (c.requires.ready c.loop-at.at c.index-stands-at.result c.loop-at-test.true)
+    c.requires.ready c.loop-at.at _ c.loop-at-test.true
 
 pub loop-at-preserved : goal.loop-at-preserved
 loop-at-preserved c =
-    place_more c.args.bundle.now c.args.lower c.loop-at.at c.args.stands.now c.index-stands-at.result c.loop-at.row c.add_stand.new.row
-    c.loop-at-test.true c.index-stands-at.is c.loop-at.invariant c.add_stand.ensures
+    place_more c.args.bundle.now c.args.lower c.loop-at.at c.args.stands.now _ c.loop-at.row c.add_stand.new.row
+    c.loop-at-test.true c.loop-at.invariant c.add_stand.ensures
 
 pub returns : goal.returns
 returns c =
