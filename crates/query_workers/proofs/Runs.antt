@@ -1,5 +1,5 @@
 -- Runs of places: cut in two, and gone through from the front.
-use Rattle.std.proofs.Common.{◌≡◌, ◌≤◌, ◌<◌, ℕ, zero, suc, ◌+◌, ◌-◌, ◌*◌, ◌/◌, Bool, ◌||◌, List, [], ◌∷◌, ◌++◌, length, take, drop, slice_get, add-one, Some, Result, ap, sym, subst, ◌∙◌, refl, arith, map}
+use Rattle.std.proofs.Common.{◌≡◌, ◌≤◌, ◌<◌, ℕ, suc, ◌+◌, ◌-◌, Bool, ◌||◌, List, [], ◌∷◌, ◌++◌, length, take, drop, slice_get, Some, Result, ap, sym, subst, ◌∙◌, arith}
 use Rattle.std.specs.List.{flat_map, list_any}
 use Rattle.std.proofs.lemmas.Grind.{flat_map-append}
 use Rattle.std.proofs.lemmas.List.{drop-drop, map-append, take_all}
@@ -21,12 +21,6 @@ pub run_from : {A : Type 0} (list : List A) (place to : ℕ) (x : A) → slice_g
 run_from list place to x here low =
     let one : to - place ≡ suc (to - (place + 1)) = omega (arith, low) in
     ap (take (to - place)) (from_here list place x here) ∙ ap (λ n. take n (x ∷ drop (place + 1) list)) one
-
--- at its end a run has nothing
-pub run_done : {A : Type 0} (list : List A) (place to : ℕ) → to ≤ place → run_of place to list ≡ []
-run_done list place to past =
-    let none : to - place ≡ 0 = omega (arith, past) in
-    ap (λ n. take n (drop place list)) none
 
 -- the run of all places is the list
 pub run_all : {A : Type 0} (list : List A) (count : ℕ) → count ≡ length list → run_of 0 count list ≡ list

@@ -31,8 +31,10 @@ loop-place-preserved g c =
     let others = bundles_of (run_of (c.loop-place.place + 1) c.args.to list) in
     let split = ap bundles_of (run_from list c.loop-place.place c.args.to here c.at-indexed.ensures.bundle (search (rules, c.loop-place-test.true))) in
     record {
-      rows = list_more left others here.bundle split (λ b. rows_for question config b) c.loop-place.list c.add_bundle.new.list _
+      rows = list_more left others here.bundle split (λ b. rows_for question config b) c.loop-place.list c.add_bundle.new.list
+          (flat_map (λ b. rows_for question config b) (bundles_of (run_of c.args.from c.args.to list)))
           c.loop-place.invariant.rows c.in-Ok.ensures.0;
-      few = few_more left others here.bundle split (λ b. too_many_for question config b) _
+      few = few_more left others here.bundle split (λ b. too_many_for question config b)
+          (list_any (λ b. too_many_for question config b) (bundles_of (run_of c.args.from c.args.to list)))
           c.loop-place.invariant.few c.in-Ok.ensures.1;
     }
