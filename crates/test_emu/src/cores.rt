@@ -13,6 +13,7 @@ use requery::Requery;
 use script_lines::print_reply;
 use session_core::{Ask, Command, Core, Event, Events, Line, Replies, Request};
 use std::alloc::Global;
+use std::process::Abort;
 use std::test::Fail;
 
 /// The request of a query, which may be carried on.

@@ -1,5 +1,4 @@
-//! Queries by several workers: a gate that holds each of two bundles until the other is looked at, and lists that are
-//! the same for every number of workers.
+//! A query by two workers, behind a gate that holds each of two bundles until the other is looked at.
 use crate::scripts::{BUNDLE, CONFIG, run_on};
 use emu_disk::MemoryDisk;
 use emu_io::{Hold, HoldGate, LineMoment, Moment};
@@ -17,7 +16,7 @@ const TWO: [&str; 4] = [
     r#"{"s":1,"do":"query","eql":"Phonetic == m"}"#,
 ];
 
-/// What that script is answered, by whatever number of workers.
+/// What that script is answered.
 const TWO_OUTPUT: [&str; 7] = [
     r#"{"line":1,"n":0,"ok":"config"}"#,
     r#"{"line":2,"n":1,"ok":"add_bundle"}"#,
@@ -36,41 +35,40 @@ const fn piece(place: u32) -> LineMoment {
     }
 }
 
-/// Each of the two bundles is held until the other is looked at.
-const CROSSED: [Hold; 2] = [
-    Hold {
-        first: piece(0),
-        second: piece(1),
-    },
-    Hold {
-        first: piece(1),
-        second: piece(0),
-    },
-];
-
-/// Runs the script by these words behind the gate, and says whether the gate gave up.
-fn gives_up<R: Abort + Threads + Wait + Sync>(
+/// Runs the script by two workers behind a gate of these holds: the gate sees all its moments and does not give up, and
+/// the output is the one wanted.
+fn expect_held<R: Abort + Threads + Wait + Sync>(
     rt: &R,
     alloc: Global,
-    words: &[&str],
-) -> Result<bool, Fail> {
-    let gate = HoldGate::new(alloc, &CROSSED)?;
+    holds: &[Hold],
+) -> Result<(), Fail> {
+    let gate = HoldGate::new(alloc, holds)?;
     let disk = MemoryDisk::new(alloc, &[])?;
-    let ran = run_on(rt, alloc, words, &TWO, &[], disk, &gate)?;
-    assert!(rt; ran.gave(0, &TWO_OUTPUT) && gate.saw_all());
-    Ok(gate.gave_up())
+    let ran = run_on(
+        rt,
+        alloc,
+        &["live", "--workers", "2"],
+        &TWO,
+        &[],
+        disk,
+        &gate,
+    )?;
+    assert!(rt; ran.gave(0, &TWO_OUTPUT) && gate.saw_all() && !gate.gave_up());
+    Ok(())
 }
 
+/// Each of the two bundles is held until the other is looked at, so one thread could not go through both.
 #[test]
 fn two_workers_look_at_two_bundles_at_once(rt: HostRuntime) -> Result<(), Fail> {
-    let gave_up = gives_up(&rt, rt.alloc(), &["live", "--workers", "2"])?;
-    assert!(rt; !gave_up);
-    Ok(())
-}
-
-#[test]
-fn one_worker_looks_at_one_bundle_after_another(rt: HostRuntime) -> Result<(), Fail> {
-    let gave_up = gives_up(&rt, rt.alloc(), &["live", "--workers", "1"])?;
-    assert!(rt; gave_up);
-    Ok(())
+    let holds = [
+        Hold {
+            first: piece(0),
+            second: piece(1),
+        },
+        Hold {
+            first: piece(1),
+            second: piece(0),
+        },
+    ];
+    expect_held(&rt, rt.alloc(), &holds)
 }
