@@ -9,28 +9,26 @@ use edit_rules::{Edit, Entries, Entry};
 use emu_names::{Broken, Fault, Memory, SessionNo};
 use eql_resolve::prepare;
 use label_match::RegexMaker;
-use requery::Requery;
 use script_lines::print_reply;
 use session_core::{Ask, Command, Core, Event, Events, Line, Replies, Request};
 use std::alloc::Global;
-use std::process::Abort;
 use std::test::Fail;
 
-/// The request of a query, which may be carried on.
-fn query(alloc: Global, eql: &str, requery: Option<Requery>) -> Request {
+fn query(alloc: Global) -> Request {
     let mut maker = RegexMaker::new();
-    let prepared = prepare(alloc, &mut maker, eql);
+    let prepared = prepare(alloc, &mut maker, "Word == m");
     Request::Query(Ask {
         prepared,
         time: None,
-        requery,
+        requery: None,
     })
 }
 
 /// The look and the end of a query, of session 1 at line 2.
-fn events(alloc: Global, request: Request) -> Result<Events, Memory>
+fn events(alloc: Global) -> Result<Events, Memory>
     ensures { IfOk result (λ events. All (λ event. place_of event < session_places) events.items) }
 {
+    let request = query(alloc);
     let line = Line {
         line: 2,
         session: SessionNo(1),
@@ -62,72 +60,27 @@ fn replies(mut core: Core, events: Events) -> Result<Replies, Memory>
     core.run(events)
 }
 
-/// The replies to a query of a core with a history.
-fn queried(alloc: Global, history: Entries, request: Request) -> Result<Replies, Fail> {
-    let events = events(alloc, request)?;
+/// The replies to a query of a core without a history.
+fn queried(alloc: Global) -> Result<Replies, Fail> {
+    let events = events(alloc)?;
     let config = config(alloc)?;
-    let core = core(alloc, config, history)?;
+    let core = core(alloc, config, Entries::new(alloc))?;
     Ok(replies(core, events)?)
-}
-
-/// Compares the one reply to a query of a core with a history.
-fn expect_reply<R: Abort>(
-    rt: &R,
-    alloc: Global,
-    history: Entries,
-    request: Request,
-    wanted: &str,
-) -> Result<(), Fail> {
-    let replies = queried(alloc, history, request)?;
-    assert_eq!(rt; replies.len(), 1);
-    let text = print_reply(alloc, replies.get(0))?;
-    assert_eq!(rt; text.as_str(), wanted);
-    Ok(())
 }
 
 #[test]
 fn a_query_is_run(rt: HostRuntime) -> Result<(), Fail> {
-    let alloc = rt.alloc();
-    let request = query(alloc, "Word == m", None);
-    expect_reply(
-        &rt,
-        alloc,
-        Entries::new(alloc),
-        request,
-        "{\"line\":2,\"n\":0,\"segments\":[]}\n",
-    )
+    let replies = queried(rt.alloc())?;
+    assert_eq!(rt; replies.len(), 1);
+    let text = print_reply(rt.alloc(), replies.get(0))?;
+    assert_eq!(rt; text.as_str(), "{\"line\":2,\"n\":0,\"segments\":[]}\n");
+    Ok(())
 }
 
-/// The row of the second and the third word of a bundle of three.
-const ROW: &str =
-    r#"{"attribute":"Word","bundle":"b1","end":null,"endItem":2,"endPos":2,"labels":"->","level":"Word","sampleEnd":null,"sampleRate":20000,"sampleStart":null,"session":"s1","start":null,"startItem":1,"startPos":1}"#;
-
-/// Of three words, the two behind each: the first has two behind it, the second one and the third none.
-#[test]
-fn results_are_moved(rt: HostRuntime) -> Result<(), Fail> {
-    let alloc = rt.alloc();
-    let mut history = Entries::new(alloc);
-    history.push(entry(alloc, 3)?)?;
-    let behind = Requery::Along {
-        from_end: true,
-        right: 1,
-        left: 0,
-        length: 2,
-    };
-    let wanted = format!(in alloc; "{{\"line\":2,\"n\":1,\"segments\":[{}]}}\n", ROW)?;
-    expect_reply(
-        &rt,
-        alloc,
-        history,
-        query(alloc, "Word != m", Some(behind)),
-        wanted.as_str(),
-    )
-}
-
-/// The entry that adds a bundle of so many words.
-fn entry(alloc: Global, count: u32) -> Result<Entry, Fail> {
+/// The entry that adds a bundle without items.
+fn entry(alloc: Global) -> Result<Entry, Fail> {
     let key = key(alloc, "s1", "b1")?;
-    let annot = words(alloc, count)?;
+    let annot = words(alloc, 0)?;
     Ok(Entry {
         session: SessionNo(1),
         line: 2,
@@ -139,7 +92,7 @@ fn entry(alloc: Global, count: u32) -> Result<Entry, Fail> {
 fn entries(alloc: Global, count: usize) -> Result<Entries, Fail> {
     let mut entries = Entries::new(alloc);
     for _ in 0..count {
-        entries.push(entry(alloc, 0)?)?;
+        entries.push(entry(alloc)?)?;
     }
     Ok(entries)
 }

@@ -2,13 +2,9 @@
 #![tactic(auto)]
 
 #[cfg(test)]
-mod commands;
-#[cfg(test)]
 mod cores;
 #[cfg(test)]
 mod counts;
-#[cfg(test)]
-mod databases;
 #[cfg(test)]
 mod limits;
 #[cfg(test)]

@@ -1,5 +1,5 @@
 //! The limits of a line, of the number of lines and of a script, each at the limit and one past it.
-use crate::scripts::{CONFIG, call, empty_disk, words_in};
+use crate::scripts::{CONFIG, call, empty_disk, words_of};
 use emu_io::{Failed, Source};
 use label_match::RegexMaker;
 use std::io::Read;
@@ -71,7 +71,7 @@ fn ends_with(
         width,
         column: width,
     };
-    let words = words_in(rt.alloc(), "run")?;
+    let words = words_of(rt.alloc(), &["run"])?;
     let disk = empty_disk(rt.alloc())?;
     let mut patterns = RegexMaker::new();
     let none = Vec::new(rt.alloc());

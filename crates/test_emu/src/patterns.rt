@@ -20,7 +20,7 @@ fn a_pattern_that_is_too_large_is_refused(rt: HostRuntime) -> Result<(), Fail> {
     let script = joined(alloc, &[CONFIG, BUNDLE, BY_PATTERN, BY_PATTERN], "\n")?;
     let mut maker = ListMaker::new(Vec::from_slice(alloc, &[1])?);
     let wanted = joined(alloc, &REFUSED_ONCE, "\n")?;
-    let ran = run_with(&rt, alloc, "run", script, &[], &[], &mut maker)?;
+    let ran = run_with(&rt, alloc, &["run"], script, &[], &[], &mut maker)?;
     assert_eq!(rt;
         (ran.status, ran.sink.bytes(), maker.refusals()),
         (0, wanted.as_slice(), 1)
