@@ -18,9 +18,11 @@ emu() {
 
 # A store without a configuration: the file emu.store is not there yet.
 emu history
+emu config
 emu load u
 emu load t
 emu load t
+emu config
 emu ask 'Phonetic == m'
 emu ask 'Word == w'
 emu export s1 b1
@@ -45,3 +47,4 @@ emu export s1 b9
 # A file that is no store.
 printf 'NOTASTORE!' >emu.store
 emu history
+emu config

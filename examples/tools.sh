@@ -106,6 +106,14 @@ else
     echo "tools.sh: dot is not here; the picture is not drawn"
 fi
 
+# The configuration: all that emu keeps of the folder's, with all lists; read again it is the same.
+jq -cS 'del(.EMUwebAppConfig) | .ssffTrackDefinitions |= map({name}) | .levelDefinitions[].attributeDefinitions[].labelGroups |= (. // [])' \
+    ae_emuDB/ae_DBconfig.json >../wanted
+emu config >../found
+agree "emu config" ../found <../wanted
+mkdir ../again && cd ../again && jq -c '{do: "config", config: .}' ../found | emu run --store >/dev/null && emu config >../found
+cd ../ae && agree "emu config read again" ../found <../wanted
+
 # Back into a folder: what was not changed is as it was, and an edit is there.
 echo '{"s":1,"do":"set_label","session":"spk2","bundle":"b01","id":2,"attribute":"Text","value":"men"}' | emu run --store >/dev/null
 EMU=emu bash "$here/export-folder.sh" ae_emuDB back_emuDB

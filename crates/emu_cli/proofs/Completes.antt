@@ -64,6 +64,7 @@ tells_fair (Err faults.Memory) there h = tt
 
 text_fair : (command : Words) (refused : Refusals) (config : ConfigParts) (history : List Entry) (made : Result (List ℕ) CommandFault) → IsMadeText command refused config history made → IsFair made
 text_fair forms.History refused config history made h = tells_fair made _ h
+text_fair forms.Config refused config history made h = tells_fair made _ h
 text_fair (forms.Export session bundle) refused config history made h = tells_fair made _ h
 text_fair (forms.TextGrid session bundle) refused config history made h = tells_fair made _ h
 text_fair (forms.Ask eql time) refused config history made (inl h) = subst (λ m. IsFair m) (sym h.0) tt
@@ -72,7 +73,6 @@ text_fair (forms.Run store) refused config history made h = absurd h
 text_fair (forms.Live store workers) refused config history made h = absurd h
 text_fair (forms.Load name) refused config history made h = absurd h
 text_fair (forms.Import session bundle rate file) refused config history made h = absurd h
-text_fair forms.Config refused config history made h = absurd h
 text_fair (forms.Work number bundles) refused config history made h = absurd h
 
 module _ {D : Type 0} (disk : disks.Ghosts D) (folder : FolderTold) (sink sink_after : ℕ) (before now : D) (f : IsFaultlessOn disk folder sink sink_after before now) where

@@ -14,12 +14,15 @@ use Rattle.store_texts.specs.declared.faults.CommandFault.{CommandFault}
 use Rattle.store_texts.specs.declared.faults.CommandFault.TheVariants as faults
 use Rattle.store_texts.specs.Asked.{asked_text}
 use Rattle.store_texts.specs.Inner.Asked.{TellsAsked, TellsMade, answered}
-use Rattle.store_texts.specs.Commands.{Tells, exported, grid_exported}
+use Rattle.store_texts.specs.Commands.{Tells, config_shown, exported, grid_exported}
 use Rattle.emu_cli.specs.Ends.{IsAsked, IsOutOfMemory, Refusals, answered_after}
 
 module _ (config : ConfigParts) (history : List Entry) (version : VersionParts) (is : IsStateAfter config history version) where
   database_is : database_after config history ≡ state_of version
   database_is = ap (λ found. found_or (empty_database config) found) is.state
+
+  pub config_after : (text : List ℕ) → text ≡ config_shown (state_of version) → text ≡ config_shown (database_after config history)
+  config_after text h = h ∙ ap (λ (d : DatabaseParts). config_shown d) (sym database_is)
 
   pub exported_after : (made : Result (List ℕ) CommandFault) (session bundle : List ℕ) → Tells made (exported (state_of version) session bundle) → Tells made (exported (database_after config history) session bundle)
   exported_after made session bundle h = subst (λ (d : DatabaseParts). Tells made (exported d session bundle)) (sym database_is) h

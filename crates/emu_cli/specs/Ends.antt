@@ -28,7 +28,7 @@ use Rattle.store_texts.specs.declared.faults.CommandFault.{CommandFault}
 use Rattle.store_texts.specs.declared.faults.CommandFault.TheVariants as faults
 use Rattle.store_texts.specs.Causes.{refused_text}
 use Rattle.store_texts.specs.Texts.{damaged_text, done_text, history_text}
-use Rattle.store_texts.specs.Commands.{Tells, exported, grid_exported}
+use Rattle.store_texts.specs.Commands.{Tells, config_shown, exported, grid_exported}
 use Rattle.store_texts.specs.Asked.{asked_text}
 use Rattle.emudb_files.specs.Answers.{HasDiskCause, HasReadCause}
 use Rattle.emudb_files.specs.Stored.{DuringLoad, Imports, IsMade as IsBookMade, Loads, own_entry}
@@ -81,6 +81,7 @@ refusals_told maker before after = record { before = maker.refusals before; afte
 -- a command reads a book
 abbrev pub reads_book : Words → Bool
 reads_book forms.History = true
+reads_book forms.Config = true
 reads_book (forms.Export session bundle) = true
 reads_book (forms.TextGrid session bundle) = true
 reads_book (forms.Ask eql time) = true
@@ -104,10 +105,12 @@ pub record IsAsked (refused : Refusals) (eql : List ℕ) (time : Option (List �
 abbrev pub IsOutOfMemory : Refusals → Result (List ℕ) CommandFault → Type 0
 IsOutOfMemory refused made = (made ≡ Err faults.Memory) × (refused.before ≤ refused.after)
 
--- What a command that reads a book makes of its configuration and its history: the lines of the entries, the annotation
--- or the TextGrid of a bundle of the state after all of them, or the answer to a query over that state.
+-- What a command that reads a book makes of its configuration and its history: the lines of the entries, the
+-- configuration of the state after all of them, the annotation or the TextGrid of a bundle of that state, or the answer
+-- to a query over it.
 abbrev pub IsMadeText : Words → Refusals → ConfigParts → List Entry → Result (List ℕ) CommandFault → Type 0
 IsMadeText forms.History refused config history made = Tells made (Ok (history_text history))
+IsMadeText forms.Config refused config history made = Tells made (Ok (config_shown (database_after config history)))
 IsMadeText (forms.Export session bundle) refused config history made =
     Tells made (exported (database_after config history) session bundle)
 IsMadeText (forms.TextGrid session bundle) refused config history made =

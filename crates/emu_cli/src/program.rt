@@ -19,9 +19,9 @@ pub fn is_of_store(command: &Words) -> bool
     match command {
         Words::Load { .. } | Words::Import { .. } => true,
         Words::History | Words::Export { .. } | Words::Ask { .. } => true,
-        Words::TextGrid { .. } => true,
+        Words::TextGrid { .. } | Words::Config => true,
         Words::Run { .. } | Words::Live { .. } => false,
-        Words::Config | Words::Work { .. } => false,
+        Words::Work { .. } => false,
     }
 }
 

@@ -1,24 +1,34 @@
-//! The commands that read the store: `history`, `export`, `textgrid`, `ask`.
-ghost use Rattle.std.specs.Prelude.{◌≡◌, true};
+//! The commands that read the store: `history`, `config`, `export`, `textgrid`, `ask`.
+ghost use Rattle.std.specs.Prelude.{◌≡◌, IfOk, true};
 ghost use Rattle.std.specs.Option.{option_copied};
 ghost use Rattle.edit_rules.specs.Effects.{database_after};
-ghost use Rattle.store_texts.specs.Commands.{Tells, exported, grid_exported};
+ghost use Rattle.store_texts.specs.Commands.{Tells, config_shown, exported, grid_exported};
 ghost use Rattle.emu_cli.specs.Ends.{EndsBook, IsMadeText, reads_book, refusals_told};
 
 use crate::ending::end_of;
 use cli_words::Words;
 use emu_disk::Disk;
 use emu_io::Gate;
-use emu_names::Text;
+use emu_names::{Memory, Text};
 use label_match::PatternMaker;
 use live_book::Book;
 use program_output::Ending;
 use std::alloc::Global;
 use std::thread::Threads;
-use store_texts::{CommandFault, ask_text, export_text, history_text, textgrid_text};
+use store_texts::{CommandFault, ask_text, config_text, export_text, history_text, textgrid_text};
 
 /// How many workers answer the query of `ask`.
 const ASK_WORKERS: u32 = 1;
+
+/// The configuration of a book, on a line of its own.
+#[tactic(auto, using(crate::proofs::Told::config_after))]
+fn config_of<D: Disk>(alloc: Global, book: &Book<D>) -> Result<Text, Memory>
+    ensures { IfOk result (λ text. text
+        ≡ config_shown (database_after book.now.config book.now.history)) }
+{
+    let shown = book.in_force()?;
+    config_text(alloc, &shown.version)
+}
 
 /// The annotation of a bundle of a book, on a line of its own.
 #[tactic(auto, using(crate::proofs::Told::exported_after))]
@@ -95,6 +105,7 @@ fn text_of<R: Threads + Sync, D: Disk, P: PatternMaker, G: Gate + Sync>(
 {
     match command {
         Words::History => Ok(history_text(alloc, book.history())?),
+        Words::Config => Ok(config_of(alloc, book)?),
         Words::Export { session, bundle } => {
             export_of(alloc, book, session.as_str(), bundle.as_str())
         }

@@ -196,8 +196,8 @@ fn perform<
 /// Runs the program on its words, and hands the disk back.
 ///
 /// `run` runs the script of the source, in its order, and `live` its sessions at once, with `--store` over the store on
-/// the disk. `history`, `export`, `textgrid` and `ask` read the store; `import` and `load` add bundles to it from files of the
-/// folder. The gate is told of the pieces of the query of `ask`, and in a live run of those of each query and of each
+/// the disk. `history`, `config`, `export`, `textgrid` and `ask` read the store; `import` and `load` add bundles of the
+/// folder to it. The gate is told of the pieces of the query of `ask`, and in a live run of those of each query and of each
 /// line that is answered. The status is
 ///
 /// - 0: the input was read to its end, and every request has its reply; or the command's text was written.

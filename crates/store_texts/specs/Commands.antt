@@ -6,6 +6,7 @@ use Rattle.db_config.specs.declared.parts.ConfigParts.{ConfigParts}
 use Rattle.bundle_state.specs.Bundle.{BundleParts}
 use Rattle.edit_rules.specs.Database.{DatabaseParts, bundle_with}
 use Rattle.annot_json.specs.Texts.{printed}
+use Rattle.config_json.specs.Texts as configs
 use Rattle.store_texts.specs.declared.faults.Refused.{Refused}
 use Rattle.grid_writing.specs.Written.{written}
 use Rattle.store_texts.specs.declared.faults.Refused.TheVariants.{NoBundle, TooManyEntries}
@@ -66,3 +67,7 @@ gridded_at database (Some key) = gridded database.config (bundle_with key databa
 -- The bundle of these two words as a TextGrid; a word that is no name is no bundle's.
 unfoldable pub grid_exported : DatabaseParts → List ℕ → List ℕ → Result (List ℕ) Refused
 grid_exported database session bundle = gridded_at database (key_of_words session bundle)
+
+-- The configuration of a database, on a line of its own.
+unfoldable pub config_shown : DatabaseParts → List ℕ
+config_shown database = configs.printed database.config ++ 10 ∷ []

@@ -7,6 +7,7 @@ ghost use Rattle.version_tree.specs.Version.{state_of};
 ghost use Rattle.store_texts.specs.Commands.{Tells, exported, grid_exported, grid_or_refused, gridded_at, key_of_words, name_of, shown_at};
 
 use crate::faults::{CommandFault, Refused};
+use crate::print::text_line;
 use annot_json::print_annot;
 use bundle_state::Bundle;
 use db_config::Config;
@@ -45,9 +46,7 @@ fn annot_line(alloc: Global, config: &Config, bundle: &Bundle) -> Result<Text, M
     ensures { IfOk result (λ text. text ≡ printed config.now bundle.now ++ 10 ∷ []) }
 {
     let text = print_annot(alloc, config, bundle)?;
-    let mut line = String::from_str(alloc, text.as_str())?;
-    line.push_str("\n")?;
-    Text::from_string(line)
+    text_line(alloc, &text)
 }
 
 /// The annotation of the bundle of a key on a line of its own.

@@ -1,5 +1,5 @@
 //! Lines of JSON: last lines of refusals and of a damaged store, what was done, and entries.
-ghost use Rattle.std.specs.Prelude.{◌≡◌, IfOk, false};
+ghost use Rattle.std.specs.Prelude.{◌≡◌, ◌++◌, ◌∷◌, [], IfOk, false};
 ghost use Rattle.serde_json.specs.View.{view};
 ghost use Rattle.serde_json.specs.Written.{has_float};
 ghost use Rattle.store_texts.specs.Causes.{refused_text};
@@ -21,6 +21,15 @@ fn line_of(alloc: Global, value: &Value) -> Result<Text, Memory>
         → text ≡ line_text (view value.now)) }
 {
     let mut line = value.to_string(alloc)?;
+    line.push_str("\n")?;
+    Text::from_string(line)
+}
+
+/// A text on a line of its own. The only refusal is want of memory.
+pub(crate) fn text_line(alloc: Global, text: &Text) -> Result<Text, Memory>
+    ensures { IfOk result (λ line. line ≡ text.now ++ 10 ∷ []) }
+{
+    let mut line = String::from_str(alloc, text.as_str())?;
     line.push_str("\n")?;
     Text::from_string(line)
 }
