@@ -148,6 +148,12 @@ m 0 199
 a 200 499
 WANTED
 
+# Into a folder that has the configuration alone: loaded elsewhere it gives the same configuration and the same bundle.
+mkdir g_emuDB new && emu config | jq . >g_emuDB/g_DBconfig.json && EMU=emu bash "$here/export-folder.sh" g_emuDB new/g_emuDB
+{ emu config && emu export s1 one; } >../wanted
+(cd new && emu load g >/dev/null && emu config && emu export s1 one) >../found
+agree "a folder of TextGrids" ../found <../wanted
+
 # To TextGrids and back: the levels with times are as they were, but for what fills gaps, which has the empty label.
 cd ../ae && EMU=emu bash "$here/textgrid-folder.sh" ae_emuDB ../tiers >/dev/null
 times() {
