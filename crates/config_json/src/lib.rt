@@ -4,6 +4,7 @@
 
 mod faults;
 mod forms;
+mod laws;
 mod link_defs;
 mod named;
 mod print;
@@ -12,5 +13,6 @@ mod read_parts;
 mod values;
 
 pub use faults::{ConfigFault, ConfigWhat};
+pub use laws::printed_is_read;
 pub use print::print_config;
 pub use read::read_config;
