@@ -237,7 +237,7 @@ module _ (config : ConfigParts) (one other : List Entry) (first second : Databas
   kept : (es : List Entry) (last : DatabaseParts) → after config es ≡ Ok last → KeepsDatabaseRules last
   kept es last is = subst KeepsDatabaseRules (ap (found_or (empty_database config)) is) (legal_keeps config es valid (last, is))
 
-  parts_as : ConfigParts → List BundleParts → DatabaseParts
+  abbrev pub parts_as : ConfigParts → List BundleParts → DatabaseParts
   parts_as c bundles = record { config = c; bundles = bundles }
 
   in_any_order : first ≡ second

@@ -1,26 +1,25 @@
 -- Which line of the script of work has a number.
 use Rattle.std.proofs.Common.{◌≡◌, ◌⊎◌, inl, inr, ℕ, zero, suc, ◌+◌, ◌<◌, ◌≤◌, List, [], ◌∷◌, ◌++◌, length, slice_get, Some, refl, sym, ◌∙◌, ap, subst, arith, length-append}
 use Rattle.session_core.specs.declared.line.Line.{Line}
-use Rattle.work_script.specs.Script.{adding, awaited, each, waits, waits_from, work_queries}
+use Rattle.work_script.specs.Script.{adding, each, others, wait_of, waits, work_queries}
 use Rattle.work_script.specs.Inner.Lines.{AreAsking, IsAsking, IsScript}
 use Rattle.work_script.specs.Inner.Replies.{Has}
 use Rattle.work_script.proofs.Lists.{IsEach, has_each, has_either}
 
-each_length : {A : Type 0} (f : ℕ → A) (count : ℕ) → length (each f count) ≡ count
+pub each_length : {A : Type 0} (f : ℕ → A) (count : ℕ) → length (each f count) ≡ count
 each_length f zero = refl
 each_length f (suc count) =
     let rest = each_length f count in
     let sum = length-append (each f count) (f count ∷ []) in
     omega (arith, rest, sum)
 
-wait_low : (line : ℕ) (others : List ℕ) (l : Line) → Has (waits_from line others) l → l.line < line + length (waits_from line others)
-wait_low line [] l has = absurd has
-wait_low line (earlier ∷ others) l (inl same) =
-    let own : line ≡ l.line = ap (λ (k : Line). k.line) same in
-    omega (arith, own)
-wait_low line (earlier ∷ others) l (inr more) =
-    let rest = wait_low (suc line) others l more in
-    omega (arith, rest)
+wait_low : (count : ℕ) (l : Line) → Has (waits count) l → l.line < count + 2 + length (waits count)
+wait_low count l has =
+    let from : IsEach (wait_of count) (others count) l = has_each (wait_of count) (others count) l has in
+    let own : count + 2 + from.at ≡ l.line = ap (λ (k : Line). k.line) from.value in
+    let low = from.low in
+    let size = each_length (wait_of count) (others count) in
+    omega (arith, own, low, size)
 
 ask_low : (line : ℕ) (texts : List (List ℕ)) (ls : List Line) (l : Line) → AreAsking line texts ls → Has ls l → line ≤ l.line
 ask_low line [] [] l asking has = absurd has
@@ -72,7 +71,7 @@ module _ (number count : ℕ) (lines : List Line) (script : IsScript number coun
       let size = front_length in
       omega (arith, own, low, size)
   front_low l (inr wait) =
-      let low = wait_low (count + 2) (awaited count) l wait in
+      let low = wait_low count l wait in
       let size = front_length in
       omega (arith, low, size)
 

@@ -1,15 +1,16 @@
 -- The lines of the script of work come in order.
 use Rattle.std.proofs.Common.{◌≡◌, ◌⊎◌, inl, inr, ℕ, zero, suc, ◌+◌, ◌-◌, ◌*◌, ◌/◌, ◌%◌, ◌<◌, ◌≤◌, Bool, true, false, cond, ◌||◌, List, [], ◌∷◌, ◌++◌, length, refl, sym, ◌∙◌, ap, subst, arith, nat_eq, nat_le, eq-eqb, leb-true, append_assoc, append-nil, length-append}
-use Rattle.std.specs.List.{flat_map, list_any}
+use Rattle.std.specs.List.{list_any}
 use Rattle.std.proofs.Math.Nat.{mul-div-le, mod-lt}
 use Rattle.session_core.specs.declared.line.Line.{Line}
 use Rattle.session_core.specs.declared.line.Request.{Request}
 use Rattle.session_core.specs.InOrder.{ComeInOrder, ComesNext, IsBelow, NamesEarlier}
 use Rattle.session_core.specs.Worlds.{Each}
-use Rattle.work_script.specs.Script.{adding, awaited, awaited_of, awaiting, each, last_of, waits, waits_from, work_queries}
+use Rattle.work_script.specs.Script.{adding, each, last_of, others, wait_of, waits, work_queries}
 use Rattle.work_script.specs.Inner.Lines.{AreAsking, IsAsking, IsScript}
 use Rattle.work_script.specs.Inner.Replies.{Has}
-use Rattle.work_script.proofs.Lists.{each_has, has_left}
+use Rattle.work_script.proofs.Lists.{each_has}
+use Rattle.work_script.proofs.Numbered.{each_length}
 
 -- Lists of lines behind one another.
 
@@ -65,58 +66,43 @@ added_come number (suc count) =
 abbrev Names : List Line → ℕ → Type 0
 Names before earlier = list_any (λ (l : Line). nat_eq l.line earlier) before ≡ true
 
-any_more : (p : Line → Bool) (xs ys : List Line) → list_any p xs ≡ true → list_any p (xs ++ ys) ≡ true
-any_more p [] ys is = absurd cc
-any_more p (x ∷ xs) ys is = by (p x) is (λ rest. any_more p xs ys rest)
-  where
-    by : (t : Bool) → (t || list_any p xs) ≡ true → (list_any p xs ≡ true → list_any p (xs ++ ys) ≡ true) → (t || list_any p (xs ++ ys)) ≡ true
-    by true first more = refl
-    by false first more = more first
-
-names_more : (before : List Line) (l : Line) (others : List ℕ) → Each (Names before) others → Each (Names (before ++ l ∷ [])) others
-names_more before l [] named = tt
-names_more before l (other ∷ others) named =
-    (any_more (λ (k : Line). nat_eq k.line other) before (l ∷ []) named.0, names_more before l others named.1)
-
-waits_come : (before : List Line) (line : ℕ) (others : List ℕ) → Each (IsBelow line) before → Each (Names before) others → ComeInOrder before (waits_from line others)
-waits_come before line [] below named = tt
-waits_come before line (earlier ∷ others) below named =
-    let next : ComesNext before (awaiting line earlier) = record { rises = below; place = omega arith; command = refl; earlier = named.0 } in
-    let more = below_more line (suc line) before (omega arith) below in (
-      next,
-      waits_come (before ++ awaiting line earlier ∷ []) (suc line) others
-          (each_both (IsBelow (suc line)) before (awaiting line earlier ∷ []) more (omega arith, tt))
-          (names_more before (awaiting line earlier) others named.1),
-    )
-
 last_low : (count session : ℕ) → 1 ≤ session → session ≤ count → last_of count session < count
 last_low count session some adds =
     let whole = mul-div-le (count - session) 4 in
     omega (arith, some, adds, whole)
 
-awaited_named : (number count session : ℕ) → 1 ≤ session → Each (Names (each (adding number) count)) (awaited_of count session)
-awaited_named number count session some = by (nat_le session count) refl
+awaited_named : (number count session : ℕ) → 1 ≤ session → session ≤ count → Names (each (adding number) count) (last_of count session + 2)
+awaited_named number count session some adds =
+    let k : ℕ = last_of count session in
+    let low = last_low count session some adds in
+    any_has (λ (l : Line). nat_eq l.line (k + 2)) (each (adding number) count) (adding number k) (each_has (adding number) count k low) (eq-eqb (k + 2) (k + 2) refl)
+
+any_left : {A : Type 0} (p : A → Bool) (xs ys : List A) → list_any p xs ≡ true → list_any p (xs ++ ys) ≡ true
+any_left p [] ys is = absurd cc
+any_left {A = A} p (x ∷ xs) ys is = by (p x) is (λ rest. any_left p xs ys rest)
   where
-    by : (t : Bool) → nat_le session count ≡ t → Each (Names (each (adding number) count)) (cond t ((last_of count session + 2) ∷ []) [])
-    by true adds =
-        let k : ℕ = last_of count session in
-        let low = last_low count session some (leb-true session count adds) in
-        (any_has (λ (l : Line). nat_eq l.line (k + 2)) (each (adding number) count) (adding number k) (each_has (adding number) count k low) (eq-eqb (k + 2) (k + 2) refl), tt)
-    by false none = tt
+    by : (t : Bool) → (t || list_any p xs) ≡ true → (list_any p xs ≡ true → list_any p (xs ++ ys) ≡ true) → (t || list_any p (xs ++ ys)) ≡ true
+    by true first more = refl
+    by false first more = more first
 
-all_named : (number count : ℕ) → Each (Names (each (adding number) count)) (awaited count)
-all_named number count =
-    each_both (Names (each (adding number) count)) (awaited_of count 2) _ (awaited_named number count 2 (omega arith))
-    (each_both (Names (each (adding number) count)) (awaited_of count 3) _ (awaited_named number count 3 (omega arith))
-    (each_both (Names (each (adding number) count)) (awaited_of count 4) [] (awaited_named number count 4 (omega arith)) tt))
+waits_come : (number count n : ℕ) → n ≤ others count → ComeInOrder (each (adding number) count) (each (wait_of count) n)
+waits_come number count zero few = tt
+waits_come number count (suc n) few =
+    let added : List Line = each (adding number) count in
+    let earlier : ℕ = last_of count (n + 2) + 2 in
+    let next : ComesNext (added ++ each (wait_of count) n) (wait_of count n) = record {
+      rises = each_both (IsBelow (count + 2 + n)) added (each (wait_of count) n)
+          (below_more (count + 2) (count + 2 + n) added (omega arith) (added_below number count))
+          (each_each (IsBelow (count + 2 + n)) (wait_of count) n (λ i low. omega (arith, low)));
+      place = omega arith;
+      command = refl;
+      earlier = any_left (λ (l : Line). nat_eq l.line earlier) added (each (wait_of count) n)
+          (awaited_named number count (n + 2) (omega arith) (omega (arith, few)));
+    } in
+    come_both added (each (wait_of count) n) (wait_of count n ∷ []) (waits_come number count n (omega (arith, few))) (next, tt)
 
-waits_below : (line : ℕ) (others : List ℕ) → Each (IsBelow (line + length (waits_from line others))) (waits_from line others)
-waits_below line [] = tt
-waits_below line (earlier ∷ others) = (
-  omega arith,
-  below_more (suc line + length (waits_from (suc line) others)) (line + length (waits_from line (earlier ∷ others))) (waits_from (suc line) others) (omega arith)
-      (waits_below (suc line) others),
-)
+waits_below : (count : ℕ) → Each (IsBelow (count + 2 + others count)) (waits count)
+waits_below count = each_each (IsBelow (count + 2 + others count)) (wait_of count) (others count) (λ i low. omega (arith, low))
 
 -- Queries.
 
@@ -139,16 +125,18 @@ asks_come before line (text ∷ texts) (l ∷ ls) below asking =
     )
 
 -- the lines of the script come in order
-pub script_comes : (number count : ℕ) (lines : List Line) → length (each (adding number) count) ≡ count → IsScript number count lines → ComeInOrder [] lines
-script_comes number count lines size script =
+pub script_comes : (number count : ℕ) (lines : List Line) → IsScript number count lines → ComeInOrder [] lines
+script_comes number count lines script =
     let added : List Line = each (adding number) count in
     let wait : List Line = waits count in
     let first : ComeInOrder [] (added ++ wait) =
-    come_both [] added wait (added_come number count) (waits_come added (count + 2) (awaited count) (added_below number count) (all_named number count)) in
+    come_both [] added wait (added_come number count) (waits_come number count (others count) (omega arith)) in
+    let size = each_length (adding number) count in
+    let rest = each_length (wait_of count) (others count) in
     let sum = length-append added wait in
     let below : Each (IsBelow (length (added ++ wait) + 2)) (added ++ wait) =
     each_both (IsBelow (length (added ++ wait) + 2)) added wait
     (below_more (count + 2) (length (added ++ wait) + 2) added (omega (arith, sum, size)) (added_below number count))
-    (below_more (count + 2 + length wait) (length (added ++ wait) + 2) wait (omega (arith, sum, size)) (waits_below (count + 2) (awaited count))) in
+    (below_more (count + 2 + others count) (length (added ++ wait) + 2) wait (omega (arith, sum, size, rest)) (waits_below count)) in
     subst (ComeInOrder []) (sym script.whole)
     (come_both [] (added ++ wait) script.asks first (asks_come (added ++ wait) (length (added ++ wait) + 2) work_queries script.asks below script.asking))

@@ -4,22 +4,10 @@ use Rattle.edit_rules.specs.declared.edit.Edit.{Edit}
 use Rattle.session_core.specs.declared.line.Line.{Line}
 use Rattle.session_core.specs.declared.line.Request.{Request}
 use Rattle.session_core.specs.declared.line.Request.TheVariants as requests
-use Rattle.work_script.specs.Script.{adding, awaited, awaiting, each, waits, waits_from, work_edit, work_queries}
+use Rattle.work_script.specs.Script.{adding, each, last_of, others, wait_of, waits, work_edit, work_queries}
 use Rattle.work_script.specs.Inner.Lines.{AreAsking, IsAsking, IsScript}
 use Rattle.work_script.specs.Inner.Replies.{Has}
 use Rattle.work_script.proofs.Lists.{IsEach, each_has, has_each, has_either, has_left, has_right}
-
--- a line that waits
-record IsWait (low : ℕ) (l : Line) : Type 0 where
-  earlier : ℕ
-  request : l.request ≡ requests.After earlier
-
-wait_of : (line : ℕ) (others : List ℕ) (l : Line) → Has (waits_from line others) l → IsWait line l
-wait_of line [] l has = absurd has
-wait_of line (earlier ∷ others) l (inl same) = record { earlier = earlier; request = ap (λ (k : Line). k.request) (sym same) }
-wait_of line (earlier ∷ others) l (inr more) =
-    let rest = wait_of (suc line) others l more in
-    record { earlier = rest.earlier; request = rest.request }
 
 -- a line that asks one of some texts
 record AsksOne (texts : List (List ℕ)) (l : Line) : Type 0 where
@@ -36,8 +24,8 @@ ask_of line (text ∷ texts) (k ∷ ks) l asking (inr more) =
     let rest = ask_of (suc line) texts ks l asking.1 more in
     record { line = rest.line; text = rest.text; asks = rest.asks }
 
-edit_of : (one other : Edit) → ◌≡◌ {A = Request} (requests.Edit (Ok one)) (requests.Edit (Ok other)) → one ≡ other
-edit_of one other same = cc
+edit_of : (one two : Edit) → ◌≡◌ {A = Request} (requests.Edit (Ok one)) (requests.Edit (Ok two)) → one ≡ two
+edit_of one two same = cc
 
 no_wait : (earlier : ℕ) (edit : Edit) → requests.After earlier ≡ requests.Edit (Ok edit) → ⊥
 no_wait earlier edit same = cc
@@ -71,8 +59,8 @@ module _ (number count : ℕ) (lines : List Line) (script : IsScript number coun
             is = edit_of edit (work_edit number from.at) (sym is ∙ ap (λ (k : Line). k.request) (sym from.value));
           }
       front (inr wait) =
-          let from = wait_of (count + 2) (awaited count) l wait in
-          absurd (no_wait from.earlier edit (sym from.request ∙ is))
+          let from : IsEach (wait_of count) (others count) l = has_each (wait_of count) (others count) l wait in
+          absurd (no_wait (last_of count (from.at + 2) + 2) edit (ap (λ (k : Line). k.request) from.value ∙ is))
 
       by : Has (added ++ waits count) l ⊎ Has script.asks l → IsAddition edit
       by (inl has) = front (has_either added (waits count) l has)

@@ -55,10 +55,10 @@ adding_in (e ∷ es) key annot (inr more) =
 
 module _ (number count : ℕ) (H : List Entry) (legal : IsLegal work_config H) (each : (e : Entry) → Has H e → AddsOne number count e)
     (all : (k : ℕ) → k < count → IsAddedIn number k H) where
-  state : DatabaseParts
+  abbrev pub state : DatabaseParts
   state = legal.0
 
-  start : DatabaseParts
+  abbrev pub start : DatabaseParts
   start = empty_database work_config
 
   found : found_or start (Ok state) ≡ state

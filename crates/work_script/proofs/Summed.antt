@@ -48,7 +48,7 @@ module _ (number count : ℕ) (lines : List Line) (script : IsScript number coun
   whole : IsWorkState number count (database_after work_config H)
   whole = work_state number count H legal.legal adds all
 
-  front : ℕ
+  abbrev pub front : ℕ
   front = length (each (adding number) count ++ waits count)
 
   last_is : length lines ≡ front + 4
@@ -61,18 +61,18 @@ module _ (number count : ℕ) (lines : List Line) (script : IsScript number coun
       let from = reply_from work_config lines replies H store before now legal has.reply has.there in
       let t : Turn = from.from in
       let named : IsNamed t = each_at IsNamed legal.turns t legal.whole.named from.there in
-      let own : t.line.line ≡ front + 2 + i = sym named.line ∙ ap (λ (r : Reply). r.line) from.value ∙ has.own ∙ place in
+      let own : t.line.line ≡ front + 2 + i = sym named.line ∙ ap (λ (r : Reply). r.line) from.value ∙ has.gives.own ∙ place in
       let asks : IsAsking (front + 2 + i) text t.line =
       asks_at number count lines script t.line i text (line_there work_config lines replies H store before now legal t from.there) own there in
-      let n : t.reply.n ≡ Some (length H) = ap (λ (r : Reply). r.n) from.value ∙ has.number in
-      let answer : t.reply.answer ≡ Segments has.rows = ap (λ (r : Reply). r.answer) from.value ∙ has.answer in
+      let n : t.reply.n ≡ Some (length H) = ap (λ (r : Reply). r.n) from.value ∙ has.gives.number in
+      let answer : t.reply.answer ≡ Segments has.gives.rows = ap (λ (r : Reply). r.answer) from.value ∙ has.gives.answer in
       let right = right_for work_config lines replies H store before now legal t t.line (requests.Query asks.ask) from.there refl asks.request in
-      let given : IsRightQuery work_config H asks.ask (length H) (Segments has.rows) =
-      query_right work_config lines replies H store before now legal t.line asks.ask (length H) t.reply.n t.reply.answer (Segments has.rows) n answer right in
+      let given : IsRightQuery work_config H asks.ask (length H) (Segments has.gives.rows) =
+      query_right work_config lines replies H store before now legal t.line asks.ask (length H) t.reply.n t.reply.answer (Segments has.gives.rows) n answer right in
       let state : answer_at work_config H (length H) asks.ask ≡ answer_over (database_after work_config H) asks.ask =
       ap (λ (es : List Entry). answer_over (database_after work_config es) asks.ask) (take_all (length H) H (omega arith)) in
-      subst (HasRowsFor (database_after work_config H) text) (sym has.counted)
-      (rows_asked (database_after work_config H) text asks.ask asks.prepared has.rows asks.is_prepared asks.query asks.untimed asks.own (given.given ∙ state))
+      subst (HasRowsFor (database_after work_config H) text) (sym has.gives.counted)
+      (rows_asked (database_after work_config H) text asks.ask asks.prepared has.gives.rows asks.is_prepared asks.query asks.untimed asks.own (given.given ∙ state))
 
   pub summed : IsSummary number count s
   summed =
@@ -84,9 +84,12 @@ module _ (number count : ℕ) (lines : List Line) (script : IsScript number coun
         items = up.items;
         rows = (
           rows_for 0 (length lines + 1 - 3) s.first _ refl (omega (arith, size)) up.first,
-          rows_for 1 (length lines + 1 - 2) s.second _ refl (omega (arith, size)) up.second,
-          rows_for 2 (length lines + 1 - 1) s.third _ refl (omega (arith, size)) up.third,
-          rows_for 3 (length lines + 1) s.fourth _ refl (omega (arith, size)) up.fourth,
-          tt,
+          (
+            rows_for 1 (length lines + 1 - 2) s.second _ refl (omega (arith, size)) up.second,
+            (
+              rows_for 2 (length lines + 1 - 1) s.third _ refl (omega (arith, size)) up.third,
+              (rows_for 3 (length lines + 1) s.fourth _ refl (omega (arith, size)) up.fourth, tt),
+            ),
+          ),
         );
       }

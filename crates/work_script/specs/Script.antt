@@ -1,7 +1,6 @@
 -- The script of work: its configuration, the annotation of each bundle, and its lines.
-use Rattle.std.specs.Prelude.{ℕ, zero, suc, ◌+◌, ◌*◌, ◌-◌, ◌/◌, ◌%◌, List, [], ◌∷◌, ◌++◌, codes, None, Ok, nat_le, if◌then◌else◌}
+use Rattle.std.specs.Prelude.{ℕ, zero, suc, ◌+◌, ◌*◌, ◌-◌, ◌/◌, ◌%◌, min, List, [], ◌∷◌, ◌++◌, codes, None, Ok}
 use Rattle.std.specs.Fmt.{decimal}
-use Rattle.std.specs.List.{flat_map}
 use Rattle.emu_names.specs.declared.kinds.ItemId.{ItemId}
 use Rattle.emu_names.specs.declared.kinds.LevelKind.{LevelKind}
 use Rattle.emu_names.specs.declared.kinds.LevelKind.TheVariants as kinds
@@ -126,13 +125,6 @@ adding number k = record {
 abbrev pub last_of : ℕ → ℕ → ℕ
 last_of count session = session - 1 + 4 * ((count - session) / 4)
 
--- the lines that session 1 waits for: the last additions of those sessions 2 to 4 that add a bundle
-abbrev pub awaited_of : ℕ → ℕ → List ℕ
-awaited_of count session = if nat_le session count then (last_of count session + 2) ∷ [] else []
-
-abbrev pub awaited : ℕ → List ℕ
-awaited count = flat_map (awaited_of count) (2 ∷ 3 ∷ 4 ∷ [])
-
 -- a line in which session 1 waits for an earlier line
 abbrev pub awaiting : ℕ → ℕ → Line
 awaiting line earlier = record {
@@ -142,14 +134,17 @@ awaiting line earlier = record {
   request = requests.After earlier;
 }
 
--- lines that wait for these, from this line on
-abbrev pub waits_from : ℕ → List ℕ → List Line
-waits_from line [] = []
-waits_from line (earlier ∷ others) = awaiting line earlier ∷ waits_from (suc line) others
+-- how many of the sessions 2 to 4 add a bundle
+abbrev pub others : ℕ → ℕ
+others count = min 3 (count - 1)
 
--- the lines in which session 1 waits
+-- line i of those in which session 1 waits, counted from 0: for the last addition of session i + 2
+abbrev pub wait_of : ℕ → ℕ → Line
+wait_of count i = awaiting (count + 2 + i) (last_of count (i + 2) + 2)
+
+-- the lines in which session 1 waits for the last addition of each other session that has one
 abbrev pub waits : ℕ → List Line
-waits count = waits_from (count + 2) (awaited count)
+waits count = each (wait_of count) (others count)
 
 -- the four queries
 abbrev pub work_queries : List (List ℕ)

@@ -1,8 +1,8 @@
 //! The lines of the script of work.
-ghost use Rattle.std.specs.Prelude.{◌≡◌, ◌≤◌, ◌<◌, ◌+◌, [], IfOk, map};
+ghost use Rattle.std.specs.Prelude.{◌≡◌, ◌≤◌, ◌<◌, ◌+◌, ◌^◌, [], IfOk};
 ghost use Rattle.emu_names.specs.declared.limits.TheConstants.{BUNDLES};
 ghost use Rattle.session_core.specs.InOrder.{ComeInOrder};
-ghost use Rattle.work_script.specs.Script.{adding, awaited, awaiting, each, five_digits, last_of, work_edit, work_key};
+ghost use Rattle.work_script.specs.Script.{adding, awaiting, each, last_of, waits, work_key, work_queries};
 ghost use Rattle.work_script.specs.Inner.Lines.{AreAsking, IsAsking, IsScript};
 
 use crate::annotation::work_annot;
@@ -14,13 +14,17 @@ use label_match::PatternMaker;
 use session_core::{Ask, Command, Line, Lines, Request};
 use std::alloc::Global;
 
-/// The queries, in the order in which they are asked.
-pub(crate) const QUERIES: [&str; 4] = [
-    "[Phonetic == a]",
-    "[[Phonetic == e] -> [Phonetic == b]]",
-    "[Word == w ^ Phonetic == a]",
-    "[Phonetic == e & Start(Word, Phonetic) == 1]",
-];
+/// The segments of one label.
+const LABELS: &str = "[Phonetic == a]";
+
+/// The pairs of segments of two labels, one behind the other.
+const FOLLOWERS: &str = "[[Phonetic == e] -> [Phonetic == b]]";
+
+/// The words above a segment of one label.
+const WORDS_ABOVE: &str = "[Word == w ^ Phonetic == a]";
+
+/// The segments of one label that begin a word.
+const FIRST_IN_WORD: &str = "[Phonetic == e & Start(Word, Phonetic) == 1]";
 
 /// The name of a bundle: `b` and its place in five digits. The only refusal is want of memory.
 fn bundle_name(alloc: Global, bundle: u32) -> Result<Name, Memory>
@@ -130,12 +134,8 @@ fn waits(alloc: Global, bundles: u32) -> Result<Lines, Memory>
     ensures { IfOk result (λ made. made ≡ waits bundles) }
 {
     let mut lines = Lines::new(alloc);
-    let mut line = bundles + 2;
-    for session in 2..5 {
-        if session <= bundles {
-            lines.push(awaiting(line, last_of(bundles, session) + 2))?;
-            line += 1;
-        }
+    for other in 0..bundles.saturating_sub(1).min(3) {
+        lines.push(awaiting(bundles + 2 + other, last_of(bundles, other + 2) + 2))?;
     }
     Ok(lines)
 }
@@ -146,11 +146,10 @@ fn asks<P: PatternMaker>(alloc: Global, patterns: &mut P, first: u32) -> Result<
     ensures { IfOk result (AreAsking first work_queries) }
 {
     let mut lines = Lines::new(alloc);
-    let mut line = first;
-    for text in QUERIES {
-        lines.push(asking(alloc, patterns, line, text)?)?;
-        line += 1;
-    }
+    lines.push(asking(alloc, patterns, first, LABELS)?)?;
+    lines.push(asking(alloc, patterns, first + 1, FOLLOWERS)?)?;
+    lines.push(asking(alloc, patterns, first + 2, WORDS_ABOVE)?)?;
+    lines.push(asking(alloc, patterns, first + 3, FIRST_IN_WORD)?)?;
     Ok(lines)
 }
 

@@ -1,7 +1,7 @@
 //! The summary of a run of the script of work.
 ghost use Rattle.std.specs.Prelude.{◌≡◌, IfOk, IfSome};
 ghost use Rattle.std.specs.List.{list_all};
-ghost use Rattle.work_script.specs.Inner.Replies.{HasRows, is_taken};
+ghost use Rattle.work_script.specs.Inner.Replies.{GivesRows, HasRows, is_taken};
 ghost use Rattle.work_script.specs.Summary.{summary_text};
 
 use emu_names::{Memory, Text};
@@ -25,27 +25,48 @@ pub struct Summary {
     pub fourth: u64,
 }
 
+/// Whether an answer is no refusal.
+fn is_taken(answer: &Answer) -> bool
+    ensures { result ≡ is_taken answer.now }
+{
+    match answer {
+        Answer::Done(_) | Answer::Segments(_) => true,
+        Answer::Refused(_) => false,
+    }
+}
+
 /// Whether no line was refused.
 pub(crate) fn are_taken(replies: &[Reply]) -> bool
     ensures { result ≡ list_all (λ r. is_taken r.answer) replies.now }
 {
     for reply in replies {
-        if let Answer::Refused(_) = &reply.answer {
+        if !is_taken(&reply.answer) {
             return false;
         }
     }
     true
 }
 
-/// How many rows a line was answered over a state of so many edits, where it was answered rows over that state.
+/// How many rows a reply has, where it answers this line over the state after so many edits.
+fn rows_of(reply: &Reply, line: u32, edits: u64) -> Option<u64>
+    ensures { IfSome result (GivesRows reply.now line edits) }
+{
+    if reply.line != line || reply.n != Some(edits) {
+        return None;
+    }
+    match &reply.answer {
+        Answer::Segments(rows) => Some(rows.len() as u64),
+        Answer::Done(_) | Answer::Refused(_) => None,
+    }
+}
+
+/// How many rows a line was answered over the state after so many edits, where it was answered rows over that state.
 pub(crate) fn rows_at(replies: &[Reply], line: u32, edits: u64) -> Option<u64>
     ensures { IfSome result (HasRows replies.now line edits) }
 {
     for reply in replies {
-        if reply.line == line && reply.n == Some(edits) {
-            if let Answer::Segments(rows) = &reply.answer {
-                return Some(rows.len() as u64);
-            }
+        if let Some(count) = rows_of(reply, line, edits) {
+            return Some(count);
         }
     }
     None

@@ -22,15 +22,19 @@ is_taken (Refused refusal) = false
 is_taken (Done command) = true
 is_taken (Segments rows) = true
 
--- one of the replies is to this line, over the state after so many edits, and has so many rows
-pub record HasRows (replies : List Reply) (line edits count : ℕ) : Type 0 where
-  pub reply : Reply
-  pub there : Has replies reply
+-- a reply is to this line, over the state after so many edits, and has so many rows
+pub record GivesRows (reply : Reply) (line edits count : ℕ) : Type 0 where
   pub own : reply.line ≡ line
   pub number : reply.n ≡ Some edits
   pub rows : List Row
   pub answer : reply.answer ≡ Segments rows
   pub counted : count ≡ length rows
+
+-- so is one of the replies
+pub record HasRows (replies : List Reply) (line edits count : ℕ) : Type 0 where
+  pub reply : Reply
+  pub there : Has replies reply
+  pub gives : GivesRows reply line edits count
 
 -- no line was refused, and the summary has the bundles and items of the state after all entries, and the rows of the
 -- last four lines up to this one, which were answered over that state
