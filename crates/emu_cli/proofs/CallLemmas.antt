@@ -10,8 +10,8 @@ use Rattle.program_output.specs.declared.ending.Ending.{Ending}
 use Rattle.emu_cli.specs.Ends.{is_of_store}
 use Rattle.script_runs.specs.Says.{Call}
 use Rattle.program_output.specs.Statuses.{WritesLast, code_of}
-use Rattle.emu_cli.specs.Calls.{AskForRun, AsksForStore, CallEnds, IsLiveWords, IsNoCommand, IsNoLive, IsNoRun, IsRunWords, RunCompletes, SaysStore, SaysUsage}
-use Rattle.emu_cli.specs.Inner.Calls.{live_asked, run_asked}
+use Rattle.emu_cli.specs.Calls.{AskForRun, AsksForStore, CallEnds, IsLiveWords, IsNoCommand, IsNoLive, IsNoRun, IsRunWords, IsWorkWords, RunCompletes, SaysStore, SaysUsage, SaysWork}
+use Rattle.emu_cli.specs.Inner.Calls.{EndsApart, live_asked, run_asked}
 
 -- the last line, as a status says it
 pub usage_says : (status : Status) (before after : Option (List ℕ)) (w ws : ℕ) (call : Call) → call.written ≡ before → call.written_after ≡ after → call.writes ≡ w → call.writes_after ≡ ws → WritesLast status statuses.Usage before after w ws usage_text → SaysUsage status call
@@ -114,20 +114,43 @@ store_words words asked h (command, k, is) = ap is_of_store (words_same (sym h �
 not_both : (b : Bool) → b ≡ true → b ≡ false → ⊥
 not_both b h k = cc
 
--- a command that is no run is one on the store, or none that the program does
-pub other_ends : (words : List (List ℕ)) (asked : Words) (calls : Bool → Call) (before since images : List ℕ → Type 0) (Ends : Words → Ending → Type 0) (Writes : Status → Ending → Type 0) (status : Status) (b : Bool) → is_of_store asked ≡ b → words_of words ≡ Some asked → run_asked asked ≡ None → live_asked asked ≡ None →
-    (is_of_store asked ≡ true → (ending : Ending) × Ends asked ending × Writes status ending) → (is_of_store asked ≡ false → SaysUsage status (calls false)) →
-    CallEnds words calls before since images (λ st. SaysStore words Ends (Writes st)) status
-other_ends words asked calls before since images Ends Writes status true is h n l stored none = inr (inr (inr (inr (asked, h, is, (stored is).0, (stored is).1, (stored is).2))))
-other_ends words asked calls before since images Ends Writes status false is h n l stored none =
-    inr (inr (inl (record { no_run = asked_none words asked h n; no_live = asked_no_live words asked h l; no_store = λ asks. not_both (is_of_store asked) (store_words words asked h asks) is }, none is)))
+config_no_work : (number bundles : ℕ) → forms.Config ≡ forms.Work number bundles → ⊥
+config_no_work number bundles e = cc
+
+-- a command that is no run and none on the store is `work`, or none that the program does
+apart_ends : (words : List (List ℕ)) (asked : Words) (calls : Bool → Call) (before since images : List ℕ → Type 0) (Stores : Status → Type 0) (Writes : Status → Ending → Type 0) (Last : Type 0) (status : Status) → is_of_store asked ≡ false → words_of words ≡ Some asked → run_asked asked ≡ None → live_asked asked ≡ None →
+    EndsApart asked (Writes status) Last → (Last → SaysUsage status (calls false)) → CallEnds words calls before since images Stores (λ st. SaysWork words (Writes st)) status
+apart_ends words (forms.Work number bundles) calls before since images Stores Writes Last status is h n l ended usage = inr (inr (inr (inr (inr (number, bundles, h, ended.0, ended.1, ended.2)))))
+apart_ends words forms.Config calls before since images Stores Writes Last status is h n l ended usage =
+    inr (inr (inl (record {
+      no_run = asked_none words forms.Config h n;
+      no_live = asked_no_live words forms.Config h l;
+      no_store = λ asks. not_both (is_of_store forms.Config) (store_words words forms.Config h asks) is;
+      no_work = λ number bundles w. config_no_work number bundles (words_same (sym h ∙ w));
+    }, usage ended)))
+apart_ends words (forms.Run s) calls before since images Stores Writes Last status is h n l ended usage = absurd (no_flag s (sym n))
+apart_ends words (forms.Live s workers) calls before since images Stores Writes Last status is h n l ended usage = absurd (no_flag s (sym l))
+apart_ends words (forms.Ask eql time) calls before since images Stores Writes Last status is h n l ended usage = absurd (not_both true refl is)
+apart_ends words (forms.Load name) calls before since images Stores Writes Last status is h n l ended usage = absurd (not_both true refl is)
+apart_ends words (forms.Import session bundle rate file) calls before since images Stores Writes Last status is h n l ended usage = absurd (not_both true refl is)
+apart_ends words (forms.Export session bundle) calls before since images Stores Writes Last status is h n l ended usage = absurd (not_both true refl is)
+apart_ends words (forms.TextGrid session bundle) calls before since images Stores Writes Last status is h n l ended usage = absurd (not_both true refl is)
+apart_ends words forms.History calls before since images Stores Writes Last status is h n l ended usage = absurd (not_both true refl is)
+
+-- a command that is no run is one on the store, `work`, or none that the program does
+pub other_ends : (words : List (List ℕ)) (asked : Words) (calls : Bool → Call) (before since images : List ℕ → Type 0) (Ends : Words → Ending → Type 0) (Writes : Status → Ending → Type 0) (Last : Type 0) (status : Status) (b : Bool) → is_of_store asked ≡ b → words_of words ≡ Some asked → run_asked asked ≡ None → live_asked asked ≡ None →
+    (is_of_store asked ≡ true → (ending : Ending) × Ends asked ending × Writes status ending) → (is_of_store asked ≡ false → EndsApart asked (Writes status) Last) → (Last → SaysUsage status (calls false)) →
+    CallEnds words calls before since images (λ st. SaysStore words Ends (Writes st)) (λ st. SaysWork words (Writes st)) status
+other_ends words asked calls before since images Ends Writes Last status true is h n l stored apart usage = inr (inr (inr (inr (inl (asked, h, is, (stored is).0, (stored is).1, (stored is).2)))))
+other_ends words asked calls before since images Ends Writes Last status false is h n l stored apart usage =
+    apart_ends words asked calls before since images (λ st. SaysStore words Ends (Writes st)) Writes Last status is h n l (apart is) usage
 
 pub other_store : (words : List (List ℕ)) (asked : Words) (b : Bool) → is_of_store asked ≡ b → words_of words ≡ Some asked → (AsksForStore words → ⊥) → is_of_store asked ≡ false
 other_store words asked true is h none = absurd (none (asked, h, is))
 other_store words asked false is h none = is
 
 pub no_command : (words : List (List ℕ)) → words_of words ≡ None → IsNoCommand words
-no_command words h = record { no_run = usage_none words h; no_live = usage_no_live words h; no_store = λ asks. no_words asks.0 (sym h ∙ asks.1) }
+no_command words h = record { no_run = usage_none words h; no_live = usage_no_live words h; no_store = λ asks. no_words asks.0 (sym h ∙ asks.1); no_work = λ number bundles w. no_words (forms.Work number bundles) (sym h ∙ w) }
 
 -- a run is no command on the store
 run_not_stored : (asked : Words) (store : Bool) → run_asked asked ≡ Some store → is_of_store asked ≡ true → ⊥
@@ -159,3 +182,14 @@ runs_no_store words asked store h e asks = run_not_stored asked store e (store_w
 
 pub lives_no_store : (words : List (List ℕ)) (asked : Words) (store : Bool) → words_of words ≡ Some asked → live_asked asked ≡ Some store → AsksForStore words → ⊥
 lives_no_store words asked store h e asks = live_not_stored asked store e (store_words words asked h asks)
+
+-- Scripts of work.
+
+pub runs_no_work : (words : List (List ℕ)) (asked : Words) (store : Bool) → words_of words ≡ Some asked → run_asked asked ≡ Some store → (number bundles : ℕ) → IsWorkWords words number bundles → ⊥
+runs_no_work words asked store h e number bundles w = no_flag store (ap run_asked (words_same (sym w ∙ h)) ∙ e)
+
+pub lives_no_work : (words : List (List ℕ)) (asked : Words) (store : Bool) → words_of words ≡ Some asked → live_asked asked ≡ Some store → (number bundles : ℕ) → IsWorkWords words number bundles → ⊥
+lives_no_work words asked store h e number bundles w = no_flag store (ap live_asked (words_same (sym w ∙ h)) ∙ e)
+
+pub work_words : (words : List (List ℕ)) (asked : Words) (number bundles : ℕ) → words_of words ≡ Some asked → IsWorkWords words number bundles → asked ≡ forms.Work number bundles
+work_words words asked number bundles h w = words_same (sym h ∙ w)

@@ -1,5 +1,5 @@
 -- Where nothing is at fault outside, a command on the store ends well, is refused, or memory ran out.
-use Rattle.std.proofs.Common.{◌≡◌, ◌⊎◌, inl, inr, ℕ, ◌<◌, ◌-◌, ◌^◌, List, Option, Some, Result, Ok, Err, refl, sym, ◌∙◌, ap, subst, arith}
+use Rattle.std.proofs.Common.{◌≡◌, ◌⊎◌, inl, inr, ℕ, ◌<◌, ◌-◌, ◌^◌, Bool, false, List, Option, Some, Result, Ok, Err, refl, sym, ◌∙◌, ap, subst, arith}
 use Rattle.std.specs.Prelude.{codes}
 use Rattle.emu_names.specs.Count.{Rose}
 use Rattle.cli_words.specs.declared.words.Words.{Words}
@@ -21,7 +21,11 @@ use Rattle.program_output.specs.declared.status.Status.{Status}
 use Rattle.program_output.specs.declared.status.Status.TheVariants as statuses
 use Rattle.program_output.specs.Statuses.{Finishes, code_of}
 use Rattle.script_runs.proofs.CompleteLemmas.{not_damaged_base}
-use Rattle.emu_cli.specs.Ends.{EndsBare, EndsDone, EndsImport, EndsLoad, EndsOnStore, EndsReading, EndsUnopened, FolderTold, IsEndOf, IsFaultlessOn, IsLoadedAlready, IsMadeText, IsRefusedBy, Refusals}
+use Rattle.cli_words.specs.Forms.{words_of}
+use Rattle.emu_cli.specs.Calls.{EndsWork, WorkCompletes}
+use Rattle.emu_cli.specs.Inner.Calls.{EndsApart}
+use Rattle.emu_cli.proofs.CallLemmas.{work_words}
+use Rattle.emu_cli.specs.Ends.{EndsBare, EndsDone, EndsImport, EndsLoad, EndsOnStore, EndsReading, EndsUnopened, FolderTold, IsEndOf, IsFaultlessOn, IsLoadedAlready, IsMadeText, IsRefusedBy, Refusals, is_of_store}
 
 -- an ending that no fault outside causes
 abbrev pub EndsWell : Ending → Type 0
@@ -137,3 +141,22 @@ pub command_code : (status : Status) (code : ℕ) → code ≡ code_of status �
 command_code status code is (inl h) = inl (is ∙ ap code_of h)
 command_code status code is (inr (inl h)) = inr (inl (is ∙ ap code_of h))
 command_code status code is (inr (inr h)) = inr (inr (is ∙ ap code_of h))
+
+-- where no write fails, a script of work ends with its line, or memory ran out
+work_well : (status : Status) (written written_now : Option (List ℕ)) (writes writes_now number bundles : ℕ) (ending : Ending) → writes_now ≡ writes → writes < 2 ^ 64 - 1 → EndsWork number bundles ending
+    → Finishes status written written_now writes writes_now ending → (status ≡ statuses.Fine) ⊎ (status ≡ statuses.Memory)
+work_well status written written_now writes writes_now number bundles (Gives text) same room ends (inl h) = inl h.0
+work_well status written written_now writes writes_now number bundles (Gives text) same room ends (inr (inl h)) = absurd (not_risen writes writes_now same room h.1)
+work_well status written written_now writes writes_now number bundles (Gives text) same room ends (inr (inr h)) = inr h.0
+work_well status written written_now writes writes_now number bundles (Refuses text) same room ends h = absurd ends
+work_well status written written_now writes writes_now number bundles (IsDamaged text) same room ends h = absurd ends
+work_well status written written_now writes writes_now number bundles Unread same room ends h = absurd ends
+work_well status written written_now writes writes_now number bundles NoDisk same room ends h = absurd ends
+work_well status written written_now writes writes_now number bundles OutOfMemory same room ends h = inr h.0
+
+pub work_completes : (words : List (List ℕ)) (asked : Words) (status : Status) (written written_now : Option (List ℕ)) (writes writes_now : ℕ) (Last : Type 0) → words_of words ≡ Some asked
+    → (is_of_store asked ≡ false → EndsApart asked (Finishes status written written_now writes writes_now) Last) → WorkCompletes words writes writes_now status
+work_completes words asked status written written_now writes writes_now Last h apart = λ number bundles w same room.
+    let asks : asked ≡ forms.Work number bundles = work_words words asked number bundles h w in
+    let ended = subst (λ (a : Words). is_of_store a ≡ false → EndsApart a (Finishes status written written_now writes writes_now) Last) asks apart refl in
+    work_well status written written_now writes writes_now number bundles ended.0 same room ended.1 ended.2

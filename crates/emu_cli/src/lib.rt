@@ -9,6 +9,7 @@ mod program;
 mod reading;
 mod store;
 mod top;
+mod work_command;
 
 pub use at_once::live;
 pub use in_order::run;

@@ -4,13 +4,14 @@ ghost use Rattle.program_output.specs.declared.ending.Ending.{Ending as Ends};
 ghost use Rattle.emu_cli.specs.Ends.{is_of_store};
 ghost use Rattle.cli_words.specs.Inner.Gives.{IsInRange};
 ghost use Rattle.program_output.specs.Texts.{usage_text};
-ghost use Rattle.emu_cli.specs.Calls.{AskForRun, AsksForStore, CallCompletesBy, CallEndsBy, CallSaysBy, CommandCodeCompletesBy, CommandCompletesBy, EndsOnStoreBy, RunCompletesBy, texts_of};
-ghost use Rattle.emu_cli.specs.Inner.Calls.{live_asked, run_asked};
+ghost use Rattle.emu_cli.specs.Calls.{AskForRun, AsksForStore, CallCompletesBy, CallEndsBy, CallSaysBy, CommandCodeCompletesBy, CommandCompletesBy, EndsOnStoreBy, RunCompletesBy, WorkCodeCompletes, WorkCompletes, texts_of};
+ghost use Rattle.emu_cli.specs.Inner.Calls.{EndsApart, live_asked, run_asked};
 ghost use Rattle.program_output.specs.Statuses.{WritesLast};
 ghost use Rattle.script_runs.specs.Told.{FinishesBy};
 
 use crate::at_once::live;
 use crate::in_order::run;
+use crate::work_command::perform_work;
 use crate::{StoreEnd, is_of_store, on_store};
 use cli_words::{Words, WordsFault, read_words};
 use emu_disk::Disk;
@@ -100,12 +101,44 @@ fn perform_on_store<
     }
 }
 
-/// Runs a command that is no run: on the store, or none that the program does.
+/// Runs a command that is no run and none on the store: `work`, or none that the program does.
+fn perform_apart<
+    R: Threads + Wait + Sync,
+    K: Sink,
+    D: Disk + Send,
+    P: PatternMaker,
+    G: Gate + Sync,
+>(
+    rt: &R,
+    alloc: Global,
+    command: &Words,
+    out: &mut K,
+    patterns: &mut P,
+    gate: &G,
+) -> Status
+    requires ranges { IsInRange command.now }
+    ensures { EndsApart command.now (FinishesBy K.Sink out.old out.new result)
+        (WritesLast result Status.Usage
+        (K.written out.old) (K.written out.new) (K.faults out.old) (K.faults out.new) usage_text) }
+{
+    match command {
+        Words::Work { number, bundles } => {
+            perform_work::<R, K, D, P, G>(rt, alloc, *number, *bundles, out, patterns, gate)
+        }
+        Words::Run { .. } | Words::Live { .. } | Words::Ask { .. } | Words::Load { .. } => {
+            usage(alloc, out)
+        }
+        Words::Import { .. } | Words::Export { .. } | Words::TextGrid { .. } => usage(alloc, out),
+        Words::History | Words::Config => usage(alloc, out),
+    }
+}
+
+/// Runs a command that is no run: on the store, `work`, or none that the program does.
 fn perform_other<
     R: Threads + Wait + Sync,
     K: Sink,
     F: Folder,
-    D: Disk,
+    D: Disk + Send,
     P: PatternMaker,
     G: Gate + Sync,
 >(
@@ -123,15 +156,17 @@ fn perform_other<
         × EndsOnStoreBy F.Folder D.Disk P.PatternMaker folder.old folder.new
         disk result.disk patterns.old patterns.new command.now ending
         × FinishesBy K.Sink out.old out.new result.status ending }
-    ensures usage { is_of_store command.now ≡ false → WritesLast result.status Status.Usage
-        (K.written out.old) (K.written out.new) (K.faults out.old) (K.faults out.new) usage_text }
+    ensures apart { is_of_store command.now ≡ false → EndsApart command.now
+        (FinishesBy K.Sink out.old out.new result.status)
+        (WritesLast result.status Status.Usage
+        (K.written out.old) (K.written out.new) (K.faults out.old) (K.faults out.new) usage_text) }
     ensures untouched { is_of_store command.now ≡ false → result.disk ≡ disk }
 {
     if is_of_store(command) {
         perform_on_store(rt, alloc, command, out, folder, disk, patterns, gate)
     } else {
         Ran {
-            status: usage(alloc, out),
+            status: perform_apart::<R, K, D, P, G>(rt, alloc, command, out, patterns, gate),
             disk,
         }
     }
@@ -165,6 +200,7 @@ fn perform<
         patterns.old patterns.new result.status }
     ensures commands { CommandCompletesBy K.Sink F.Folder D.Disk (texts_of words.now)
         out.old out.new folder.old folder.new disk result.disk result.status }
+    ensures works { WorkCompletes (texts_of words.now) (K.faults out.old) (K.faults out.new) result.status }
     ensures untouched { (AskForRun (texts_of words.now) true → ⊥) →
         (AsksForStore (texts_of words.now) → ⊥) → result.disk ≡ disk }
 {
@@ -196,9 +232,10 @@ fn perform<
 /// Runs the program on its words, and hands the disk back.
 ///
 /// `run` runs the script of the source, in its order, and `live` its sessions at once, with `--store` over the store on
-/// the disk. `history`, `config`, `export`, `textgrid` and `ask` read the store; `import` and `load` add bundles of the
-/// folder to it. The gate is told of the pieces of the query of `ask`, and in a live run of those of each query and of each
-/// line that is answered. The status is
+/// the disk. `history`, `config`, `export`, `textgrid` and `ask` read the store; `import` and `load` add bundles to it from
+/// files of the folder. `work` makes a script from a number, runs its sessions at once without a store, and sums up what was found.
+/// The gate is told of the pieces of the query of `ask`, and in a live run and in `work` of those of each query and of
+/// each line that is answered. The status is
 ///
 /// - 0: the input was read to its end, and every request has its reply; or the command's text was written.
 /// - 2: the words are no command.
@@ -240,6 +277,7 @@ pub fn emu<
         patterns.old patterns.new result.status }
     ensures commands { CommandCodeCompletesBy K.Sink F.Folder D.Disk (texts_of words.now)
         out.old out.new folder.old folder.new disk result.disk result.status }
+    ensures works { WorkCodeCompletes (texts_of words.now) (K.faults out.old) (K.faults out.new) result.status }
     ensures untouched { (AskForRun (texts_of words.now) true → ⊥) →
         (AsksForStore (texts_of words.now) → ⊥) → result.disk ≡ disk }
 {

@@ -7,3 +7,6 @@ returns-clause-complete g c = λ store r faultless. complete_code c.perform-stat
 
 pub returns-clause-commands : goal.returns-clause-commands
 returns-clause-commands g c = λ asks faultless. command_code c.perform-status.result.status c.code.result c.code.ensures (c.perform-status.ensures.commands asks faultless)
+
+pub returns-clause-works : goal.returns-clause-works
+returns-clause-works g c = λ number bundles w same room. complete_code c.perform-status.result.status c.code.result c.code.ensures (c.perform-status.ensures.works number bundles w same room)

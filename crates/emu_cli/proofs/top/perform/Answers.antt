@@ -3,8 +3,8 @@ use Rattle.std.proofs.KnownBytes.{Appends-nil}
 use Rattle.emu_cli.specs.Ends.{folder_told, is_of_store, refusals_told}
 use Rattle.emu_cli.specs.Calls.{EndsOnStoreBy, texts_of}
 use Rattle.script_runs.specs.Told.{CompletesBy, FinishesBy, call_by}
-use Rattle.emu_cli.proofs.CallLemmas.{asked_run, asked_live, none_completes, usage_says, only_run, only_live, store_false, other_ends, other_store, no_command, store_words, runs_no_store, lives_no_store}
-use Rattle.emu_cli.proofs.Completes.{finishes_well, store_well}
+use Rattle.emu_cli.proofs.CallLemmas.{asked_run, asked_live, lives_no_work, none_completes, usage_says, only_run, only_live, store_false, other_ends, other_store, no_command, store_words, runs_no_store, runs_no_work, lives_no_store}
+use Rattle.emu_cli.proofs.Completes.{finishes_well, store_well, work_completes}
 use Rattle.emu_cli.proofs.top.perform.Goals as goal
 
 pub returns-in-Some-clause-says : goal.returns-in-Some-clause-says
@@ -41,10 +41,10 @@ returns-in-Ok-clause-says g c =
     (λ store. call_by g.S.Source g.K.Sink g.D.Disk g.P.PatternMaker store c.args.script.now c.args.script.now c.args.out.now c.perform_other.new.out c.args.disk c.perform_other.result.disk c.args.patterns.now c.perform_other.new.patterns)
     (g.D.Disk.may_leave c.args.disk) (g.D.Disk.left_since c.perform_other.result.disk (g.D.Disk.moment c.args.disk)) (g.D.Disk.may_leave c.perform_other.result.disk)
     (EndsOnStoreBy g.F.Folder g.D.Disk g.P.PatternMaker c.args.folder.now c.perform_other.new.folder c.args.disk c.perform_other.result.disk c.args.patterns.now c.perform_other.new.patterns)
-    (FinishesBy g.K.Sink c.args.out.now c.perform_other.new.out)
+    (FinishesBy g.K.Sink c.args.out.now c.perform_other.new.out) _
     c.perform_other.result.status (is_of_store c.in-Ok.asked) refl c.in-Ok.ensures.read (sym c.in-None.ensures) (sym c.in-None-live_asked.ensures)
-    c.perform_other.ensures.store
-    (λ none. usage_says c.perform_other.result.status (g.K.Sink.written c.args.out.now) (g.K.Sink.written c.perform_other.new.out) (g.K.Sink.faults c.args.out.now) (g.K.Sink.faults c.perform_other.new.out) _ refl refl refl refl (c.perform_other.ensures.usage none))
+    c.perform_other.ensures.store c.perform_other.ensures.apart
+    (usage_says c.perform_other.result.status (g.K.Sink.written c.args.out.now) (g.K.Sink.written c.perform_other.new.out) (g.K.Sink.faults c.args.out.now) (g.K.Sink.faults c.perform_other.new.out) _ refl refl refl refl)
 
 pub returns-in-Ok-clause-untouched : goal.returns-in-Ok-clause-untouched
 returns-in-Ok-clause-untouched g c = λ run stores. c.perform_other.ensures.untouched (other_store (texts_of c.args.words.now) c.in-Ok.asked (is_of_store c.in-Ok.asked) refl c.in-Ok.ensures.read stores)
@@ -69,3 +69,20 @@ returns-in-Ok-clause-commands g c = λ asks faultless.
 
 pub returns-clause-commands : goal.returns-clause-commands
 returns-clause-commands g c = λ asks faultless. inr (inr refl)
+
+pub returns-in-Some-clause-works : goal.returns-in-Some-clause-works
+returns-in-Some-clause-works g c = λ number bundles w same room. absurd (runs_no_work (texts_of c.args.words.now) c.in-Ok.asked c.in-Some.store c.in-Ok.ensures.read (sym c.in-Some.ensures) number bundles w)
+
+pub returns-in-Some-live_asked-clause-works : goal.returns-in-Some-live_asked-clause-works
+returns-in-Some-live_asked-clause-works g c = λ number bundles w same room. absurd (lives_no_work (texts_of c.args.words.now) c.in-Ok.asked c.in-Some-live_asked.stored c.in-Ok.ensures.read (sym c.in-Some-live_asked.ensures) number bundles w)
+
+pub returns-in-Err-Usage-clause-works : goal.returns-in-Err-Usage-clause-works
+returns-in-Err-Usage-clause-works g c = λ number bundles w same room. absurd ((no_command (texts_of c.args.words.now) (rw c.in-Err-Usage.field-0-is at c.in-Err-Usage.ensures.read)).no_work number bundles w)
+
+pub returns-in-Ok-clause-works : goal.returns-in-Ok-clause-works
+returns-in-Ok-clause-works g c =
+    work_completes (texts_of c.args.words.now) c.in-Ok.asked c.perform_other.result.status (g.K.Sink.written c.args.out.now) (g.K.Sink.written c.perform_other.new.out)
+    (g.K.Sink.faults c.args.out.now) (g.K.Sink.faults c.perform_other.new.out) _ c.in-Ok.ensures.read c.perform_other.ensures.apart
+
+pub returns-clause-works : goal.returns-clause-works
+returns-clause-works g c = λ number bundles w same room. inr refl

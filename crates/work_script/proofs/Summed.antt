@@ -1,0 +1,95 @@
+-- The summary of a run of the script of work is that of the database in which all its bundles stand.
+use Rattle.std.proofs.Common.{◌≡◌, ◌≤◌, ℕ, zero, suc, ◌+◌, ◌-◌, ◌<◌, true, List, [], ◌∷◌, ◌++◌, length, take, take_all, Option, Some, Ok, refl, sym, ◌∙◌, ap, subst, arith, length-append, slice_get}
+use Rattle.edit_rules.specs.declared.edit.Entry.{Entry}
+use Rattle.edit_rules.specs.Effects.{database_after}
+use Rattle.eql_model.specs.declared.row.Row.{Row}
+use Rattle.session_core.specs.declared.line.Answer.{Answer}
+use Rattle.session_core.specs.declared.line.Answer.TheVariants.{Segments}
+use Rattle.session_core.specs.declared.line.Line.{Line}
+use Rattle.session_core.specs.declared.line.Reply.{Reply}
+use Rattle.session_core.specs.declared.line.Request.TheVariants as requests
+use Rattle.session_core.specs.Answers.{answer_at, answer_over, entry_of}
+use Rattle.session_core.specs.Legal.{IsNamed, IsRightQuery, Legal}
+use Rattle.session_core.specs.Worlds.{Turn}
+use Rattle.work_script.specs.declared.summary.Summary.{Summary}
+use Rattle.work_script.specs.Script.{adding, each, waits, work_config, work_queries}
+use Rattle.work_script.specs.States.{IsWorkState}
+use Rattle.work_script.specs.Summary.{HasRowsFor, IsSummary}
+use Rattle.work_script.specs.Inner.Lines.{AreAsking, IsAsking, IsScript}
+use Rattle.work_script.specs.Inner.Replies.{Has, HasRows, IsSummedUp}
+use Rattle.work_script.proofs.Asked.{rows_asked}
+use Rattle.work_script.proofs.Lists.{each_at}
+use Rattle.work_script.proofs.Numbered.{asks_at}
+use Rattle.work_script.proofs.Replied.{edit_there, entry_from, line_there, query_right, reply_from, right_for}
+use Rattle.work_script.proofs.Scripted.{adding_there, edit_is}
+use Rattle.work_script.proofs.States.{AddsOne, IsAddedIn, work_state}
+
+asking_length : (line : ℕ) (texts : List (List ℕ)) (ls : List Line) → AreAsking line texts ls → length ls ≡ length texts
+asking_length line [] [] asking = refl
+asking_length line [] (l ∷ ls) asking = absurd asking
+asking_length line (text ∷ texts) [] asking = absurd asking
+asking_length line (text ∷ texts) (l ∷ ls) asking = ap suc (asking_length (suc line) texts ls asking.1)
+
+module _ (number count : ℕ) (lines : List Line) (script : IsScript number count lines) (replies : List Reply) (H : List Entry) (store : _) (before now : ℕ)
+    (legal : Legal work_config [] lines replies H store before now) (s : Summary) (up : IsSummedUp work_config H replies (length lines + 1) s) where
+  adds : (e : Entry) → Has H e → AddsOne number count e
+  adds e has =
+      let from = entry_from work_config lines replies H store before now legal e has in
+      let is = edit_is number count lines script from.line from.edit from.there from.request in
+      record { bundle = is.bundle; low = is.low; is = ap (λ (x : Entry). x.edit) from.entry ∙ is.is }
+
+  all : (k : ℕ) → k < count → IsAddedIn number k H
+  all k low = record {
+    entry = entry_of (adding number k) _;
+    there = edit_there work_config lines replies H store before now legal up.taken (adding number k) _ (adding_there number count lines script k low) refl;
+    is = refl;
+  }
+
+  whole : IsWorkState number count (database_after work_config H)
+  whole = work_state number count H legal.legal adds all
+
+  abbrev pub front : ℕ
+  front = length (each (adding number) count ++ waits count)
+
+  last_is : length lines ≡ front + 4
+  last_is =
+      ap length script.whole ∙ length-append (each (adding number) count ++ waits count) script.asks
+      ∙ ap (λ n. front + n) (asking_length (front + 2) work_queries script.asks script.asking)
+
+  rows_for : (i line rows : ℕ) (text : List ℕ) → slice_get work_queries i ≡ Some text → line ≡ front + 2 + i → HasRows replies line (length H) rows → HasRowsFor (database_after work_config H) text rows
+  rows_for i line rows text there place has =
+      let from = reply_from work_config lines replies H store before now legal has.reply has.there in
+      let t : Turn = from.from in
+      let named : IsNamed t = each_at IsNamed legal.turns t legal.whole.named from.there in
+      let own : t.line.line ≡ front + 2 + i = sym named.line ∙ ap (λ (r : Reply). r.line) from.value ∙ has.gives.own ∙ place in
+      let asks : IsAsking (front + 2 + i) text t.line =
+      asks_at number count lines script t.line i text (line_there work_config lines replies H store before now legal t from.there) own there in
+      let n : t.reply.n ≡ Some (length H) = ap (λ (r : Reply). r.n) from.value ∙ has.gives.number in
+      let answer : t.reply.answer ≡ Segments has.gives.rows = ap (λ (r : Reply). r.answer) from.value ∙ has.gives.answer in
+      let right = right_for work_config lines replies H store before now legal t t.line (requests.Query asks.ask) from.there refl asks.request in
+      let given : IsRightQuery work_config H asks.ask (length H) (Segments has.gives.rows) =
+      query_right work_config lines replies H store before now legal t.line asks.ask (length H) t.reply.n t.reply.answer (Segments has.gives.rows) n answer right in
+      let state : answer_at work_config H (length H) asks.ask ≡ answer_over (database_after work_config H) asks.ask =
+      ap (λ (es : List Entry). answer_over (database_after work_config es) asks.ask) (take_all (length H) H (omega arith)) in
+      subst (HasRowsFor (database_after work_config H) text) (sym has.gives.counted)
+      (rows_asked (database_after work_config H) text asks.ask asks.prepared has.gives.rows asks.is_prepared asks.query asks.untimed asks.own (given.given ∙ state))
+
+  pub summed : IsSummary number count s
+  summed =
+      let size = last_is in
+      record {
+        state = database_after work_config H;
+        whole = whole;
+        bundles = up.bundles;
+        items = up.items;
+        rows = (
+          rows_for 0 (length lines + 1 - 3) s.first _ refl (omega (arith, size)) up.first,
+          (
+            rows_for 1 (length lines + 1 - 2) s.second _ refl (omega (arith, size)) up.second,
+            (
+              rows_for 2 (length lines + 1 - 1) s.third _ refl (omega (arith, size)) up.third,
+              (rows_for 3 (length lines + 1) s.fourth _ refl (omega (arith, size)) up.fourth, tt),
+            ),
+          ),
+        );
+      }

@@ -1,0 +1,48 @@
+-- What is looked up in the replies to the script of work.
+use Rattle.std.specs.Prelude.{◌≡◌, ◌⊎◌, ℕ, ◌-◌, Bool, true, false, List, [], ◌∷◌, length, Some}
+use Rattle.std.specs.List.{list_all}
+use Rattle.db_config.specs.declared.parts.ConfigParts.{ConfigParts}
+use Rattle.edit_rules.specs.declared.edit.Entry.{Entry}
+use Rattle.edit_rules.specs.Database.{all_items}
+use Rattle.edit_rules.specs.Effects.{database_after}
+use Rattle.eql_model.specs.declared.row.Row.{Row}
+use Rattle.session_core.specs.declared.line.Answer.{Answer}
+use Rattle.session_core.specs.declared.line.Answer.TheVariants.{Done, Segments, Refused}
+use Rattle.session_core.specs.declared.line.Reply.{Reply}
+use Rattle.work_script.specs.declared.summary.Summary.{Summary}
+
+-- an element of a list
+abbrev pub Has : {A : Type 0} → List A → A → Type 0
+Has [] x = ⊥
+Has (y ∷ ys) x = (y ≡ x) ⊎ Has ys x
+
+-- the answer is no refusal
+abbrev pub is_taken : Answer → Bool
+is_taken (Refused refusal) = false
+is_taken (Done command) = true
+is_taken (Segments rows) = true
+
+-- a reply is to this line, over the state after so many edits, and has so many rows
+pub record GivesRows (reply : Reply) (line edits count : ℕ) : Type 0 where
+  pub own : reply.line ≡ line
+  pub number : reply.n ≡ Some edits
+  pub rows : List Row
+  pub answer : reply.answer ≡ Segments rows
+  pub counted : count ≡ length rows
+
+-- so is one of the replies
+pub record HasRows (replies : List Reply) (line edits count : ℕ) : Type 0 where
+  pub reply : Reply
+  pub there : Has replies reply
+  pub gives : GivesRows reply line edits count
+
+-- no line was refused, and the summary has the bundles and items of the state after all entries, and the rows of the
+-- last four lines up to this one, which were answered over that state
+pub record IsSummedUp (config : ConfigParts) (history : List Entry) (replies : List Reply) (last : ℕ) (s : Summary) : Type 0 where
+  pub taken : list_all (λ r. is_taken r.answer) replies ≡ true
+  pub bundles : s.bundles ≡ length (database_after config history).bundles
+  pub items : s.items ≡ all_items (database_after config history).bundles
+  pub first : HasRows replies (last - 3) (length history) s.first
+  pub second : HasRows replies (last - 2) (length history) s.second
+  pub third : HasRows replies (last - 1) (length history) s.third
+  pub fourth : HasRows replies last (length history) s.fourth

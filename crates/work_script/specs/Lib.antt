@@ -1,0 +1,4 @@
+pub mod Script
+pub mod States
+pub mod Summary
+pub mod Inner

@@ -1,0 +1,121 @@
+//! The run of the script of work, by several sessions at once.
+ghost use Rattle.std.specs.Prelude.{◌≡◌, ◌≤◌, ◌+◌, ℕ, [], None, IfOk, length};
+ghost use Rattle.emu_names.specs.declared.limits.TheConstants.{BUNDLES};
+ghost use Rattle.live_book.specs.Kept.{KeepsIn};
+ghost use Rattle.book_opening.specs.Inner.Opens.{AreAtFront};
+ghost use Rattle.session_core.specs.InOrder.{ComeInOrder};
+ghost use Rattle.work_script.specs.Inner.Lines.{IsScript};
+ghost use Rattle.work_script.specs.Inner.Replies.{IsSummedUp};
+ghost use Rattle.work_script.specs.Script.{work_config};
+ghost use Rattle.work_script.specs.Summary.{IsSummary, IsWorkText};
+
+use crate::config::work_config;
+use crate::lines::work_lines;
+use crate::summary::{Summary, are_taken, rows_at, summary_text};
+use book_opening::{MadeBook, NoBook, new_book};
+use edit_journal::Journal;
+use emu_disk::Disk;
+use emu_io::Gate;
+use emu_names::{Memory, Text};
+use label_match::PatternMaker;
+use live_book::{Book, Published};
+use live_run::{Ended, LiveEnd, run_live};
+use session_core::Lines;
+use std::alloc::Global;
+use std::sync::Wait;
+use std::thread::Threads;
+use version_gate::Passes;
+
+/// How many passes the sessions have.
+const READERS: u32 = 16;
+
+/// By how many workers each query is answered.
+const WORKERS: u32 = 4;
+
+/// The summary of a run: of the state after all its entries, of which there is one for each bundle, and of the
+/// replies to the last four lines, which were given over that state. The only refusal is want of memory: also
+/// where a line was refused, for which nothing else is a cause.
+fn sum_up<D: Disk>(book: &Book<D>, ended: &Ended, lines: &Lines) -> Result<Summary, Memory>
+    ensures { IfOk result (IsSummedUp book.now.config book.now.history ended.now.replies
+        (length lines.now + 1)) }
+{
+    let edits = book.number();
+    let replies = ended.replies.as_slice();
+    let shown = book.in_force()?;
+    let counts = shown.version.counts();
+    if !are_taken(replies) || lines.len() < 4 {
+        return Err(Memory);
+    }
+    let last = lines.len() as u32 + 1;
+    Ok(Summary {
+        bundles: counts.bundles,
+        items: counts.items,
+        first: rows_at(replies, last - 3, edits).ok_or(Memory)?,
+        second: rows_at(replies, last - 2, edits).ok_or(Memory)?,
+        third: rows_at(replies, last - 1, edits).ok_or(Memory)?,
+        fourth: rows_at(replies, last, edits).ok_or(Memory)?,
+    })
+}
+
+/// Runs the lines over a book, and sums up what was found.
+fn run_over<R: Threads + Wait + Sync, D: Disk + Send, G: Gate + Sync>(
+    rt: &R,
+    alloc: Global,
+    book: Book<D>,
+    passes: Passes<Published>,
+    lines: &Lines,
+    gate: &G,
+) -> Result<Summary, Memory>
+    requires passes { AreAtFront READERS book passes }
+    requires sound { KeepsIn D.may_leave book.config book.history None book.journal }
+    requires new { (book.config ≡ work_config) × (book.history ≡ []) × (book.journal ≡ None) }
+    requires lines { ComeInOrder [] lines.now }
+    ensures { (number count : ℕ) → IsScript number count lines.now → IfOk result (IsSummary number count) }
+{
+    let LiveEnd { book, ended } = run_live(rt, alloc, book, passes, lines, WORKERS, gate);
+    let summary = match &ended {
+        Ok(ended) => sum_up(&book, ended, lines),
+        Err(_) => Err(Memory),
+    };
+    match book.into_journal(rt) {
+        None => summary,
+        Some(_) => unreachable!(),
+    }
+}
+
+/// Makes the script of a number, with so many bundles, runs its sessions at once over a new book without a store,
+/// and answers the line of the summary: the numbers of bundles, of items, and of the rows of each query. The only
+/// refusal is want of memory. It may wait for its own lanes and for passes that read.
+///
+/// There are 1 to 10,000 bundles. The gate is told of the pieces of each query, and of each line that is answered.
+pub fn work<R: Threads + Wait + Sync, D: Disk + Send, P: PatternMaker, G: Gate + Sync>(
+    rt: &R,
+    alloc: Global,
+    number: u64,
+    bundles: u32,
+    patterns: &mut P,
+    gate: &G,
+) -> Result<Text, Memory>
+    requires { bundles ≤ BUNDLES }
+    ensures text { IfOk result (IsWorkText number bundles) }
+{
+    let config = work_config(alloc)?;
+    let lines = work_lines(alloc, number, bundles, patterns)?;
+    let journal: Option<Journal<D>> = None;
+    match new_book(rt, alloc, config, journal, READERS) {
+        Ok(made) => {
+            let MadeBook { book, passes } = made;
+            summary_text(alloc, run_over(rt, alloc, book, passes, &lines, gate)?)
+        }
+        Err(refused) => {
+            let NoBook {
+                fault: _fault,
+                journal,
+            } = refused;
+            match journal {
+                None => Err(Memory),
+                Some(_) => unreachable!(),
+            }
+        }
+    }
+}
