@@ -114,20 +114,11 @@ store_words words asked h (command, k, is) = ap is_of_store (words_same (sym h �
 not_both : (b : Bool) → b ≡ true → b ≡ false → ⊥
 not_both b h k = cc
 
-config_no_work : (number bundles : ℕ) → forms.Config ≡ forms.Work number bundles → ⊥
-config_no_work number bundles e = cc
-
 -- a command that is no run and none on the store is `work`, or none that the program does
 apart_ends : (words : List (List ℕ)) (asked : Words) (calls : Bool → Call) (before since images : List ℕ → Type 0) (Stores : Status → Type 0) (Writes : Status → Ending → Type 0) (Last : Type 0) (status : Status) → is_of_store asked ≡ false → words_of words ≡ Some asked → run_asked asked ≡ None → live_asked asked ≡ None →
     EndsApart asked (Writes status) Last → (Last → SaysUsage status (calls false)) → CallEnds words calls before since images Stores (λ st. SaysWork words (Writes st)) status
 apart_ends words (forms.Work number bundles) calls before since images Stores Writes Last status is h n l ended usage = inr (inr (inr (inr (inr (number, bundles, h, ended.0, ended.1, ended.2)))))
-apart_ends words forms.Config calls before since images Stores Writes Last status is h n l ended usage =
-    inr (inr (inl (record {
-      no_run = asked_none words forms.Config h n;
-      no_live = asked_no_live words forms.Config h l;
-      no_store = λ asks. not_both (is_of_store forms.Config) (store_words words forms.Config h asks) is;
-      no_work = λ number bundles w. config_no_work number bundles (words_same (sym h ∙ w));
-    }, usage ended)))
+apart_ends words forms.Config calls before since images Stores Writes Last status is h n l ended usage = absurd (not_both true refl is)
 apart_ends words (forms.Run s) calls before since images Stores Writes Last status is h n l ended usage = absurd (no_flag s (sym n))
 apart_ends words (forms.Live s workers) calls before since images Stores Writes Last status is h n l ended usage = absurd (no_flag s (sym l))
 apart_ends words (forms.Ask eql time) calls before since images Stores Writes Last status is h n l ended usage = absurd (not_both true refl is)
