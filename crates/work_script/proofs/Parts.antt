@@ -1,5 +1,6 @@
 -- The lines of the script of work, put together from their parts.
 use Rattle.std.proofs.Common.{◌≡◌, ℕ, ◌+◌, ◌≤◌, List, ◌++◌, length, sym, ◌∙◌, ap, subst, arith, length-append}
+use Rattle.work_script.proofs.Numbered.{asking_length}
 use Rattle.session_core.specs.declared.line.Line.{Line}
 use Rattle.work_script.specs.Script.{adding, each, others, wait_of, waits, work_queries}
 use Rattle.work_script.specs.Inner.Lines.{AreAsking, IsScript}
@@ -22,3 +23,10 @@ module _ (number count : ℕ) (added wait front : List Line) (adds : added ≡ e
     whole = all ∙ ap (λ (ls : List Line). ls ++ asks) front_is;
     asking = subst (λ (n : ℕ). AreAsking (n + 2) work_queries asks) (is ∙ ap length front_is) asking;
   }
+
+  pub whole_size : (asks whole : List Line) (size : ℕ) → AreAsking (size + 2) work_queries asks → whole ≡ front ++ asks → (3 ≤ length whole) × (length whole ≤ count + 7)
+  whole_size asks whole size asking all =
+      let low = front_size in
+      let sum : length whole ≡ length front + length asks = ap length all ∙ length-append front asks in
+      let four : length asks ≡ 4 = asking_length (size + 2) work_queries asks asking in
+      (omega (arith, sum, four), omega (arith, low, sum, four))
