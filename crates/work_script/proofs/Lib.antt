@@ -1,10 +1,12 @@
-pub mod Additions
+mod Additions
+mod Asked
 mod Labels
 mod Lists
+mod Names
+mod Numbered
+mod Ordered
+mod Parts
 mod Replied
 mod Scripted
 mod States
-mod Asked
-mod Numbered
 mod Summed
-mod Ordered

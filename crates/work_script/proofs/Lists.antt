@@ -1,5 +1,5 @@
 -- Elements of lists.
-use Rattle.std.proofs.Common.{◌≡◌, ◌⊎◌, inl, inr, ℕ, zero, suc, ◌+◌, ◌<◌, ◌≤◌, Bool, true, false, cond, ◌&&◌, List, [], ◌∷◌, ◌++◌, filter, map, slice_get, Some, refl, sym, ◌∙◌, ap, subst, arith}
+use Rattle.std.proofs.Common.{◌≡◌, ◌⊎◌, inl, inr, ℕ, zero, suc, ◌+◌, ◌<◌, ◌≤◌, Bool, true, false, cond, ◌&&◌, List, [], ◌∷◌, ◌++◌, length, filter, get_or, map, slice_get, Some, refl, sym, ◌∙◌, ap, subst, arith}
 use Rattle.std.specs.List.{list_all}
 use Rattle.std.proofs.lemmas.Bool.{cases_order}
 use Rattle.session_core.specs.Worlds.{Each}
@@ -117,3 +117,15 @@ has_each {A = A} f (suc count) x has = by (has_either (each f count) (f count �
         record { at = rest.at; low = omega (arith, low); value = rest.value }
     by (inr (inl same)) before = record { at = count; low = omega arith; value = same }
     by (inr (inr none)) before = absurd none
+
+-- one value more
+pub each_step : {A : Type 0} (f : ℕ → A) (n : ℕ) (made new : List A) (x : A) → made ≡ each f n → x ≡ f n → new ≡ made ++ x ∷ [] → new ≡ each f (n + 1)
+each_step {A = A} f n made new x so is more =
+    let next : suc n ≡ n + 1 = omega arith in
+    more ∙ ap (λ (xs : List A). xs ++ x ∷ []) so ∙ ap (λ (y : A). each f n ++ y ∷ []) is ∙ ap (each f) next
+
+-- what an index gives is an element
+pub has_get : {A : Type 0} (xs : List A) (i : ℕ) (d x : A) → i < length xs → x ≡ get_or xs i d → Has xs x
+has_get [] i d x low is = absurd (omega (arith, low))
+has_get (y ∷ ys) zero d x low is = inl (sym is)
+has_get (y ∷ ys) (suc i) d x low is = inr (has_get ys i d x (omega (arith, low)) is)

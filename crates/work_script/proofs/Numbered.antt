@@ -13,6 +13,12 @@ each_length f (suc count) =
     let sum = length-append (each f count) (f count ∷ []) in
     omega (arith, rest, sum)
 
+pub asking_length : (line : ℕ) (texts : List (List ℕ)) (ls : List Line) → AreAsking line texts ls → length ls ≡ length texts
+asking_length line [] [] asking = refl
+asking_length line [] (l ∷ ls) asking = absurd asking
+asking_length line (text ∷ texts) [] asking = absurd asking
+asking_length line (text ∷ texts) (l ∷ ls) asking = ap suc (asking_length (suc line) texts ls asking.1)
+
 wait_low : (count : ℕ) (l : Line) → Has (waits count) l → l.line < count + 2 + length (waits count)
 wait_low count l has =
     let from : IsEach (wait_of count) (others count) l = has_each (wait_of count) (others count) l has in

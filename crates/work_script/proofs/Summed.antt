@@ -1,7 +1,12 @@
 -- The summary of a run of the script of work is that of the database in which all its bundles stand.
 use Rattle.std.proofs.Common.{◌≡◌, ◌≤◌, ℕ, zero, suc, ◌+◌, ◌-◌, ◌<◌, true, List, [], ◌∷◌, ◌++◌, length, take, take_all, Option, Some, Ok, refl, sym, ◌∙◌, ap, subst, arith, length-append, slice_get}
 use Rattle.edit_rules.specs.declared.edit.Entry.{Entry}
-use Rattle.edit_rules.specs.Effects.{database_after}
+use Rattle.db_config.specs.declared.parts.ConfigParts.{ConfigParts}
+use Rattle.edit_rules.specs.declared.bundle_change.Counts.{Counts}
+use Rattle.edit_rules.specs.Database.{DatabaseParts, counts_of, empty_database}
+use Rattle.edit_rules.specs.Effects.{database_after, found_or}
+use Rattle.version_tree.specs.Version.{VersionParts, state_of}
+use Rattle.live_book.specs.Published.{IsStateAfter}
 use Rattle.eql_model.specs.declared.row.Row.{Row}
 use Rattle.session_core.specs.declared.line.Answer.{Answer}
 use Rattle.session_core.specs.declared.line.Answer.TheVariants.{Segments}
@@ -19,16 +24,16 @@ use Rattle.work_script.specs.Inner.Lines.{AreAsking, IsAsking, IsScript}
 use Rattle.work_script.specs.Inner.Replies.{Has, HasRows, IsSummedUp}
 use Rattle.work_script.proofs.Asked.{rows_asked}
 use Rattle.work_script.proofs.Lists.{each_at}
-use Rattle.work_script.proofs.Numbered.{asks_at}
+use Rattle.work_script.proofs.Numbered.{asking_length, asks_at}
 use Rattle.work_script.proofs.Replied.{edit_there, entry_from, line_there, query_right, reply_from, right_for}
 use Rattle.work_script.proofs.Scripted.{adding_there, edit_is}
 use Rattle.work_script.proofs.States.{AddsOne, IsAddedIn, work_state}
 
-asking_length : (line : ℕ) (texts : List (List ℕ)) (ls : List Line) → AreAsking line texts ls → length ls ≡ length texts
-asking_length line [] [] asking = refl
-asking_length line [] (l ∷ ls) asking = absurd asking
-asking_length line (text ∷ texts) [] asking = absurd asking
-asking_length line (text ∷ texts) (l ∷ ls) asking = ap suc (asking_length (suc line) texts ls asking.1)
+-- the counts of a version are those of the state after its entries
+pub counted_after : (config : ConfigParts) (history : List Entry) (version : VersionParts) (counts : Counts) → IsStateAfter config history version → counts ≡ counts_of (state_of version).bundles
+    → counts ≡ counts_of (database_after config history).bundles
+counted_after config history version counts is same =
+    same ∙ ap (λ (d : DatabaseParts). counts_of d.bundles) (sym (ap (λ found. found_or (empty_database config) found) is.state))
 
 module _ (number count : ℕ) (lines : List Line) (script : IsScript number count lines) (replies : List Reply) (H : List Entry) (store : _) (before now : ℕ)
     (legal : Legal work_config [] lines replies H store before now) (s : Summary) (up : IsSummedUp work_config H replies (length lines + 1) s) where

@@ -100,7 +100,8 @@ work_annot number k = record {
 -- a number below 100,000 in five digits
 abbrev pub five_digits : ℕ → List ℕ
 five_digits k =
-    decimal (k / 10000 % 10) ++ decimal (k / 1000 % 10) ++ decimal (k / 100 % 10) ++ decimal (k / 10 % 10) ++ decimal (k % 10)
+    decimal (k / 10000 % 10)
+    ++ (decimal (k / 1000 % 10) ++ (decimal (k / 100 % 10) ++ (decimal (k / 10 % 10) ++ decimal (k % 10))))
 
 -- bundle k is `b` and k in five digits, of session `work`
 abbrev pub work_key : ℕ → BundleKey

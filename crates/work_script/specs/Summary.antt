@@ -42,9 +42,9 @@ pub record IsSummary (number count : ℕ) (s : Summary) : Type 0 where
 -- the line of a summary
 abbrev pub summary_text : Summary → List ℕ
 summary_text s =
-    codes "{\"bundles\":" ++ decimal s.bundles ++ codes ",\"items\":" ++ decimal s.items ++ codes ",\"rows\":["
-    ++ decimal s.first ++ codes "," ++ decimal s.second ++ codes "," ++ decimal s.third ++ codes "," ++ decimal s.fourth
-    ++ codes "]}\n"
+    codes "{\"bundles\":" ++ (decimal s.bundles ++ (codes ",\"items\":" ++ (decimal s.items
+    ++ (codes ",\"rows\":[" ++ (decimal s.first ++ (codes "," ++ (decimal s.second ++ (codes "," ++ (decimal s.third
+    ++ (codes "," ++ (decimal s.fourth ++ codes "]}\n")))))))))))
 
 -- the line of the summary of the script of a number
 abbrev pub IsWorkText : ℕ → ℕ → List ℕ → Type 0

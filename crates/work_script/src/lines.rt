@@ -1,5 +1,5 @@
 //! The lines of the script of work.
-ghost use Rattle.std.specs.Prelude.{◌≡◌, ◌≤◌, ◌<◌, ◌+◌, ◌^◌, [], IfOk};
+ghost use Rattle.std.specs.Prelude.{◌≡◌, ◌≤◌, ◌<◌, ◌+◌, ◌^◌, [], IfOk, length};
 ghost use Rattle.emu_names.specs.declared.limits.TheConstants.{BUNDLES};
 ghost use Rattle.session_core.specs.InOrder.{ComeInOrder};
 ghost use Rattle.work_script.specs.Script.{adding, awaiting, each, last_of, waits, work_key, work_queries};
@@ -165,6 +165,7 @@ pub(crate) fn work_lines<P: PatternMaker>(
     requires { bundles ≤ BUNDLES }
     ensures script { IfOk result (IsScript number bundles) }
     ensures order { IfOk result (λ made. ComeInOrder [] made) }
+    ensures few { IfOk result (λ made. (3 ≤ length made) × (length made < 2 ^ 31)) }
 {
     let mut lines = additions(alloc, number, bundles)?;
     lines.append(waits(alloc, bundles)?)?;

@@ -1,11 +1,13 @@
 //! The run of the script of work, by several sessions at once.
-ghost use Rattle.std.specs.Prelude.{◌≡◌, ◌≤◌, ◌+◌, ℕ, [], None, IfOk, length};
+ghost use Rattle.std.specs.Prelude.{◌≡◌, ◌≤◌, ◌<◌, ◌+◌, ◌^◌, ℕ, [], None, IfOk, IfSome, length};
 ghost use Rattle.emu_names.specs.declared.limits.TheConstants.{BUNDLES};
+ghost use Rattle.edit_rules.specs.Database.{counts_of};
+ghost use Rattle.edit_rules.specs.Effects.{database_after};
 ghost use Rattle.live_book.specs.Kept.{KeepsIn};
 ghost use Rattle.book_opening.specs.Inner.Opens.{AreAtFront};
 ghost use Rattle.session_core.specs.InOrder.{ComeInOrder};
 ghost use Rattle.work_script.specs.Inner.Lines.{IsScript};
-ghost use Rattle.work_script.specs.Inner.Replies.{IsSummedUp};
+ghost use Rattle.work_script.specs.Inner.Replies.{HasAllRows, IsSummedUp};
 ghost use Rattle.work_script.specs.Script.{work_config};
 ghost use Rattle.work_script.specs.Summary.{IsSummary, IsWorkText};
 
@@ -14,13 +16,14 @@ use crate::lines::work_lines;
 use crate::summary::{Summary, are_taken, rows_at, summary_text};
 use book_opening::{MadeBook, NoBook, new_book};
 use edit_journal::Journal;
+use edit_rules::Counts;
 use emu_disk::Disk;
 use emu_io::Gate;
 use emu_names::{Memory, Text};
 use label_match::PatternMaker;
 use live_book::{Book, Published};
 use live_run::{Ended, LiveEnd, run_live};
-use session_core::Lines;
+use session_core::{Lines, Reply};
 use std::alloc::Global;
 use std::sync::Wait;
 use std::thread::Threads;
@@ -32,32 +35,51 @@ const READERS: u32 = 16;
 /// By how many workers each query is answered.
 const WORKERS: u32 = 4;
 
-/// The summary of a run: of the state after all its entries, of which there is one for each bundle, and of the
-/// replies to the last four lines, which were given over that state. The only refusal is want of memory: also
-/// where a line was refused, for which nothing else is a cause.
-fn sum_up<D: Disk>(book: &Book<D>, ended: &Ended, lines: &Lines) -> Result<Summary, Memory>
-    ensures { IfOk result (IsSummedUp book.now.config book.now.history ended.now.replies
-        (length lines.now + 1)) }
+/// How many bundles and items the state after all entries of a book has. The only refusal is want of memory.
+#[tactic(auto, using(crate::proofs::Summed::counted_after))]
+fn counts_in<D: Disk>(book: &Book<D>) -> Result<Counts, Memory>
+    ensures { IfOk result (λ counts. counts ≡ counts_of (database_after book.now.config book.now.history).bundles) }
 {
-    let edits = book.number();
-    let replies = ended.replies.as_slice();
     let shown = book.in_force()?;
-    let counts = shown.version.counts();
-    if !are_taken(replies) || lines.len() < 4 {
-        return Err(Memory);
+    Ok(shown.version.counts())
+}
+
+/// The rows of the last four lines up to this one, each over the state after so many edits, beside these counts;
+/// nothing where a line was refused, or was answered over another state.
+fn rows_beside(counts: Counts, replies: &[Reply], last: u32, edits: u64) -> Option<Summary>
+    requires { 4 ≤ last }
+    ensures { IfSome result (HasAllRows counts replies.now last edits) }
+{
+    if !are_taken(replies) {
+        return None;
     }
-    let last = lines.len() as u32 + 1;
-    Ok(Summary {
+    Some(Summary {
         bundles: counts.bundles,
         items: counts.items,
-        first: rows_at(replies, last - 3, edits).ok_or(Memory)?,
-        second: rows_at(replies, last - 2, edits).ok_or(Memory)?,
-        third: rows_at(replies, last - 1, edits).ok_or(Memory)?,
-        fourth: rows_at(replies, last, edits).ok_or(Memory)?,
+        first: rows_at(replies, last - 3, edits)?,
+        second: rows_at(replies, last - 2, edits)?,
+        third: rows_at(replies, last - 1, edits)?,
+        fourth: rows_at(replies, last, edits)?,
     })
 }
 
-/// Runs the lines over a book, and sums up what was found.
+/// The summary of a run: of the state after all its entries, and of the replies to the last four lines, which were
+/// given over that state. The only refusal is want of memory: so is a line answered that was refused, which in a run
+/// of the script nothing else causes.
+fn sum_up<D: Disk>(book: &Book<D>, ended: &Ended, lines: &Lines) -> Result<Summary, Memory>
+    requires { (3 ≤ length lines.now) × (length lines.now < 2 ^ 31) }
+    ensures { IfOk result (IsSummedUp book.now.config book.now.history ended.now.replies
+        (length lines.now + 1)) }
+{
+    let counts = counts_in(book)?;
+    let last = lines.len() as u32 + 1;
+    match rows_beside(counts, ended.replies.as_slice(), last, book.number()) {
+        Some(summary) => Ok(summary),
+        None => Err(Memory),
+    }
+}
+
+/// Runs the lines over a book, and sums up what was found. The only refusal is want of memory.
 fn run_over<R: Threads + Wait + Sync, D: Disk + Send, G: Gate + Sync>(
     rt: &R,
     alloc: Global,
@@ -70,6 +92,7 @@ fn run_over<R: Threads + Wait + Sync, D: Disk + Send, G: Gate + Sync>(
     requires sound { KeepsIn D.may_leave book.config book.history None book.journal }
     requires new { (book.config ≡ work_config) × (book.history ≡ []) × (book.journal ≡ None) }
     requires lines { ComeInOrder [] lines.now }
+    requires few { (3 ≤ length lines.now) × (length lines.now < 2 ^ 31) }
     ensures { (number count : ℕ) → IsScript number count lines.now → IfOk result (IsSummary number count) }
 {
     let LiveEnd { book, ended } = run_live(rt, alloc, book, passes, lines, WORKERS, gate);

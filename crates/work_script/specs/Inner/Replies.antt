@@ -3,7 +3,8 @@ use Rattle.std.specs.Prelude.{◌≡◌, ◌⊎◌, ℕ, ◌-◌, Bool, true, fa
 use Rattle.std.specs.List.{list_all}
 use Rattle.db_config.specs.declared.parts.ConfigParts.{ConfigParts}
 use Rattle.edit_rules.specs.declared.edit.Entry.{Entry}
-use Rattle.edit_rules.specs.Database.{all_items}
+use Rattle.edit_rules.specs.declared.bundle_change.Counts.{Counts}
+use Rattle.edit_rules.specs.Database.{counts_of}
 use Rattle.edit_rules.specs.Effects.{database_after}
 use Rattle.eql_model.specs.declared.row.Row.{Row}
 use Rattle.session_core.specs.declared.line.Answer.{Answer}
@@ -36,13 +37,18 @@ pub record HasRows (replies : List Reply) (line edits count : ℕ) : Type 0 wher
   pub there : Has replies reply
   pub gives : GivesRows reply line edits count
 
--- no line was refused, and the summary has the bundles and items of the state after all entries, and the rows of the
--- last four lines up to this one, which were answered over that state
-pub record IsSummedUp (config : ConfigParts) (history : List Entry) (replies : List Reply) (last : ℕ) (s : Summary) : Type 0 where
+-- no line was refused, and a summary has these counts, and the rows of the last four lines up to this one, which were
+-- answered over the state after so many edits
+pub record HasAllRows (counts : Counts) (replies : List Reply) (last edits : ℕ) (s : Summary) : Type 0 where
   pub taken : list_all (λ r. is_taken r.answer) replies ≡ true
-  pub bundles : s.bundles ≡ length (database_after config history).bundles
-  pub items : s.items ≡ all_items (database_after config history).bundles
-  pub first : HasRows replies (last - 3) (length history) s.first
-  pub second : HasRows replies (last - 2) (length history) s.second
-  pub third : HasRows replies (last - 1) (length history) s.third
-  pub fourth : HasRows replies last (length history) s.fourth
+  pub bundles : s.bundles ≡ counts.bundles
+  pub items : s.items ≡ counts.items
+  pub first : HasRows replies (last - 3) edits s.first
+  pub second : HasRows replies (last - 2) edits s.second
+  pub third : HasRows replies (last - 1) edits s.third
+  pub fourth : HasRows replies last edits s.fourth
+
+-- the summary is so of the state after all entries
+abbrev pub IsSummedUp : ConfigParts → List Entry → List Reply → ℕ → Summary → Type 0
+IsSummedUp config history replies last s =
+    HasAllRows (counts_of (database_after config history).bundles) replies last (length history) s
