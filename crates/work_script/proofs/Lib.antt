@@ -6,6 +6,7 @@ mod Names
 mod Numbered
 mod Ordered
 mod Parts
+mod Ran
 mod Replied
 mod Scripted
 mod States

@@ -1,9 +1,11 @@
 //! The run of the script of work, by several sessions at once.
-ghost use Rattle.std.specs.Prelude.{◌≡◌, ◌≤◌, ◌<◌, ◌+◌, ◌^◌, ℕ, [], None, IfOk, IfSome, length};
+ghost use Rattle.std.specs.Prelude.{◌≡◌, ◌≤◌, ◌<◌, ◌+◌, ◌^◌, ℕ, false, [], None, IfOk, IfSome, length};
 ghost use Rattle.emu_names.specs.declared.limits.TheConstants.{BUNDLES};
 ghost use Rattle.edit_rules.specs.Database.{counts_of};
 ghost use Rattle.edit_rules.specs.Effects.{database_after};
-ghost use Rattle.live_book.specs.Kept.{KeepsIn};
+ghost use Rattle.live_book.specs.Commits.{has_journal};
+ghost use Rattle.live_book.specs.Kept.{BookParts, KeepsIn};
+ghost use Rattle.live_run.specs.Inner.Runs.{EndsLive};
 ghost use Rattle.book_opening.specs.Inner.Opens.{AreAtFront};
 ghost use Rattle.session_core.specs.InOrder.{ComeInOrder};
 ghost use Rattle.work_script.specs.Inner.Lines.{IsScript};
@@ -79,7 +81,24 @@ fn sum_up<D: Disk>(book: &Book<D>, ended: &Ended, lines: &Lines) -> Result<Summa
     }
 }
 
-/// Runs the lines over a book, and sums up what was found. The only refusal is want of memory.
+/// The summary of a run that has ended over a book without entries. The only refusal is want of memory.
+fn summary_of<D: Disk>(
+    book: &Book<D>,
+    ended: &Result<Ended, Memory>,
+    lines: &Lines,
+) -> Result<Summary, Memory>
+    requires { (3 ≤ length lines.now) × (length lines.now < 2 ^ 31) }
+    ensures { (before : BookParts D) (number count : ℕ) → before.config ≡ work_config → before.history ≡ [] →
+        EndsLive D.may_leave D.faults before lines.now ended.now book.now →
+        IsScript number count lines.now → IfOk result (IsSummary number count) }
+{
+    match ended {
+        Ok(ended) => sum_up(book, ended, lines),
+        Err(_) => Err(Memory),
+    }
+}
+
+/// Runs the lines over a new book without a store, and sums up what was found. The only refusal is want of memory.
 fn run_over<R: Threads + Wait + Sync, D: Disk + Send, G: Gate + Sync>(
     rt: &R,
     alloc: Global,
@@ -90,16 +109,15 @@ fn run_over<R: Threads + Wait + Sync, D: Disk + Send, G: Gate + Sync>(
 ) -> Result<Summary, Memory>
     requires passes { AreAtFront READERS book passes }
     requires sound { KeepsIn D.may_leave book.config book.history None book.journal }
-    requires new { (book.config ≡ work_config) × (book.history ≡ []) × (book.journal ≡ None) }
+    requires config { book.config ≡ work_config }
+    requires history { book.history ≡ [] }
+    requires unstored { has_journal book.journal ≡ false }
     requires lines { ComeInOrder [] lines.now }
     requires few { (3 ≤ length lines.now) × (length lines.now < 2 ^ 31) }
     ensures { (number count : ℕ) → IsScript number count lines.now → IfOk result (IsSummary number count) }
 {
     let LiveEnd { book, ended } = run_live(rt, alloc, book, passes, lines, WORKERS, gate);
-    let summary = match &ended {
-        Ok(ended) => sum_up(&book, ended, lines),
-        Err(_) => Err(Memory),
-    };
+    let summary = summary_of(&book, &ended, lines);
     match book.into_journal(rt) {
         None => summary,
         Some(_) => unreachable!(),
