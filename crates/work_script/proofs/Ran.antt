@@ -1,11 +1,9 @@
 -- The run of the script of work, over a book without entries and without a store.
-use Rattle.std.proofs.Common.{◌≡◌, ℕ, ◌+◌, Bool, true, false, List, [], length, Option, Some, Result, Ok, Err, IfOk, sym, ◌∙◌, ap, subst}
-use Rattle.std.proofs.lemmas.Bool.{true≢false}
+use Rattle.std.proofs.Common.{◌≡◌, ℕ, ◌+◌, Bool, true, false, List, [], length, Result, Ok, Err, IfOk, ◌∙◌, ap, subst}
 use Rattle.emu_names.specs.declared.shortage.Memory.{Memory}
 use Rattle.db_config.specs.declared.parts.ConfigParts.{ConfigParts}
 use Rattle.edit_rules.specs.declared.bundle_change.Counts.{Counts}
 use Rattle.edit_rules.specs.declared.edit.Entry.{Entry}
-use Rattle.edit_journal.specs.Held.{Journal}
 use Rattle.live_book.specs.Commits.{has_journal}
 use Rattle.live_book.specs.Kept.{BookParts, faults_in}
 use Rattle.live_run.specs.declared.run.Ended.{Ended}
