@@ -22,8 +22,8 @@ use Rattle.program_output.specs.declared.status.Status.TheVariants as statuses
 use Rattle.program_output.specs.Statuses.{Finishes, code_of}
 use Rattle.script_runs.proofs.CompleteLemmas.{not_damaged_base}
 use Rattle.cli_words.specs.Forms.{words_of}
-use Rattle.emu_cli.specs.Calls.{EndsWork, WorkCompletes}
-use Rattle.emu_cli.specs.Inner.Calls.{EndsApart}
+use Rattle.emu_cli.specs.Calls.{EndsWork}
+use Rattle.emu_cli.specs.Inner.Calls.{EndsApart, WorkCompletes}
 use Rattle.emu_cli.proofs.CallLemmas.{work_words}
 use Rattle.emu_cli.specs.Ends.{EndsBare, EndsDone, EndsImport, EndsLoad, EndsOnStore, EndsReading, EndsUnopened, FolderTold, IsEndOf, IsFaultlessOn, IsLoadedAlready, IsMadeText, IsRefusedBy, Refusals, is_of_store}
 

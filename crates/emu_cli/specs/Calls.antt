@@ -138,12 +138,6 @@ CommandCodeCompletes words IsFaultless code =
     AsksForStore words → IsFaultless → (code ≡ 0) ⊎ (code ≡ 10) ⊎ (code ≡ 8)
 
 -- where no write fails, only want of memory keeps `work` from its line
-abbrev pub WorkCompletes : List (List ℕ) → ℕ → ℕ → Status → Type 0
-WorkCompletes words writes writes_after status =
-    (number bundles : ℕ) → IsWorkWords words number bundles → writes_after ≡ writes → writes < 2 ^ 64 - 1
-    → (status ≡ statuses.Fine) ⊎ (status ≡ statuses.Memory)
-
--- the same of the code
 abbrev pub WorkCodeCompletes : List (List ℕ) → ℕ → ℕ → ℕ → Type 0
 WorkCodeCompletes words writes writes_after code =
     (number bundles : ℕ) → IsWorkWords words number bundles → writes_after ≡ writes → writes < 2 ^ 64 - 1

@@ -4,8 +4,8 @@ ghost use Rattle.program_output.specs.declared.ending.Ending.{Ending as Ends};
 ghost use Rattle.emu_cli.specs.Ends.{is_of_store};
 ghost use Rattle.cli_words.specs.Inner.Gives.{IsInRange};
 ghost use Rattle.program_output.specs.Texts.{usage_text};
-ghost use Rattle.emu_cli.specs.Calls.{AskForRun, AsksForStore, CallCompletesBy, CallEndsBy, CallSaysBy, CommandCodeCompletesBy, CommandCompletesBy, EndsOnStoreBy, RunCompletesBy, WorkCodeCompletes, WorkCompletes, texts_of};
-ghost use Rattle.emu_cli.specs.Inner.Calls.{EndsApart, live_asked, run_asked};
+ghost use Rattle.emu_cli.specs.Calls.{AskForRun, AsksForStore, CallCompletesBy, CallEndsBy, CallSaysBy, CommandCodeCompletesBy, CommandCompletesBy, EndsOnStoreBy, RunCompletesBy, WorkCodeCompletes, texts_of};
+ghost use Rattle.emu_cli.specs.Inner.Calls.{EndsApart, WorkCompletes, live_asked, run_asked};
 ghost use Rattle.program_output.specs.Statuses.{WritesLast};
 ghost use Rattle.script_runs.specs.Told.{FinishesBy};
 

@@ -1,9 +1,11 @@
 -- Words of contracts and loops beside `specs/Calls.antt`; no promise of the program rests on them.
-use Rattle.std.specs.Prelude.{Bool, Option, Some, None}
+use Rattle.std.specs.Prelude.{◌≡◌, ◌⊎◌, ◌<◌, ◌-◌, ◌^◌, ℕ, List, Bool, Option, Some, None}
 use Rattle.cli_words.specs.declared.words.Words.{Words}
 use Rattle.cli_words.specs.declared.words.Words.TheVariants as forms
 use Rattle.program_output.specs.declared.ending.Ending.{Ending}
-use Rattle.emu_cli.specs.Calls.{EndsWork}
+use Rattle.program_output.specs.declared.status.Status.{Status}
+use Rattle.program_output.specs.declared.status.Status.TheVariants as statuses
+use Rattle.emu_cli.specs.Calls.{EndsWork, IsWorkWords}
 
 -- whether a run that is asked for is one with a store; nothing where no run is asked for
 abbrev pub run_asked : Words → Option Bool
@@ -19,3 +21,9 @@ live_asked words = None
 abbrev pub EndsApart : Words → (Ending → Type 0) → Type 0 → Type 0
 EndsApart (forms.Work number bundles) Writes Usage = (ending : Ending) × EndsWork number bundles ending × Writes ending
 EndsApart command Writes Usage = Usage
+
+-- where no write fails, only want of memory keeps `work` from its line, by its status
+abbrev pub WorkCompletes : List (List ℕ) → ℕ → ℕ → Status → Type 0
+WorkCompletes words writes writes_after status =
+    (number bundles : ℕ) → IsWorkWords words number bundles → writes_after ≡ writes → writes < 2 ^ 64 - 1
+    → (status ≡ statuses.Fine) ⊎ (status ≡ statuses.Memory)
