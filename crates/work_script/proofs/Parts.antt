@@ -1,8 +1,9 @@
 -- The lines of the script of work, put together from their parts.
-use Rattle.std.proofs.Common.{◌≡◌, ℕ, ◌+◌, ◌≤◌, List, ◌++◌, length, sym, ◌∙◌, ap, subst, arith, length-append}
+use Rattle.std.proofs.Common.{◌≡◌, ℕ, ◌+◌, ◌≤◌, List, ◌++◌, length, ◌∙◌, ap, subst, arith, length-append}
 use Rattle.work_script.proofs.Numbered.{asking_length}
 use Rattle.session_core.specs.declared.line.Line.{Line}
-use Rattle.work_script.specs.Script.{adding, each, others, wait_of, waits, work_queries}
+use Rattle.work_script.specs.Script.{each, work_queries}
+use Rattle.work_script.specs.Inner.Script.{adding, others, wait_of, waits}
 use Rattle.work_script.specs.Inner.Lines.{AreAsking, IsScript}
 use Rattle.work_script.proofs.Numbered.{each_length}
 

@@ -1,16 +1,16 @@
 -- The database behind a history of the additions of the script of work, in whatever order they came.
-use Rattle.std.proofs.Common.{◌≡◌, ◌⊎◌, inl, inr, ℕ, ◌<◌, true, List, [], ◌∷◌, Ok, refl, sym, ◌∙◌, ap, subst}
+use Rattle.std.proofs.Common.{◌≡◌, inl, inr, ℕ, ◌<◌, true, List, [], ◌∷◌, Ok, refl, sym, ◌∙◌, ap, subst}
 use Rattle.emu_names.specs.declared.names.BundleKey.{BundleKey}
 use Rattle.level_items.specs.declared.annot.Annot.{Annot}
 use Rattle.db_config.specs.Valid.{is_valid}
-use Rattle.edit_rules.specs.declared.edit.Edit.{Edit}
 use Rattle.edit_rules.specs.declared.edit.Edit.TheVariants.{AddBundle}
 use Rattle.edit_rules.specs.declared.edit.Entry.{Entry}
 use Rattle.edit_rules.specs.Edits.{key_of}
 use Rattle.edit_rules.specs.Database.{DatabaseParts, KeepsDatabaseRules, empty_database, same_key}
 use Rattle.edit_rules.specs.Effects.{IsLegal, database_after, found_or}
 use Rattle.edit_rules.proofs.Replay.{after_config, empty_keeps, legal_keeps}
-use Rattle.work_script.specs.Script.{work_annot, work_config, work_edit, work_key}
+use Rattle.work_script.specs.Script.{work_annot, work_config, work_key}
+use Rattle.work_script.specs.Inner.Script.{work_edit}
 use Rattle.work_script.specs.States.{Adds, AreAdditions, IsWorkState}
 use Rattle.work_script.specs.Inner.Replies.{Has}
 use Rattle.work_script.proofs.Additions.{adds_found, nowhere}

@@ -2,7 +2,8 @@
 ghost use Rattle.std.specs.Prelude.{◌≡◌, ◌≤◌, ◌<◌, ◌+◌, ◌^◌, [], IfOk, length};
 ghost use Rattle.emu_names.specs.declared.limits.TheConstants.{BUNDLES};
 ghost use Rattle.session_core.specs.InOrder.{ComeInOrder};
-ghost use Rattle.work_script.specs.Script.{adding, awaiting, each, last_of, waits, work_key, work_queries};
+ghost use Rattle.work_script.specs.Script.{each, work_key, work_queries};
+ghost use Rattle.work_script.specs.Inner.Script.{adding, awaiting, last_of, waits};
 ghost use Rattle.work_script.specs.Inner.Lines.{AreAsking, IsAsking, IsScript};
 
 use crate::annotation::work_annot;

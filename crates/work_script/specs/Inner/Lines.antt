@@ -6,7 +6,8 @@ use Rattle.session_core.specs.declared.line.Ask.{Ask}
 use Rattle.session_core.specs.declared.line.Command.TheVariants as commands
 use Rattle.session_core.specs.declared.line.Line.{Line}
 use Rattle.session_core.specs.declared.line.Request.TheVariants as requests
-use Rattle.work_script.specs.Script.{adding, each, waits, work_queries}
+use Rattle.work_script.specs.Script.{each, work_queries}
+use Rattle.work_script.specs.Inner.Script.{adding, waits}
 
 -- the line of this number asks the query of a text, by session 1
 pub record IsAsking (line : ℕ) (text : List ℕ) (l : Line) : Type 0 where

@@ -1,4 +1,4 @@
-use Rattle.work_script.specs.Script.{adding}
+use Rattle.work_script.specs.Inner.Script.{adding}
 use Rattle.work_script.proofs.Lists.{each_step}
 use Rattle.work_script.proofs.lines.additions.Goals as goal
 

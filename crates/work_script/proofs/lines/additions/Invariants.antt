@@ -1,5 +1,6 @@
 use Rattle.std.proofs.Common.{◌≡◌}
-use Rattle.work_script.specs.Script.{adding, each}
+use Rattle.work_script.specs.Script.{each}
+use Rattle.work_script.specs.Inner.Script.{adding}
 use Rattle.work_script.proofs.lines.additions.Given as goal
 
 -- the additions so far

@@ -1,5 +1,6 @@
 use Rattle.std.proofs.Common.{◌≡◌}
-use Rattle.work_script.specs.Script.{each, wait_of}
+use Rattle.work_script.specs.Script.{each}
+use Rattle.work_script.specs.Inner.Script.{wait_of}
 use Rattle.work_script.proofs.lines.waits.Given as goal
 
 -- the waits so far
