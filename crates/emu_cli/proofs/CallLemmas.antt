@@ -122,12 +122,15 @@ apart_ends : (words : List (List ℕ)) (asked : Words) (calls : Bool → Call) (
     EndsApart asked (Writes status) Last → (Last → SaysUsage status (calls false)) → CallEnds words calls before since images Stores (λ st. SaysWork words (Writes st)) status
 apart_ends words (forms.Work number bundles) calls before since images Stores Writes Last status is h n l ended usage = inr (inr (inr (inr (inr (number, bundles, h, ended.0, ended.1, ended.2)))))
 apart_ends words forms.Config calls before since images Stores Writes Last status is h n l ended usage =
-    inr (inr (inl (record {
-      no_run = asked_none words forms.Config h n;
-      no_live = asked_no_live words forms.Config h l;
-      no_store = λ asks. not_both (is_of_store forms.Config) (store_words words forms.Config h asks) is;
-      no_work = λ number bundles w. config_no_work number bundles (words_same (sym h ∙ w));
-    }, usage ended)))
+    inr (inr (inl (
+      record {
+        no_run = asked_none words forms.Config h n;
+        no_live = asked_no_live words forms.Config h l;
+        no_store = λ asks. not_both (is_of_store forms.Config) (store_words words forms.Config h asks) is;
+        no_work = λ number bundles w. config_no_work number bundles (words_same (sym h ∙ w));
+      },
+      usage ended,
+    )))
 apart_ends words (forms.Run s) calls before since images Stores Writes Last status is h n l ended usage = absurd (no_flag s (sym n))
 apart_ends words (forms.Live s workers) calls before since images Stores Writes Last status is h n l ended usage = absurd (no_flag s (sym l))
 apart_ends words (forms.Ask eql time) calls before since images Stores Writes Last status is h n l ended usage = absurd (not_both true refl is)

@@ -1,9 +1,8 @@
 -- Additions of bundles, in any order.
-use Rattle.std.proofs.Common.{◌≡◌, ◌⊎◌, inl, inr, Bool, true, false, cond, not, List, [], ◌∷◌, ◌++◌, Option, Some, None, Result, Ok, Err, nat_le, nat_lt, ◌+◌, refl, sym, ◌∙◌, ap, subst}
+use Rattle.std.proofs.Common.{◌≡◌, ◌⊎◌, inl, inr, Bool, true, false, cond, not, List, [], ◌∷◌, Option, Some, None, Ok, nat_le, nat_lt, ◌+◌, refl, sym, ◌∙◌, ap, subst}
 use Rattle.std.proofs.lemmas.Bool.{true≢false}
 use Rattle.emu_names.specs.declared.limits.TheConstants.{ALL_ITEMS, BUNDLES}
 use Rattle.emu_names.specs.declared.names.BundleKey.{BundleKey}
-use Rattle.emu_names.specs.declared.rules.Broken.{Broken}
 use Rattle.emu_names.specs.declared.rules.Broken.TheVariants as rules
 use Rattle.emu_names.specs.declared.rules.What.TheVariants as counted
 use Rattle.emu_names.specs.Steps.{onward}
@@ -14,18 +13,16 @@ use Rattle.bundle_state.specs.Bundle.{BundleParts, item_count}
 use Rattle.bundle_state.specs.Built.{built}
 use Rattle.bundle_state.proofs.LinksKept.{goes_on, ok_same, fine_value}
 use Rattle.edit_rules.specs.declared.bundle_change.Counts.{Counts}
-use Rattle.edit_rules.specs.declared.edit.Edit.{Edit}
 use Rattle.edit_rules.specs.declared.edit.Edit.TheVariants.{AddBundle}
 use Rattle.edit_rules.specs.declared.edit.Entry.{Entry}
 use Rattle.edit_rules.specs.Edits.{key_of}
 use Rattle.edit_rules.specs.Changes.{bundle_added, unless_too_many, changed}
 use Rattle.edit_rules.specs.Database.{DatabaseParts, empty_database, with_bundles, same_key, is_before, bundle_with, without, put_in_order, put_for, counts_of, KeepsDatabaseRules}
-use Rattle.edit_rules.specs.Effects.{put_back, effect, replayed, after, IsLegal, database_after, found_or}
+use Rattle.edit_rules.specs.Effects.{put_back, effect, replayed, after, found_or}
 use Rattle.edit_rules.proofs.KeyPlaces.{Apart, key_same, same_itself}
 use Rattle.edit_rules.proofs.Orders.{lists_same}
 use Rattle.edit_rules.proofs.Replay.{after_config, empty_keeps, legal_keeps}
 use Rattle.edit_rules.proofs.Stays.{apart_left, limit_passed, limit_before, changed_stored, edits_keep_rules}
-use Rattle.edit_rules.proofs.Spans.{some_same}
 use Rattle.work_script.specs.States.{Adds, AreAdditions, HaveSameAdditions, AdditionsInAnyOrder}
 
 -- What is found in a list into which a bundle was put.

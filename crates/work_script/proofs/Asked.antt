@@ -1,5 +1,5 @@
 -- The rows that a query was answered.
-use Rattle.std.proofs.Common.{◌≡◌, ℕ, Bool, true, false, List, length, Option, Some, None, Result, Ok, Err, refl, sym, ◌∙◌, ap, subst}
+use Rattle.std.proofs.Common.{◌≡◌, ℕ, Bool, true, false, List, length, Option, None, Result, Ok, Err, refl, ◌∙◌, ap}
 use Rattle.eql_resolve.specs.declared.faults.AskFault.{AskFault}
 use Rattle.eql_resolve.specs.declared.faults.PrepareFault.{PrepareFault}
 use Rattle.eql_resolve.specs.Asked.{AskedParts}
@@ -10,7 +10,6 @@ use Rattle.eql_model.specs.declared.row.Row.{Row}
 use Rattle.eql_model.specs.Rows.{any_has_too_many, segment_list}
 use Rattle.edit_rules.specs.Database.{DatabaseParts}
 use Rattle.requery.specs.declared.target.Requery.{Requery}
-use Rattle.session_core.specs.declared.line.Answer.{Answer}
 use Rattle.session_core.specs.declared.line.Answer.TheVariants.{Segments}
 use Rattle.session_core.specs.declared.line.Ask.{Ask}
 use Rattle.session_core.specs.Answers.{answer_over, asked_answer, listed_answer, prepared_answer, resolved_answer}

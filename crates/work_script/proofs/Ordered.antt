@@ -1,13 +1,12 @@
 -- The lines of the script of work come in order.
-use Rattle.std.proofs.Common.{◌≡◌, ◌⊎◌, inl, inr, ℕ, zero, suc, ◌+◌, ◌-◌, ◌*◌, ◌/◌, ◌%◌, ◌<◌, ◌≤◌, Bool, true, false, cond, ◌||◌, List, [], ◌∷◌, ◌++◌, length, refl, sym, ◌∙◌, ap, subst, arith, nat_eq, nat_le, eq-eqb, leb-true, append_assoc, append-nil, length-append}
+use Rattle.std.proofs.Common.{◌≡◌, inl, inr, ℕ, zero, suc, ◌+◌, ◌-◌, ◌%◌, ◌<◌, ◌≤◌, Bool, true, false, ◌||◌, List, [], ◌∷◌, ◌++◌, length, refl, sym, ◌∙◌, ap, subst, arith, nat_eq, eq-eqb, append_assoc, append-nil, length-append}
 use Rattle.std.specs.List.{list_any}
 use Rattle.std.proofs.Math.Nat.{mul-div-le, mod-lt}
 use Rattle.session_core.specs.declared.line.Line.{Line}
-use Rattle.session_core.specs.declared.line.Request.{Request}
 use Rattle.session_core.specs.InOrder.{ComeInOrder, ComesNext, IsBelow, NamesEarlier}
 use Rattle.session_core.specs.Worlds.{Each}
 use Rattle.work_script.specs.Script.{adding, each, last_of, others, wait_of, waits, work_queries}
-use Rattle.work_script.specs.Inner.Lines.{AreAsking, IsAsking, IsScript}
+use Rattle.work_script.specs.Inner.Lines.{AreAsking, IsScript}
 use Rattle.work_script.specs.Inner.Replies.{Has}
 use Rattle.work_script.proofs.Lists.{each_has}
 use Rattle.work_script.proofs.Numbered.{each_length}

@@ -1,5 +1,5 @@
 -- The lines of the script of work, put together from their parts.
-use Rattle.std.proofs.Common.{◌≡◌, ℕ, ◌+◌, ◌≤◌, List, ◌++◌, length, sym, ◌∙◌, ap, subst, arith, length-append}
+use Rattle.std.proofs.Common.{◌≡◌, ℕ, ◌+◌, ◌≤◌, List, ◌++◌, length, ◌∙◌, ap, subst, arith, length-append}
 use Rattle.work_script.proofs.Numbered.{asking_length}
 use Rattle.session_core.specs.declared.line.Line.{Line}
 use Rattle.work_script.specs.Script.{adding, each, others, wait_of, waits, work_queries}

@@ -1,5 +1,5 @@
 -- The run of the script of work, over a book without entries and without a store.
-use Rattle.std.proofs.Common.{◌≡◌, ℕ, ◌+◌, Bool, true, false, List, [], length, Result, Ok, Err, IfOk, ◌∙◌, ap, subst}
+use Rattle.std.proofs.Common.{◌≡◌, ℕ, ◌+◌, Bool, List, [], length, Result, Ok, Err, IfOk, ◌∙◌, subst}
 use Rattle.emu_names.specs.declared.shortage.Memory.{Memory}
 use Rattle.db_config.specs.declared.parts.ConfigParts.{ConfigParts}
 use Rattle.edit_rules.specs.declared.bundle_change.Counts.{Counts}
@@ -24,12 +24,6 @@ pub summed_as : (counts others : Counts) (replies : List Reply) (last line edits
 summed_as counts others replies last line edits number s first second third rows =
     subst (λ (c : Counts). HasAllRows c replies line number s) first
     (subst (λ (n : ℕ). HasAllRows counts replies n number s) second (subst (λ (n : ℕ). HasAllRows counts replies last n s) third rows))
-
--- a book without a store stays one
-pub stays_unstored : {D : Type 0} (may_leave : D → List ℕ → Type 0) (faults : D → ℕ) (old new : BookParts D) (lines : List Line) (ended : Result Ended Memory) → EndsLive may_leave faults old lines ended new
-    → has_journal old.journal ≡ false → has_journal new.journal ≡ false
-stays_unstored may_leave faults old new lines (Ok ended) ends none = ends.0.stored ∙ none
-stays_unstored {D = D} may_leave faults old new lines (Err want) ends none = ap (λ (b : BookParts D). has_journal b.journal) ends ∙ none
 
 -- a run that was summed up is that of the script
 pub run_summed : {D : Type 0} (may_leave : D → List ℕ → Type 0) (faults : D → ℕ) (old new : BookParts D) (lines : List Line) (ended : Ended) (number count : ℕ) (summary : Result Summary Memory)

@@ -1,5 +1,5 @@
 -- What a legal run without an opening says of its lines, its replies and its history, where no line was refused.
-use Rattle.std.proofs.Common.{◌≡◌, ◌⊎◌, inl, inr, ℕ, zero, suc, ◌+◌, ◌≤◌, Bool, true, false, List, [], ◌∷◌, ◌++◌, length, filter, map, slice_get, Option, Some, None, Ok, Err, refl, sym, ◌∙◌, ap, subst, arith, nat_eq, eq-eqb}
+use Rattle.std.proofs.Common.{◌≡◌, ◌⊎◌, inl, inr, ℕ, ◌+◌, ◌≤◌, Bool, true, List, [], ◌∷◌, length, Option, Some, None, Ok, Err, refl, sym, ap, subst, eq-eqb}
 use Rattle.std.specs.List.{list_all}
 use Rattle.db_config.specs.declared.parts.ConfigParts.{ConfigParts}
 use Rattle.edit_rules.specs.declared.edit.Edit.{Edit}
@@ -12,8 +12,8 @@ use Rattle.session_core.specs.declared.line.Reply.{Reply}
 use Rattle.session_core.specs.declared.line.Request.{Request}
 use Rattle.session_core.specs.declared.line.Request.TheVariants as requests
 use Rattle.session_core.specs.Answers.{entry_of}
-use Rattle.session_core.specs.Legal.{Legal, NumberedEntry, IsRight, IsRightAt, IsRightQuery, IsRightTurn, IsRightUnnumbered, accepted, accepting, has_number, is_line_of, is_of, lines_in, lines_of_session, numbered, of_session, replies_in, with_number}
-use Rattle.session_core.specs.Worlds.{Each, Turn}
+use Rattle.session_core.specs.Legal.{Legal, NumberedEntry, IsRight, IsRightAt, IsRightQuery, IsRightTurn, IsRightUnnumbered, accepted, accepting, has_number, is_line_of, is_of, lines_of_session, numbered, of_session, with_number}
+use Rattle.session_core.specs.Worlds.{Turn}
 use Rattle.work_script.specs.Inner.Replies.{Has, is_taken}
 use Rattle.work_script.proofs.Lists.{ComesFrom, all_at, each_at, filter_in, has_at, has_either, has_filter, has_map, map_has}
 

@@ -1,5 +1,5 @@
 -- The lines of the script of work: its edits are the additions of its bundles, and a line's number says what it asks.
-use Rattle.std.proofs.Common.{◌≡◌, ◌⊎◌, inl, inr, ℕ, zero, suc, ◌+◌, ◌<◌, ◌≤◌, List, [], ◌∷◌, ◌++◌, length, Ok, Err, refl, sym, ◌∙◌, ap, subst, arith}
+use Rattle.std.proofs.Common.{◌≡◌, ◌⊎◌, inl, inr, ℕ, suc, ◌+◌, ◌<◌, List, [], ◌∷◌, ◌++◌, length, Ok, sym, ◌∙◌, ap, subst}
 use Rattle.edit_rules.specs.declared.edit.Edit.{Edit}
 use Rattle.session_core.specs.declared.line.Line.{Line}
 use Rattle.session_core.specs.declared.line.Request.{Request}
@@ -7,7 +7,7 @@ use Rattle.session_core.specs.declared.line.Request.TheVariants as requests
 use Rattle.work_script.specs.Script.{adding, each, last_of, others, wait_of, waits, work_edit, work_queries}
 use Rattle.work_script.specs.Inner.Lines.{AreAsking, IsAsking, IsScript}
 use Rattle.work_script.specs.Inner.Replies.{Has}
-use Rattle.work_script.proofs.Lists.{IsEach, each_has, has_each, has_either, has_left, has_right}
+use Rattle.work_script.proofs.Lists.{IsEach, each_has, has_each, has_either, has_left}
 
 -- a line that asks one of some texts
 record AsksOne (texts : List (List ℕ)) (l : Line) : Type 0 where

@@ -1,5 +1,5 @@
 -- The summary of a run of the script of work is that of the database in which all its bundles stand.
-use Rattle.std.proofs.Common.{◌≡◌, ◌≤◌, ℕ, zero, suc, ◌+◌, ◌-◌, ◌<◌, true, List, [], ◌∷◌, ◌++◌, length, take, take_all, Option, Some, Ok, refl, sym, ◌∙◌, ap, subst, arith, length-append, slice_get}
+use Rattle.std.proofs.Common.{◌≡◌, ℕ, ◌+◌, ◌-◌, ◌<◌, List, [], ◌++◌, length, take_all, Some, refl, sym, ◌∙◌, ap, subst, arith, length-append, slice_get}
 use Rattle.edit_rules.specs.declared.edit.Entry.{Entry}
 use Rattle.db_config.specs.declared.parts.ConfigParts.{ConfigParts}
 use Rattle.edit_rules.specs.declared.bundle_change.Counts.{Counts}
@@ -7,8 +7,6 @@ use Rattle.edit_rules.specs.Database.{DatabaseParts, counts_of, empty_database}
 use Rattle.edit_rules.specs.Effects.{database_after, found_or}
 use Rattle.version_tree.specs.Version.{VersionParts, state_of}
 use Rattle.live_book.specs.Published.{IsStateAfter}
-use Rattle.eql_model.specs.declared.row.Row.{Row}
-use Rattle.session_core.specs.declared.line.Answer.{Answer}
 use Rattle.session_core.specs.declared.line.Answer.TheVariants.{Segments}
 use Rattle.session_core.specs.declared.line.Line.{Line}
 use Rattle.session_core.specs.declared.line.Reply.{Reply}
@@ -20,7 +18,7 @@ use Rattle.work_script.specs.declared.summary.Summary.{Summary}
 use Rattle.work_script.specs.Script.{adding, each, waits, work_config, work_queries}
 use Rattle.work_script.specs.States.{IsWorkState}
 use Rattle.work_script.specs.Summary.{HasRowsFor, IsSummary}
-use Rattle.work_script.specs.Inner.Lines.{AreAsking, IsAsking, IsScript}
+use Rattle.work_script.specs.Inner.Lines.{IsAsking, IsScript}
 use Rattle.work_script.specs.Inner.Replies.{Has, HasRows, IsSummedUp}
 use Rattle.work_script.proofs.Asked.{rows_asked}
 use Rattle.work_script.proofs.Lists.{each_at}

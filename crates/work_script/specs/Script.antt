@@ -1,22 +1,17 @@
 -- The script of work: its configuration, the annotation of each bundle, and its lines.
 use Rattle.std.specs.Prelude.{ℕ, zero, suc, ◌+◌, ◌*◌, ◌-◌, ◌/◌, ◌%◌, min, List, [], ◌∷◌, ◌++◌, codes, None, Ok}
 use Rattle.std.specs.Fmt.{decimal}
-use Rattle.emu_names.specs.declared.kinds.ItemId.{ItemId}
 use Rattle.emu_names.specs.declared.kinds.LevelKind.{LevelKind}
 use Rattle.emu_names.specs.declared.kinds.LevelKind.TheVariants as kinds
 use Rattle.emu_names.specs.declared.kinds.LinkKind.TheVariants as links
 use Rattle.emu_names.specs.declared.names.BundleKey.{BundleKey}
 use Rattle.level_items.specs.declared.annot.Annot.{Annot}
 use Rattle.level_items.specs.declared.annot.AnnotItem.{AnnotItem}
-use Rattle.level_items.specs.declared.annot.AnnotLabel.{AnnotLabel}
-use Rattle.level_items.specs.declared.annot.AnnotLevel.{AnnotLevel}
 use Rattle.level_items.specs.declared.annot.AnnotLink.{AnnotLink}
 use Rattle.level_items.specs.declared.times.Time.{Time}
 use Rattle.level_items.specs.declared.times.Time.TheVariants.{NoTime, Span}
-use Rattle.db_config.specs.declared.attributes.AttributeDef.{AttributeDef}
 use Rattle.db_config.specs.declared.parts.ConfigParts.{ConfigParts}
 use Rattle.db_config.specs.declared.parts.LevelDef.{LevelDef}
-use Rattle.db_config.specs.declared.parts.LinkDef.{LinkDef}
 use Rattle.edit_rules.specs.declared.edit.Edit.{Edit}
 use Rattle.edit_rules.specs.declared.edit.Edit.TheVariants.{AddBundle}
 use Rattle.session_core.specs.declared.line.Command.TheVariants as commands
