@@ -108,14 +108,7 @@ fn perform_apart<
     D: Disk + Send,
     P: PatternMaker,
     G: Gate + Sync,
->(
-    rt: &R,
-    alloc: Global,
-    command: &Words,
-    out: &mut K,
-    patterns: &mut P,
-    gate: &G,
-) -> Status
+>(rt: &R, alloc: Global, command: &Words, out: &mut K, patterns: &mut P, gate: &G) -> Status
     requires ranges { IsInRange command.now }
     ensures { EndsApart command.now (FinishesBy K.Sink out.old out.new result)
         (WritesLast result Status.Usage
