@@ -1,0 +1,99 @@
+#!/usr/bin/env python3
+"""Checks functions of a crate ahead of the libraries below it, of which some are not proved yet.
+
+    tools/ahead.py CRATE [--only PATH].. [FLAG..]      from the top of the repository
+
+A library that is built is read as it is. Each other one below is read as source, from a copy in which a hole stands in the place of
+every proof that has files of its own: what is above takes such a function by its contract. So nothing of these libraries is proved here, and no verdict is
+given; a function without such files is still proved where it is called. PATH is a function, a type or a module, as for `rt check --only`;
+without one it is every module of the crate. FLAG goes to the check, which has --allow-holes. Copies and kept work stand in
+CRATE/out/ahead. The first run reads all these sources, some minutes of a processor where many are above one another.
+"""
+import importlib.machinery
+import importlib.util
+import os
+import re
+import shutil
+import subprocess
+import sys
+
+HOLE = """use Rattle.{crate}.proofs.{path}.Statement.{{statement}}
+
+pub {name}_spec : {{M : Type 1}} → statement M
+{name}_spec = ?
+"""
+
+
+def toolchain():
+    """The modules of `rt`, which know the crates, their libraries and what is built."""
+    path = os.path.realpath(shutil.which("rt"))
+    loader = importlib.machinery.SourceFileLoader("rt", path)
+    made = importlib.util.module_from_spec(importlib.util.spec_from_loader("rt", loader))
+    sys.modules["rt"] = made
+    loader.exec_module(made)
+    return made, os.path.dirname(os.path.dirname(path))
+
+
+def is_proof(folder, names):
+    """Whether a folder below proofs/ has the proof of one function, and of no cycle of functions."""
+    return not any(it.startswith("+") for it in folder.split("/")) and any(it in names for it in ("Answers.antt", "Invariants.antt"))
+
+
+def with_holes(crate, to):
+    """Copies a library, with a hole for each proof that has files. What did not change keeps its time."""
+    new = f"{to}.new"
+    shutil.rmtree(new, ignore_errors=True)
+    shutil.copytree(crate.folder, new, ignore=shutil.ignore_patterns("out", "must-fail"))
+    for at, _, names in os.walk(f"{new}/proofs"):
+        folder = os.path.relpath(at, f"{new}/proofs")
+        if is_proof(folder, names):
+            for name in ("Answers.antt", "Invariants.antt"):
+                if name in names:
+                    os.remove(f"{at}/{name}")
+            with open(f"{at}/Proof.antt", "w", encoding="utf-8") as file:
+                file.write(HOLE.format(crate=crate.name, path=folder.replace("/", "."), name=os.path.basename(folder)))
+    for at, _, names in os.walk(new):
+        for name in names:
+            old = f"{at}/{name}".replace(new, to, 1)
+            if os.path.isfile(old) and open(f"{at}/{name}", "rb").read() == open(old, "rb").read():
+                shutil.copystat(old, f"{at}/{name}")
+    shutil.rmtree(to, ignore_errors=True)
+    os.rename(new, to)
+
+
+def main(words):
+    if not words or words[0].startswith("-"):
+        sys.exit(__doc__)
+    rt, kit = toolchain()
+    root = os.getcwd()
+    rt.Crate.allowed = rt.handles_of(root)
+    crate = next((it for it in rt.crates_of(root) if it.name == words[0]), None) or sys.exit(f"there is no crate {words[0]}")
+    ahead, flags = f"{crate.folder}/out/ahead", words[1:]
+    os.makedirs(ahead, exist_ok=True)
+    built = {}
+    for it in crate.below():
+        built[it.name] = it.is_built() and all(built[low.name] for low in it.below())
+    sources = [it for it in crate.below() if not built[it.name]]
+    call = [f"{kit}/bin/rattle", "check", "--crate-name", crate.name, "src/main.rt" if crate.is_program else "src/lib.rt"]
+    for name in sorted({"core", *crate.of_kit, *(name for it in sources for name in it.of_kit)}):
+        call += ["--extern", f"{name}={kit}/rlibs/{name}.rlib"]
+    call += ["-L", f"dependency={kit}/rlibs"]
+    for it in crate.below():
+        if built[it.name]:
+            call += ["--extern", f"{it.name}={it.rlib}", "-L", f"dependency={os.path.dirname(it.rlib)}"]
+        else:
+            with_holes(it, f"{ahead}/{it.name}")
+            uses = ",".join(dict.fromkeys(["core", *it.of_kit, *(low.name for low in it.deps)]))
+            call += ["--lib", f"{it.name}:{uses}={ahead}/{it.name}/src/lib.rt"]
+            print(f"ahead: {it.name} as source", flush=True)
+    call += ["--antt-project", f"{kit}/rattle/logic/antt-project.json", "--logic-built", f"{kit}/logic_built"]
+    call += ["--incremental", f"{ahead}/kept", "--jobs", "1", "--progress", "--allow-holes"]
+    if "--only" not in flags and not any(it.startswith("--only=") for it in flags):
+        with open(f"{crate.folder}/{call[4]}", encoding="utf-8") as file:
+            modules = re.findall(r"^(?:pub(?:\(\w+\))? )?mod (\w+);", file.read(), re.M)
+        flags += [word for it in modules for word in ("--only", f"{crate.name}::{it}")]
+    return subprocess.run([*call, *flags], cwd=crate.folder, stdin=subprocess.DEVNULL).returncode
+
+
+if __name__ == "__main__":
+    sys.exit(main(sys.argv[1:]))
