@@ -1,8 +1,8 @@
 -- What becomes of a bundle where one of its items or links changes, or the rule that the change breaks
 -- first (EMU-SDMS Manual, "The emuDB format": `_annot.json`).
-use Rattle.std.specs.Prelude.{ℕ, zero, suc, not, List, [], ◌∷◌, ◌++◌, nat_eq, remove, Option, Some, None, Result, Ok, if◌then◌else◌, ok_or}
+use Rattle.std.specs.Prelude.{ℕ, zero, suc, not, List, [], ◌∷◌, ◌++◌, length, nat_eq, nat_le, insert, remove, Option, Some, None, Result, Ok, if◌then◌else◌, ok_or}
 use Rattle.std.specs.List.{list_any, filter, slice_get}
-use Rattle.std.specs.Option.{option_and_then}
+use Rattle.std.specs.Option.{option_and_then, option_or}
 use Rattle.emu_names.specs.declared.kinds.ItemId.{ItemId}
 use Rattle.emu_names.specs.declared.rules.Broken.{Broken}
 use Rattle.emu_names.specs.declared.rules.Broken.TheVariants as rules
@@ -118,6 +118,22 @@ abbrev pub link_added : ItemId → ItemId → BundleParts → Result BundleParts
 link_added from to b =
     onward (definition_for b.definitions (record { from = from; to = to })
     (level_of_id b.levels from.0) (level_of_id b.levels to.0)) (link_put from to b)
+
+-- a place of a list of links that has not so many
+abbrev pub place_fault : ℕ → List Link → Option Broken
+place_fault place links = if nat_le place (length links) then None else Some rules.PositionOut
+
+-- a new link of the definition of this number, put at a place, which is tested last
+abbrev pub link_put_at : ℕ → ItemId → ItemId → BundleParts → ℕ → Result BundleParts Broken
+link_put_at place from to b number =
+    unless_broken (option_or (add_fault (kind_of b.definitions number) number from to b.links) (place_fault place b.links))
+    (with_links b (insert b.links place (link_of number from to)))
+
+-- a new link between two items, put at a place
+abbrev pub link_inserted : ℕ → ItemId → ItemId → BundleParts → Result BundleParts Broken
+link_inserted place from to b =
+    onward (definition_for b.definitions (record { from = from; to = to })
+    (level_of_id b.levels from.0) (level_of_id b.levels to.0)) (link_put_at place from to b)
 
 -- a pair of items that is to be taken out has to be there
 abbrev pub missing_fault : ItemId → ItemId → List Link → Option Broken

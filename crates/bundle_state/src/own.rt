@@ -1,10 +1,11 @@
 //! Changes of what handles share: where another owner has the value too, this one takes a copy of it first.
-ghost use Rattle.std.specs.Prelude.{◌≡◌, ◌<◌, ◌++◌, ◌∷◌, [], length, IsTrue, OnErr, OnOk};
+ghost use Rattle.std.specs.Prelude.{◌≡◌, ◌<◌, ◌++◌, ◌∷◌, [], insert, length, IsTrue, OnErr, OnOk};
+ghost use Rattle.std.specs.Option.{option_or};
 ghost use Rattle.emu_names.specs.Inner.Gives.{FindsFault};
 ghost use Rattle.level_items.specs.Levels.{are_labels_for, is_short, relabelled, retimed};
 ghost use Rattle.level_items.specs.Faults.{insert_fault, retime_fault};
 ghost use Rattle.link_graph.specs.Link.{add_fault, link_of};
-ghost use Rattle.bundle_state.specs.Changed.{links_but, missing_fault, with_changed, with_item, without_item};
+ghost use Rattle.bundle_state.specs.Changed.{links_but, missing_fault, place_fault, with_changed, with_item, without_item};
 
 use crate::handle::Handle;
 use emu_names::{Broken, Fault, ItemId, LinkKind, Memory, Text};
@@ -85,6 +86,31 @@ impl Handle<Links> {
     {
         let links = Arc::make_mut(&mut self.inside)?;
         links.add(definition, kind, from, to)
+    }
+
+    /// Puts a link at a place, as the list of links does. A place past the end is refused last
+    /// (`PositionOut`).
+    pub(crate) fn add_at(
+        &mut self,
+        place: usize,
+        definition: u32,
+        kind: LinkKind,
+        from: ItemId,
+        to: ItemId,
+    ) -> Result<(), Fault>
+        ensures fault { FindsFault result
+            (option_or (add_fault kind definition from to self.old) (place_fault place self.old)) }
+        ensures added { OnOk result (self.new ≡ insert self.old place (link_of definition from to)) }
+        ensures kept { OnErr result (self.new ≡ self.old) }
+    {
+        if let Some(rule) = self.as_ref().fault(definition, kind, from, to) {
+            return Err(Fault::Broken(rule));
+        }
+        if place > self.as_ref().len() {
+            return Err(Fault::Broken(Broken::PositionOut));
+        }
+        let links = Arc::make_mut(&mut self.inside)?;
+        links.add_at(place, definition, kind, from, to)
     }
 
     /// Takes the link of a pair out. `NoLink` comes exactly where the pair is not there.

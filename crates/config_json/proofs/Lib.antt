@@ -6,3 +6,6 @@ pub mod Lists
 pub mod Placed
 pub mod Stops
 pub mod Sound
+pub mod Shown
+pub mod Plain
+pub mod ReadBack

@@ -1,0 +1,9 @@
+pub mod Cuts
+pub mod LabelSteps
+pub mod Lookups
+pub mod Next
+mod PairSteps
+pub mod Places
+pub mod Spans
+pub mod Steps
+pub mod Traces
