@@ -156,7 +156,13 @@ impl LevelList {
         let marks = Arc::make_mut(&mut self.marks)?;
         marks.put(item.id, mark_of(place, item.time))?;
         put_in(&mut self.items, place, item);
-        self.far = note_moved(marks, self.kind, &self.items, place.saturating_add(1), self.far);
+        self.far = note_moved(
+            marks,
+            self.kind,
+            &self.items,
+            place.saturating_add(1),
+            self.far,
+        );
         Ok(place)
     }
 

@@ -39,12 +39,7 @@ pub(crate) fn place_of_mark(kind: LevelKind, items: &[Item], mark: u64) -> usize
 }
 
 /// The position of an item, which is looked for in the `far` places on either side of `guess` first.
-pub(crate) fn position_near(
-    items: &[Item],
-    guess: usize,
-    far: usize,
-    id: ItemId,
-) -> Option<usize>
+pub(crate) fn position_near(items: &[Item], guess: usize, far: usize, id: ItemId) -> Option<usize>
     requires { IsTrue (are_different (ids_of items.now)) }
     ensures { result ≡ position (λ i. nat_eq i.id.0 id.0) items.now }
 {
