@@ -215,12 +215,7 @@ pub(crate) fn split(
 }
 
 /// Takes one item out of the bundle, and gives another one another time.
-fn taken_and_retimed(
-    bundle: Bundle,
-    taken: ItemId,
-    id: ItemId,
-    time: Time,
-) -> Result<Bundle, Fault>
+fn taken_and_retimed(bundle: Bundle, taken: ItemId, id: ItemId, time: Time) -> Result<Bundle, Fault>
     ensures { GivesOrBroken result (onward (item_removed taken bundle) (item_retimed id time)) }
 {
     let next = take_item(bundle, taken)?;

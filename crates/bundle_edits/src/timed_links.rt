@@ -101,5 +101,13 @@ pub(crate) fn link_times(
         return Err(Fault::Broken(Broken::NoLevel(lower.copy(alloc)?)));
     };
     let defs = &config.parts().levels;
-    link_levels(alloc, config, bundle, one, defs.get(one), other, defs.get(other))
+    link_levels(
+        alloc,
+        config,
+        bundle,
+        one,
+        defs.get(one),
+        other,
+        defs.get(other),
+    )
 }

@@ -16,12 +16,7 @@ pub type Pairs = AnnotLinks;
 
 /// Puts the pairs of an upper item with the items behind it whose bits are set last. The only refusal is
 /// want of memory.
-fn push_held(
-    pairs: &mut Pairs,
-    upper: ItemId,
-    lower: &[Item],
-    held: &BitRow,
-) -> Result<(), Memory>
+fn push_held(pairs: &mut Pairs, upper: ItemId, lower: &[Item], held: &BitRow) -> Result<(), Memory>
     requires { length held.now ≡ length lower.now }
     ensures { OnOk result
         (pairs.new ≡ pairs.old ++ map (pair_of upper) (held_items held.now lower.now)) }

@@ -76,7 +76,8 @@ impl Index {
     {
         let down = links.count_before(place, End::From, link.from);
         let up = links.count_before(place, End::To, link.to);
-        self.pairs.insert(link.from, link.to, links.block_of(place))?;
+        self.pairs
+            .insert(link.from, link.to, links.block_of(place))?;
         if self.down.insert(link.from, down, link).is_err() {
             self.pairs.remove(link.from, link.to);
             return Err(Memory);

@@ -7,5 +7,5 @@ use Rattle.bundle_edits.proofs.timed_links.link_pairs.Given as goal
 abbrev pub invariant-loop-pair : goal.invariant-loop-pair
 invariant-loop-pair l = record {
   turn : pairs_linked (drop l.pair-index l.pairs) l.next ≡ pairs_linked l.pairs l.fn.next;
-  fits : FitsConfig l.config l.next
+  fits : FitsConfig l.config l.next;
 }
