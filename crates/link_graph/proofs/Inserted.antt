@@ -1,5 +1,5 @@
 -- A link that is put at a place of a list.
-use Rattle.std.proofs.Common.{◌≡◌, ◌≢◌, ℕ, zero, suc, ◌+◌, ◌-◌, ◌<◌, ◌≤◌, min, Bool, true, false, not, ◌&&◌, ◌||◌, cond, List, [], ◌∷◌, ◌++◌, length, take, drop, get_or, insert, refl, sym, ap, ◌∙◌, subst, append_assoc, append-nil, length-append, arith, eqb, None}
+use Rattle.std.proofs.Common.{◌≡◌, ◌≢◌, ℕ, zero, suc, ◌+◌, ◌-◌, ◌<◌, ◌≤◌, min, Bool, true, false, not, ◌&&◌, ◌||◌, cond, List, [], ◌∷◌, ◌++◌, length, take, drop, get_or, insert, refl, sym, ap, ◌∙◌, subst, append_assoc, length-append, arith, eqb, None}
 use Rattle.std.specs.List.{filter, list_any, slice_set, IsDistinct}
 use Rattle.std.proofs.lemmas.Bool.{cond-true, cond-false, eq-eqb, eqb-true, ne_eqb}
 use Rattle.std.proofs.lemmas.Bool.Decides.{nat_tests}
@@ -9,8 +9,6 @@ use Rattle.std.proofs.lemmas.List.Edits.{insert-append_left, insert-append_right
 use Rattle.std.proofs.lemmas.List.Elements.{filter-append}
 use Rattle.std.proofs.lemmas.List.Sorted.{IsPermutation-insert, IsPermutation-append_comm}
 use Rattle.std.proofs.lemmas.Map.Keys.{IsDistinct-IsPermutation, IsDistinct-push}
-use Rattle.std.proofs.lemmas.Cmp.{nat_eq_equiv}
-use Rattle.emu_names.specs.declared.kinds.ItemId.{ItemId}
 use Rattle.emu_names.specs.declared.kinds.LinkKind.{LinkKind}
 use Rattle.emu_names.specs.declared.kinds.LinkKind.TheVariants.{OneToOne, OneToMany, ManyToMany}
 use Rattle.emu_names.specs.declared.limits.TheConstants.{BUNDLE_LINKS}
@@ -25,7 +23,7 @@ use Rattle.link_graph.specs.Kind.{KeepKind, of_definition}
 use Rattle.link_graph.proofs.Filters.{filter_push, filter_swap, filter_all}
 use Rattle.link_graph.proofs.Joined.{joined_set, joined_at}
 use Rattle.link_graph.proofs.Keeping.{joins_like}
-use Rattle.link_graph.proofs.Kept.{keep_added, keep_other}
+use Rattle.link_graph.proofs.Kept.{keep_added}
 
 -- ---- lists
 
@@ -193,9 +191,11 @@ insert_behind (suc place) link other some = ap (λ ls. link ∷ ls) (insert_none
 
 pub insert_least : (links : List Link) (place at : ℕ) (link : Link) → at ≡ min place (length links) → insert links at link ≡ insert links place link
 insert_least [] place at link is = sym (insert_none at link) ∙ insert_none place link
-insert_least (x ∷ links) zero at link is = ap (λ n. insert (x ∷ links) n link) is
-insert_least (x ∷ links) (suc place) zero link is = absurd cc
-insert_least (x ∷ links) (suc place) (suc at) link is = ap (λ ls. x ∷ ls) (insert_least links place at link (omega (arith, is)))
+insert_least (x ∷ links) zero at link is = let none : at ≡ 0 = omega (arith, is) in ap (λ n. insert (x ∷ links) n link) none
+insert_least (x ∷ links) (suc place) zero link is = let no : ⊥ = omega (arith, is) in absurd no
+insert_least (x ∷ links) (suc place) (suc at) link is =
+    let less : at ≡ min place (length links) = omega (arith, is) in
+    ap (λ ls. x ∷ ls) (insert_least links place at link less)
 
 -- the links of an item with one put in
 pub inserted_at : (p : Link → Bool) (links old new : List Link) (place rank : ℕ) (link : Link) → old ≡ filter p links → rank ≡ length (filter p (take place links)) →
@@ -244,7 +244,7 @@ block_inserted blocks at place link within inside =
 
 -- a block cut in two
 pub block_cut : (blocks : List (List Link)) (at len : ℕ) → at < length blocks →
-    joined (slice_set (insert blocks (at + 1) (drop len (get_or blocks at []))) at (take len (get_or blocks at []))) ≡ joined blocks
+    joined (slice_set (insert blocks (suc at) (drop len (get_or blocks at []))) at (take len (get_or blocks at []))) ≡ joined blocks
 block_cut [] at len within = let no : ⊥ = omega arith in absurd no
 block_cut (b ∷ blocks) zero len within =
     sym (append_assoc (take len b) (drop len b) (joined blocks)) ∙ ap (λ ls. ls ++ joined blocks) (take-append-drop len b)
@@ -252,12 +252,12 @@ block_cut (b ∷ blocks) (suc at) len within = ap (λ ls. b ++ ls) (block_cut bl
 
 -- ---- counts
 
+take_nothing : {X : Type 0} (n : ℕ) → take {A = X} n [] ≡ []
+take_nothing zero = refl
+take_nothing (suc n) = refl
+
 pub take_both : {X : Type 0} (n : ℕ) (xs ys : List X) → take n (xs ++ ys) ≡ take n xs ++ take (n - length xs) ys
-take_both n [] ys = let same : n ≡ n - 0 = omega arith in ap (λ m. take m ys) same ∙ ap (λ zs. zs ++ take (n - 0) ys) (sym (nothing n))
-  where
-    nothing : (m : ℕ) → take m [] ≡ []
-    nothing zero = refl
-    nothing (suc m) = refl
+take_both {X = X} n [] ys = let same : n ≡ n - 0 = omega arith in ap (λ m. take m ys) same ∙ ap (λ zs. zs ++ take (n - 0) ys) (sym (take_nothing {X = X} n))
 take_both zero (x ∷ xs) ys = let none : 0 - length (x ∷ xs) ≡ 0 = omega arith in sym (ap (λ m. take m ys) none)
 take_both (suc n) (x ∷ xs) ys =
     let same : n - length xs ≡ suc n - length (x ∷ xs) = omega arith in

@@ -1,8 +1,7 @@
 -- Where a link at a place of all blocks stands, and a link that is put there.
-use Rattle.std.proofs.Common.{◌≡◌, ℕ, zero, suc, ◌+◌, ◌-◌, ◌<◌, ◌≤◌, ◌≢◌, List, [], ◌∷◌, ◌++◌, length, take, drop, get_or, insert, refl, sym, ap, subst, ◌∙◌, append-nil, length-append, arith, Result, Ok, Err, OnOk}
+use Rattle.std.proofs.Common.{◌≡◌, ℕ, zero, suc, ◌+◌, ◌-◌, ◌<◌, ◌≤◌, ◌≢◌, List, [], ◌∷◌, ◌++◌, length, take, drop, get_or, insert, refl, sym, ap, subst, ◌∙◌, arith, Result, OnOk}
 use Rattle.std.specs.List.{slice_set}
 use Rattle.std.proofs.lemmas.List.{take_all, length-set}
-use Rattle.std.proofs.Math.Seq.{take-append_seam, drop-append_seam}
 use Rattle.link_graph.specs.declared.link.Link.{Link}
 use Rattle.link_graph.specs.declared.blocks.BlockPlace.{BlockPlace}
 use Rattle.link_graph.specs.Inner.Blocks.{joined, IsBlockPlace}
@@ -10,7 +9,7 @@ use Rattle.link_graph.proofs.Inserted.{block_inserted, block_cut}
 use Rattle.link_graph.proofs.Joined.{count_more, on_ok, written}
 
 -- an element that is there, whatever stands for one that is not
-get_any : {A : Type 0} (xs : List A) (i : ℕ) (d e : A) → i < length xs → get_or xs i d ≡ get_or xs i e
+pub get_any : {A : Type 0} (xs : List A) (i : ℕ) (d e : A) → i < length xs → get_or xs i d ≡ get_or xs i e
 get_any [] i d e within = let no : ⊥ = omega arith in absurd no
 get_any (x ∷ xs) zero d e within = refl
 get_any (x ∷ xs) (suc i) d e within = get_any xs i d e (omega arith)
@@ -98,15 +97,17 @@ pub cut_written : (items more old new : List (List Link)) (len at half : ℕ) (b
     len ≡ length more → old ≡ more → new ≡ slice_set old at (take half (get_or old at [])) →
     joined (take len (new ++ drop (length new) more)) ≡ joined items
 cut_written items more old new len at half behind put is within all same made =
-    let here : get_or more at [] ≡ get_or items at [] = ap (λ bs. get_or bs at []) put ∙ before items at behind within in
+    let next : at + 1 ≡ suc at = omega arith in
+    let put_next : more ≡ insert items (suc at) behind = put ∙ ap (λ n. insert items n behind) next in
+    let here : get_or more at [] ≡ get_or items at [] = ap (λ bs. get_or bs at []) put_next ∙ before items at behind within in
     let made_of : new ≡ slice_set more at (take half (get_or items at [])) =
     made ∙ ap (λ bs. slice_set bs at (take half (get_or bs at []))) same ∙ ap (λ b. slice_set more at (take half b)) here in
     let size : length new ≡ length more = ap length made_of ∙ length-set more at (take half (get_or items at [])) in
     ap joined (written more new len all size ∙ made_of)
-    ∙ ap (λ bs. joined (slice_set bs at (take half (get_or items at [])))) (put ∙ ap (insert items (at + 1)) is)
+    ∙ ap (λ bs. joined (slice_set bs at (take half (get_or items at [])))) (put_next ∙ ap (insert items (suc at)) is)
     ∙ block_cut items at half within
   where
-    before : (bs : List (List Link)) (i : ℕ) (x : List Link) → i < length bs → get_or (insert bs (i + 1) x) i [] ≡ get_or bs i []
+    before : (bs : List (List Link)) (i : ℕ) (x : List Link) → i < length bs → get_or (insert bs (suc i) x) i [] ≡ get_or bs i []
     before [] i x low = let no : ⊥ = omega arith in absurd no
     before (b ∷ bs) zero x low = refl
     before (b ∷ bs) (suc i) x low = before bs i x (omega arith)
