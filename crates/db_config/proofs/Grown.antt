@@ -1,8 +1,8 @@
 -- A configuration to which something is added keeps the rules, and extends the old one.
-use Rattle.std.proofs.Common.{◌≡◌, ℕ, zero, suc, ◌+◌, ◌<◌, ◌≤◌, Bool, true, false, not, ◌&&◌, ◌||◌, cond, List, [], ◌∷◌, ◌++◌, length, take, drop, map, nat_le, nat_lt, refl, sym, ap, subst, ◌∙◌, Option, Some, None, is_none, Result, Ok, Err, ok_or, arith}
-use Rattle.std.specs.List.{list_any, list_all, slice_get, slice_set, flat_map, position}
+use Rattle.std.proofs.Common.{◌≡◌, ℕ, zero, suc, ◌<◌, ◌≤◌, Bool, true, false, not, ◌&&◌, ◌||◌, cond, List, [], ◌∷◌, ◌++◌, length, take, drop, nat_le, nat_lt, refl, sym, ap, subst, ◌∙◌, Option, Some, None, is_none, Result, Ok, Err, ok_or, arith}
+use Rattle.std.specs.List.{list_any, list_all, slice_get, slice_set}
 use Rattle.std.specs.Option.{option_or, option_and_then, option_map}
-use Rattle.std.proofs.lemmas.Bool.{and_parts, and_from, or_parts, or_from, not-true, not_from_false, cases_Bool}
+use Rattle.std.proofs.lemmas.Bool.{and_parts, and_from, or_parts, or_from, not-true, not_from_false}
 use Rattle.std.proofs.lemmas.Bool.Decides.{nat_tests}
 use Rattle.std.proofs.lemmas.Cmp.{nat_list_eq_equiv}
 use Rattle.std.proofs.lemmas.List.{append-nil, append_assoc, map-append, length-append, length-set}
@@ -30,7 +30,7 @@ use Rattle.db_config.specs.Names.{attribute_names, without_first, names_of, all_
 use Rattle.db_config.specs.Lookups.{level_named}
 use Rattle.db_config.specs.Above.{leads_round}
 use Rattle.db_config.specs.Valid.{are_within_limits, is_in_range, same_levels, are_apart, keeps_rules, is_valid}
-use Rattle.db_config.specs.Added.{unless_double, level_added, has_attribute, new_names, with_attribute, level_with, attribute_put, attribute_added, definition_of, definition_put, definition_between, unless_round, definition_added, end_named, Begins, ExtendsLevel, ExtendLevels, Extends}
+use Rattle.db_config.specs.Added.{unless_double, level_added, has_attribute, new_names, with_attribute, level_with, attribute_put, attribute_added, definition_of, definition_between, unless_round, definition_added, end_named, Begins, ExtendsLevel, ExtendLevels, Extends}
 use Rattle.db_config.specs.Laws.{AdditionsKeepRules, AdditionsExtend}
 use Rattle.db_config.proofs.Doubles.{doubles_found, no_double}
 
@@ -52,15 +52,14 @@ set_around (z ∷ zs) (suc i) x y is = ap (λ us. z ∷ us) (set_around zs i x y
 -- the names of two lists together
 double_split : (seen xs ys : List (List ℕ)) → first_double seen (xs ++ ys) ≡ option_or (first_double seen xs) (first_double (seen ++ xs) ys)
 double_split seen [] ys = ap (λ zs. first_double zs ys) (sym (append-nil seen))
-double_split seen (x ∷ xs) ys = by_test (list_any (same_text x) seen)
+double_split seen (x ∷ xs) ys = by_test (list_any (same_text x) seen) (double_split (seen ++ x ∷ []) xs ys)
   where
     by_test : (b : Bool) →
+        first_double (seen ++ x ∷ []) (xs ++ ys) ≡ option_or (first_double (seen ++ x ∷ []) xs) (first_double ((seen ++ x ∷ []) ++ xs) ys) →
         cond b (Some x) (first_double (seen ++ x ∷ []) (xs ++ ys))
         ≡ option_or (cond b (Some x) (first_double (seen ++ x ∷ []) xs)) (first_double (seen ++ x ∷ xs) ys)
-    by_test true = refl
-    by_test false =
-        double_split (seen ++ x ∷ []) xs ys
-        ∙ ap (λ zs. option_or (first_double (seen ++ x ∷ []) xs) (first_double zs ys)) (append_assoc seen (x ∷ []) xs)
+    by_test true rest = refl
+    by_test false rest = rest ∙ ap (λ zs. option_or (first_double (seen ++ x ∷ []) xs) (first_double zs ys)) (append_assoc seen (x ∷ []) xs)
 
 none_is : (o : Option (List ℕ)) → is_none o ≡ true → o ≡ None
 none_is None h = refl
@@ -99,21 +98,23 @@ distinct_among (x ∷ xs) n ys apart fresh =
 
 without_there : (n : List ℕ) (xs ys : List (List ℕ)) → list_any (λ x. same_text x n) xs ≡ true → without_first n (xs ++ ys) ≡ without_first n xs ++ ys
 without_there n [] ys there = absurd cc
-without_there n (x ∷ xs) ys there = by_test (same_text x n) there
+without_there n (x ∷ xs) ys there = by_test (same_text x n) (without_there n xs ys) there
   where
-    by_test : (b : Bool) → (b || list_any (λ y. same_text y n) xs) ≡ true →
+    by_test : (b : Bool) → (list_any (λ y. same_text y n) xs ≡ true → without_first n (xs ++ ys) ≡ without_first n xs ++ ys) →
+        (b || list_any (λ y. same_text y n) xs) ≡ true →
         cond b (xs ++ ys) (x ∷ without_first n (xs ++ ys)) ≡ cond b xs (x ∷ without_first n xs) ++ ys
-    by_test true h = refl
-    by_test false h = ap (λ zs. x ∷ zs) (without_there n xs ys h)
+    by_test true rest h = refl
+    by_test false rest h = ap (λ zs. x ∷ zs) (rest h)
 
 without_none : (n : List ℕ) (xs ys : List (List ℕ)) → list_any (λ x. same_text x n) xs ≡ false → without_first n (xs ++ ys) ≡ xs ++ without_first n ys
 without_none n [] ys none = refl
-without_none n (x ∷ xs) ys none = by_test (same_text x n) none
+without_none n (x ∷ xs) ys none = by_test (same_text x n) (without_none n xs ys) none
   where
-    by_test : (b : Bool) → (b || list_any (λ y. same_text y n) xs) ≡ false →
+    by_test : (b : Bool) → (list_any (λ y. same_text y n) xs ≡ false → without_first n (xs ++ ys) ≡ xs ++ without_first n ys) →
+        (b || list_any (λ y. same_text y n) xs) ≡ false →
         cond b (xs ++ ys) (x ∷ without_first n (xs ++ ys)) ≡ x ∷ (xs ++ without_first n ys)
-    by_test true h = absurd cc
-    by_test false h = ap (λ zs. x ∷ zs) (without_none n xs ys h)
+    by_test true rest h = absurd cc
+    by_test false rest h = ap (λ zs. x ∷ zs) (rest h)
 
 any_names : (n : List ℕ) (defs : List AttributeDef) → list_any (λ x. same_text x n) (attribute_names defs) ≡ list_any (λ a. same_text a.name n) defs
 any_names n [] = refl
@@ -291,17 +292,21 @@ level_keeps def c next keeps is =
     (ap keeps_rules (sym fresh.1) ∙ parts_kept (record c { levels = c.levels ++ def ∷ [] }) made, sym (ap (λ (x : ConfigParts). x.links) fresh.1))
 
 -- an attribute is added
+abbrev numbered : ℕ → LevelDef → ℕ × LevelDef
+numbered n d = (n, d)
+
 there_with : (name : List ℕ) (levels : List LevelDef) (number : ℕ) (def : LevelDef) → level_with name levels ≡ Some (number, def) → slice_get levels number ≡ Some def
 there_with name levels number def is = by_number (level_named name levels) is
   where
-    by_def : (n : ℕ) (found : Option LevelDef) → found ≡ slice_get levels n → option_map (λ d. (n, d)) found ≡ Some (number, def) → slice_get levels number ≡ Some def
+    by_def : (n : ℕ) (found : Option LevelDef) → found ≡ slice_get levels n → option_map (numbered n) found ≡ Some (number, def) → slice_get levels number ≡ Some def
     by_def n None same h = absurd cc
     by_def n (Some d) same h =
-        let first : n ≡ number = cc in
-        let second : d ≡ def = cc in
+        let pair : ◌≡◌ {A = ℕ × LevelDef} (numbered n d) (numbered number def) = cc in
+        let first : n ≡ number = ap (λ (p : ℕ × LevelDef). p.0) pair in
+        let second : d ≡ def = ap (λ (p : ℕ × LevelDef). p.1) pair in
         ap (slice_get levels) (sym first) ∙ sym same ∙ ap Some second
 
-    by_number : (found : Option ℕ) → option_and_then (λ n. option_map (λ d. (n, d)) (slice_get levels n)) found ≡ Some (number, def) → slice_get levels number ≡ Some def
+    by_number : (found : Option ℕ) → option_and_then (λ n. option_map (numbered n) (slice_get levels n)) found ≡ Some (number, def) → slice_get levels number ≡ Some def
     by_number None h = absurd cc
     by_number (Some n) h = by_def n (slice_get levels n) refl h
 

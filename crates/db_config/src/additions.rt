@@ -1,6 +1,6 @@
 //! Parts of a configuration to which a level, an attribute or a link definition is added.
-ghost use Rattle.std.specs.Prelude.{◌≡◌, ◌<◌, length, IfOk};
-ghost use Rattle.emu_names.specs.declared.limits.TheConstants.{ATTRIBUTES};
+ghost use Rattle.std.specs.Prelude.{◌≡◌, ◌<◌, ◌≤◌, length, IfOk};
+ghost use Rattle.emu_names.specs.declared.limits.TheConstants.{ATTRIBUTES, LEVELS};
 ghost use Rattle.emu_names.specs.Inner.Gives.{GivesOrBroken};
 ghost use Rattle.db_config.specs.Added.{level_added, attribute_added, attribute_put, definition_between, definition_put, with_attribute, end_named};
 
@@ -101,6 +101,7 @@ pub(crate) fn definition_between(
     upper: &Text,
     lower: &Text,
 ) -> Result<ConfigParts, Fault>
+    requires { length parts.now.levels ≤ LEVELS }
     ensures { GivesOrBroken result (definition_between kind upper.now lower.now parts.now) }
 {
     let from = end_named(alloc, parts, upper)?;
@@ -115,6 +116,7 @@ pub(crate) fn definition_between(
 
 /// The number of a level that a new link definition names, or that there is none, or want of memory.
 fn end_named(alloc: Global, parts: &ConfigParts, name: &Text) -> Result<u32, Fault>
+    requires { length parts.now.levels ≤ LEVELS }
     ensures { GivesOrBroken result (end_named name.now parts.now) }
 {
     match level_named(parts.levels.as_slice(), name.as_str()) {
