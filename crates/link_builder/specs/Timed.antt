@@ -13,13 +13,13 @@ abbrev pub is_within : Time → Time → Bool
 is_within outer inner = nat_le (first_sample outer) (first_sample inner) && nat_le (last_sample inner) (last_sample outer)
 
 -- the pair of an upper and a lower item
-abbrev pub pair_of : ItemId → Item → AnnotLink
-pair_of upper item = record { from = upper; to = item.id }
+abbrev pub pair_with : ItemId → Item → AnnotLink
+pair_with upper item = record { from = upper; to = item.id }
 
 -- an upper item with each lower item that stands within it, in their order
-abbrev pub pairs_of : List Item → Item → List AnnotLink
-pairs_of lower item = map (pair_of item.id) (filter (λ i. is_within item.time i.time) lower)
+abbrev pub pairs_with : List Item → Item → List AnnotLink
+pairs_with lower item = map (pair_with item.id) (filter (λ i. is_within item.time i.time) lower)
 
 -- the pairs of each upper item, in their order
 abbrev pub timed_pairs : List Item → List Item → List AnnotLink
-timed_pairs upper lower = flat_map (pairs_of lower) upper
+timed_pairs upper lower = flat_map (pairs_with lower) upper

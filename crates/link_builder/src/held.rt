@@ -1,6 +1,6 @@
 //! Which items of a level a time holds, by the columns of their samples.
 ghost use Rattle.std.specs.Prelude.{◌≡◌, ◌&&◌, IfOk, length, map, replicate, false};
-ghost use Rattle.std.specs.List.{zip2};
+ghost use Rattle.std.specs.Simd.Lanes.{zip2};
 ghost use Rattle.lane_bits.specs.Inner.Row.{is_between};
 
 use emu_names::Memory;

@@ -1,7 +1,7 @@
 //! The pairs of the items of two levels of which the one holds the other.
 ghost use Rattle.std.specs.Prelude.{◌≡◌, ◌≢◌, ◌++◌, IfOk, OnOk, length, map};
 ghost use Rattle.emu_names.specs.declared.kinds.LevelKind.TheVariants as kinds;
-ghost use Rattle.link_builder.specs.Timed.{pair_of, timed_pairs};
+ghost use Rattle.link_builder.specs.Timed.{pair_with, timed_pairs};
 ghost use Rattle.link_builder.specs.Inner.Held.{held_items};
 
 use crate::held::HeldRows;
@@ -19,7 +19,7 @@ pub type Pairs = AnnotLinks;
 fn push_held(pairs: &mut Pairs, upper: ItemId, lower: &[Item], held: &BitRow) -> Result<(), Memory>
     requires { length held.now ≡ length lower.now }
     ensures { OnOk result
-        (pairs.new ≡ pairs.old ++ map (pair_of upper) (held_items held.now lower.now)) }
+        (pairs.new ≡ pairs.old ++ map (pair_with upper) (held_items held.now lower.now)) }
 {
     let mut from = 0;
     while let Some(at) = held.next(from) {
