@@ -9,7 +9,7 @@ use Rattle.emu_names.specs.declared.rules.Fault.{Fault}
 use Rattle.emu_names.specs.declared.rules.Fault.TheVariants as faults
 use Rattle.db_config.specs.declared.parts.ConfigParts.{ConfigParts}
 use Rattle.db_config.specs.Valid.{is_valid}
-use Rattle.edit_rules.specs.declared.edit.Entry.{Entry}
+use Rattle.edit_rules.specs.declared.acts.Entry.{Entry}
 use Rattle.edit_rules.specs.Effects.{effect}
 use Rattle.edit_rules.specs.Inner.Effects.{IsFirstFault}
 use Rattle.emu_disk.proofs.Moments.{weaker}

@@ -4,7 +4,7 @@ use Rattle.emu_names.specs.declared.rules.Broken.{Broken}
 use Rattle.db_config.specs.declared.parts.ConfigParts.{ConfigParts}
 use Rattle.db_config.specs.Valid.{is_valid}
 use Rattle.emu_names.specs.Steps.{onward}
-use Rattle.edit_rules.specs.declared.edit.Entry.{Entry}
+use Rattle.edit_rules.specs.declared.acts.Entry.{Entry}
 use Rattle.edit_rules.specs.Database.{DatabaseParts, empty_database, KeepsDatabaseRules}
 use Rattle.edit_rules.specs.Effects.{effect, edited, found_or}
 use Rattle.edit_rules.proofs.Replay.{legal_keeps, replay_goes_on}

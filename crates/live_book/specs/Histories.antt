@@ -3,7 +3,7 @@ use Rattle.std.specs.Prelude.{◌≡◌, ◌⊎◌, ℕ, ◌+◌, ◌≤◌, ◌
 use Rattle.emu_names.specs.declared.limits.TheConstants.{HISTORY_EDITS}
 use Rattle.emu_names.specs.declared.rules.Broken.{Broken}
 use Rattle.db_config.specs.declared.parts.ConfigParts.{ConfigParts}
-use Rattle.edit_rules.specs.declared.edit.Entry.{Entry}
+use Rattle.edit_rules.specs.declared.acts.Entry.{Entry}
 use Rattle.edit_rules.specs.Effects.{IsLegal, edited}
 use Rattle.edit_code.specs.Codes.{entry_code, head_code, IsEntryCode, IsHeadCode}
 use Rattle.edit_journal.specs.declared.body.Body.{Body}

@@ -4,7 +4,7 @@ ghost use Rattle.std.specs.Arc.{arc_value};
 ghost use Rattle.emu_names.specs.Count.{Rose};
 ghost use Rattle.emu_names.specs.declared.limits.TheConstants.{HISTORY_EDITS};
 ghost use Rattle.db_config.specs.declared.parts.ConfigParts.{ConfigParts};
-ghost use Rattle.edit_rules.specs.declared.edit.Entry.{Entry};
+ghost use Rattle.edit_rules.specs.declared.acts.Entry.{Entry};
 ghost use Rattle.edit_code.specs.Codes.{entry_code};
 ghost use Rattle.edit_journal.specs.Store.{limit};
 ghost use Rattle.live_book.specs.Histories.{IsCoded, entry_size};

@@ -14,12 +14,12 @@ use Rattle.bundle_state.specs.Bundle.{BundleParts, item_count}
 use Rattle.bundle_state.specs.Built.{built}
 use Rattle.emu_names.specs.Steps.{onward}
 use Rattle.bundle_index.specs.Index.{IndexParts}
-use Rattle.edit_rules.specs.declared.bundle_change.Counts.{Counts}
-use Rattle.edit_rules.specs.declared.edit.Edit.{Edit}
-use Rattle.edit_rules.specs.declared.edit.Edit.TheVariants as edits
-use Rattle.edit_rules.specs.Changes.{changed, bundle_added, unless_too_many}
+use Rattle.bundle_edits.specs.declared.bundle_change.Counts.{Counts}
+use Rattle.bundle_edits.specs.declared.edit.Edit.{Edit}
+use Rattle.bundle_edits.specs.declared.edit.Edit.TheVariants as edits
+use Rattle.bundle_edits.specs.Changes.{changed, bundle_added, unless_too_many}
 use Rattle.edit_rules.specs.Database.{bundle_with, counts_of}
-use Rattle.edit_rules.specs.Edits.{key_of}
+use Rattle.bundle_edits.specs.Edits.{key_of}
 use Rattle.edit_rules.specs.Effects.{effect, put_back}
 use Rattle.edit_rules.specs.Inner.Effects.{IsFirstFault}
 use Rattle.version_tree.specs.Version.{VersionParts, state_of}

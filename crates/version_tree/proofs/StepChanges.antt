@@ -37,17 +37,17 @@ use Rattle.bundle_state.proofs.BuiltKept.{unbroken}
 use Rattle.bundle_state.proofs.LinksKept.{goes_on, ok_same, fine_value}
 use Rattle.bundle_index.specs.Inner.Columns.{AreOtherwiseSame}
 use Rattle.bundle_index.specs.Index.{IndexParts}
-use Rattle.edit_rules.specs.declared.bundle_change.Counts.{Counts}
-use Rattle.edit_rules.specs.declared.edit.Edit.{Edit}
-use Rattle.edit_rules.specs.declared.edit.Edit.TheVariants as edits
-use Rattle.edit_rules.specs.Edits.{key_of}
-use Rattle.edit_rules.specs.Changes.{changed, missing_changed, bundle_added, unless_too_many, bundle_changed, if_kept, is_kept_by, level_found, NumberedLevel, given_item_fault, put_on, NumberedAttribute, attribute_of, label_fault, labelled, room_fault, id_fault, segment_at, segment_of, if_touching, next_of, cut_fault, last_of, moved, cut_at, split_in, joined}
+use Rattle.bundle_edits.specs.declared.bundle_change.Counts.{Counts}
+use Rattle.bundle_edits.specs.declared.edit.Edit.{Edit}
+use Rattle.bundle_edits.specs.declared.edit.Edit.TheVariants as edits
+use Rattle.bundle_edits.specs.Edits.{key_of}
+use Rattle.bundle_edits.specs.Changes.{changed, missing_changed, bundle_added, unless_too_many, bundle_changed, if_kept, is_kept_by, level_found, NumberedLevel, given_item_fault, put_on, NumberedAttribute, attribute_of, label_fault, labelled, room_fault, id_fault, segment_at, segment_of, if_touching, next_of, cut_fault, last_of, moved, cut_at, split_in, joined}
 use Rattle.edit_rules.specs.Database.{DatabaseParts, same_key, bundle_with, counts_of, KeepsDatabaseRules}
 use Rattle.edit_rules.specs.Effects.{effect, put_back}
 use Rattle.edit_rules.specs.Inner.Effects.{IsFirstFault}
-use Rattle.edit_rules.proofs.Cuts.{IsSegmentAt, segment_parts}
-use Rattle.edit_rules.proofs.Lookups.{level_is, no_level_is}
-use Rattle.edit_rules.proofs.Spans.{some_same}
+use Rattle.bundle_edits.proofs.Cuts.{IsSegmentAt, segment_parts}
+use Rattle.bundle_edits.proofs.Lookups.{level_is, no_level_is}
+use Rattle.bundle_edits.proofs.Spans.{some_same}
 use Rattle.edit_rules.proofs.Stays.{IsStored, changed_stored, old_is, limit_before, limit_passed}
 use Rattle.version_tree.specs.Version.{VersionParts, state_of, bundles_of}
 use Rattle.version_tree.specs.Inner.Version.{state_put, indexed_with}

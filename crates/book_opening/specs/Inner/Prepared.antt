@@ -4,8 +4,8 @@ use Rattle.std.specs.Arc.{arc_value}
 use Rattle.db_config.specs.declared.parts.ConfigParts.{ConfigParts}
 use Rattle.db_config.specs.Valid.{is_valid}
 use Rattle.emu_names.specs.declared.rules.Broken.{Broken}
-use Rattle.edit_rules.specs.declared.edit.Edit.{Edit}
-use Rattle.edit_rules.specs.declared.edit.Entry.{Entry}
+use Rattle.bundle_edits.specs.declared.edit.Edit.{Edit}
+use Rattle.edit_rules.specs.declared.acts.Entry.{Entry}
 use Rattle.edit_rules.specs.Effects.{effect}
 use Rattle.edit_code.specs.Codes.{head_code, IsHeadCode}
 use Rattle.edit_journal.specs.declared.body.Body.{Body}

@@ -1,6 +1,6 @@
 -- A draft that was made before a commit asks for the book.
 use Rattle.std.specs.Prelude.{ℕ, List}
-use Rattle.edit_rules.specs.declared.edit.Entry.{Entry}
+use Rattle.edit_rules.specs.declared.acts.Entry.{Entry}
 use Rattle.version_gate.specs.declared.entry.Entry.{Entry as Numbered}
 use Rattle.version_gate.specs.Lists.{EndsIn, entry}
 use Rattle.version_tree.specs.declared.draft.Draft.{Draft}

@@ -4,7 +4,7 @@ use Rattle.std.specs.Arc.{arc_value}
 use Rattle.emu_names.specs.declared.rules.Fault.{Fault}
 use Rattle.emu_names.specs.declared.rules.Fault.TheVariants as faults
 use Rattle.db_config.specs.declared.parts.ConfigParts.{ConfigParts}
-use Rattle.edit_rules.specs.declared.edit.Entry.{Entry}
+use Rattle.edit_rules.specs.declared.acts.Entry.{Entry}
 use Rattle.edit_code.specs.Codes.{entry_code}
 use Rattle.edit_journal.specs.declared.journal.Journal.{Journal}
 use Rattle.version_gate.specs.Lists.{entry}

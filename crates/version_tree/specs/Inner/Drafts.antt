@@ -10,10 +10,10 @@ use Rattle.db_config.specs.declared.parts.ConfigParts.{ConfigParts}
 use Rattle.bundle_state.specs.Bundle.{BundleParts, item_count}
 use Rattle.bundle_state.specs.Built.{built}
 use Rattle.bundle_index.specs.Index.{IndexParts}
-use Rattle.edit_rules.specs.declared.bundle_change.Counts.{Counts}
-use Rattle.edit_rules.specs.declared.edit.Edit.{Edit}
-use Rattle.edit_rules.specs.declared.edit.Edit.TheVariants as edits
-use Rattle.edit_rules.specs.declared.edit.Entry.{Entry}
+use Rattle.bundle_edits.specs.declared.bundle_change.Counts.{Counts}
+use Rattle.bundle_edits.specs.declared.edit.Edit.{Edit}
+use Rattle.bundle_edits.specs.declared.edit.Edit.TheVariants as edits
+use Rattle.edit_rules.specs.declared.acts.Entry.{Entry}
 use Rattle.version_tree.specs.declared.draft.Draft.{Draft}
 
 -- a bundle with its columns is the bundle that a definition gives, and a refusal by a rule is the

@@ -8,10 +8,10 @@ use Rattle.db_config.specs.declared.parts.LevelDef.{LevelDef}
 use Rattle.db_config.specs.Lookups.{level_named}
 use Rattle.level_items.specs.Levels.{Level}
 use Rattle.bundle_state.specs.Bundle.{BundleParts, place_of}
-use Rattle.edit_rules.specs.declared.edit.Edit.{Edit}
-use Rattle.edit_rules.specs.declared.edit.Edit.TheVariants as edits
-use Rattle.edit_rules.specs.Edits.{key_of}
-use Rattle.edit_rules.specs.Changes.{changed}
+use Rattle.bundle_edits.specs.declared.edit.Edit.{Edit}
+use Rattle.bundle_edits.specs.declared.edit.Edit.TheVariants as edits
+use Rattle.bundle_edits.specs.Edits.{key_of}
+use Rattle.bundle_edits.specs.Changes.{changed}
 use Rattle.edit_rules.specs.Database.{DatabaseParts, bundle_with, counts_of}
 
 -- what an edit makes of the bundle of its key in a database

@@ -4,7 +4,7 @@ use Rattle.bundle_state.specs.Bundle.{BundleParts}
 use Rattle.bundle_index.specs.Inner.Columns.{AreOtherwiseSame}
 use Rattle.db_config.specs.declared.parts.ConfigParts.{ConfigParts}
 use Rattle.edit_rules.specs.Database.{bundle_with}
-use Rattle.edit_rules.specs.Edits.{key_of}
+use Rattle.bundle_edits.specs.Edits.{key_of}
 use Rattle.version_tree.specs.Version.{state_of}
 use Rattle.version_tree.specs.Inner.Steps.{touched}
 use Rattle.version_tree.proofs.StepChanges.{touched_there}
