@@ -3,4 +3,5 @@ pub mod Kept
 pub mod Pages
 pub mod Places
 pub mod Steps
+pub mod Under
 pub mod Version

@@ -1,11 +1,12 @@
 -- Words of contracts and loops beside `specs/Drafts.antt`; no promise of the program rests on them.
-use Rattle.std.specs.Prelude.{◌≡◌, Option, None, Some, Result, Ok, Err, ◌+◌, nat_le, nat_lt, if◌then◌else◌}
+use Rattle.std.specs.Prelude.{◌≡◌, [], ◌∷◌, Option, None, Some, Result, Ok, Err, IfSome, ◌+◌, nat_le, nat_lt, if◌then◌else◌}
 use Rattle.emu_names.specs.declared.limits.TheConstants.{ALL_ITEMS, BUNDLES}
 use Rattle.emu_names.specs.declared.rules.Broken.{Broken}
 use Rattle.emu_names.specs.declared.rules.Broken.TheVariants as rules
 use Rattle.emu_names.specs.declared.rules.What.TheVariants as counted
 use Rattle.emu_names.specs.declared.rules.Fault.{Fault}
 use Rattle.emu_names.specs.declared.rules.Fault.TheVariants as faults
+use Rattle.emu_names.specs.Inner.Gives.{IsFaultOf, broken_in}
 use Rattle.db_config.specs.declared.parts.ConfigParts.{ConfigParts}
 use Rattle.bundle_state.specs.Bundle.{BundleParts, item_count}
 use Rattle.bundle_state.specs.Built.{built}
@@ -13,8 +14,12 @@ use Rattle.bundle_index.specs.Index.{IndexParts}
 use Rattle.bundle_edits.specs.declared.bundle_change.Counts.{Counts}
 use Rattle.bundle_edits.specs.declared.edit.Edit.{Edit}
 use Rattle.bundle_edits.specs.declared.edit.Edit.TheVariants as edits
+use Rattle.edit_rules.specs.declared.acts.Act.{Act}
+use Rattle.edit_rules.specs.declared.acts.Act.TheVariants as acts
 use Rattle.edit_rules.specs.declared.acts.Entry.{Entry}
+use Rattle.edit_rules.specs.Database.{DatabaseParts}
 use Rattle.version_tree.specs.declared.draft.Draft.{Draft}
+use Rattle.version_tree.specs.Version.{VersionParts}
 
 -- a bundle with its columns is the bundle that a definition gives, and a refusal by a rule is the
 -- definition's; want of memory says nothing
@@ -49,13 +54,34 @@ unless_broken (Some rule) made = Err (faults.Broken rule)
 
 -- what is made of the annotation of an edit that adds a bundle, under a configuration: the bundle that is
 -- built of it, or the rule that it breaks first. Of another edit nothing is made
-abbrev pub IsAddedBy : ConfigParts → Edit → Option (Result IndexParts Fault) → Type 0
-IsAddedBy config (edits.AddBundle key annot) None = ⊥
-IsAddedBy config (edits.AddBundle key annot) (Some made) = GivesIndexed made (built config key annot)
-IsAddedBy config edit None = Unit {0}
-IsAddedBy config edit (Some made) = ⊥
+abbrev pub IsAddedByEdit : ConfigParts → Edit → Option (Result IndexParts Fault) → Type 0
+IsAddedByEdit config (edits.AddBundle key annot) None = ⊥
+IsAddedByEdit config (edits.AddBundle key annot) (Some made) = GivesIndexed made (built config key annot)
+IsAddedByEdit config edit None = Unit {0}
+IsAddedByEdit config edit (Some made) = ⊥
 
--- a draft is that of an entry, under a configuration
-pub record IsDraftOf (config : ConfigParts) (next : Entry) (draft : Draft) : Type 0 where
+-- nothing is made ahead
+abbrev pub AddsNothing : Option (Result IndexParts Fault) → Type 0
+AddsNothing None = Unit {0}
+AddsNothing (Some made) = ⊥
+
+-- what is made ahead of an act: of one edit alone what is made of that edit, and of every other act nothing
+abbrev pub IsAddedBy : ConfigParts → Act → Option (Result IndexParts Fault) → Type 0
+IsAddedBy config (acts.Edits []) added = AddsNothing added
+IsAddedBy config (acts.Edits (e ∷ [])) added = IsAddedByEdit config e added
+IsAddedBy config (acts.Edits (e ∷ next ∷ es)) added = AddsNothing added
+IsAddedBy config (acts.Config edit) added = AddsNothing added
+
+-- what was made ahead, if anything was, is what is made of the act under this configuration
+abbrev pub MayServe : ConfigParts → Act → Option (Result IndexParts Fault) → Type 0
+MayServe config act added = IfSome added (λ made. IsAddedBy config act (Some made))
+
+-- a refusal by a rule is by the one that an edit breaks first; want of memory says nothing
+abbrev pub IsFirstFault : Fault → Result DatabaseParts Broken → Type 0
+IsFirstFault fault there = IsFaultOf (broken_in fault) there
+
+-- a draft is that of an entry, over a version
+pub record IsDraftOf (version : VersionParts) (next : Entry) (draft : Draft) : Type 0 where
   pub entry : draft.entry ≡ next
-  pub added : IsAddedBy config next.edit draft.added
+  pub number : draft.number ≡ version.number
+  pub added : IsAddedBy version.config next.act draft.added
