@@ -389,7 +389,7 @@ fn changed_columns(
 }
 
 /// A row of bits, none of which is set. The only refusal is want of memory.
-fn row_of(alloc: Global, len: usize) -> Result<BitRow, Memory>
+pub(crate) fn row_of(alloc: Global, len: usize) -> Result<BitRow, Memory>
     ensures { IfOk result (λ row. row ≡ replicate len false) }
 {
     match BitRow::new(alloc, len) {

@@ -46,7 +46,7 @@ all_can_fit old new (b ∷ bs) more all =
     All-cons (CanFit new) b bs (extensions_can_fit old new b more (All-head (IsBundleOf old) b bs all).fits)
     (all_can_fit old new bs more (All-tail (IsBundleOf old) b bs all))
 
-all_fitted : (old new : ConfigParts) (bs : List BundleParts) → Extends old new → All (IsBundleOf old) bs → All (IsBundleOf new) (map (fitted new) bs)
+pub all_fitted : (old new : ConfigParts) (bs : List BundleParts) → Extends old new → All (IsBundleOf old) bs → All (IsBundleOf new) (map (fitted new) bs)
 all_fitted old new [] more all = All-nil (IsBundleOf new)
 all_fitted old new (b ∷ bs) more all =
     let here = All-head (IsBundleOf old) b bs all in
@@ -55,12 +55,12 @@ all_fitted old new (b ∷ bs) more all =
     (record { rules = fitted_rules new b can here.rules; fits = fitted_fits new b can })
     (all_fitted old new bs more (All-tail (IsBundleOf old) b bs all))
 
-rising_fitted : (new : ConfigParts) (bs : List BundleParts) → are_keys_rising (map (fitted new) bs) ≡ are_keys_rising bs
+pub rising_fitted : (new : ConfigParts) (bs : List BundleParts) → are_keys_rising (map (fitted new) bs) ≡ are_keys_rising bs
 rising_fitted new [] = refl
 rising_fitted new (a ∷ []) = refl
 rising_fitted new (a ∷ b ∷ bs) = ap (λ t. is_before a.key b.key && t) (rising_fitted new (b ∷ bs))
 
-items_fitted : (old new : ConfigParts) (bs : List BundleParts) → Extends old new → All (IsBundleOf old) bs → all_items (map (fitted new) bs) ≡ all_items bs
+pub items_fitted : (old new : ConfigParts) (bs : List BundleParts) → Extends old new → All (IsBundleOf old) bs → all_items (map (fitted new) bs) ≡ all_items bs
 items_fitted old new [] more all = refl
 items_fitted old new (b ∷ bs) more all =
     let here = All-head (IsBundleOf old) b bs all in

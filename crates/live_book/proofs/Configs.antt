@@ -7,13 +7,13 @@ use Rattle.edit_rules.proofs.Replay.{after_config}
 use Rattle.version_gate.specs.declared.entry.Entry.{Entry as Numbered}
 use Rattle.version_gate.specs.Lists.{EndsIn, entry}
 use Rattle.version_tree.specs.Version.{VersionParts, state_of}
-use Rattle.version_tree.specs.declared.draft.Draft.{Draft}
+use Rattle.version_steps.specs.declared.draft.Draft.{Draft}
 use Rattle.live_book.specs.declared.fault.EditFault.{EditFault}
 use Rattle.live_book.specs.declared.published.Published.{Published}
 use Rattle.live_book.specs.Published.{IsStateAfter, AreShown, AreShownBehind}
 use Rattle.live_book.specs.Kept.{BookParts}
 use Rattle.live_book.specs.Commits.{Commits}
-use Rattle.version_tree.specs.Inner.Drafts.{IsAddedBy, IsDraftOf}
+use Rattle.version_steps.specs.Inner.Drafts.{IsAddedBy, IsDraftOf}
 use Rattle.live_book.specs.Inner.Drafts.{IsDraftAt}
 
 -- The version after a history has its configuration.

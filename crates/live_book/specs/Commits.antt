@@ -15,7 +15,7 @@ use Rattle.version_gate.specs.declared.entry.Entry.{Entry as Numbered}
 use Rattle.version_gate.specs.Lists.{entry}
 use Rattle.live_book.specs.declared.published.Published.{Published}
 use Rattle.live_book.specs.Kept.{BookParts, KeepsIn, IsAsBefore, StandsOrLost, CrashLeaves, faults_in}
-pub use Rattle.version_tree.specs.Drafts.{entry_of}
+pub use Rattle.version_steps.specs.Drafts.{entry_of}
 
 -- there is a journal
 abbrev pub has_journal : {D : Type 0} → Option (Journal D) → Bool

@@ -7,7 +7,7 @@ ghost use Rattle.live_book.specs.Histories.{IsHistory};
 ghost use Rattle.live_book.specs.Published.{IsStateAfter, AreShown};
 ghost use Rattle.live_book.specs.Inner.Kept.{IsBook, book_of, Holding};
 ghost use Rattle.live_book.specs.Commits.{entry_of, Commits};
-ghost use Rattle.version_tree.specs.Inner.Drafts.{IsAddedBy};
+ghost use Rattle.version_steps.specs.Inner.Drafts.{IsAddedBy};
 
 use crate::commit::commit_in;
 use crate::fault::EditFault;

@@ -13,7 +13,7 @@ ghost use Rattle.live_book.specs.Published.{IsStateAfter};
 ghost use Rattle.live_book.specs.Kept.{KeepsIn, IsAsBefore, CrashLeaves, faults_in};
 ghost use Rattle.live_book.specs.Inner.Kept.{IsBook, book_of, config_in};
 ghost use Rattle.live_book.specs.Commits.{has_journal, IsAnswer, IsWelcome, DuringCommit, Commits};
-ghost use Rattle.version_tree.specs.Inner.Drafts.{IsAddedBy};
+ghost use Rattle.version_steps.specs.Inner.Drafts.{IsAddedBy};
 ghost use Rattle.live_book.specs.Inner.Prepared.{IsFrameOf, IsReady, IsTest, HasRoomFor, HoldsSome, ForStoreIn, refusal_of, entries_behind};
 
 use crate::fault::EditFault;

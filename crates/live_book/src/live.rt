@@ -3,7 +3,7 @@ ghost use Rattle.std.specs.Prelude.{◌≡◌, ◌<◌, ◌≤◌, ℕ, IfSome, 
 ghost use mathlib.Core.List.{IsPrefix};
 ghost use Rattle.live_book.specs.Commits.{Commits, entry_of};
 ghost use Rattle.live_book.specs.Inner.Drafts.{IsDraftAt};
-ghost use Rattle.version_tree.specs.Inner.Drafts.{IsDraftOf};
+ghost use Rattle.version_steps.specs.Inner.Drafts.{IsDraftOf};
 ghost use Rattle.live_book.specs.Kept.{KeepsIn};
 ghost use Rattle.live_book.specs.Inner.Kept.{Holding};
 ghost use Rattle.live_book.specs.Live.{HasGrown, Opened, opening_of};

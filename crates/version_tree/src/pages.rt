@@ -11,12 +11,11 @@ ghost use Rattle.version_tree.specs.Inner.Under.{CanFitAll, fitted_of};
 ghost use Rattle.version_tree.specs.Version.{bundles_of};
 ghost use Rattle.version_tree.specs.Inner.Places.{AreOneLess, IsNeighbour, IsPageFor, bundles_but, has_room};
 
-use crate::bundles::{bundle_of, only, with, without};
+use crate::bundles::{bundle_of, only, under, with, without};
 use crate::change::Change;
 use crate::page::Page;
 use crate::sizes::{HALF, PAGE};
 use crate::splice::{joined, spliced};
-use crate::wider::bundles_under;
 use bundle_index::Indexed;
 use db_config::Config;
 use emu_names::{BundleKey, Memory, Series, Shared};
@@ -339,7 +338,7 @@ pub(crate) fn bundle_at<'a>(pages: &'a [Shared<Page>], place: usize) -> &'a Inde
 }
 
 /// The pages with each of their bundles made to fit a configuration. The only refusal is want of memory.
-#[tactic(auto, using(crate::proofs::Under::page_fits, crate::proofs::Under::page_sized, crate::proofs::Under::pages_fitted, crate::proofs::Under::pages_kept))]
+#[tactic(auto, using(crate::proofs::Under::none_made, crate::proofs::Under::page_more, crate::proofs::Under::pages_whole, crate::proofs::Under::page_fits, crate::proofs::Under::page_sized, crate::proofs::Under::pages_fitted, crate::proofs::Under::pages_kept))]
 pub(crate) fn pages_under(
     alloc: Global,
     pages: &[Shared<Page>],
@@ -353,7 +352,7 @@ pub(crate) fn pages_under(
 {
     let mut made = Series::new(alloc);
     'pages: for page in pages {
-        let bundles = bundles_under(alloc, page.as_ref().as_slice(), config)?;
+        let bundles = under(alloc, page.as_ref().as_slice(), config)?;
         let page = Shared::new(alloc, Page::new(bundles))?;
         made.push(page)?;
     }

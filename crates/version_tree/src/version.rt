@@ -111,7 +111,6 @@ impl Version {
     /// The next version, under a configuration that begins with this one's: each bundle is made to fit it. This one
     /// stays as it is. The number of edits is one more, and stands still at 2^64 - 1. The only refusal is want of
     /// memory.
-    #[tactic(auto, using(crate::proofs::Under::all_can_fit, crate::proofs::Under::kept_under, crate::proofs::Under::state_under))]
     pub fn with_config(&self, alloc: Global, config: Config) -> Result<Version, Memory>
         requires { Extends self.now.config config }
         ensures version { IfOk result (IsUnder config self.now) }

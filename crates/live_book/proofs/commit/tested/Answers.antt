@@ -7,7 +7,7 @@ use Rattle.live_book.specs.declared.published.Published.{Published}
 use Rattle.live_book.specs.Published.{IsStateAfter}
 use Rattle.live_book.specs.Inner.Kept.{config_in}
 use Rattle.live_book.specs.Commits.{has_journal, HasRoom, IsTooMuch, IsAnswer}
-use Rattle.version_tree.specs.Inner.Drafts.{IsAddedBy}
+use Rattle.version_steps.specs.Inner.Drafts.{IsAddedBy}
 use Rattle.live_book.specs.Inner.Prepared.{IsTest}
 use Rattle.live_book.proofs.Committing.{refused, store_full, breaks_none}
 use Rattle.live_book.proofs.States.{state_keeps, next_state}

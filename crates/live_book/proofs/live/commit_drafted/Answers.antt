@@ -1,7 +1,7 @@
 use Rattle.std.proofs.Common.{◌≡◌, List, Option, Some, IfSome, refl, rules, subst}
 use mathlib.Core.List.{IsPrefix}
 use Rattle.version_gate.specs.declared.entry.Entry.{Entry as Numbered}
-use Rattle.version_tree.specs.declared.draft.Draft.{Draft}
+use Rattle.version_steps.specs.declared.draft.Draft.{Draft}
 use Rattle.live_book.specs.declared.published.Published.{Published}
 use Rattle.live_book.specs.Commits.{entry_of}
 use Rattle.live_book.specs.Inner.Drafts.{IsDraftAt}

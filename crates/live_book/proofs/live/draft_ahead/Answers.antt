@@ -2,7 +2,7 @@ use Rattle.std.proofs.Common.{◌≡◌, IfSome, rules, sym, subst}
 use Rattle.std.specs.Arc.{arc_value}
 use Rattle.live_book.specs.declared.published.Published.{Published}
 use Rattle.live_book.specs.Commits.{entry_of}
-use Rattle.version_tree.specs.Inner.Drafts.{IsDraftOf}
+use Rattle.version_steps.specs.Inner.Drafts.{IsDraftOf}
 use Rattle.live_book.proofs.Configs.{drafts_at}
 use Rattle.live_book.proofs.live.draft_ahead.Goals as goal
 

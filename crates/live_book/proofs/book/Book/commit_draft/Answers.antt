@@ -1,6 +1,6 @@
 use Rattle.std.proofs.Common.{sym, subst}
 use Rattle.live_book.specs.Kept.{BookParts}
-use Rattle.version_tree.specs.Inner.Drafts.{IsAddedBy}
+use Rattle.version_steps.specs.Inner.Drafts.{IsAddedBy}
 use Rattle.live_book.proofs.book.Book.commit_draft.Goals as goal
 
 pub commit_in-requires-clause-draft : goal.commit_in-requires-clause-draft

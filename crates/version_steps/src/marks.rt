@@ -1,6 +1,6 @@
 //! Which levels of a bundle edits may change, as marks in a row.
 ghost use Rattle.std.specs.Prelude.{◌≡◌, ◌<◌, ℕ, true, false, get_or, length, replicate, IfOk};
-ghost use Rattle.version_tree.specs.Inner.Steps.{AreMarked, IsMarked, level_called, level_with, touched};
+ghost use Rattle.version_steps.specs.Inner.Steps.{AreMarked, IsMarked, level_called, level_with, touched};
 
 use bundle_state::Bundle;
 use db_config::Config;

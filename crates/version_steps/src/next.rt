@@ -5,15 +5,15 @@ ghost use Rattle.edit_rules.specs.Effects.{config_effect, effect};
 ghost use Rattle.edit_rules.specs.Inner.Effects.{IsFirstBreach};
 ghost use Rattle.version_tree.specs.Version.{state_of};
 ghost use Rattle.version_tree.specs.Inner.Version.{next_number};
-ghost use Rattle.version_tree.specs.Inner.Drafts.{IsAddedBy, MayServe};
+ghost use Rattle.version_steps.specs.Inner.Drafts.{IsAddedBy, MayServe};
 
-use crate::Version;
 use crate::added::{next_added, of_first};
 use crate::edited::next_edited;
 use bundle_index::Indexed;
 use edit_rules::{Act, ChangeFault, ConfigEdit, change_config};
 use emu_names::Fault;
 use std::alloc::Global;
+use version_tree::Version;
 
 /// The version behind an edit of its configuration, or the rule that the edit breaks first, or want of memory.
 #[tactic(auto, using(edit_rules::proofs::Fits::extends_by, edit_rules::proofs::Fits::done_by, edit_rules::proofs::Fits::refused_by))]

@@ -6,16 +6,16 @@ ghost use Rattle.edit_rules.specs.Effects.{edit_effect, in_turn};
 ghost use Rattle.edit_rules.specs.Inner.Effects.{IsFirstBreach, is_placed};
 ghost use Rattle.version_tree.specs.Version.{state_of};
 ghost use Rattle.version_tree.specs.Inner.Version.{next_number};
-ghost use Rattle.version_tree.specs.Inner.Drafts.{GivesAdded, IsAddedBy, IsAddedByEdit, IsFirstFault, fitting, room_for, unless_broken};
-ghost use Rattle.version_tree.specs.Inner.Steps.{changed_alone};
+ghost use Rattle.version_steps.specs.Inner.Drafts.{GivesAdded, IsAddedBy, IsAddedByEdit, IsFirstFault, fitting, room_for, unless_broken};
+ghost use Rattle.version_steps.specs.Inner.Steps.{changed_alone};
 
-use crate::Version;
 use crate::edited::with_indexed;
 use bundle_index::Indexed;
 use edit_rules::{Breach, ChangeFault, Counts, Edit, Edits};
 use emu_names::limits::{ALL_ITEMS, BUNDLES};
 use emu_names::{Broken, Fault, Memory, What};
 use std::alloc::Global;
+use version_tree::Version;
 
 /// The rule that refuses a new bundle by the items that all bundles would have with it, if it does.
 fn too_many_items(counts: Counts, new: &Indexed) -> Option<Broken>

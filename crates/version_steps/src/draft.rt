@@ -2,10 +2,9 @@
 ghost use Rattle.std.specs.Prelude.{◌≡◌, IfOk};
 ghost use Rattle.bundle_state.specs.Built.{built};
 ghost use Rattle.edit_rules.specs.declared.acts.Act.TheVariants as acts;
-ghost use Rattle.version_tree.specs.Drafts.{entry_of};
-ghost use Rattle.version_tree.specs.Inner.Drafts.{GivesIndexed, IsAddedBy, IsAddedByEdit, IsDraftOf};
+ghost use Rattle.version_steps.specs.Drafts.{entry_of};
+ghost use Rattle.version_steps.specs.Inner.Drafts.{GivesIndexed, IsAddedBy, IsAddedByEdit, IsDraftOf};
 
-use crate::Version;
 use bundle_index::Indexed;
 use bundle_state::Bundle;
 use db_config::Config;
@@ -13,6 +12,7 @@ use edit_rules::{Act, Edit, Edits, Entry};
 use emu_names::{BundleKey, Fault, Memory, SessionNo};
 use level_items::Annot;
 use std::alloc::Global;
+use version_tree::Version;
 
 /// An entry that is to be committed, and the part of its work that is the same after every history that leads to a
 /// configuration.

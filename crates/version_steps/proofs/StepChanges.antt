@@ -51,7 +51,7 @@ use Rattle.bundle_edits.proofs.Spans.{some_same}
 use Rattle.edit_rules.proofs.Stays.{IsStored, changed_stored, old_is, limit_before, limit_passed}
 use Rattle.version_tree.specs.Version.{VersionParts, state_of, bundles_of}
 use Rattle.version_tree.specs.Inner.Version.{state_put, indexed_with}
-use Rattle.version_tree.specs.Inner.Steps.{changed_in, level_with, level_called, touched}
+use Rattle.version_steps.specs.Inner.Steps.{changed_in, level_with, level_called, touched}
 
 -- where no indexed bundle has a key, no bundle has it
 none_by_test : (t : Bool) (x : IndexParts) (b : BundleParts) (xs : Option IndexParts) (bs : Option BundleParts) → (xs ≡ None → bs ≡ None) → cond t (Some x) xs ≡ None → cond t (Some b) bs ≡ None

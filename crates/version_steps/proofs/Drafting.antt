@@ -23,8 +23,8 @@ use Rattle.bundle_edits.specs.Edits.{key_of}
 use Rattle.edit_rules.specs.Effects.{effect, put_back}
 use Rattle.edit_rules.specs.Inner.Effects.{IsFirstFault}
 use Rattle.version_tree.specs.Version.{VersionParts, state_of}
-use Rattle.version_tree.specs.Inner.Drafts.{GivesAdded, GivesIndexed, IsAddedBy, fitting, room_for}
-use Rattle.version_tree.specs.Inner.Steps.{changed_in}
+use Rattle.version_steps.specs.Inner.Drafts.{GivesAdded, GivesIndexed, IsAddedBy, fitting, room_for}
+use Rattle.version_steps.specs.Inner.Steps.{changed_in}
 
 -- the tests of the counts, over what was made and over what the definition gives
 fits_by : (t : Bool) (x : IndexParts) → GivesAdded (cond t (Err (faults.Broken (rules.TooMany counted.AllItems))) (Ok x)) (cond t (Err (rules.TooMany counted.AllItems)) (Ok (Some x.bundle)))

@@ -18,7 +18,7 @@ use Rattle.edit_rules.specs.declared.acts.Act.{Act}
 use Rattle.edit_rules.specs.declared.acts.Act.TheVariants as acts
 use Rattle.edit_rules.specs.declared.acts.Entry.{Entry}
 use Rattle.edit_rules.specs.Database.{DatabaseParts}
-use Rattle.version_tree.specs.declared.draft.Draft.{Draft}
+use Rattle.version_steps.specs.declared.draft.Draft.{Draft}
 use Rattle.version_tree.specs.Version.{VersionParts}
 
 -- a bundle with its columns is the bundle that a definition gives, and a refusal by a rule is the

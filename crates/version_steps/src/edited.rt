@@ -8,9 +8,8 @@ ghost use Rattle.edit_rules.specs.Effects.{in_turn};
 ghost use Rattle.edit_rules.specs.Inner.Effects.{GivesOrBreach, IsFirstBreach};
 ghost use Rattle.version_tree.specs.Version.{state_of};
 ghost use Rattle.version_tree.specs.Inner.Version.{next_number, state_put};
-ghost use Rattle.version_tree.specs.Inner.Steps.{AreTouchedBy, changed_in};
+ghost use Rattle.version_steps.specs.Inner.Steps.{AreTouchedBy, changed_in};
 
-use crate::Version;
 use crate::marks::touched_by;
 use crate::thinning::thinned;
 use bundle_index::Indexed;
@@ -19,6 +18,7 @@ use db_config::Config;
 use edit_rules::{ChangeFault, Edits, change};
 use emu_names::{BundleKey, Memory};
 use std::alloc::Global;
+use version_tree::Version;
 
 /// The bundle of a key.
 fn bundle_of<'a>(version: &'a Version, key: &BundleKey) -> Option<&'a Bundle>

@@ -6,9 +6,9 @@ use Rattle.db_config.specs.declared.parts.ConfigParts.{ConfigParts}
 use Rattle.edit_rules.specs.Database.{bundle_with}
 use Rattle.bundle_edits.specs.Edits.{key_of}
 use Rattle.version_tree.specs.Version.{state_of}
-use Rattle.version_tree.specs.Inner.Steps.{touched}
-use Rattle.version_tree.proofs.StepChanges.{touched_there}
-use Rattle.version_tree.proofs.next.indexed_in.Goals as goal
+use Rattle.version_steps.specs.Inner.Steps.{touched}
+use Rattle.version_steps.proofs.StepChanges.{touched_there}
+use Rattle.version_steps.proofs.next.indexed_in.Goals as goal
 
 pub reindexed-requires : goal.reindexed-requires
 reindexed-requires c =

@@ -1,6 +1,6 @@
 use Rattle.std.proofs.Common.{refl}
-use Rattle.version_tree.proofs.StepChanges.{made_fits, made_room, put_effect}
-use Rattle.version_tree.proofs.next.with_indexed.Goals as goal
+use Rattle.version_steps.proofs.StepChanges.{made_fits, made_room, put_effect}
+use Rattle.version_steps.proofs.next.with_indexed.Goals as goal
 
 pub with-requires-clause-fits : goal.with-requires-clause-fits
 with-requires-clause-fits c = made_fits c.args.version.now c.args.edit.now c.args.indexed.bundle c.args.indexed c.requires.keeps c.requires.made refl
