@@ -77,6 +77,7 @@ pub(crate) fn mark(row: &mut BitRow, level: usize)
 
 /// A row with a bit for each level of a bundle, in which the levels that edits of it may change are marked. The
 /// only refusal is want of memory.
+#[tactic(auto, using(crate::proofs::Touching::none_marked, crate::proofs::Touching::marks_whole))]
 pub(crate) fn touched_by(
     alloc: Global,
     config: &Config,
