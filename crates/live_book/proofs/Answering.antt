@@ -20,7 +20,7 @@ none_of fault = Err fault
 
 reaches_as : (fault : EditFault) → Reaches (none_of fault) → Reaches {T = ℕ} (Err fault)
 reaches_as (edit_faults.HistoryFull n) is = is
-reaches_as (edit_faults.Broken rule n) is = is
+reaches_as (edit_faults.Broken breach n) is = is
 reaches_as (edit_faults.StoreFull n) is = is
 reaches_as edit_faults.Disk is = is
 reaches_as edit_faults.Memory is = is

@@ -9,5 +9,5 @@ use Rattle.live_book.proofs.live.draft_ahead.Goals as goal
 pub returns-in-Ok-clause-draft : goal.returns-in-Ok-clause-draft
 returns-in-Ok-clause-draft c =
     let same : c.deref.result.now ≡ arc_value c.in-Ok.seen.version = search rules in
-    drafts_at c.look.new.self.list (entry_of c.args.session c.args.line c.args.edit.now) c.draft_over.result c.in-Ok.seen.number (arc_value c.in-Ok.seen.version) c.in-Ok.ensures.last
-    (subst (λ (x : Published). IfSome c.draft_over.result (IsDraftOf x.version.config (entry_of c.args.session c.args.line c.args.edit.now))) same c.draft_over.ensures)
+    drafts_at c.look.new.self.list (entry_of c.args.session c.args.line c.args.act.now) c.draft_over.result c.in-Ok.seen.number (arc_value c.in-Ok.seen.version) c.in-Ok.ensures.last
+    (subst (λ (x : Published). IfSome c.draft_over.result (IsDraftOf x.version (entry_of c.args.session c.args.line c.args.act.now))) same c.draft_over.ensures)
