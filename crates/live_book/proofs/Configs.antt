@@ -60,7 +60,7 @@ module _ (own : ConfigParts) (entries : List Entry) (e : Entry) (since : ℕ) (c
   -- that of the state after all entries
   whole_config : (n : ℕ) (database : DatabaseParts) → length (entries ++ e ∷ []) ≤ n → after own (take n (entries ++ e ∷ [])) ≡ Ok database → database.config ≡ next.config
   whole_config n database low is =
-      let all : take n (entries ++ e ∷ []) ≡ entries ++ e ∷ [] = take_all (entries ++ e ∷ []) n low in
+      let all : take n (entries ++ e ∷ []) ≡ entries ++ e ∷ [] = take_all n (entries ++ e ∷ []) low in
       sym (config_same database (state_of next) (told_same database (state_of next) (sym is ∙ ap (after own) all ∙ behind.state)))
 
   edits_config : (es : List Edit) → e.act ≡ acts.Edits es → next.config ≡ current.config
@@ -86,7 +86,7 @@ module _ (own : ConfigParts) (entries : List Entry) (e : Entry) (since : ℕ) (c
 -- where a book begins, with all its entries
 pub settled_first : (own : ConfigParts) (entries : List Entry) (current : VersionParts) → IsStateAfter own entries current → HasConfigSince own entries (length entries) current.config
 settled_first own entries current state n database low high made =
-    let all : take n entries ≡ entries = take_all entries n low in
+    let all : take n entries ≡ entries = take_all n entries low in
     sym (config_same database (state_of current) (told_same database (state_of current) (sym made ∙ ap (after own) all ∙ state.state)))
 
 -- Drafts.
@@ -147,7 +147,7 @@ may_serve {D = D} may_leave parts draft book is = by (nat_le parts.since draft.n
         let number : draft.number ≡ n = is.is_draft.number ∙ is.state.number in
         let within : n ≤ length parts.entries = prefix_length is.beginning parts.entries is.begins in
         let front : take n parts.entries ≡ is.beginning =
-        begun_take n is.beginning parts.entries is.begins (omega arith) ∙ take_all is.beginning n (omega arith) in
+        begun_take n is.beginning parts.entries is.begins (omega arith) ∙ take_all n is.beginning (omega arith) in
         let same : is.version.config ≡ present_in parts =
         book.settled n (state_of is.version) (omega (arith, low, number)) within (ap (after parts.opening) front ∙ is.state.state) in
         subst (λ (c : ConfigParts). MayServe c draft.entry.act draft.added) same (serves is.version.config draft.entry.act draft.added is.is_draft.added)

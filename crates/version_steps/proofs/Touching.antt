@@ -274,7 +274,7 @@ marks_more config levels es i e row next level within is long marks at here kept
     (marks_push config levels (take i es) e next (marks_stay config levels (take i es) row next kept marks) own)
 
 pub marks_whole : (config : ConfigParts) (levels : List Level) (es : List Edit) (i : ℕ) (row : List Bool) → length es ≤ i → AreMarked config levels (take i es) row → AreMarked config levels es row
-marks_whole config levels es i row past marks = subst (λ (xs : List Edit). AreMarked config levels xs row) (take_all es i past) marks
+marks_whole config levels es i row past marks = subst (λ (xs : List Edit). AreMarked config levels xs row) (take_all i es past) marks
 
 -- The level of an edit, where it is not marked: it is the same before all edits.
 

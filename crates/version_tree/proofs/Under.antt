@@ -78,7 +78,7 @@ page_more config pages i page new made next within is so fits push =
     ∙ ap (plain_under config) (ap (λ (y : List IndexParts). take i pages ++ y ∷ []) is ∙ sym (take_more pages i page within))
 
 pub pages_whole : (config : ConfigParts) (pages made : Pages) (i : ℕ) → length pages ≤ i → plain made ≡ plain_under config (take i pages) → plain made ≡ plain_under config pages
-pages_whole config pages made i past so = so ∙ ap (plain_under config) (take_all pages i past)
+pages_whole config pages made i past so = so ∙ ap (plain_under config) (take_all i pages past)
 
 -- the bundles of one page can be made to fit
 pub page_fits : (config : ConfigParts) (pages : Pages) (i : ℕ) (page : List IndexParts) → CanFitAll config (bundles_on pages) → slice_get pages i ≡ Some page → CanFitAll config page
