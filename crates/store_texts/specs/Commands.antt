@@ -6,6 +6,7 @@ use Rattle.db_config.specs.declared.parts.ConfigParts.{ConfigParts}
 use Rattle.bundle_state.specs.Bundle.{BundleParts}
 use Rattle.edit_rules.specs.Database.{DatabaseParts, bundle_with}
 use Rattle.annot_json.specs.Texts.{printed}
+use Rattle.config_json.specs.Texts.{printed as config_printed}
 use Rattle.store_texts.specs.declared.faults.Refused.{Refused}
 use Rattle.grid_writing.specs.Written.{written}
 use Rattle.store_texts.specs.declared.faults.Refused.TheVariants.{NoBundle, TooManyEntries}
@@ -23,6 +24,10 @@ Tells (Err faults.Memory) there = Unit {0}
 -- a word as a name, where it is one
 abbrev pub name_of : List ℕ → Option (List ℕ)
 name_of word = if is_name word then Some word else None
+
+-- The configuration of a database, on a line of its own.
+unfoldable pub config_shown : DatabaseParts → List ℕ
+config_shown database = config_printed database.config ++ 10 ∷ []
 
 -- two names as a bundle's key
 abbrev pub key_of_names : Option (List ℕ) → Option (List ℕ) → Option BundleKey

@@ -1,8 +1,10 @@
-//! The commands on a store: what `history`, `export`, `textgrid` and `ask` write, and the last lines of refusals.
+//! The commands on a store: what `history`, `config`, `export`, `textgrid` and `ask` write, and the last lines of
+//! refusals.
 #![tactic(auto)]
 
 mod ask;
 mod causes;
+mod config;
 mod export;
 mod faults;
 mod history;
@@ -10,8 +12,10 @@ mod note;
 mod print;
 mod segments;
 mod values;
+mod words;
 
 pub use ask::ask_text;
+pub use config::config_text;
 pub use export::{export_text, textgrid_text};
 pub use faults::{CommandFault, FileFault, Refused};
 pub use history::history_text;
