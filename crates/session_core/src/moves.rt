@@ -72,9 +72,10 @@ fn place_shown(command: Command, place: u32) -> Option<u32>
 pub fn refuse_rule(command: Command, breach: Breach) -> Refusal
     ensures { result ≡ rule_refusal command breach }
 {
+    let place = place_shown(command, breach.place);
     Refusal::Rule {
         rule: breach.rule,
-        place: place_shown(command, breach.place),
+        place,
     }
 }
 
