@@ -286,7 +286,8 @@ each_listed : (key : BundleKey) (path : List ℕ) (place : ℕ) (ds : List Data)
     → readings (listed_edit key) path place ds ≡ Ok es → list_all is_listed es ≡ true
 each_listed key path place [] es h = subst (λ (xs : List Edit). list_all is_listed xs ≡ true) (ok_list_is h) refl
 each_listed key path place (d ∷ ds) es h =
-    let first : _ = taken (listed_edit key (seen d (element_path path place))) _ es h in
+    let first : _ = taken (listed_edit key (seen d (element_path path place)))
+        (λ e. with_front (e ∷ []) (readings (listed_edit key) path (place + 1) ds)) es h in
     front_listed first.value (readings (listed_edit key) path (place + 1) ds) es
     (listed_made key (seen d (element_path path place)) first.value first.first_is).listed
     (λ more is. each_listed key path (place + 1) ds more is) first.rest_is
@@ -294,5 +295,5 @@ each_listed key path place (d ∷ ds) es h =
 pub all_listed : (key : BundleKey) (s : Seen) (es : List Edit) → listed_edits key s ≡ Ok es → list_all is_listed es ≡ true
 unfolding listed_edits each_from
 all_listed key s es h =
-    let list : _ = taken (form (edits_at s)) _ es h in
+    let list : _ = taken (form (edits_at s)) (λ found. each_from (listed_edit key) 0 s) es h in
     each_listed key s.path 0 (list_in s.value) es list.rest_is
