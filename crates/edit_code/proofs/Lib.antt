@@ -1,7 +1,10 @@
-pub mod AnnotLaws
+pub mod AdditionLaws
+pub mod CountLaws
 pub mod EditLaws
-pub mod HeadLaws
-pub mod KindPlaces
+pub mod EntrySteps
+pub mod FieldLaws
+pub mod KindLaws
+pub mod ListSteps
 pub mod Places
-pub mod Loops
-pub mod Tests
+pub mod TagLaws
+pub mod Tested
