@@ -121,7 +121,12 @@ impl Indexed {
 
     /// What is kept beside a bundle whose levels are those of this one but for the marked ones. The only refusal
     /// is want of memory, or of a number for a label.
-    fn changed_beside(&self, alloc: Global, bundle: &Bundle, marked: &BitRow) -> Result<Kept, Memory>
+    fn changed_beside(
+        &self,
+        alloc: Global,
+        bundle: &Bundle,
+        marked: &BitRow,
+    ) -> Result<Kept, Memory>
         requires { AreSameBut marked.now self.now.bundle.levels bundle.now.levels }
         ensures { IfOk result (λ kept.
             AreKeptOf bundle.now kept.labels kept.keys kept.columns kept.linked) }

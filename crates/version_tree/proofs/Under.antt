@@ -170,9 +170,10 @@ pages_kept config made pages is keeps = record {
 
 all_fit_under : (old new : ConfigParts) (xs : List IndexParts) → Extends old new → All (IsBundleOf old) (bundles_of xs) → CanFitAll new xs
 all_fit_under old new [] more all = tt
-all_fit_under old new (x ∷ xs) more all =
-    (extensions_can_fit old new x.bundle more (All-head (IsBundleOf old) x.bundle (bundles_of xs) all).fits,
-    all_fit_under old new xs more (All-tail (IsBundleOf old) x.bundle (bundles_of xs) all))
+all_fit_under old new (x ∷ xs) more all = (
+  extensions_can_fit old new x.bundle more (All-head (IsBundleOf old) x.bundle (bundles_of xs) all).fits,
+  all_fit_under old new xs more (All-tail (IsBundleOf old) x.bundle (bundles_of xs) all),
+)
 
 -- the bundles of a version can be made to fit
 pub all_can_fit : (v seen : VersionParts) (config : ConfigParts) → seen ≡ v → KeepsVersionRules v → Extends v.config config → CanFitAll config seen.bundles
