@@ -287,7 +287,7 @@ each_listed : (key : BundleKey) (path : List ℕ) (place : ℕ) (ds : List Data)
 each_listed key path place [] es h = subst (λ (xs : List Edit). list_all is_listed xs ≡ true) (ok_list_is h) refl
 each_listed key path place (d ∷ ds) es h =
     let first : _ = taken (listed_edit key (seen d (element_path path place)))
-        (λ e. with_front (e ∷ []) (readings (listed_edit key) path (place + 1) ds)) es h in
+    (λ e. with_front (e ∷ []) (readings (listed_edit key) path (place + 1) ds)) es h in
     front_listed first.value (readings (listed_edit key) path (place + 1) ds) es
     (listed_made key (seen d (element_path path place)) first.value first.first_is).listed
     (λ more is. each_listed key path (place + 1) ds more is) first.rest_is

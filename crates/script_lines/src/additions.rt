@@ -1,5 +1,4 @@
 //! The requests for additions to the configuration.
-ghost use Rattle.std.specs.Prelude.{◌≡◌};
 ghost use Rattle.json_view.specs.Inner.Seen.{seen_at};
 ghost use Rattle.script_lines.specs.Inner.Faults.{Reads};
 ghost use Rattle.script_lines.specs.Acts.{attribute_request, definition_request, level_request};

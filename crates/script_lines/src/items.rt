@@ -1,5 +1,4 @@
 //! The edits of items of a bundle that is there, by the members beside the bundle's key.
-ghost use Rattle.std.specs.Prelude.{◌≡◌};
 ghost use Rattle.json_view.specs.Inner.Gives.{Gives};
 ghost use Rattle.json_view.specs.Inner.Seen.{seen_at};
 ghost use Rattle.script_lines.specs.Edits.{item_edit, remove_edit, label_edit, segment_edit, boundary_edit, point_edit, split_edit, merge_edit};

@@ -23,12 +23,7 @@ use session_core::{Command, Request};
 use std::alloc::Global;
 
 /// The edit of a command, by the members beside the key of its bundle. A command whose edits stand alone is none.
-fn edit_of(
-    alloc: Global,
-    command: Command,
-    key: BundleKey,
-    view: &View,
-) -> Result<Edit, LineFault>
+fn edit_of(alloc: Global, command: Command, key: BundleKey, view: &View) -> Result<Edit, LineFault>
     ensures { Reads result (edit_of command key (seen_at view.now)) }
 {
     match command {

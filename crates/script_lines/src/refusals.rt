@@ -22,12 +22,7 @@ fn plain_value(alloc: Global, place: Option<u32>, word: &str) -> Result<Value, M
 }
 
 /// A refusal that says an id.
-fn id_value(
-    alloc: Global,
-    place: Option<u32>,
-    id: ItemId,
-    word: &str,
-) -> Result<Value, Memory>
+fn id_value(alloc: Global, place: Option<u32>, id: ItemId, word: &str) -> Result<Value, Memory>
     ensures { IfOk result (λ v. view v ≡ rule_with_id place id word.now) }
 {
     match place {
@@ -37,12 +32,7 @@ fn id_value(
 }
 
 /// A refusal that says a name.
-fn name_value(
-    alloc: Global,
-    place: Option<u32>,
-    name: &Text,
-    word: &str,
-) -> Result<Value, Memory>
+fn name_value(alloc: Global, place: Option<u32>, name: &Text, word: &str) -> Result<Value, Memory>
     ensures { IfOk result (λ v. view v ≡ rule_with_name place name.now word.now) }
 {
     match place {
@@ -54,19 +44,12 @@ fn name_value(
 }
 
 /// A refusal that says what there are too many of.
-fn what_value(
-    alloc: Global,
-    place: Option<u32>,
-    what: What,
-    word: &str,
-) -> Result<Value, Memory>
+fn what_value(alloc: Global, place: Option<u32>, what: What, word: &str) -> Result<Value, Memory>
     ensures { IfOk result (λ v. view v ≡ rule_with_what place what word.now) }
 {
     match place {
         None => Ok(json!(in alloc; {"rule": word, "what": what.word()})?),
-        Some(place) => {
-            Ok(json!(in alloc; {"place": place, "rule": word, "what": what.word()})?)
-        }
+        Some(place) => { Ok(json!(in alloc; {"place": place, "rule": word, "what": what.word()})?) }
     }
 }
 

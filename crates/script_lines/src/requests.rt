@@ -1,5 +1,4 @@
 //! The members of a request, by its command.
-ghost use Rattle.std.specs.Prelude.{◌≡◌, true};
 ghost use Rattle.json_view.specs.Inner.Seen.{seen_at};
 ghost use Rattle.script_lines.specs.Inner.Faults.{Reads};
 ghost use Rattle.script_lines.specs.Lines.{after_request, members_of};

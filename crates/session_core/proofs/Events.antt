@@ -230,13 +230,16 @@ module _ (opening : List Entry) (store : Bool) (faults : ℕ) (w : World) (g : G
     edit_refused : (breach : Breach) → nat_le HISTORY_EDITS (length w.state.entries) ≡ false → edited w.state.config w.state.entries act ≡ Err breach
         → Good opening store faults (world_of w.state.config w.state.entries w.state.looks w.state.queries (w.lines ++ edit_line ∷ []) (w.turns ++ turn_of edit_line (Some (length w.state.entries)) (Refused (rule_refusal command breach)) ∷ []))
     edit_refused breach room broken =
-        same edit_line (Some (length w.state.entries)) (Refused (rule_refusal command breach)) next refl
-        (opening_below, omega arith, record {
-          room = leb-false HISTORY_EDITS (length w.state.entries) room;
-          at = breach.place;
-          broken = ap (λ (xs : List Entry). edited w.state.config xs act) (take-length w.state.entries) ∙ broken;
-          shown = refl;
-        }) tt refl
+        same edit_line (Some (length w.state.entries)) (Refused (rule_refusal command breach)) next refl (
+          opening_below,
+          omega arith,
+          record {
+            room = leb-false HISTORY_EDITS (length w.state.entries) room;
+            at = breach.place;
+            broken = ap (λ (xs : List Entry). edited w.state.config xs act) (take-length w.state.entries) ∙ broken;
+            shown = refl;
+          },
+        ) tt refl
         (λ low high. high) (λ low above. opening_below) (λ low high. omega arith) tt refl
 
     edit_done : (database : DatabaseParts) → nat_le HISTORY_EDITS (length w.state.entries) ≡ false → edited w.state.config w.state.entries act ≡ Ok database
