@@ -7,3 +7,4 @@ pub mod Places
 pub mod Spans
 pub mod Steps
 pub mod Traces
+pub mod TimedLinks

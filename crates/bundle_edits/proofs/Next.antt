@@ -16,7 +16,7 @@ use Rattle.level_items.specs.declared.annot.AnnotLink.{AnnotLink}
 use Rattle.level_items.specs.declared.items.Item.{Item}
 use Rattle.level_items.specs.declared.times.Time.{Time}
 use Rattle.level_items.specs.declared.times.Time.TheVariants.{Span, Point}
-use Rattle.level_items.specs.Levels.{Level, are_labels_for, is_short, retimed, relabelled, change_at, new_place}
+use Rattle.level_items.specs.Levels.{Level, items_at, are_labels_for, is_short, retimed, relabelled, change_at, new_place}
 use Rattle.level_items.specs.Faults.{time_fault}
 use Rattle.std.specs.Option.{option_or, option_and_then}
 use Rattle.level_items.proofs.Changes.{length-change_at}
@@ -43,7 +43,7 @@ use Rattle.bundle_edits.specs.declared.bundle_change.Counts.{Counts}
 use Rattle.bundle_edits.specs.declared.edit.Edit.{Edit}
 use Rattle.bundle_edits.specs.declared.edit.Edit.TheVariants as edits
 use Rattle.bundle_edits.specs.declared.segments.Segment.{Segment}
-use Rattle.bundle_edits.specs.Changes.{level_found, numbered, NumberedLevel, room_fault, id_fault, label_fault, given_label_fault, new_labels_fault, given_item_fault, put_on, item_put, NumberedAttribute, attribute_of, labelled, label_given, segment_of, next_of, cut_fault, last_of, moved, second_part, cut_at, boundary_moved, split_in, segment_split, joined, segments_merged, items_on, is_linked, timed_fault, pair_linked, pairs_linked, levels_linked, times_linked, bundle_changed}
+use Rattle.bundle_edits.specs.Changes.{level_found, numbered, NumberedLevel, room_fault, id_fault, label_fault, given_label_fault, new_labels_fault, given_item_fault, put_on, item_put, NumberedAttribute, attribute_of, labelled, label_given, segment_of, next_of, cut_fault, last_of, moved, second_part, cut_at, boundary_moved, split_in, segment_split, joined, segments_merged, is_linked, timed_fault, pair_linked, pairs_linked, levels_linked, times_linked, bundle_changed}
 use Rattle.bundle_edits.proofs.Spans.{some_same}
 use Rattle.bundle_edits.proofs.Places.{level_here}
 use Rattle.bundle_edits.proofs.Cuts.{IsSegmentOf, ArePair, IsCut, segment_found, pair_found, cut_parts, moved_back, moved_on, merged, cut_short, part_added}
@@ -208,7 +208,7 @@ times_next : (config : ConfigParts) (upper lower : List ℕ) (b next : BundlePar
 times_next config upper lower b next keeps fits is =
     let one = goes_on (level_found upper config.levels) (λ k. onward (level_found lower config.levels) (levels_linked b k)) next is in
     let two = goes_on (level_found lower config.levels) (levels_linked b one.middle) next one.second in
-    let pairs = timed_pairs (items_on b.levels one.middle.0) (items_on b.levels two.middle.0) in
+    let pairs = timed_pairs (items_at b.levels one.middle.0) (items_at b.levels two.middle.0) in
     let three = goes_on (unless_broken (timed_fault b one.middle two.middle) b) (pairs_linked pairs) next two.second in
     let passed = unbroken (timed_fault b one.middle two.middle) b three.middle three.first in
     pairs_next config pairs b next keeps fits (ap (λ (c : BundleParts). pairs_linked pairs c) passed.1 ∙ three.second)
@@ -275,6 +275,7 @@ empty_fit n = and_from (length (empties n) == n) (list_all is_short (empties n))
 pub record IsLevelFor (def : LevelDef) (levels : List Level) (number : ℕ) : Type 0 where
   pub level : Level
   pub there : slice_get levels number ≡ Some level
+  pub kind : level.kind ≡ def.kind
   pub attributes : level.attributes ≡ length def.attributes
 
 pub level_fitting : (defs : List LevelDef) (levels : List Level) (number : ℕ) (def : LevelDef) → map form_of levels ≡ map form_asked defs → slice_get defs number ≡ Some def → IsLevelFor def levels number
@@ -282,11 +283,17 @@ level_fitting [] levels number def same at = absurd cc
 level_fitting (d ∷ defs) [] number def same at = absurd cc
 level_fitting (d ∷ defs) (l ∷ levels) zero def same at =
     let own : (l.kind, l.attributes) ≡ (d.kind, length d.attributes) = cc in
-    record { level = l; there = refl; attributes = ap (λ (p : LevelKind × ℕ). p.1) own ∙ ap (λ (e : LevelDef). length e.attributes) (some_same d def at) }
+    let def_is = some_same d def at in
+    record {
+      level = l;
+      there = refl;
+      kind = ap (λ (p : LevelKind × ℕ). p.0) own ∙ ap (λ (e : LevelDef). e.kind) def_is;
+      attributes = ap (λ (p : LevelKind × ℕ). p.1) own ∙ ap (λ (e : LevelDef). length e.attributes) def_is;
+    }
 level_fitting (d ∷ defs) (l ∷ levels) (suc number) def same at =
     let tail : map form_of levels ≡ map form_asked defs = cc in
     let rest : IsLevelFor def levels number = level_fitting defs levels number def tail at in
-    record { level = rest.level; there = rest.there; attributes = rest.attributes }
+    record { level = rest.level; there = rest.there; kind = rest.kind; attributes = rest.attributes }
 
 -- the level of a name stands at its number
 pub level_there : (name : List ℕ) (defs : List LevelDef) (m : NumberedLevel) → level_found name defs ≡ Ok m → slice_get defs m.0 ≡ Some m.1

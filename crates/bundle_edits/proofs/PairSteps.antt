@@ -1,31 +1,55 @@
 -- Links of pairs of items, one pair at a time.
-use Rattle.std.proofs.Common.{◌≡◌, ℕ, ◌+◌, ◌<◌, true, false, cond, List, length, get_or, drop, Result, Ok, Err, ap, ◌∙◌}
+use Rattle.std.proofs.Common.{◌≡◌, ℕ, ◌+◌, ◌<◌, Bool, true, false, cond, List, length, get_or, drop, Result, Ok, Err, Some, None, sym, ap, ◌∙◌}
+use Rattle.std.specs.List.{list_any}
 use Rattle.emu_names.specs.declared.rules.Broken.{Broken}
+use Rattle.emu_names.specs.declared.rules.Fault.{Fault}
+use Rattle.emu_names.specs.declared.rules.Fault.TheVariants as faults
+use Rattle.emu_names.specs.Inner.Gives.{IsFaultOf, broken_in}
 use Rattle.emu_names.specs.Steps.{onward}
 use Rattle.level_items.specs.declared.annot.AnnotLink.{AnnotLink}
+use Rattle.link_graph.specs.declared.link.Link.{Link}
+use Rattle.link_graph.specs.Link.{joins}
+use Rattle.db_config.specs.declared.parts.ConfigParts.{ConfigParts}
 use Rattle.bundle_state.specs.Bundle.{BundleParts}
+use Rattle.bundle_state.specs.Built.{FitsConfig}
 use Rattle.bundle_state.specs.Changed.{link_added}
+use Rattle.bundle_state.proofs.ChangedKept.{added_link_fits}
+use Rattle.bundle_state.proofs.LinksKept.{fine_value, ok_same}
 use Rattle.bundle_state.proofs.Walks.{drop_at}
-use Rattle.bundle_edits.specs.Changes.{is_linked, pairs_linked}
+use Rattle.bundle_edits.specs.Changes.{is_linked, pair_linked, pairs_linked}
 
-module _ (pairs : List AnnotLink) (i : ℕ) (pair : AnnotLink) (b : BundleParts) (low : i < length pairs) (here : pair ≡ get_or pairs i pair) where
-  rest : List AnnotLink
-  rest = drop (i + 1) pairs
+-- ---- one pair
 
-  front : pairs_linked (drop i pairs) b ≡ onward (cond (is_linked b.links pair) (Ok b) (link_added pair.from pair.to b)) (pairs_linked rest)
-  front = ap (λ ps. pairs_linked ps b) (drop_at pairs i pair low here)
+module _ (pair : AnnotLink) (b : BundleParts) (links : List Link) (there : Bool) (same : links ≡ b.links) (is : there ≡ list_any (joins pair.from pair.to) links) where
+  asked : there ≡ is_linked b.links pair
+  asked = is ∙ ap (λ (ls : List Link). list_any (joins pair.from pair.to) ls) same
 
   -- a pair that is a link already
-  pub linked_on : is_linked b.links pair ≡ true → pairs_linked (drop i pairs) b ≡ pairs_linked rest b
-  linked_on linked = front ∙ ap (λ t. onward (cond t (Ok b) (link_added pair.from pair.to b)) (pairs_linked rest)) linked
+  pub pair_there : there ≡ true → pair_linked pair b ≡ Ok b
+  pair_there so = ap (λ (t : Bool). cond t (fine_value b) (link_added pair.from pair.to b)) (sym asked ∙ so)
 
-  new : is_linked b.links pair ≡ false → pairs_linked (drop i pairs) b ≡ onward (link_added pair.from pair.to b) (pairs_linked rest)
-  new apart = front ∙ ap (λ t. onward (cond t (Ok b) (link_added pair.from pair.to b)) (pairs_linked rest)) apart
+  -- a pair that is none
+  pub pair_new : there ≡ false → pair_linked pair b ≡ link_added pair.from pair.to b
+  pair_new so = ap (λ (t : Bool). cond t (fine_value b) (link_added pair.from pair.to b)) (sym asked ∙ so)
 
-  -- a pair that is linked now
-  pub added_on : (next : BundleParts) → is_linked b.links pair ≡ false → link_added pair.from pair.to b ≡ Ok next → pairs_linked (drop i pairs) b ≡ pairs_linked rest next
-  added_on next apart added = new apart ∙ ap (λ (r : Result BundleParts Broken). onward r (pairs_linked rest)) added
+pub pair_fits : (config : ConfigParts) (pair : AnnotLink) (b next : BundleParts) → FitsConfig config b → pair_linked pair b ≡ Ok next → FitsConfig config next
+pair_fits config pair b next fits is = by (is_linked b.links pair) is
+  where
+    by : (t : Bool) → cond t (fine_value b) (link_added pair.from pair.to b) ≡ Ok next → FitsConfig config next
+    by true same = rw (← ok_same b next same) fits
+    by false added = added_link_fits pair.from pair.to config b next fits added
 
-  -- a pair that breaks a rule
-  pub refused_on : (rule : Broken) → is_linked b.links pair ≡ false → link_added pair.from pair.to b ≡ Err rule → pairs_linked (drop i pairs) b ≡ Err rule
-  refused_on rule apart refused = new apart ∙ ap (λ (r : Result BundleParts Broken). onward r (pairs_linked rest)) refused
+-- ---- one pair of several
+
+module _ (pairs : List AnnotLink) (i : ℕ) (pair : AnnotLink) (b : BundleParts) (low : i < length pairs) (here : pair ≡ get_or pairs i pair) where
+  front : pairs_linked (drop i pairs) b ≡ onward (pair_linked pair b) (pairs_linked (drop (i + 1) pairs))
+  front = ap (λ (ps : List AnnotLink). pairs_linked ps b) (drop_at pairs i pair low here)
+
+  -- a pair that breaks no rule
+  pub pair_goes : (next : BundleParts) → pair_linked pair b ≡ Ok next → pairs_linked (drop i pairs) b ≡ pairs_linked (drop (i + 1) pairs) next
+  pair_goes next is = front ∙ ap (λ (r : Result BundleParts Broken). onward r (pairs_linked (drop (i + 1) pairs))) is
+
+  -- a pair that breaks one
+  pub pair_stops : (fault : Fault) (whole : Result BundleParts Broken) → pairs_linked (drop i pairs) b ≡ whole → IsFaultOf (broken_in fault) (pair_linked pair b) → IsFaultOf (broken_in fault) whole
+  pair_stops (faults.Broken rule) whole turn is = sym turn ∙ front ∙ ap (λ (r : Result BundleParts Broken). onward r (pairs_linked (drop (i + 1) pairs))) is
+  pair_stops faults.Memory whole turn is = tt

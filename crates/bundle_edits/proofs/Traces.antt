@@ -10,7 +10,7 @@ use Rattle.level_items.specs.declared.items.Item.{Item}
 use Rattle.level_items.specs.declared.times.Time.{Time}
 use Rattle.level_items.specs.declared.times.Time.TheVariants.{Span, Point}
 use Rattle.std.specs.Option.{option_or}
-use Rattle.level_items.specs.Levels.{Level, ids_of, retimed, relabelled, new_place}
+use Rattle.level_items.specs.Levels.{Level, items_at, ids_of, retimed, relabelled, new_place}
 use Rattle.level_items.proofs.Lists.{around}
 use Rattle.link_builder.specs.Timed.{timed_pairs}
 use Rattle.link_graph.specs.declared.link.Link.{Link}
@@ -30,7 +30,7 @@ use Rattle.bundle_state.proofs.ChangedKept.{IsPlace, place_parts, place_there, t
 use Rattle.bundle_edits.specs.declared.bundle_change.Counts.{Counts}
 use Rattle.bundle_edits.specs.declared.edit.Edit.TheVariants as edits
 use Rattle.bundle_edits.specs.declared.segments.Segment.{Segment}
-use Rattle.bundle_edits.specs.Changes.{level_found, NumberedLevel, room_fault, id_fault, label_fault, given_item_fault, put_on, item_put, NumberedAttribute, attribute_of, labelled, label_given, segment_of, next_of, cut_fault, last_of, moved, second_part, cut_at, split_in, joined, items_on, is_linked, timed_fault, pair_linked, pairs_linked, levels_linked, times_linked}
+use Rattle.bundle_edits.specs.Changes.{level_found, NumberedLevel, room_fault, id_fault, label_fault, given_item_fault, put_on, item_put, NumberedAttribute, attribute_of, labelled, label_given, segment_of, next_of, cut_fault, last_of, moved, second_part, cut_at, split_in, joined, is_linked, timed_fault, pair_linked, pairs_linked, levels_linked, times_linked}
 use Rattle.bundle_edits.specs.Laws.{HasOneMore, EditsKeepIds, EditsKeepLinks}
 use Rattle.bundle_edits.proofs.Cuts.{IsSegmentOf, ArePair, segment_found, pair_found}
 use Rattle.bundle_edits.proofs.Next.{IsLevelFor, level_fitting, level_there}
@@ -77,7 +77,7 @@ given_links_same tested config id attribute label b next is =
     label_links_same tested id label b next two.middle two.second
 
 -- links of pairs of items, which stand behind those that are there
-AreMore : List Link → List Link → Type 0
+abbrev AreMore : List Link → List Link → Type 0
 AreMore old new = (more : List Link) × (new ≡ old ++ more)
 
 pair_more : (pair : AnnotLink) (b next : BundleParts) → pair_linked pair b ≡ Ok next → AreMore b.links next.links × (next.levels ≡ b.levels)
@@ -106,7 +106,7 @@ times_more : (config : ConfigParts) (upper lower : List ℕ) (b next : BundlePar
 times_more config upper lower b next is =
     let one = goes_on (level_found upper config.levels) (λ k. onward (level_found lower config.levels) (levels_linked b k)) next is in
     let two = goes_on (level_found lower config.levels) (levels_linked b one.middle) next one.second in
-    let pairs = timed_pairs (items_on b.levels one.middle.0) (items_on b.levels two.middle.0) in
+    let pairs = timed_pairs (items_at b.levels one.middle.0) (items_at b.levels two.middle.0) in
     let three = goes_on (unless_broken (timed_fault b one.middle two.middle) b) (pairs_linked pairs) next two.second in
     let passed = unbroken (timed_fault b one.middle two.middle) b three.middle three.first in
     pairs_more pairs b next (ap (λ (c : BundleParts). pairs_linked pairs c) passed.1 ∙ three.second)

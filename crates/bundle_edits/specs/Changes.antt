@@ -18,8 +18,8 @@ use Rattle.level_items.specs.declared.items.Item.{Item}
 use Rattle.level_items.specs.declared.times.Time.{Time}
 use Rattle.level_items.specs.declared.times.Time.TheVariants.{NoTime, Span, Point}
 use Rattle.level_items.specs.Faults.{time_fault}
-use Rattle.std.specs.Option.{option_or, option_map_or}
-use Rattle.level_items.specs.Levels.{Level, with_items, change_at, retimed}
+use Rattle.std.specs.Option.{option_or}
+use Rattle.level_items.specs.Levels.{Level, with_items, items_at, change_at, retimed}
 use Rattle.db_config.specs.declared.attributes.AttributeDef.{AttributeDef}
 use Rattle.db_config.specs.declared.parts.ConfigParts.{ConfigParts}
 use Rattle.db_config.specs.declared.parts.LevelDef.{LevelDef}
@@ -243,10 +243,6 @@ segments_merged id b =
 
 -- Links that times give.
 
--- the items of a level of the bundle
-abbrev pub items_on : List Level → ℕ → List Item
-items_on levels number = option_map_or (λ (l : Level). l.items) (slice_get levels number) []
-
 -- the upper level has to be a SEGMENT level, and the items of the lower one have to have times
 abbrev pub timed_kinds_fault : LevelKind → LevelKind → Option Broken
 timed_kinds_fault levels.Item lower = Some rules.TimeKind
@@ -271,7 +267,7 @@ linked_fault pairs links = if list_all (is_linked links) pairs then Some rules.N
 abbrev pub timed_fault : BundleParts → NumberedLevel → NumberedLevel → Option Broken
 timed_fault b (upper, one) (lower, other) =
     option_or (timed_kinds_fault one.kind other.kind) (option_or (definition_fault b.definitions upper lower)
-    (linked_fault (timed_pairs (items_on b.levels upper) (items_on b.levels lower)) b.links))
+    (linked_fault (timed_pairs (items_at b.levels upper) (items_at b.levels lower)) b.links))
 
 -- a pair of items that is no link yet is linked
 abbrev pub pair_linked : AnnotLink → BundleParts → Result BundleParts Broken
@@ -286,7 +282,7 @@ pairs_linked (pair ∷ pairs) b = onward (pair_linked pair b) (pairs_linked pair
 abbrev pub levels_linked : BundleParts → NumberedLevel → NumberedLevel → Result BundleParts Broken
 levels_linked b upper lower =
     onward (unless_broken (timed_fault b upper lower) b)
-    (pairs_linked (timed_pairs (items_on b.levels upper.0) (items_on b.levels lower.0)))
+    (pairs_linked (timed_pairs (items_at b.levels upper.0) (items_at b.levels lower.0)))
 
 -- the same of the levels of two names
 abbrev pub times_linked : ConfigParts → List ℕ → List ℕ → BundleParts → Result BundleParts Broken

@@ -11,4 +11,4 @@ mod timed_links;
 
 pub use bundle_change::{Counts, change, change_own};
 pub use edit::Edit;
-pub use laws::{edits_keep_ids, edits_keep_links};
+pub use laws::{edits_keep_ids, edits_keep_links, times_link_exactly};

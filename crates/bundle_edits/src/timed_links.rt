@@ -3,8 +3,9 @@ ghost use Rattle.std.specs.Prelude.{◌≡◌, Some};
 ghost use Rattle.std.specs.List.{slice_get};
 ghost use Rattle.emu_names.specs.Inner.Gives.{GivesOrBroken, FindsFault};
 ghost use Rattle.bundle_state.specs.Built.{FitsConfig};
-ghost use Rattle.bundle_edits.specs.Changes.{timed_kinds_fault, definition_fault, linked_fault, pairs_linked, levels_linked, times_linked};
+ghost use Rattle.bundle_edits.specs.Changes.{timed_kinds_fault, definition_fault, linked_fault, pair_linked, pairs_linked, levels_linked, times_linked};
 
+use crate::item_changes::link;
 use bundle_state::Bundle;
 use db_config::{Config, LevelDef};
 use emu_names::{Broken, Fault, LevelKind, Text};
@@ -48,15 +49,25 @@ fn pairs_pass(links: &Links, pairs: &[AnnotLink]) -> Result<(), Fault>
     Err(Fault::Broken(Broken::NothingToLink))
 }
 
-/// The bundle with the links of these pairs of items, of which those that are there stay as they are.
-fn link_pairs(config: &Config, mut next: Bundle, pairs: &[AnnotLink]) -> Result<Bundle, Fault>
-    requires { FitsConfig config.now next }
-    ensures { GivesOrBroken result (pairs_linked pairs.now next) }
+/// The bundle with the link of a pair of items; where it is there, the bundle stays as it is.
+fn link_pair(config: &Config, bundle: Bundle, pair: &AnnotLink) -> Result<Bundle, Fault>
+    requires { FitsConfig config.now bundle }
+    ensures { GivesOrBroken result (pair_linked pair.now bundle) }
 {
+    if bundle.links().has(pair.from, pair.to) {
+        return Ok(bundle);
+    }
+    link(config, bundle, pair.from, pair.to)
+}
+
+/// The bundle with the links of these pairs of items, of which those that are there stay as they are.
+fn link_pairs(config: &Config, bundle: Bundle, pairs: &[AnnotLink]) -> Result<Bundle, Fault>
+    requires { FitsConfig config.now bundle }
+    ensures { GivesOrBroken result (pairs_linked pairs.now bundle) }
+{
+    let mut next = bundle;
     for pair in pairs {
-        if !next.links().has(pair.from, pair.to) {
-            next.add_link(config, pair.from, pair.to)?;
-        }
+        next = link_pair(config, next, pair)?;
     }
     Ok(next)
 }
