@@ -84,9 +84,6 @@ put_room v x rules none =
 -- ---- what edits make of the bundle of their key
 
 module _ (v : VersionParts) (key : BundleKey) where
-  abbrev d : DatabaseParts
-  d = state_of v
-
   pub counted_by : (counts : Counts) (old : Option BundleParts) → KeepsDatabaseRules (state_of v) → counts ≡ counts_of (state_of v).bundles → old ≡ bundle_with key (state_of v).bundles → IsCounted counts old
   counted_by counts old keeps count found =
       subst (λ (n : Counts). IsCounted n old) (sym count) (counted_is (state_of v) key old keeps (sym found))

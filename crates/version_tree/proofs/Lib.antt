@@ -6,4 +6,4 @@ pub mod Fullness
 pub mod Changes
 pub mod States
 pub mod Versions
-mod Under
+mod Fitting

@@ -1,5 +1,5 @@
 use Rattle.std.proofs.Common.{◌≡◌, take}
-use Rattle.version_tree.proofs.Under.{plain, plain_under}
+use Rattle.version_tree.proofs.Fitting.{plain, plain_under}
 use Rattle.version_tree.proofs.pages.pages_under.Given as goal
 
 -- the bundles of the pages so far are made to fit

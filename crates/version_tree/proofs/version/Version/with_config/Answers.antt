@@ -4,7 +4,7 @@ use Rattle.db_config.specs.Added.{Extends}
 use Rattle.version_tree.specs.Version.{VersionParts, bundles_of}
 use Rattle.version_tree.specs.Inner.Under.{fitted_of}
 use Rattle.version_tree.specs.Inner.Version.{next_number}
-use Rattle.version_tree.proofs.Under.{all_can_fit, kept_under, state_under, is_under}
+use Rattle.version_tree.proofs.Fitting.{all_can_fit, kept_under, state_under, is_under}
 use Rattle.version_tree.proofs.Versions.{kept_as, version_as}
 use Rattle.version_tree.proofs.version.Version.with_config.Goals as goal
 
