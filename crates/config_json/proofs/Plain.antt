@@ -4,12 +4,12 @@ use Rattle.std.specs.Prelude.{Option, Some, None}
 use Rattle.serde_json.specs.Data.{Data, string, depth, items_depth}
 use Rattle.serde_json.specs.Read.{read, max_depth}
 use Rattle.serde_json.specs.View.{items_of}
-use Rattle.serde_json.specs.Written.{compact_text, has_float, items_have_float, members_have_float}
+use Rattle.serde_json.specs.Written.{compact_text, has_float, items_have_float}
 use Rattle.db_config.specs.declared.attributes.AttributeDef.{AttributeDef}
 use Rattle.db_config.specs.declared.groups.GroupDef.{GroupDef}
 use Rattle.db_config.specs.declared.parts.ConfigParts.{ConfigParts}
 use Rattle.db_config.specs.declared.parts.LevelDef.{LevelDef}
-use Rattle.config_json.specs.Texts.{list_data, texts_data, group_data, groups_data, legal_before, attribute_data, level_data, link_data, track_data, config_data, printed}
+use Rattle.config_json.specs.Texts.{texts_data, group_data, groups_data, attribute_data, level_data, link_data, track_data, config_data, printed}
 
 -- lists
 

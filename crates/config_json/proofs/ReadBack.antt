@@ -1,10 +1,10 @@
 -- The value that a configuration is printed as is read as that configuration.
-use Rattle.std.proofs.Common.{◌≡◌, ℕ, zero, suc, ◌+◌, ◌<◌, ◌≤◌, Bool, true, false, not, ◌&&◌, ◌||◌, cond, List, [], ◌∷◌, ◌++◌, map, length, take, codes, refl, sym, ap, ◌∙◌, arith}
+use Rattle.std.proofs.Common.{◌≡◌, ℕ, zero, suc, ◌+◌, ◌<◌, Bool, true, false, not, ◌&&◌, cond, List, [], ◌∷◌, ◌++◌, map, length, take, codes, refl, sym, ap, ◌∙◌, arith}
 use Rattle.std.specs.Prelude.{Result, Ok, Option, Some, None, is_none, nat_le, nat_lt}
 use Rattle.std.specs.List.{list_all, list_any, slice_get, position, position_or_len}
 use Rattle.std.specs.Option.{option_and_then, option_map_or}
 use Rattle.std.specs.Result.{result_ok}
-use Rattle.std.proofs.lemmas.Bool.{and_parts, or_parts, or_from, not-true, cond-true, cond-false, lt-ltb, leb-true, ltb-true}
+use Rattle.std.proofs.lemmas.Bool.{and_parts, or_parts, or_from, not-true, cond-true, lt-ltb, ltb-true}
 use Rattle.std.proofs.lemmas.Bool.Decides.{nat_tests}
 use Rattle.std.proofs.lemmas.Cmp.{nat_list_eq_equiv}
 use Rattle.std.proofs.lemmas.List.{length-map}
@@ -37,14 +37,13 @@ use Rattle.db_config.specs.Lookups.{level_named}
 use Rattle.db_config.specs.Valid.{are_within_limits, is_in_range, are_apart, keeps_rules, is_valid, is_config}
 use Rattle.db_config.proofs.Doubles.{doubles_found}
 use Rattle.config_json.specs.declared.faults.ConfigFault.{ConfigFault}
-use Rattle.config_json.specs.declared.faults.ConfigFault.TheVariants.{TooMany, UnknownLevel}
 use Rattle.config_json.specs.declared.faults.ConfigWhat.{ConfigWhat}
 use Rattle.config_json.specs.declared.faults.ConfigWhat.TheVariants.{Levels, Links, Attributes, Groups, Texts, Tracks}
 use Rattle.config_json.specs.declared.named.NamedLink.{NamedLink}
 use Rattle.config_json.specs.declared.named.NamedParts.{NamedParts}
 use Rattle.config_json.specs.Faults.{form}
 use Rattle.config_json.specs.Forms.{object_of, name_in, name_at, text_member, optional_text, filled_at, level_kind_in, level_kind_at, link_kind_in, link_kind_at, string_in, string_type}
-use Rattle.config_json.specs.Read.{limited, value_in, listed_values, values_in, values_member, group_in, listed_groups, groups_member, legal_in, legal_member, attribute_in, listed_attributes, attributes_member, level_in, listed_levels, levels_member, link_in, listed_links, links_member, track_in, listed_tracks, tracks_member, named_parts, placed, all_placed, sound_links, linked_parts, sound_parts, config_of}
+use Rattle.config_json.specs.Read.{limited, value_in, listed_values, values_in, values_member, group_in, listed_groups, groups_member, legal_in, legal_member, attribute_in, listed_attributes, attributes_member, level_in, listed_levels, levels_member, link_in, listed_links, links_member, track_in, listed_tracks, tracks_member, named_parts, placed, all_placed, sound_parts, config_of}
 use Rattle.config_json.specs.Inner.Texts.{reread}
 use Rattle.config_json.specs.Texts.{list_data, texts_data, group_data, groups_data, attribute_data, level_data, name_of, link_data, track_data, config_data}
 

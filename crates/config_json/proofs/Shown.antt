@@ -4,7 +4,7 @@ use Rattle.std.specs.Prelude.{Option, Some, None}
 use Rattle.std.specs.List.{slice_get}
 use Rattle.std.proofs.lemmas.List.{map-append, take_all}
 use Rattle.std.proofs.lemmas.Option.{slice_get_read}
-use Rattle.serde_json.specs.Data.{Data, array, string, Members, no_members, member}
+use Rattle.serde_json.specs.Data.{Data, array, string, Members, no_members, member, put}
 use Rattle.serde_json.specs.declared.value.Value.{Value}
 use Rattle.serde_json.specs.View.{view, items_of}
 use Rattle.db_config.specs.declared.attributes.AttributeDef.{AttributeDef}
@@ -88,3 +88,7 @@ pub legal_put : (legal : Option (List (List ℕ))) (groups : Data) →
     with_legal legal (member (codes "labelGroups") groups no_members) ≡ member (codes "labelGroups") groups (legal_before legal no_members)
 legal_put None groups = refl
 legal_put (Some labels) groups = refl
+
+pub labels_put : (legal : Option (List (List ℕ))) (labels slice : List (List ℕ)) (value : Data) (old new : Members) → legal ≡ Some labels → slice ≡ labels → value ≡ texts_data slice →
+    new ≡ put (codes "legalLabels") value old → new ≡ with_legal legal old
+labels_put legal labels slice value old new is same shown done = rw (is, done, shown, same) refl

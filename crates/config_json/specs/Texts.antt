@@ -1,7 +1,7 @@
 -- The text of a configuration (EMU-SDMS Manual, "The emuDB format": `_DBconfig.json`): one JSON object
 -- (RFC 8259), printed compact, with the members of each object in the order of their names' bytes. All
 -- lists are there, legal labels only where they are given.
-use Rattle.std.specs.Prelude.{ℕ, List, [], ◌∷◌, map, Option, Some, None, codes}
+use Rattle.std.specs.Prelude.{ℕ, List, [], map, Option, Some, None, codes}
 use Rattle.std.specs.List.{slice_get}
 use Rattle.std.specs.Option.{option_map_or}
 use Rattle.serde_json.specs.Data.{Data, string, array, object, Members, no_members, member}
