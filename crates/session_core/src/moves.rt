@@ -43,6 +43,7 @@ impl Head {
 }
 
 /// The database after a history, or the rule that it breaks first, or want of memory.
+#[tactic(auto, using(crate::proofs::Ruled::ruled_made, crate::proofs::Ruled::ruled_broken))]
 pub fn replay(alloc: Global, config: Config, history: &Entries) -> Result<Database, Fault>
     ensures { GivesOrBroken result (ruled (after config history.now)) }
 {
