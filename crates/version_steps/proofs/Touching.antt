@@ -17,7 +17,7 @@ use Rattle.level_items.specs.declared.annot.AnnotLink.{AnnotLink}
 use Rattle.level_items.specs.declared.items.Item.{Item}
 use Rattle.level_items.specs.declared.times.Time.{Time}
 use Rattle.level_items.specs.declared.times.Time.TheVariants.{Span, Point}
-use Rattle.level_items.specs.Levels.{Level, are_different, relabelled, retimed}
+use Rattle.level_items.specs.Levels.{Level, are_different, items_at, relabelled, retimed}
 use Rattle.link_builder.specs.Timed.{timed_pairs}
 use Rattle.link_graph.specs.Link.{link_of}
 use Rattle.db_config.specs.declared.parts.ConfigParts.{ConfigParts}
@@ -34,7 +34,7 @@ use Rattle.bundle_index.specs.Inner.Columns.{AreOtherwiseSame, AreSameBut}
 use Rattle.bundle_edits.specs.declared.bundle_change.Counts.{Counts}
 use Rattle.bundle_edits.specs.declared.edit.Edit.{Edit}
 use Rattle.bundle_edits.specs.declared.edit.Edit.TheVariants as edits
-use Rattle.bundle_edits.specs.Changes.{bundle_changed, changed, if_kept, is_kept_by, level_found, NumberedLevel, given_item_fault, put_on, item_put, NumberedAttribute, attribute_of, label_fault, labelled, label_given, room_fault, id_fault, segment_at, segment_of, if_touching, next_of, cut_fault, last_of, moved, cut_at, split_in, joined, items_on, is_linked, timed_fault, pair_linked, pairs_linked, levels_linked, times_linked}
+use Rattle.bundle_edits.specs.Changes.{bundle_changed, changed, if_kept, is_kept_by, level_found, NumberedLevel, given_item_fault, put_on, item_put, NumberedAttribute, attribute_of, label_fault, labelled, label_given, room_fault, id_fault, segment_at, segment_of, if_touching, next_of, cut_fault, last_of, moved, cut_at, split_in, joined, is_linked, timed_fault, pair_linked, pairs_linked, levels_linked, times_linked}
 use Rattle.bundle_edits.proofs.Cuts.{IsSegmentAt, segment_parts}
 use Rattle.bundle_edits.proofs.Lookups.{level_is, no_level_is}
 use Rattle.bundle_edits.proofs.Places.{placed_at}
@@ -190,7 +190,7 @@ times_levels : (config : ConfigParts) (upper lower : List ℕ) (b next : BundleP
 times_levels config upper lower b next is =
     let one = goes_on (level_found upper config.levels) (λ k. onward (level_found lower config.levels) (levels_linked b k)) next is in
     let two = goes_on (level_found lower config.levels) (levels_linked b one.middle) next one.second in
-    let pairs = timed_pairs (items_on b.levels one.middle.0) (items_on b.levels two.middle.0) in
+    let pairs = timed_pairs (items_at b.levels one.middle.0) (items_at b.levels two.middle.0) in
     let three = goes_on (unless_broken (timed_fault b one.middle two.middle) b) (pairs_linked pairs) next two.second in
     let passed = unbroken (timed_fault b one.middle two.middle) b three.middle three.first in
     pairs_levels pairs b next (ap (λ (c : BundleParts). pairs_linked pairs c) passed.1 ∙ three.second)
