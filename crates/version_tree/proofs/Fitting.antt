@@ -47,6 +47,9 @@ one_under config bs i x new made next within is so fits push =
     ∙ sym (fitted_push config (take i bs) x)
     ∙ ap (fitted_of config) (ap (λ (y : IndexParts). take i bs ++ y ∷ []) is ∙ sym (take_more bs i x within))
 
+pub under_whole : (config : ConfigParts) (bs made : List IndexParts) (i : ℕ) → length bs ≤ i → bundles_of made ≡ fitted_of config (take i bs) → bundles_of made ≡ fitted_of config bs
+under_whole config bs made i past so = so ∙ ap (fitted_of config) (take_all i bs past)
+
 pub can_fit_at : (config : ConfigParts) (bs : List IndexParts) (i : ℕ) (x : IndexParts) → CanFitAll config bs → i < length bs → x ≡ get_or bs i x → CanFit config x.bundle
 can_fit_at config bs i x all within is =
     each_at (can_fit config) bs i x (slice_get-get_or bs i x within ∙ ap Some (sym is)) all

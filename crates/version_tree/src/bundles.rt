@@ -121,7 +121,7 @@ pub(crate) fn without(
 }
 
 /// These bundles, each made to fit a configuration. The only refusal is want of memory.
-#[tactic(auto, using(crate::proofs::Fitting::none_under, crate::proofs::Fitting::one_under, crate::proofs::Fitting::can_fit_at))]
+#[tactic(auto, using(crate::proofs::Fitting::none_under, crate::proofs::Fitting::one_under, crate::proofs::Fitting::under_whole, crate::proofs::Fitting::can_fit_at))]
 pub(crate) fn under(
     alloc: Global,
     bundles: &[Shared<Indexed>],
