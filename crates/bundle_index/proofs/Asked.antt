@@ -289,18 +289,18 @@ pub same_but_one : (old new : List Level) (changed : ℕ) (marked : List Bool) �
     (changed < length new → get_or marked changed false ≡ true) → AreSameBut marked old new
 same_but_one old new changed marked others here k unmarked = by (cases_eq k changed)
   where
+    by_place : k ≡ changed → (k < length new) ⊎ (length new ≤ k) → slice_get new k ≡ slice_get old k
+    by_place same (inl within) =
+        let marks : get_or marked k false ≡ true =
+        ap (λ (j : ℕ). get_or marked j false) same ∙ here (subst (λ (j : ℕ). j < length new) same within) in
+        absurd (true≢false (sym marks ∙ unmarked))
+    by_place same (inr beyond) =
+        let count = others.count in
+        slice_get_past new k beyond ∙ sym (slice_get_past old k (omega (arith, count, beyond)))
+
     by : (k ≡ changed) ⊎ (k ≢ changed) → slice_get new k ≡ slice_get old k
+    by (inl same) = by_place same (cases_lt k (length new))
     by (inr other) = others.same k other
-    by (inl same) = by_place (cases_lt k (length new))
-      where
-        by_place : (k < length new) ⊎ (length new ≤ k) → slice_get new k ≡ slice_get old k
-        by_place (inl within) =
-            let marks : get_or marked k false ≡ true =
-            ap (λ (j : ℕ). get_or marked j false) same ∙ here (subst (λ (j : ℕ). j < length new) same within) in
-            absurd (true≢false (sym marks ∙ unmarked))
-        by_place (inr beyond) =
-            let count = others.count in
-            slice_get_past new k beyond ∙ sym (slice_get_past old k (omega (arith, count, beyond)))
 
 -- a mark that is set is there
 pub mark_set : (row next : List Bool) (level count : ℕ) → row ≡ replicate count false → next ≡ slice_set row level true → level < count → get_or next level false ≡ true

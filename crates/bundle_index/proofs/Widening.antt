@@ -48,8 +48,8 @@ marked_here old new row next n so within is k low unmarked = by (cases_eq k n) (
 
     by : (k ≡ n) ⊎ (k ≡ n → ⊥) → (k < n) ⊎ (n ≤ k) → attributes_at new k ≡ attributes_at old k
     by (inl same) place =
-        let set : get_or (slice_set row n true) n false ≡ true = get_or-set_same row n true false within in
-        absurd (true≢false (sym set ∙ ap (λ (j : ℕ). get_or (slice_set row n true) j false) (sym same) ∙ shown))
+        let marked : get_or (slice_set row n true) n false ≡ true = get_or-set_same row n true false within in
+        absurd (true≢false (sym marked ∙ ap (λ (j : ℕ). get_or (slice_set row n true) j false) (sym same) ∙ shown))
     by (inr other) (inl under) = so k under (sym (get_or-set_other row n k true false other) ∙ shown)
     by (inr other) (inr over) = absurd (other (omega arith))
 
