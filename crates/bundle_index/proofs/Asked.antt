@@ -2,7 +2,7 @@
 use Rattle.std.proofs.Common.{◌≡◌, ◌≢◌, ◌<◌, ◌≤◌, ◌+◌, ◌==◌, ◌⊎◌, inl, inr, ℕ, zero, suc, Bool, true, false, cond, nat_lt, List, [], ◌∷◌, ◌++◌, length, map, replicate, get_or, slice_get, slice_set, Option, Some, None, Result, Ok, Err, IfOk, IfSome, Bor, refl, sym, ap, subst, ◌∙◌, arith, true≢false}
 use Rattle.std.proofs.lemmas.Bool.{cases_eq, cases_lt}
 use Rattle.std.proofs.lemmas.Bool.Decides.{nat_tests, Decides-eqb, same_from_decides}
-use Rattle.std.proofs.lemmas.List.{length-append, length-map, length-replicate, get_or_at, get_or_append_left, get_or-set_same}
+use Rattle.std.proofs.lemmas.List.{length-append, length-map, length-replicate, get_or_at, get_or_append_left, get_or_past, get_or-set_same}
 use Rattle.std.proofs.lemmas.List.Sums.{fails_before_first}
 use Rattle.std.proofs.lemmas.Option.{slice_get_past, slice_get_within, slice_get-get_or, get_or_from_slice_get, same_Some}
 use Rattle.std.proofs.lemmas.Slice.Eq.{bytes_eq-Decides}
@@ -301,6 +301,13 @@ same_but_one old new changed marked others here k unmarked = by (cases_eq k chan
     by : (k ≡ changed) ⊎ (k ≢ changed) → slice_get new k ≡ slice_get old k
     by (inl same) = by_place same (cases_lt k (length new))
     by (inr other) = others.same k other
+
+-- what a row tells of a level
+pub mark_told : (marked : List Bool) (level : ℕ) (bit : Bool) → slice_get marked level ≡ Some bit → bit ≡ get_or marked level false
+mark_told marked level bit at = sym (get_or_from_slice_get marked level bit false at)
+
+pub mark_past : (marked : List Bool) (level : ℕ) → length marked ≤ level → false ≡ get_or marked level false
+mark_past marked level past = sym (get_or_past marked level false past)
 
 -- a mark that is set is there
 pub mark_set : (row next : List Bool) (level count : ℕ) → row ≡ replicate count false → next ≡ slice_set row level true → level < count → get_or next level false ≡ true

@@ -343,6 +343,7 @@ fn one_mark(alloc: Global, count: usize, level: usize) -> Result<BitRow, Memory>
 }
 
 /// Whether a level is marked.
+#[tactic(auto, using(crate::proofs::Asked::mark_told, crate::proofs::Asked::mark_past))]
 fn is_marked(marked: &BitRow, level: usize) -> bool
     ensures { result ≡ get_or marked.now level false }
 {

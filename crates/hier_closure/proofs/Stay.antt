@@ -68,6 +68,12 @@ rows_stay old new upper lower ids links =
     ∙ ap (λ (lowers : List ℕ). map (linked_row new.links lowers) (ids_at old.levels upper)) (sym (ids lower))
     ∙ ap (map (linked_row new.links (ids_at new.levels lower))) (sym (ids upper))
 
+-- of a level that is not marked nothing is asked
+pub alike_unmarked : (marked : List Bool) (old new : List Level) (level : ℕ) (bit : Bool) → slice_get marked level ≡ Some bit → bit ≡ false →
+    get_or marked level false ≡ true → ids_at new level ≡ ids_at old level
+alike_unmarked marked old new level bit at off is =
+    absurd (true≢false (sym is ∙ get_or_from_slice_get marked level bit false at ∙ off))
+
 -- the marked levels so far, and one more
 pub alike_more : (marked : List Bool) (old new : List Level) (n : ℕ) → ((k : ℕ) → k < n → get_or marked k false ≡ true → ids_at new k ≡ ids_at old k) →
     (get_or marked n false ≡ true → ids_at new n ≡ ids_at old n) → (k : ℕ) → k < n + 1 → get_or marked k false ≡ true → ids_at new k ≡ ids_at old k

@@ -55,6 +55,7 @@ fn items_of(bundle: &Bundle, level: usize) -> &[Item]
 }
 
 /// Whether a level is not marked, or has items with the same ids in both bundles.
+#[tactic(auto, using(crate::proofs::Stay::alike_unmarked))]
 fn is_alike_at(old: &Bundle, bundle: &Bundle, marked: &BitRow, level: usize) -> bool
     requires { level < length marked.now }
     ensures { result ≡ true → get_or marked.now level false ≡ true
