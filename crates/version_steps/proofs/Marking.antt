@@ -1,5 +1,5 @@
 -- A mark that is set in a row.
-use Rattle.std.proofs.Common.{◌≡◌, ◌⊎◌, inl, inr, ℕ, ◌<◌, Bool, true, false, List, length, get_or, slice_set, sym, ◌∙◌, ap}
+use Rattle.std.proofs.Common.{◌≡◌, ◌⊎◌, inl, inr, ℕ, ◌<◌, ◌≤◌, Bool, true, false, List, length, get_or, slice_set, ◌∙◌, ap, arith}
 use Rattle.std.proofs.lemmas.Bool.{cases_eq}
 use Rattle.std.proofs.lemmas.List.{get_or-set_same, get_or-set_other, length-set}
 
@@ -16,3 +16,7 @@ module _ (row next : List Bool) (level : ℕ) (is : next ≡ slice_set row level
 
   pub mark_count : length next ≡ length row
   mark_count = ap length is ∙ length-set row level true
+
+-- a level that has no bit
+pub mark_beyond : (row : List Bool) (level : ℕ) → length row ≤ level → level < length row → get_or row level false ≡ true
+mark_beyond row level past within = absurd (omega (arith, past, within))

@@ -64,7 +64,7 @@ pub(crate) fn unmarked(alloc: Global, count: usize) -> Result<BitRow, Memory>
 }
 
 /// Marks a level in a row, if the row has a bit for it.
-#[tactic(auto, using(crate::proofs::Marking::mark_here, crate::proofs::Marking::mark_others, crate::proofs::Marking::mark_count))]
+#[tactic(auto, using(crate::proofs::Marking::mark_here, crate::proofs::Marking::mark_others, crate::proofs::Marking::mark_count, crate::proofs::Marking::mark_beyond))]
 pub(crate) fn mark(row: &mut BitRow, level: usize)
     ensures count { length row.new ≡ length row.old }
     ensures here { level < length row.old → get_or row.new level false ≡ true }
