@@ -18,7 +18,7 @@ use Rattle.byte_forms.proofs.Steps.{bind_ok, bind_err}
 use Rattle.value_codes.specs.Annots.{session_form}
 use Rattle.edit_code.specs.declared.kinds.Body.{Body}
 use Rattle.edit_code.specs.declared.kinds.Body.TheVariants as bodies
-use Rattle.edit_code.specs.Edits.{act_form, body_form, body_of, edit_form}
+use Rattle.edit_code.specs.Edits.{act_form, body_form, body_of, edit_form, several_form}
 use Rattle.edit_code.specs.Inner.Reading.{GivesIf}
 use Rattle.edit_code.specs.Names.{is_act, is_entry}
 use Rattle.edit_code.proofs.ListSteps.{some_edits, only_got}
@@ -83,3 +83,31 @@ pub body_fails : (b : Body) (old mid behind new : List ℕ) (session : SessionNo
 body_fails b old mid behind new session line (faults.Left n) first second third =
     body_stops b old mid behind session line n first second third
 body_fails b old mid behind new session line faults.Memory first second third = tt
+
+-- The bytes of a list of edits behind the first byte of its entry.
+
+pub one_code : (es : List Edit) (e : Edit) → length es ≡ 1 → slice_get es 0 ≡ Some e
+    → (act_form (body_of (acts.Edits es))).code (acts.Edits es) ≡ edit_form.code e
+unfolding imaged
+one_code [] e one at = absurd (omega (arith, one))
+one_code (x ∷ []) e one at = let same : x ≡ e = cc in ap edit_form.code same
+one_code (x ∷ next ∷ es) e one at = absurd (omega (arith, one))
+
+pub one_fits : (es : List Edit) (e : Edit) → length es ≡ 1 → slice_get es 0 ≡ Some e → edit_form.fits e
+    → (act_form (body_of (acts.Edits es))).fits (acts.Edits es)
+unfolding imaged
+one_fits [] e one at fits = absurd (omega (arith, one))
+one_fits (x ∷ []) e one at fits = let same : x ≡ e = cc in (refl, subst edit_form.fits (sym same) fits)
+one_fits (x ∷ next ∷ es) e one at fits = absurd (omega (arith, one))
+
+pub several_code : (es : List Edit) → 2 ≤ length es → (act_form (body_of (acts.Edits es))).code (acts.Edits es) ≡ several_form.code es
+unfolding imaged
+several_code [] some = absurd (omega (arith, some))
+several_code (e ∷ []) some = absurd (omega (arith, some))
+several_code (e ∷ next ∷ es) some = refl
+
+pub several_fits : (es : List Edit) → 2 ≤ length es → several_form.fits es → (act_form (body_of (acts.Edits es))).fits (acts.Edits es)
+unfolding imaged
+several_fits [] some fits = absurd (omega (arith, some))
+several_fits (e ∷ []) some fits = absurd (omega (arith, some))
+several_fits (e ∷ next ∷ es) some fits = (refl, fits)

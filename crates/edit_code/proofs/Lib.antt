@@ -2,9 +2,12 @@ pub mod AdditionLaws
 pub mod CountLaws
 pub mod EditLaws
 pub mod EntrySteps
+pub mod Exits
 pub mod FieldLaws
 pub mod KindLaws
 pub mod ListSteps
 pub mod Places
+pub mod ReadSteps
+pub mod SeveralSteps
 pub mod TagLaws
 pub mod Tested

@@ -1,6 +1,7 @@
 -- Steps of the loops over the edits of a list.
 use Rattle.std.proofs.Common.{◌≡◌, ℕ, zero, suc, ◌+◌, ◌-◌, ◌<◌, ◌≤◌, ◌^◌, ◌∙◌, Bool, true, false, List, [], ◌∷◌, ◌++◌, length, get_or, min, refl, sym, ap, subst, arith, IsTrue, Some, length-append}
 use Rattle.std.specs.Prelude.{◌&&◌, Option, None, Result, Ok, Err}
+use Rattle.std.specs.Int.{w32, to_be_bytes}
 use Rattle.std.specs.List.{list_all, slice_get}
 use Rattle.std.proofs.lemmas.Bool.{and_parts, and_from, false≢true}
 use Rattle.emu_names.specs.declared.limits.TheConstants.{LIST_EDITS}
@@ -14,16 +15,20 @@ use Rattle.byte_forms.specs.Forms.{Form, ◌>>=◌}
 use Rattle.byte_forms.specs.declared.rest.ReadFault.{ReadFault}
 use Rattle.byte_forms.specs.declared.rest.ReadFault.TheVariants as faults
 use Rattle.byte_forms.specs.Inner.Reading.{Gives}
-use Rattle.byte_forms.specs.Parts.{led, imaged, read_as}
-use Rattle.byte_forms.specs.Lists.{items_at, consed, times}
+use Rattle.byte_forms.specs.Parts.{led, imaged, u32_form, led_on, read_as}
+use Rattle.byte_forms.specs.Lists.{items_at, items_code, consed, list_of, times}
 use Rattle.value_codes.specs.Annots.{key_form}
 use Rattle.value_codes.proofs.Loops.{put_front, read_first, read_more, read_stops, read_done}
 use Rattle.edit_code.specs.declared.fields.Fields.{Fields}
+use Rattle.edit_code.specs.declared.kinds.Kind.{Kind}
 use Rattle.edit_code.specs.Counts.{count_form}
 use Rattle.edit_code.specs.Edits.{first_key, inner_form, several_form, told_form}
-use Rattle.edit_code.specs.Fields.{fields_of, edit_of}
+use Rattle.edit_code.specs.Fields.{fields_of, edit_of, fields_form}
+use Rattle.edit_code.specs.Kinds.{inner_kinds, kind_number}
+use Rattle.edit_code.specs.Tags.{kind_at, tag_form}
 use Rattle.edit_code.specs.Inner.Reading.{Skips}
-use Rattle.edit_code.proofs.FieldLaws.{edit_there, key_is}
+use Rattle.edit_code.proofs.FieldLaws.{edit_there, inner_is, key_is, kind_read}
+use Rattle.edit_code.proofs.TagLaws.{tag_found}
 
 -- Elements that all pass.
 
@@ -186,3 +191,53 @@ unfolding times
 passes_done count place bytes from whole h key =
     let w = whole key in
     (w.0, read_done (inner_form key) (items_at (inner_form key) count bytes) w.0 count place from w.1 h)
+
+-- The size of several edits is that of their key, their count and the edits.
+
+pub sized_several : (key : BundleKey) (es : List Edit) (a b c : ℕ) → key ≡ first_key es → 2 ≤ length es → length es ≤ LIST_EDITS
+    → a ≡ min (2 ^ 32) (length (key_form.code key)) → 0 < a → (a < 2 ^ 32 → key_form.fits key)
+    → b ≡ min (2 ^ 32) (length ((list_of (inner_form (first_key es))).code es))
+    → (b < 2 ^ 32 → (list_of (inner_form (first_key es))).fits es) → c ≡ min (2 ^ 32) (a + b)
+    → (c ≡ min (2 ^ 32) (length (several_form.code es))) × (0 < c) × (c < 2 ^ 32 → several_form.fits es)
+unfolding several_form led list_of times count_form u32_form
+sized_several key es a b c same some few first least first_fits second second_fits sum =
+    let behind : List ℕ = to_be_bytes w32 (length es) ++ items_code (inner_form (first_key es)) es in
+    let lengths : length (key_form.code (first_key es) ++ behind) ≡ length (key_form.code (first_key es)) + length behind =
+    length-append (key_form.code (first_key es)) behind in
+    let own : length (key_form.code key) ≡ length (key_form.code (first_key es)) = ap (λ k. length (key_form.code k)) same in (
+      omega (arith, first, second, sum, lengths, own),
+      omega (arith, sum, least),
+      λ small. (
+        subst (λ (k : BundleKey). key_form.fits k) same (first_fits (omega (arith, sum, small))),
+        ((some, few), (second_fits (omega (arith, sum, small))).1),
+      ),
+    )
+
+-- Fields that were read as those of a list's edit are of a kind that may stand beside others.
+
+told_of : (key : BundleKey) (r : Result (Kind × List ℕ) ℕ) (bytes new : List ℕ) (f : Fields)
+    → (tag_form inner_kinds kind_number).read bytes ≡ r → (r >>= led_on fields_form) ≡ Ok (f, new) → is_inner (edit_of key f) ≡ true
+told_of key (Err n) bytes new f e is = absurd cc
+told_of key (Ok x) bytes new f e is =
+    let same = kind_read x.0 x.1 f new is in
+    let found = tag_found inner_kinds kind_number bytes x.1 x.0 e in
+    inner_is key f (subst (λ (k : Kind). kind_at inner_kinds kind_number (kind_number k) ≡ Some k) (sym same) found)
+
+pub told_inner : (key : BundleKey) (bytes new : List ℕ) (f : Fields) → told_form.read bytes ≡ Ok (f, new)
+    → is_inner (edit_of key f) ≡ true
+unfolding told_form led
+told_inner key bytes new f e = told_of key ((tag_form inner_kinds kind_number).read bytes) bytes new f refl e
+
+-- the edit that was read
+pub record IsInner (key : BundleKey) (bytes new : List ℕ) (e : Edit) : Type 0 where
+  pub edit : (inner_form key).read bytes ≡ Ok (e, new)
+  pub inner : is_edit_of key e ≡ true
+
+pub inner_made : (key copy : BundleKey) (bytes new : List ℕ) (f : Fields) (e : Edit) → told_form.read bytes ≡ Ok (f, new)
+    → copy ≡ key → e ≡ edit_of copy f → IsInner key bytes new e
+inner_made key copy bytes new f e read same is =
+    let whole : e ≡ edit_of key f = is ∙ ap (λ k. edit_of k f) same in record {
+      edit = told_read key bytes new f read ∙ ap (λ (x : Edit). Ok (x, new)) (sym whole);
+      inner = subst (λ (x : Edit). is_edit_of key x ≡ true) (sym whole)
+          (is_edit key (edit_of key f) (told_inner key bytes new f read) (key_is key f));
+    }

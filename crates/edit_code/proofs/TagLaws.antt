@@ -9,6 +9,7 @@ use Rattle.byte_forms.specs.declared.rest.ReadFault.{ReadFault}
 use Rattle.byte_forms.specs.declared.rest.ReadFault.TheVariants as faults
 use Rattle.byte_forms.specs.Inner.Reading.{Gives}
 use Rattle.byte_forms.specs.Parts.{byte_at, byte_from_to, byte_in}
+use Rattle.edit_code.specs.Inner.Reading.{or_left}
 use Rattle.edit_code.specs.Tags.{kind_at, tag_at, tag_form, tagged}
 
 equal : (a b : ℕ) → (a == b) ≡ true → a ≡ b
@@ -147,18 +148,22 @@ module _ {K : Type 0} (ks js : List K) (number : K → ℕ) where
       let w = tag_kept bytes new k (Ok x) (kind_at ks number x.0) x refl refl is in
       e ∙ ap (λ (n : ℕ). Ok (n, x.1)) (sym w.0) ∙ ap (λ (l : List ℕ). Ok (number k, l)) w.1
 
-  pub tag_shorter : (bytes new : List ℕ) (k : K) → (tag_form ks number).read bytes ≡ Ok (k, new)
-      → kind_at js number (number k) ≡ Some k → (tag_form js number).read bytes ≡ Ok (k, new)
+  pub tag_inner : (bytes new : List ℕ) (k : K) (left : ℕ) (made : Result K ReadFault) → (tag_form ks number).read bytes ≡ Ok (k, new)
+      → left ≡ length bytes → made ≡ or_left left (kind_at js number (number k))
+      → Gives made new ((tag_form js number).read bytes)
   unfolding tag_form
-  tag_shorter bytes new k read there =
-      bind_ok _ _ (λ (x : ℕ × List ℕ). tagged x.1 (kind_at js number x.0)) (tag_in bytes new k ((byte_from_to 0 255).read bytes) refl read)
-      ∙ ap (tagged new) there
-
-  pub tag_lacks : (bytes new : List ℕ) (k : K) (left : ℕ) → (tag_form ks number).read bytes ≡ Ok (k, new)
-      → kind_at js number (number k) ≡ None → left ≡ length bytes → (tag_form js number).read bytes ≡ Err left
-  unfolding tag_form
-  tag_lacks bytes new k left read there len =
-      tag_none js number bytes new (number k) left (tag_in bytes new k ((byte_from_to 0 255).read bytes) refl read) (sym there) len
+  tag_inner bytes new k left made read len is =
+      inner_by bytes new k left made (tag_in bytes new k ((byte_from_to 0 255).read bytes) refl read) len (kind_at js number (number k)) refl is
+    where
+      inner_by : (bytes new : List ℕ) (k : K) (left : ℕ) (made : Result K ReadFault) → (byte_from_to 0 255).read bytes ≡ Ok (number k, new)
+          → left ≡ length bytes → (o : Option K) → kind_at js number (number k) ≡ o → made ≡ or_left left o
+          → Gives made new (tag_at js number bytes)
+      inner_by bytes new k left made read len (Some j) at is =
+          subst (λ (r : Result K ReadFault). Gives r new (tag_at js number bytes)) (sym is)
+          (bind_ok _ _ (λ (x : ℕ × List ℕ). tagged x.1 (kind_at js number x.0)) read ∙ ap (tagged new) at)
+      inner_by bytes new k left made read len None at is =
+          subst (λ (r : Result K ReadFault). Gives r new (tag_at js number bytes)) (sym is)
+          (tag_none js number bytes new (number k) left read (sym at) len)
 
   tag_missing : (there : (k : K) → kind_at ks number (number k) ≡ Some k) (x : ℕ × List ℕ) (n : ℕ) → (o p : Option K) → kind_at ks number x.0 ≡ o
       → tagged x.1 o ≡ Err n → kind_at js number x.0 ≡ p → tagged x.1 p ≡ Err n
@@ -181,3 +186,24 @@ module _ {K : Type 0} (ks js : List K) (number : K → ℕ) where
   unfolding tag_form
   tag_fewer there bytes new (faults.Left n) is = tag_out there n ((byte_from_to 0 255).read bytes) is
   tag_fewer there bytes new faults.Memory is = tt
+
+-- A kind that was read is found by its number.
+
+found_again : {K : Type 0} (ks : List K) (number : K → ℕ) (x : ℕ × List ℕ) (k : K) (new : List ℕ) → (o : Option K)
+    → kind_at ks number x.0 ≡ o → tagged x.1 o ≡ Ok (k, new) → kind_at ks number (number k) ≡ Some k
+found_again ks number x k new None at is = absurd cc
+found_again {K = K} ks number x k new (Some j) at is =
+    let same : (j, x.1) ≡ (k, new) = cc in
+    let one : j ≡ k = ap (λ (y : K × List ℕ). y.0) same in
+    ap (λ (i : K). kind_at ks number (number i)) (sym one) ∙ ap (kind_at ks number) (found_number number ks x.0 j at) ∙ at
+    ∙ ap (λ (i : K). Some i) one
+
+found_by : {K : Type 0} (ks : List K) (number : K → ℕ) (r : Result (ℕ × List ℕ) ℕ) (k : K) (new : List ℕ)
+    → (r >>= λ x. tagged x.1 (kind_at ks number x.0)) ≡ Ok (k, new) → kind_at ks number (number k) ≡ Some k
+found_by ks number (Err n) k new is = absurd cc
+found_by ks number (Ok x) k new is = found_again ks number x k new (kind_at ks number x.0) refl is
+
+pub tag_found : {K : Type 0} (ks : List K) (number : K → ℕ) (bytes new : List ℕ) (k : K)
+    → (tag_form ks number).read bytes ≡ Ok (k, new) → kind_at ks number (number k) ≡ Some k
+unfolding tag_form
+tag_found ks number bytes new k read = found_by ks number ((byte_from_to 0 255).read bytes) k new read

@@ -6,7 +6,8 @@ ghost use Rattle.byte_forms.specs.Inner.Reading.{Gives};
 ghost use Rattle.edit_code.specs.Edits.{edit_form, inner_form, told_form};
 ghost use Rattle.edit_code.specs.Fields.{edit_of, fields_form, fields_of, kind_of};
 ghost use Rattle.edit_code.specs.Kinds.{inner_kinds, kind_number};
-ghost use Rattle.edit_code.specs.Tags.{tag_form};
+ghost use Rattle.edit_code.specs.Inner.Reading.{or_left};
+ghost use Rattle.edit_code.specs.Tags.{kind_at, tag_form};
 
 use crate::fields::{Fields, read_fields};
 use crate::kinds::Kind;
@@ -269,15 +270,24 @@ pub(crate) fn edit_of(key: BundleKey, fields: Fields) -> Edit
     }
 }
 
+/// The kind, if its edits may stand beside others, or how many bytes are left from it.
+fn inner_or(kind: Kind, left: usize) -> Result<Kind, ReadFault>
+    ensures { result ≡ or_left left (kind_at inner_kinds kind_number (kind_number kind)) }
+{
+    match kind {
+        Kind::AddBundle | Kind::DropBundle | Kind::LinkTimes => Err(ReadFault::Left(left)),
+        _ => Ok(kind),
+    }
+}
+
 /// Reads the byte of a kind of edits that may stand beside others.
 fn read_inner_kind(from: &mut Rest<'_>) -> Result<Kind, ReadFault>
     ensures { Gives result from.new ((tag_form inner_kinds kind_number).read from.old) }
 {
     let left = from.len();
-    let kind: Kind = read_tag(from)?;
-    match kind {
-        Kind::AddBundle | Kind::DropBundle | Kind::LinkTimes => Err(ReadFault::Left(left)),
-        _ => Ok(kind),
+    match read_tag(from) {
+        Ok(kind) => inner_or(kind, left),
+        Err(fault) => Err(fault),
     }
 }
 

@@ -27,3 +27,8 @@ Skips (Err faults.Memory) left there = Unit {0}
 abbrev pub IsMadeOne : BundleKey → Fields → Option Act → Type 0
 IsMadeOne key fields None = is_key key ≡ false
 IsMadeOne key fields (Some act) = (act ≡ acts.Edits (edit_of key fields ∷ [])) × (is_key key ≡ true)
+
+-- the kind that is there, or how many bytes are left from it
+abbrev pub or_left : {K : Type 0} → ℕ → Option K → Result K ReadFault
+or_left left (Some k) = Ok k
+or_left left None = Err (faults.Left left)

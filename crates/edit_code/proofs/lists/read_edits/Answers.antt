@@ -9,7 +9,7 @@ use Rattle.edit_code.proofs.lists.read_edits.Goals as goal
 
 pub loop-place-init : goal.loop-place-init
 loop-place-init c =
-    begun_edits c.args.key.now c.args.count c.args.from.now c.read_inner.new.from c.in_ok-first.first c.one.result c.in_ok-edits.edits
+    begun_edits c.args.key.now c.args.count c.args.from.now c.read_inner.new.from c.in_ok-first.first c.in_ok-edits.edits
     (omega arith) c.in_ok-first.ensures.edit c.in_ok-first.ensures.inner c.in_ok-edits.ensures
 
 pub push-requires : goal.push-requires
@@ -20,7 +20,7 @@ push-requires c = record {
 
 pub loop-place-preserved : goal.loop-place-preserved
 loop-place-preserved c =
-    more_edits c.args.key.now c.args.count c.loop-place._place c.args.from.now c.loop-place.from c.read_inner-2.new.from
+    more_edits c.args.key.now c.args.count c.loop-place._place c.args.from.now c.loop-place.from c.read_inner-in-loop-place.new.from
     c.loop-place.edits c.push.new.self c.in-Ok.edit c.loop-place.invariant.0 c.loop-place.invariant.1 c.loop-place.invariant.2
     (omega arith) c.in-Ok.ensures.edit c.in-Ok.ensures.inner c.in_ok-push-in-Ok.ensures.ok
 
@@ -28,7 +28,7 @@ pub returns-in-Err : goal.returns-in-Err
 unfolding times
 returns-in-Err c =
     read_fails (inner_form c.args.key.now) (items_at (inner_form c.args.key.now) c.args.count c.args.from.now) c.loop-place.edits c.args.count
-    c.loop-place._place c.loop-place.from c.read_inner-2.new.from c.in-Err.fault c.loop-place.invariant.0 (omega arith) c.in-Err.ensures
+    c.loop-place._place c.loop-place.from c.read_inner-in-loop-place.new.from c.in-Err.fault c.loop-place.invariant.0 (omega arith) c.in-Err.ensures
 
 pub returns : goal.returns
 unfolding times
