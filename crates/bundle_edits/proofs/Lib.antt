@@ -8,3 +8,4 @@ pub mod Spans
 pub mod Steps
 pub mod Traces
 pub mod TimedLinks
+pub mod TimedSteps

@@ -90,9 +90,10 @@ items_found : (levels : List Level) (k : ℕ) (l : Level) → slice_get levels k
 items_found levels k l at apart [] among = tt
 items_found levels k l at apart (i ∷ items) among =
     let itself : nat_eq i.id.0 i.id.0 ≡ true = eq-eqb i.id.0 i.id.0 refl in
-    let none : 0 + k ≡ k = omega arith in
-    (level_here 0 i.id.0 k levels l at (among i.id.0 (ap (λ (t : Bool). t || list_any (nat_eq i.id.0) (ids_of items)) itself)) apart ∙ ap (λ (m : ℕ). Some m) none,
-        items_found levels k l at apart items (λ q there. among q (ap (λ (t : Bool). nat_eq q i.id.0 || t) there ∙ or_true (nat_eq q i.id.0))))
+    let none : 0 + k ≡ k = omega arith in (
+      level_here 0 i.id.0 k levels l at (among i.id.0 (ap (λ (t : Bool). t || list_any (nat_eq i.id.0) (ids_of items)) itself)) apart ∙ ap (λ (m : ℕ). Some m) none,
+      items_found levels k l at apart items (λ q there. among q (ap (λ (t : Bool). nat_eq q i.id.0 || t) there ∙ or_true (nat_eq q i.id.0))),
+    )
   where
     or_true : (t : Bool) → (t || true) ≡ true
     or_true true = refl
@@ -208,7 +209,7 @@ number_of name defs m is = by (level_named name defs) refl is
     by (Some k) here h = at k (slice_get defs k) here h
 
 -- links from the times of levels of such kinds lead from segments
-from_segments : (upper lower : LevelKind) → timed_kinds_fault upper lower ≡ None → upper ≡ kinds.Segment
+pub from_segments : (upper lower : LevelKind) → timed_kinds_fault upper lower ≡ None → upper ≡ kinds.Segment
 from_segments kinds.Item lower is = absurd cc
 from_segments kinds.Event lower is = absurd cc
 from_segments kinds.Segment lower is = refl
@@ -220,7 +221,7 @@ definition_there defs upper lower is = by (position (leads upper lower) defs) re
     by None here h = absurd cc
     by (Some number) here h = (number, here)
 
-items_there : (levels : List Level) (k : ℕ) (l : Level) → slice_get levels k ≡ Some l → items_at levels k ≡ l.items
+pub items_there : (levels : List Level) (k : ℕ) (l : Level) → slice_get levels k ≡ Some l → items_at levels k ≡ l.items
 items_there levels k l at = ap (λ (o : Option Level). option_map_or (λ (m : Level). m.items) o []) at
 
 module _ (config : ConfigParts) (b next : BundleParts) (keeps : KeepsBundleRules b) (fits : FitsConfig config b) where
