@@ -1,10 +1,11 @@
 -- Links of pairs of items, one pair at a time.
-use Rattle.std.proofs.Common.{◌≡◌, ℕ, ◌+◌, ◌<◌, Bool, true, false, cond, List, length, get_or, drop, Result, Ok, Err, Some, None, sym, ap, ◌∙◌}
+use Rattle.std.proofs.Common.{◌≡◌, ℕ, ◌+◌, ◌<◌, Bool, true, false, cond, List, length, get_or, drop, Result, Ok, Err, sym, ap, subst, ◌∙◌}
 use Rattle.std.specs.List.{list_any}
+use Rattle.std.specs.Result.{IsErrAnd}
 use Rattle.emu_names.specs.declared.rules.Broken.{Broken}
 use Rattle.emu_names.specs.declared.rules.Fault.{Fault}
 use Rattle.emu_names.specs.declared.rules.Fault.TheVariants as faults
-use Rattle.emu_names.specs.Inner.Gives.{IsFaultOf, broken_in}
+use Rattle.emu_names.specs.Inner.Gives.{GivesOrBroken}
 use Rattle.emu_names.specs.Steps.{onward}
 use Rattle.level_items.specs.declared.annot.AnnotLink.{AnnotLink}
 use Rattle.link_graph.specs.declared.link.Link.{Link}
@@ -15,7 +16,7 @@ use Rattle.bundle_state.specs.Built.{FitsConfig}
 use Rattle.bundle_state.specs.Changed.{link_added}
 use Rattle.bundle_state.proofs.ChangedKept.{added_link_fits}
 use Rattle.bundle_state.proofs.LinksKept.{fine_value, ok_same}
-use Rattle.bundle_state.proofs.Walks.{drop_at}
+use Rattle.bundle_state.proofs.Walks.{drop_get}
 use Rattle.bundle_edits.specs.Changes.{is_linked, pair_linked, pairs_linked}
 
 -- ---- one pair
@@ -41,15 +42,20 @@ pair_fits config pair b next fits is = by (is_linked b.links pair) is
 
 -- ---- one pair of several
 
-module _ (pairs : List AnnotLink) (i : ℕ) (pair : AnnotLink) (b : BundleParts) (low : i < length pairs) (here : pair ≡ get_or pairs i pair) where
-  front : pairs_linked (drop i pairs) b ≡ onward (pair_linked pair b) (pairs_linked (drop (i + 1) pairs))
-  front = ap (λ (ps : List AnnotLink). pairs_linked ps b) (drop_at pairs i pair low here)
+module _ (pairs : List AnnotLink) (i : ℕ) (d : AnnotLink) (b : BundleParts) (low : i < length pairs) where
+  front : pairs_linked (drop i pairs) b ≡ onward (pair_linked (get_or pairs i d) b) (pairs_linked (drop (i + 1) pairs))
+  front = ap (λ (ps : List AnnotLink). pairs_linked ps b) (drop_get pairs i d low)
 
   -- a pair that breaks no rule
-  pub pair_goes : (next : BundleParts) → pair_linked pair b ≡ Ok next → pairs_linked (drop i pairs) b ≡ pairs_linked (drop (i + 1) pairs) next
+  pub pair_goes : (next : BundleParts) → pair_linked (get_or pairs i d) b ≡ Ok next → pairs_linked (drop i pairs) b ≡ pairs_linked (drop (i + 1) pairs) next
   pair_goes next is = front ∙ ap (λ (r : Result BundleParts Broken). onward r (pairs_linked (drop (i + 1) pairs))) is
 
   -- a pair that breaks one
-  pub pair_stops : (fault : Fault) (whole : Result BundleParts Broken) → pairs_linked (drop i pairs) b ≡ whole → IsFaultOf (broken_in fault) (pair_linked pair b) → IsFaultOf (broken_in fault) whole
-  pair_stops (faults.Broken rule) whole turn is = sym turn ∙ front ∙ ap (λ (r : Result BundleParts Broken). onward r (pairs_linked (drop (i + 1) pairs))) is
-  pair_stops faults.Memory whole turn is = tt
+  pub pair_stops : (answer : Result BundleParts Fault) (fault : Fault) (whole : Result BundleParts Broken) → IsErrAnd answer (λ x. x ≡ fault) → pairs_linked (drop i pairs) b ≡ whole →
+      GivesOrBroken {A = BundleParts} (Err fault) (pair_linked (get_or pairs i d) b) → GivesOrBroken answer whole
+  pair_stops (Ok x) fault whole same turn is = absurd same
+  pair_stops (Err x) fault whole same turn is = subst (λ (f : Fault). GivesOrBroken {A = BundleParts} (Err f) whole) (sym same) (again fault is)
+    where
+      again : (f : Fault) → GivesOrBroken {A = BundleParts} (Err f) (pair_linked (get_or pairs i d) b) → GivesOrBroken {A = BundleParts} (Err f) whole
+      again (faults.Broken rule) h = sym turn ∙ front ∙ ap (λ (r : Result BundleParts Broken). onward r (pairs_linked (drop (i + 1) pairs))) h
+      again faults.Memory h = tt

@@ -8,7 +8,7 @@ use Rattle.bundle_edits.proofs.timed_links.link_pair.Goals as goal
 pub returns-then-has : goal.returns-then-has
 returns-then-has c = pair_there c.args.pair.now c.args.bundle c.links.result.now c.has.result c.links.ensures c.has.ensures c.if-has.true
 
-pub returns-else-has : goal.returns-else-has
-returns-else-has c =
+pub returns : goal.returns
+returns c =
     subst (λ (r : Result BundleParts Broken). GivesOrBroken c.link.result r)
     (sym (pair_new c.args.pair.now c.args.bundle c.links.result.now c.has.result c.links.ensures c.has.ensures c.if-has.false)) c.link.ensures
