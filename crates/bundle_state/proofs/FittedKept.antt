@@ -1,5 +1,5 @@
 -- A bundle that is made to fit a configuration with more parts: it fits it, keeps the rules, and has the same ids and links.
-use Rattle.std.proofs.Common.{◌≡◌, ℕ, zero, suc, ◌+◌, ◌<◌, ◌≤◌, Bool, true, false, cond, List, [], ◌∷◌, ◌++◌, length, map, take, drop, Option, Some, None, IfSome, IsTrue, nat_eq, refl, sym, ◌∙◌, ap, subst, arith, eqb-true}
+use Rattle.std.proofs.Common.{◌≡◌, ℕ, zero, suc, ◌+◌, ◌<◌, ◌≤◌, Bool, true, false, cond, List, [], ◌∷◌, ◌++◌, length, map, take, drop, Option, Some, None, IfSome, IsTrue, nat_eq, refl, sym, ◌∙◌, ap, subst, arith, eqb-true, add-one, zero-add, get_or}
 use Rattle.std.specs.Prelude.{All}
 use Rattle.std.specs.List.{list_any, filter, slice_get, IsDistinct}
 use Rattle.std.specs.Option.{option_map_or}
@@ -7,8 +7,9 @@ use Rattle.std.proofs.lemmas.Bool.{eqb-false}
 use Rattle.std.proofs.lemmas.List.{append-nil, length-map, length-append, take_all}
 use Rattle.std.proofs.lemmas.List.Sums.{sum_by-cons}
 use Rattle.std.proofs.lemmas.List.Elements.{All-nil, All-cons, All-head, All-tail}
-use Rattle.std.proofs.lemmas.Option.{slice_get_within}
+use Rattle.std.proofs.lemmas.Option.{slice_get_read, slice_get_within}
 use Rattle.emu_names.specs.declared.kinds.LevelKind.{LevelKind}
+use Rattle.emu_names.specs.declared.names.BundleKey.{BundleKey}
 use Rattle.emu_names.specs.declared.kinds.LevelKind.TheVariants as kinds
 use Rattle.emu_names.specs.declared.kinds.LinkKind.{LinkKind}
 use Rattle.emu_names.specs.declared.kinds.LinkKind.TheVariants.{OneToOne, OneToMany, ManyToMany}
@@ -73,7 +74,8 @@ count_fitted : (defs : List LevelDef) (levels : List Level) → CanFitLevels def
 count_fitted [] [] can = refl
 count_fitted [] (l ∷ levels) can = absurd can
 count_fitted (d ∷ defs) [] can =
-    sum_by-cons (λ (l : Level). length l.items) (fitted_level d None) (fitted_levels defs []) ∙ count_fitted defs [] tt
+    sum_by-cons (λ (l : Level). length l.items) (fitted_level d None) (fitted_levels defs []) ∙ zero-add (item_count (fitted_levels defs []))
+    ∙ count_fitted defs [] tt
 count_fitted (d ∷ defs) (l ∷ levels) can =
     sum_by-cons (λ (k : Level). length k.items) (fitted_level d (Some l)) (fitted_levels defs levels)
     ∙ ap (λ n. n + item_count (fitted_levels defs levels)) (length_widened (length d.attributes) l.items)
@@ -183,15 +185,17 @@ can_levels old new [] more same = tt
 can_levels [] new (l ∷ levels) more same = absurd cc
 can_levels (d ∷ old) [] (l ∷ levels) more same = absurd more
 can_levels (d ∷ old) (e ∷ new) (l ∷ levels) more same =
-    let own : (l.kind, l.attributes) ≡ (d.kind, length d.attributes) = cc in
+    let own : ◌≡◌ {A = LevelKind × ℕ} (form_of l) (form_asked d) = cc in
     let tail : map form_of levels ≡ map form_asked old = cc in
     let count : l.attributes ≡ length d.attributes = ap (λ (p : LevelKind × ℕ). p.1) own in
     let longer : length e.attributes ≡ length d.attributes + length more.0.attributes.0 =
-    ap length more.0.attributes.1 ∙ length-append d.attributes more.0.attributes.0 in
-    (record {
-      kind = ap (λ (p : LevelKind × ℕ). p.0) own ∙ sym more.0.kind;
-      attributes = omega (arith, count, longer);
-    }, can_levels old new levels more.1 tail)
+    ap length more.0.attributes.1 ∙ length-append d.attributes more.0.attributes.0 in (
+      record {
+        kind = ap (λ (p : LevelKind × ℕ). p.0) own ∙ sym more.0.kind;
+        attributes = omega (arith, count, longer);
+      },
+      can_levels old new levels more.1 tail,
+    )
 
 pub extensions_can_fit : ExtensionsCanFit
 extensions_can_fit old new b more fits = record {
@@ -205,7 +209,7 @@ abbrev level_at : List Level → ℕ → Option Level
 level_at levels n = slice_get levels n
 
 fitted_more : (defs : List LevelDef) (levels : List Level) (n : ℕ) (d : LevelDef) → slice_get defs n ≡ Some d →
-    fitted_levels (take (n + 1) defs) levels ≡ fitted_levels (take n defs) levels ++ fitted_level d (level_at levels n) ∷ []
+    fitted_levels (take (suc n) defs) levels ≡ fitted_levels (take n defs) levels ++ fitted_level d (level_at levels n) ∷ []
 fitted_more [] levels n d at = absurd cc
 fitted_more (x ∷ defs) [] zero d at = let same : x ≡ d = cc in ap (λ y. fitted_level y None ∷ []) same
 fitted_more (x ∷ defs) (l ∷ levels) zero d at = let same : x ≡ d = cc in ap (λ y. fitted_level y (Some l) ∷ []) same
@@ -221,7 +225,7 @@ pub fitted_step : (defs : List LevelDef) (levels : List Level) (n : ℕ) (d : Le
 fitted_step defs levels n d o made next new at is so_far own push =
     push ∙ ap (λ ls. ls ++ new ∷ []) so_far
     ∙ ap (λ l. fitted_levels (take n defs) levels ++ l ∷ []) (own ∙ ap (fitted_level d) is)
-    ∙ sym (fitted_more defs levels n d at)
+    ∙ sym (fitted_more defs levels n d at) ∙ ap (λ k. fitted_levels (take k defs) levels) (sym (add-one n))
 
 -- the level of a number can fit its definition
 pub can_fit_at : (defs : List LevelDef) (levels : List Level) (n : ℕ) (d : LevelDef) (l : Level) → CanFitLevels defs levels → slice_get defs n ≡ Some d → slice_get levels n ≡ Some l → CanFitLevel d l
@@ -238,16 +242,31 @@ pub can_fit_here : (defs : List LevelDef) (levels : List Level) (n : ℕ) (d : L
 can_fit_here defs levels n d None can at is = tt
 can_fit_here defs levels n d (Some l) can at is = can_fit_at defs levels n d l can at (sym is)
 
+-- the same by what a loop has of the definition
+pub can_fit_next : (defs : List LevelDef) (levels : List Level) (n : ℕ) (d : LevelDef) (o : Option Level) → CanFitLevels defs levels → n < length defs → d ≡ get_or defs n d → o ≡ slice_get levels n →
+    IfSome o (CanFitLevel d)
+can_fit_next defs levels n d o can low is at = can_fit_here defs levels n d o can (slice_get_read defs (length defs) n d refl low is) at
+
+pub fitted_next : (defs : List LevelDef) (levels : List Level) (n : ℕ) (d : LevelDef) (o : Option Level) (made next : List Level) (new : Level) → n < length defs → d ≡ get_or defs n d → o ≡ slice_get levels n →
+    made ≡ fitted_levels (take n defs) levels → new ≡ fitted_level d o → next ≡ made ++ new ∷ [] → next ≡ fitted_levels (take (n + 1) defs) levels
+fitted_next defs levels n d o made next new low is at so_far own push =
+    fitted_step defs levels n d o made next new (slice_get_read defs (length defs) n d refl low is) at so_far own push
+
 -- the levels of all definitions
 pub fitted_whole : (defs : List LevelDef) (levels made : List Level) (n : ℕ) → length defs ≤ n → made ≡ fitted_levels (take n defs) levels → made ≡ fitted_levels defs levels
 fitted_whole defs levels made n past is = is ∙ ap (λ ds. fitted_levels ds levels) (take_all n defs past)
 
--- the bundle with its kept levels
-pub fit_kept : (config : ConfigParts) (b new : BundleParts) (places own : Places) → CanFit config b → IsKept b places → new ≡ fitted config b →
-    ((q : ℕ) → level_in own q ≡ level_in places q) → IsKept new own
-fit_kept config b new places own can kept is same =
-    subst (λ x. IsKept x own) (sym is)
+-- the bundle with its kept levels, by its parts
+pub fit_kept : (config : ConfigParts) (b old : BundleParts) (places own : Places) (key : BundleKey) (annotates : List ℕ) (rate : ℕ) (levels : List Level) (definitions : List LinkDef) (links : List Link) →
+    old ≡ b → CanFit config b → IsKept old places → key ≡ b.key → annotates ≡ b.annotates → rate ≡ b.rate → levels ≡ fitted_levels config.levels b.levels → definitions ≡ config.links →
+    links ≡ b.links → own ≡ places →
+    IsKept (record { key = key; annotates = annotates; rate = rate; levels = levels; definitions = definitions; links = links }) own
+fit_kept config b old places own key annotates rate levels definitions links view can kept key_is annotates_is rate_is levels_are definitions_are links_are same =
+    let new : BundleParts = record { key = key; annotates = annotates; rate = rate; levels = levels; definitions = definitions; links = links } in
+    let whole : new ≡ fitted config b = cc in
+    let before : IsKept b places = subst (λ x. IsKept x places) view kept in
+    subst (λ x. IsKept x own) (sym whole)
     (record {
-      rules = fitted_rules config b can kept.rules;
-      placed = λ q. same q ∙ kept.placed q ∙ sym (same_level config b can q);
+      rules = fitted_rules config b can before.rules;
+      placed = λ q. ap (λ p. level_in p q) same ∙ before.placed q ∙ sym (same_level config b can q);
     })

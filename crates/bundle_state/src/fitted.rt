@@ -3,8 +3,7 @@ ghost use Rattle.std.specs.Prelude.{◌≡◌, ◌≤◌, IfOk, IfSome, option_c
 ghost use Rattle.level_items.specs.Levels.{widened};
 ghost use Rattle.bundle_state.specs.Fitted.{fitted_level, fitted_levels, CanFitLevel, CanFitLevels};
 
-use crate::handle::Handle;
-use crate::shared_levels::SharedLevels;
+use bundle_lists::{Handle, SharedLevels};
 use db_config::LevelDef;
 use emu_names::{Memory, PlainData};
 use level_items::LevelList;
@@ -12,7 +11,7 @@ use std::alloc::Global;
 
 /// One level for each definition. Levels to which nothing is added stay shared. The only refusal is want of
 /// memory.
-#[tactic(auto, using(crate::proofs::FittedKept::fitted_step, crate::proofs::FittedKept::can_fit_here, crate::proofs::FittedKept::fitted_whole))]
+#[tactic(auto, using(crate::proofs::FittedKept::fitted_next, crate::proofs::FittedKept::can_fit_next, crate::proofs::FittedKept::fitted_whole))]
 pub(crate) fn fitted_levels(
     alloc: Global,
     defs: &[LevelDef],
@@ -40,7 +39,10 @@ fn fitted_level(
 {
     match level {
         Some(level) => wider_level(alloc, level, def.attributes.len()),
-        None => Handle::new(alloc, LevelList::new(alloc, def.kind, def.attributes.len())?),
+        None => Handle::new(
+            alloc,
+            LevelList::new(alloc, def.kind, def.attributes.len())?,
+        ),
     }
 }
 

@@ -5,7 +5,7 @@ ghost use Rattle.emu_names.specs.Inner.Gives.{FindsFault};
 ghost use Rattle.level_items.specs.Levels.{are_labels_for, is_short, relabelled, retimed};
 ghost use Rattle.level_items.specs.Faults.{insert_fault, retime_fault};
 ghost use Rattle.link_graph.specs.Link.{add_fault, link_of};
-ghost use Rattle.bundle_state.specs.Changed.{links_but, missing_fault, place_fault, with_changed, with_item, without_item};
+ghost use Rattle.bundle_lists.specs.Changed.{links_but, missing_fault, place_fault, with_changed, with_item, without_item};
 
 use crate::handle::Handle;
 use emu_names::{Broken, Fault, ItemId, LinkKind, Memory, Text};
@@ -15,7 +15,7 @@ use std::sync::Arc;
 
 impl Handle<LevelList> {
     /// Puts an item in, as the level's list does.
-    pub(crate) fn insert(&mut self, position: Option<u32>, item: Item) -> Result<(), Fault>
+    pub fn insert(&mut self, position: Option<u32>, item: Item) -> Result<(), Fault>
         requires { IsTrue (are_labels_for self.old.attributes item.labels) }
         ensures fault { FindsFault result
             (insert_fault self.old.kind self.old.items position item) }
@@ -30,7 +30,7 @@ impl Handle<LevelList> {
     }
 
     /// Takes the item at a position out. The only refusal is want of memory, which changes nothing.
-    pub(crate) fn remove(&mut self, position: usize) -> Result<(), Memory>
+    pub fn remove(&mut self, position: usize) -> Result<(), Memory>
         requires { position < length self.old.items }
         ensures removed { OnOk result (self.new ≡ without_item position self.old) }
         ensures kept { OnErr result (self.new ≡ self.old) }
@@ -41,7 +41,7 @@ impl Handle<LevelList> {
     }
 
     /// Sets one label of the item at a position. The only refusal is want of memory, which changes nothing.
-    pub(crate) fn set_label(
+    pub fn set_label(
         &mut self,
         position: usize,
         attribute: usize,
@@ -59,7 +59,7 @@ impl Handle<LevelList> {
     }
 
     /// Sets the time of the item at a position, as the level's list does.
-    pub(crate) fn retime(&mut self, position: usize, time: Time) -> Result<(), Fault>
+    pub fn retime(&mut self, position: usize, time: Time) -> Result<(), Fault>
         requires { position < length self.old.items }
         ensures fault { FindsFault result
             (retime_fault self.old.kind self.old.items position time) }
@@ -73,7 +73,7 @@ impl Handle<LevelList> {
 
 impl Handle<Links> {
     /// Puts a link last, as the list of links does.
-    pub(crate) fn add(
+    pub fn add(
         &mut self,
         definition: u32,
         kind: LinkKind,
@@ -90,7 +90,7 @@ impl Handle<Links> {
 
     /// Puts a link at a place, as the list of links does. A place past the end is refused last
     /// (`PositionOut`).
-    pub(crate) fn add_at(
+    pub fn add_at(
         &mut self,
         place: usize,
         definition: u32,
@@ -114,7 +114,7 @@ impl Handle<Links> {
     }
 
     /// Takes the link of a pair out. `NoLink` comes exactly where the pair is not there.
-    pub(crate) fn remove(&mut self, from: ItemId, to: ItemId) -> Result<(), Fault>
+    pub fn remove(&mut self, from: ItemId, to: ItemId) -> Result<(), Fault>
         ensures fault { FindsFault result (missing_fault from to self.old) }
         ensures removed { OnOk result (self.new ≡ links_but from to self.old) }
         ensures kept { OnErr result (self.new ≡ self.old) }

@@ -3,7 +3,7 @@ ghost use Rattle.std.specs.Prelude.{◌≡◌, ◌<◌, ◌++◌, ◌∷◌, [],
 ghost use Rattle.std.specs.List.{slice_get};
 ghost use Rattle.emu_names.specs.Inner.Gives.{FindsFault};
 ghost use Rattle.level_items.specs.Levels.{are_labels_for, is_short, relabelled, retimed};
-ghost use Rattle.bundle_state.specs.Changed.{change_level, new_time_fault, put_fault, with_changed, with_item, without_item};
+ghost use Rattle.bundle_lists.specs.Changed.{change_level, new_time_fault, put_fault, with_changed, with_item, without_item};
 
 use crate::handle::Handle;
 use emu_names::{Fault, Memory, PlainData, Text};
@@ -14,7 +14,7 @@ use std::marker::Model;
 /// The levels, in the order of the configuration. A copy has the same lists; a change of a level takes a
 /// copy of that level's list first where another owner has it too.
 #[derive(Drop)]
-pub(crate) struct SharedLevels {
+pub struct SharedLevels {
     lists: Vec<Handle<LevelList>>,
 }
 
@@ -40,7 +40,7 @@ fn copied(alloc: Global, lists: &[Handle<LevelList>]) -> Result<Vec<Handle<Level
 
 impl SharedLevels {
     /// No level. The list grows by `alloc`.
-    pub(crate) fn new(alloc: Global) -> SharedLevels
+    pub fn new(alloc: Global) -> SharedLevels
         ensures { result ≡ [] }
     {
         SharedLevels {
@@ -49,7 +49,7 @@ impl SharedLevels {
     }
 
     /// Puts a level last. The only refusal is want of memory, which changes nothing.
-    pub(crate) fn push(&mut self, list: Handle<LevelList>) -> Result<(), Memory>
+    pub fn push(&mut self, list: Handle<LevelList>) -> Result<(), Memory>
         ensures ok { OnOk result (self.new ≡ self.old ++ list ∷ []) }
         ensures err { OnErr result (self.new ≡ self.old) }
     {
@@ -58,14 +58,14 @@ impl SharedLevels {
     }
 
     /// How many levels there are.
-    pub(crate) fn len(&self) -> usize
+    pub fn len(&self) -> usize
         ensures { result ≡ length self.now }
     {
         self.lists.len()
     }
 
     /// The level of a number.
-    pub(crate) fn get(&self, level: usize) -> &Handle<LevelList>
+    pub fn get(&self, level: usize) -> &Handle<LevelList>
         requires { level < length self.now }
         ensures { slice_get self.now level ≡ Some result.now }
     {
@@ -73,7 +73,7 @@ impl SharedLevels {
     }
 
     /// All levels, in order.
-    pub(crate) fn as_slice(&self) -> &[Handle<LevelList>]
+    pub fn as_slice(&self) -> &[Handle<LevelList>]
         ensures { result.now ≡ self.now }
     {
         self.lists.as_slice()
@@ -81,12 +81,7 @@ impl SharedLevels {
 
     /// Puts an item on a level, at its place. The refusals are those of the level's list, and a refusal or
     /// want of memory changes nothing.
-    pub(crate) fn insert(
-        &mut self,
-        level: usize,
-        position: Option<u32>,
-        item: Item,
-    ) -> Result<(), Fault>
+    pub fn insert(&mut self, level: usize, position: Option<u32>, item: Item) -> Result<(), Fault>
         requires level { level < length self.old }
         requires labels { IfSome (slice_get self.old level)
             (λ l. IsTrue (are_labels_for l.attributes item.labels)) }
@@ -100,7 +95,7 @@ impl SharedLevels {
 
     /// Takes the item at a position out of a level. The only refusal is want of memory, which changes
     /// nothing.
-    pub(crate) fn remove(&mut self, level: usize, position: usize) -> Result<(), Memory>
+    pub fn remove(&mut self, level: usize, position: usize) -> Result<(), Memory>
         requires level { level < length self.old }
         requires position { IfSome (slice_get self.old level) (λ l. position < length l.items) }
         ensures removed { OnOk result
@@ -112,7 +107,7 @@ impl SharedLevels {
 
     /// Sets one label of the item at a position of a level. The only refusal is want of memory, which changes
     /// nothing.
-    pub(crate) fn set_label(
+    pub fn set_label(
         &mut self,
         level: usize,
         position: usize,
@@ -132,7 +127,7 @@ impl SharedLevels {
 
     /// Sets the time of the item at a position of a level. The refusals are those of the level's list, and a
     /// refusal or want of memory changes nothing.
-    pub(crate) fn retime(&mut self, level: usize, position: usize, time: Time) -> Result<(), Fault>
+    pub fn retime(&mut self, level: usize, position: usize, time: Time) -> Result<(), Fault>
         requires level { level < length self.old }
         requires position { IfSome (slice_get self.old level) (λ l. position < length l.items) }
         ensures fault { FindsFault result (new_time_fault (level, position) time self.old) }
@@ -144,7 +139,7 @@ impl SharedLevels {
     }
 
     /// The same levels again, of which each list is shared. The only refusal is want of memory.
-    pub(crate) fn copy(&self, alloc: Global) -> Result<SharedLevels, Memory>
+    pub fn copy(&self, alloc: Global) -> Result<SharedLevels, Memory>
         ensures { IfOk result (λ made. made ≡ self.now) }
     {
         let lists = copied(alloc, self.lists.as_slice())?;

@@ -9,8 +9,9 @@ use std::sync::Arc;
 /// A value that is kept as long as it has an owner, also where owners are on different threads. A copy
 /// is one owner more, and takes the same time however large the value is.
 #[derive(Drop)]
-pub(crate) struct Handle<T> {
-    pub(crate) inside: Arc<T>,
+pub struct Handle<T> {
+    /// What the owners share. To change it, take `Arc::make_mut` of it.
+    pub inside: Arc<T>,
 }
 
 impl<T> Model for Handle<T> {
@@ -21,7 +22,7 @@ impl<T> Model for Handle<T> {
 
 impl<T: Drop> Handle<T> {
     /// `value`, with one owner. The only refusal is want of memory.
-    pub(crate) fn new(alloc: Global, value: T) -> Result<Handle<T>, Memory>
+    pub fn new(alloc: Global, value: T) -> Result<Handle<T>, Memory>
         ensures { IfOk result (λ made. made ≡ value) }
     {
         let inside = Arc::new(alloc, value)?;
@@ -29,7 +30,7 @@ impl<T: Drop> Handle<T> {
     }
 
     /// The value.
-    pub(crate) fn as_ref(&self) -> &T
+    pub fn as_ref(&self) -> &T
         ensures { result.now ≡ self.now }
     {
         self.inside.as_ref()
