@@ -61,7 +61,7 @@ stored_trouble true fails = store_full
 stored_trouble false true = disk_failed
 stored_trouble false false = untroubled
 
--- an edit that the history or a rule refuses meets neither the store nor the disk
+-- an act that the history or a rule refuses meets neither the store nor the disk
 abbrev pub made_trouble : State → Line → Act → Bool → Bool → Result DatabaseParts Breach → Trouble
 made_trouble st l act fails true made = untroubled
 made_trouble st l act fails false (Err breach) = untroubled
@@ -74,25 +74,25 @@ edit_trouble false st l act fails = untroubled
 edit_trouble true st l act fails =
     made_trouble st l act fails (is_full st.entries) (edited st.config st.entries act)
 
--- what an outage does to the edit of a line
+-- what an outage does to the act of a line
 abbrev pub trouble_at : Bool → State → Line → Act → Outage → Trouble
 trouble_at store st l act fine = edit_trouble store st l act false
 trouble_at store st l act at_first = no_memory
 trouble_at store st l act at_last = no_memory
 trouble_at store st l act disk_fails = edit_trouble store st l act true
 
--- the edit of a line, or what keeps it from its step
+-- the act of a line, or what keeps it from its step
 abbrev pub edit_outcome : State → Line → Act → Trouble → Option Reply × State
 edit_outcome st l act untroubled = edit_event st l (requests.Edit (Ok act))
 edit_outcome st l act no_memory = (Some (reply_to l None memory), st)
 edit_outcome st l act store_full = (Some (reply_to l (Some (present st)) (Refused refusals.StoreFull)), st)
 edit_outcome st l act disk_failed = (Some (reply_to l None (Refused refusals.Disk)), st)
 
--- an edit, over all edits before it
+-- an act, over all entries before it
 abbrev pub edit_turn : Bool → State → Line → Act → Outage → Reply × State
 edit_turn store st l act outage = replied l (edit_outcome st l act (trouble_at store st l act outage))
 
--- a request is answered over all edits before it; a `finish` over its look
+-- a request is answered over all entries before it; a `finish` over its look
 abbrev pub request_turn : Bool → State → Line → Request → Outage → Reply × State
 request_turn store st l (requests.Edit (Ok act)) outage = edit_turn store st l act outage
 request_turn store st l (requests.Edit (Err fault)) outage =

@@ -56,7 +56,7 @@ abbrev pub replies_in : List Turn → List Reply
 replies_in turns = map (λ t. t.reply) turns
 
 -- 2. One history. Each new entry has exactly one accepting reply, with its number, session and
--- line, and is the edit of that line; each accepting reply has such an entry.
+-- line, and holds the act of that line; each accepting reply has such an entry.
 
 -- an entry and its number in the history, counted from 1
 pub record NumberedEntry : Type 0 where
@@ -95,7 +95,7 @@ with_number n marks = filter (has_number n) marks
 
 -- 3. Each answer is right for the state that its number names.
 
--- an acceptance at n is right for the state after n - 1, and its edit is the n-th entry
+-- an acceptance at n is right for the state after n - 1, and its act is that of the n-th entry
 pub record IsAcceptance (c : ConfigParts) (H : List Entry) (l : Line) (act : Act) (n : ℕ)
     (command : Command) : Type 0 where
   pub own : command ≡ l.command
@@ -106,7 +106,7 @@ pub record IsAcceptance (c : ConfigParts) (H : List Entry) (l : Line) (act : Act
   pub right : edited c (take before H) act ≡ Ok database
   pub entry : slice_get H before ≡ Some (entry_of l act)
 
--- the store has no room for the entry, whose edit breaks no rule after n
+-- the store has no room for the entry, whose act breaks no rule after n
 pub record IsStoreFull (c : ConfigParts) (H : List Entry) (store : Bool) (l : Line) (act : Act) (n : ℕ) : Type 0 where
   pub room : n < HISTORY_EDITS
   pub stored : store ≡ true

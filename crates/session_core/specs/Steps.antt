@@ -75,24 +75,24 @@ with_query st s v =
 abbrev pub with_entry : State → Entry → State
 with_entry st e = record { config = st.config; entries = st.entries ++ e ∷ []; looks = st.looks; queries = st.queries }
 
--- the number of edits that the present state is after
+-- the number of entries that the present state is after
 abbrev pub present : State → ℕ
 present st = length st.entries
 
--- An edit.
+-- An edit: an act, which is a list of edits or an addition to the configuration.
 
 -- whether a history has no room for one more entry
 abbrev pub is_full : List Entry → Bool
 is_full history = nat_le HISTORY_EDITS (length history)
 
--- an edit behind the limit of the history: it is accepted, or the rule that it breaks is told
+-- an act behind the limit of the history: it is accepted, or the rule that it breaks is told
 abbrev pub edit_made : State → Line → Act → Result DatabaseParts Breach → Option Reply × State
 edit_made st l act (Ok database) =
     (Some (reply_to l (Some (present st + 1)) (Done l.command)), with_entry st (entry_of l act))
 edit_made st l act (Err breach) =
     (Some (reply_to l (Some (present st)) (Refused (rule_refusal l.command breach))), st)
 
--- an edit: a full history comes before the rules
+-- an act: a full history comes before the rules
 abbrev pub edit_step : State → Line → Act → Bool → Result DatabaseParts Breach → Option Reply × State
 edit_step st l act true made = (Some (reply_to l (Some (present st)) (Refused refusals.HistoryFull)), st)
 edit_step st l act false made = edit_made st l act made

@@ -214,7 +214,7 @@ Fits w (events.Finish line s command) = FinishFits w line s (asker_of command)
 abbrev pub passes_store : ConfigParts → List Entry → Entry → Bool
 passes_store c history entry = nat_lt STORE_BYTES (store_size c history + 6 + entry_size entry)
 
--- the edit of a line would be accepted, and there is a store that has no room for its entry
+-- the act of a line would be accepted, and there is a store that has no room for its entry
 pub record IsOverStore (store : Bool) (st : State) (l : Line) (act : Act) : Type 0 where
   pub stored : store ≡ true
   pub room : is_full st.entries ≡ false

@@ -77,11 +77,11 @@ head_line head request = record { line = head.line; session = head.session; comm
 abbrev pub head_reply : Head → Option ℕ → Answer → Reply
 head_reply head n answer = reply_of head.line head.session n answer
 
--- the entry of an edit of this head
+-- the entry of an act of this head
 abbrev pub head_entry : Head → Act → Entry
 head_entry head act = record { session = head.session; line = head.line; act = act }
 
--- an edit behind the rules: its entry is put last, or the rule is told
+-- an act behind the rules: its entry is put last, or the rule is told
 abbrev pub edit_tried_made : Head → Act → List Entry → DatabaseParts → Result DatabaseParts Breach →
     Reply × List Entry × DatabaseParts
 edit_tried_made head act history database (Ok next) =
@@ -89,14 +89,14 @@ edit_tried_made head act history database (Ok next) =
 edit_tried_made head act history database (Err breach) =
     (head_reply head (Some (length history)) (Refused (rule_refusal head.command breach)), history, database)
 
--- an edit behind the limit of the history
+-- an act behind the limit of the history
 abbrev pub edit_tried_step : Head → Act → List Entry → DatabaseParts → Bool → Result DatabaseParts Breach →
     Reply × List Entry × DatabaseParts
 edit_tried_step head act history database true made =
     (head_reply head (Some (length history)) (Refused refusals.HistoryFull), history, database)
 edit_tried_step head act history database false made = edit_tried_made head act history database made
 
--- an edit: the reply, the history and the database
+-- an act: the reply, the history and the database
 abbrev pub edit_tried : Head → Act → List Entry → DatabaseParts → Reply × List Entry × DatabaseParts
 edit_tried head act history database =
     edit_tried_step head act history database (is_full history) (effect database act)
@@ -106,7 +106,7 @@ abbrev pub grid_told : Head → ℕ → GridFault → Reply
 grid_told head n fault =
     head_reply head (grid_number n (is_want_of_memory fault)) (grid_answer fault (is_want_of_memory fault))
 
--- an edit that was given, or the fault of a TextGrid
+-- an act that was given, or the fault of a TextGrid
 abbrev pub given_tried : Head → Result Act GridFault → List Entry → DatabaseParts → Reply × List Entry × DatabaseParts
 given_tried head (Ok act) history database = edit_tried head act history database
 given_tried head (Err fault) history database = (grid_told head (length history) fault, history, database)
