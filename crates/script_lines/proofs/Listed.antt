@@ -1,7 +1,8 @@
 -- Lists of edits: how many there are, and that all are edits of the bundle of one key that a list may have.
-use Rattle.std.proofs.Common.{◌≡◌, ◌≤◌, ℕ, ◌+◌, Bool, true, false, List, [], ◌∷◌, ◌++◌, length, length-append, codes, refl, sym, ap, subst, ◌∙◌}
+use Rattle.std.proofs.Common.{◌≡◌, ◌≢◌, ◌≤◌, ℕ, ◌+◌, Bool, true, false, List, [], ◌∷◌, ◌++◌, length, length-append, codes, refl, sym, ap, subst, ◌∙◌}
 use Rattle.std.specs.Prelude.{Result, Ok, Err, Some}
 use Rattle.std.specs.List.{list_all}
+use Rattle.std.specs.Result.{IsErrAnd}
 use Rattle.std.proofs.lemmas.Bool.{and_from, and_parts}
 use Rattle.serde_json.specs.Data.{Data}
 use Rattle.json_view.specs.declared.wants.Wanted.TheVariants as wanted
@@ -28,6 +29,8 @@ use Rattle.annot_json.specs.Read.{labels_in}
 use Rattle.config_json.specs.Forms.{text_member}
 use Rattle.emu_names.specs.declared.limits.TheConstants.{TOP_WHOLE}
 use Rattle.script_lines.specs.declared.faults.LineFault.{LineFault}
+use Rattle.script_lines.specs.declared.faults.LineFault.TheVariants as faults
+use Rattle.script_lines.specs.Inner.Faults.{Reads}
 use Rattle.script_lines.specs.Faults.{form}
 use Rattle.script_lines.specs.Forms.{id_at, position_at, time_at}
 use Rattle.script_lines.specs.Values.{word_of_line}
@@ -253,11 +256,14 @@ unfolding listed_edits
 read_stops key s part front fault place list counted before here got =
     rw counted (each_fault (listed_edit key) place s part front fault (each_from (listed_edit key) 0 s) before here got)
 
--- the first one is
-pub first_stops : (key : BundleKey) (s part : Seen) (fault : LineFault) (list : List Data) → edits_at s ≡ Ok list
-    → element_of 0 s ≡ Some part → listed_edit key part ≡ Err fault → listed_edits key s ≡ Err fault
-first_stops key s part fault list counted here got =
-    read_stops key s part [] fault 0 list counted (with_front_nil (each_from (listed_edit key) 0 s)) here got
+-- the first one is, and the reading ends with its fault
+pub first_stops : (answer : Result (List Edit) LineFault) (fault : LineFault) (key : BundleKey) (s part : Seen) (list : List Data)
+    → IsErrAnd answer (λ x. x ≡ fault) → edits_at s ≡ Ok list → element_of 0 s ≡ Some part
+    → (fault ≢ faults.Memory → listed_edit key part ≡ Err fault) → Reads answer (listed_edits key s)
+first_stops (Ok es) fault key s part list same counted here tells = absurd same
+first_stops (Err x) fault key s part list same counted here tells =
+    subst (λ (y : LineFault). y ≢ faults.Memory → listed_edits key s ≡ Err y) (sym same)
+    (λ told. read_stops key s part [] fault 0 list counted (with_front_nil (each_from (listed_edit key) 0 s)) here (tells told))
 
 -- all were read
 pub read_ends : (key : BundleKey) (s : Seen) (front : List Edit) (place : ℕ) (list : List Data) → edits_at s ≡ Ok list

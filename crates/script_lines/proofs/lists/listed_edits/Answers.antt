@@ -4,8 +4,9 @@ use Rattle.script_lines.proofs.Listed.{first_stops, read_ends, read_first, read_
 use Rattle.script_lines.proofs.lists.listed_edits.Goals as goal
 
 pub returns-in_err-first : goal.returns-in_err-first
-returns-in_err-first c told =
-    first_stops c.args.key.now (seen_at c.args.view.now) _ _ _ c.in_ok-count.ensures.list c.in_ok-head.ensures.element (c.in_err-first.ensures told)
+returns-in_err-first c =
+    first_stops c.from_residual-in_err-first.result _ c.args.key.now (seen_at c.args.view.now) _ _ c.from_residual-in_err-first.ensures.1
+    c.in_ok-count.ensures.list c.in_ok-head.ensures.element c.in_err-first.ensures
 
 pub loop-place-init : goal.loop-place-init
 loop-place-init c =
