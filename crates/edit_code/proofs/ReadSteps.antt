@@ -6,27 +6,35 @@ use Rattle.emu_names.specs.declared.names.BundleKey.{BundleKey}
 use Rattle.bundle_edits.specs.declared.edit.Edit.{Edit}
 use Rattle.edit_rules.specs.declared.acts.Act.{Act}
 use Rattle.edit_rules.specs.declared.acts.Act.TheVariants as acts
+use Rattle.db_config.specs.declared.attributes.AttributeDef.{AttributeDef}
+use Rattle.db_config.specs.Made.{is_attribute}
+use Rattle.edit_rules.specs.declared.acts.ConfigEdit.{ConfigEdit}
+use Rattle.edit_rules.specs.declared.acts.ConfigEdit.TheVariants as edits
 use Rattle.edit_rules.specs.declared.acts.Entry.{Entry}
 use Rattle.byte_forms.specs.declared.rest.ReadFault.{ReadFault}
 use Rattle.byte_forms.specs.declared.rest.ReadFault.TheVariants as faults
 use Rattle.byte_forms.specs.Forms.{Form, ◌>>=◌}
 use Rattle.byte_forms.specs.Parts.{imaged, led, pair, shaped, u32_form}
+use Rattle.byte_forms.specs.Utf8.{text_form}
 use Rattle.value_codes.specs.Annots.{key_form, session_form}
+use Rattle.value_codes.specs.Heads.{attribute_form}
 use Rattle.value_codes.specs.Inner.Names.{if_so}
 use Rattle.value_codes.specs.Names.{is_key}
 use Rattle.edit_code.specs.declared.fields.Fields.{Fields}
+use Rattle.edit_code.specs.declared.kinds.Addition.TheVariants as additions
 use Rattle.edit_code.specs.declared.kinds.Body.{Body}
 use Rattle.edit_code.specs.declared.kinds.Body.TheVariants as bodies
 use Rattle.edit_code.specs.declared.kinds.Kind.{Kind}
 use Rattle.edit_code.specs.Edits.{act_form, body_form, edit_form, keyed_form, one_of}
 use Rattle.edit_code.specs.Fields.{edit_of, fields_form}
-use Rattle.edit_code.specs.Inner.Reading.{GivesIf, IsMadeOne}
+use Rattle.edit_code.specs.Additions.{addition_at}
+use Rattle.edit_code.specs.Inner.Reading.{GivesIf, IsMadeAs, IsMadeOne}
 use Rattle.edit_code.specs.Kinds.{all_kinds, kind_number}
-use Rattle.edit_code.specs.Names.{is_act, is_entry}
+use Rattle.edit_code.specs.Names.{is_act, is_addition, is_entry}
 use Rattle.edit_code.specs.Tags.{tag_form}
 use Rattle.edit_code.proofs.EntrySteps.{image_some, image_err, body_read, body_fails, entry_with}
 use Rattle.edit_code.proofs.FieldLaws.{key_is}
-use Rattle.edit_code.proofs.Tested.{so_by}
+use Rattle.edit_code.proofs.Tested.{so_by, so_not}
 
 -- A value of another type, if the one that it is made of passed.
 
@@ -105,4 +113,38 @@ one_given old mid behind new k raw f (Some act) first second third is = (
   image_some edit_form (λ e. acts.Edits (e ∷ [])) one_of old new (edit_of raw f) (one_read old mid behind new k raw f first second third)
       ∙ ap (λ (a : Act). Ok (a, new)) (sym is.0),
   ap is_act is.0 ∙ ap is_key (key_is raw f) ∙ is.1,
+)
+
+-- What is made of a value that was read.
+
+pub added_some : {A B : Type 0} (test : A → Bool) (of : A → B) (a v : A) → Some v ≡ if_so test a → IsMadeAs test of a (Some (of v))
+added_some test of a v e = let w = so_by test a v e in (ap of w.0, w.1)
+
+pub added_none : {A B : Type 0} (test : A → Bool) (of : A → B) (a : A) → None ≡ if_so test a → IsMadeAs test of a None
+added_none test of a e = so_not test a e
+
+pub given_made : {A B : Type 0} (f : Form A) (of : A → B) (back : B → Option A) (test : A → Bool) (second : B → Bool)
+    → ((a : A) → second (of a) ≡ test a) → (old new : List ℕ) (a : A) (made : Option B) → f.read old ≡ Ok (a, new)
+    → IsMadeAs test of a made → GivesIf second (Ok made) new ((imaged f of back).read old)
+given_made f of back test second same old new a None read is = (of a, image_some f of back old new a read, same a ∙ is)
+given_made {B = B} f of back test second same old new a (Some b) read is = (
+  image_some f of back old new a read ∙ ap (λ (y : B). Ok (y, new)) (sym is.0),
+  ap second is.0 ∙ same a ∙ is.1,
+)
+
+attribute_read : (old mid new : List ℕ) (level : List ℕ) (raw : AttributeDef) → text_form.read old ≡ Ok (level, mid)
+    → attribute_form.read mid ≡ Ok (raw, new)
+    → (addition_at additions.Attribute).read old ≡ Ok (edits.AddAttribute level raw, new)
+unfolding imaged pair
+attribute_read old mid new level raw first second = rw (first, second) refl
+
+pub attribute_given : (old mid new : List ℕ) (level : List ℕ) (raw : AttributeDef) (made : Option ConfigEdit)
+    → text_form.read old ≡ Ok (level, mid) → attribute_form.read mid ≡ Ok (raw, new)
+    → IsMadeAs is_attribute (λ def. edits.AddAttribute level def) raw made
+    → GivesIf is_addition (Ok made) new ((addition_at additions.Attribute).read old)
+attribute_given old mid new level raw None first second is =
+    (edits.AddAttribute level raw, attribute_read old mid new level raw first second, is)
+attribute_given old mid new level raw (Some b) first second is = (
+  attribute_read old mid new level raw first second ∙ ap (λ (y : ConfigEdit). Ok (y, new)) (sym is.0),
+  ap is_addition is.0 ∙ is.1,
 )

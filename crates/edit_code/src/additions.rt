@@ -1,8 +1,10 @@
 //! The codes of additions to the configuration: how many bytes they have, how they are written, and how they are read.
-ghost use Rattle.std.specs.Prelude.{◌≡◌, ◌<◌, ◌^◌, ◌++◌, length, min, OnOk};
+ghost use Rattle.std.specs.Prelude.{◌≡◌, ◌<◌, ◌^◌, ◌++◌, length, min, IfOk, OnOk};
+ghost use Rattle.db_config.specs.Made.{is_attribute, is_level};
+ghost use Rattle.edit_rules.specs.declared.acts.ConfigEdit.TheVariants as edits;
 ghost use Rattle.edit_code.specs.declared.kinds.Addition.TheVariants as additions;
 ghost use Rattle.edit_code.specs.Additions.{addition_at, addition_form, addition_of};
-ghost use Rattle.edit_code.specs.Inner.Reading.{GivesIf};
+ghost use Rattle.edit_code.specs.Inner.Reading.{GivesIf, IsMadeAs};
 ghost use Rattle.edit_code.specs.Names.{is_addition};
 
 use crate::kinds::Addition;
@@ -72,28 +74,47 @@ pub(crate) fn put_addition(edit: &ConfigEdit, out: &mut CodeBytes) -> Result<(),
     put_parts(edit, out)
 }
 
-/// Reads a level that is added. It is none where its name is none or its lists are too short or too long.
-#[tactic(auto, unfolding(byte_forms::specs::Parts::imaged))]
-fn read_level(alloc: Global, from: &mut Rest<'_>) -> Result<Option<ConfigEdit>, ReadFault>
-    ensures { GivesIf is_addition result from.new ((addition_at additions.Level).read from.old) }
+/// The addition of a level that was read. It is none where its name is none or its lists are too short or too long.
+fn level_made(alloc: Global, raw: &RawLevel) -> Result<Option<ConfigEdit>, Memory>
+    ensures { IfOk result (λ made. IsMadeAs is_level edits.AddLevel raw.now made) }
 {
-    let raw = RawLevel::read(alloc, from)?;
-    match level_in(alloc, &raw)? {
+    match level_in(alloc, raw)? {
         Some(level) => Ok(Some(ConfigEdit::AddLevel { level })),
         None => Ok(None),
     }
 }
 
-/// Reads the name of a level and an attribute that is added. It is none where its name is none or its lists are too long.
-#[tactic(auto, unfolding(byte_forms::specs::Parts::imaged))]
-fn read_attribute(alloc: Global, from: &mut Rest<'_>) -> Result<Option<ConfigEdit>, ReadFault>
-    ensures { GivesIf is_addition result from.new ((addition_at additions.Attribute).read from.old) }
+/// Reads a level that is added.
+fn read_level(alloc: Global, from: &mut Rest<'_>) -> Result<Option<ConfigEdit>, ReadFault>
+    ensures { GivesIf is_addition result from.new ((addition_at additions.Level).read from.old) }
 {
-    let (level, raw) = <(Text, RawAttribute)>::read(alloc, from)?;
-    match attribute_in(alloc, &raw)? {
+    let raw = RawLevel::read(alloc, from)?;
+    let made = level_made(alloc, &raw)?;
+    Ok(made)
+}
+
+/// The addition of an attribute that was read. It is none where its name is none or its lists are too long.
+fn attribute_made(
+    alloc: Global,
+    level: Text,
+    raw: &RawAttribute,
+) -> Result<Option<ConfigEdit>, Memory>
+    ensures { IfOk result (λ made. IsMadeAs is_attribute (λ def. edits.AddAttribute level def) raw.now made) }
+{
+    match attribute_in(alloc, raw)? {
         Some(attribute) => Ok(Some(ConfigEdit::AddAttribute { level, attribute })),
         None => Ok(None),
     }
+}
+
+/// Reads the name of a level and an attribute that is added.
+fn read_attribute(alloc: Global, from: &mut Rest<'_>) -> Result<Option<ConfigEdit>, ReadFault>
+    ensures { GivesIf is_addition result from.new ((addition_at additions.Attribute).read from.old) }
+{
+    let level = Text::read(alloc, from)?;
+    let raw = RawAttribute::read(alloc, from)?;
+    let made = attribute_made(alloc, level, &raw)?;
+    Ok(made)
 }
 
 /// Reads the type of a link definition that is added, and the names of its levels.

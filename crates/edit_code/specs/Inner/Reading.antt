@@ -32,3 +32,8 @@ IsMadeOne key fields (Some act) = (act ≡ acts.Edits (edit_of key fields ∷ []
 abbrev pub or_left : {K : Type 0} → ℕ → Option K → Result K ReadFault
 or_left left (Some k) = Ok k
 or_left left None = Err (faults.Left left)
+
+-- what is made of a value, if it passes the test, and none for one that does not
+abbrev pub IsMadeAs : {A B : Type 0} → (A → Bool) → (A → B) → A → Option B → Type 0
+IsMadeAs test of a None = test a ≡ false
+IsMadeAs test of a (Some b) = (b ≡ of a) × (test a ≡ true)
