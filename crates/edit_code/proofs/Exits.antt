@@ -1,21 +1,31 @@
 -- Exits by a fault of an earlier reading.
-use Rattle.std.proofs.Common.{◌≡◌, ℕ, Bool, List, refl, sym, subst}
+use Rattle.std.proofs.Common.{◌≡◌, ℕ, ◌-◌, ◌<◌, Bool, List, refl, sym, subst}
 use Rattle.std.specs.Prelude.{Option, Result, Ok, Err, IsErrAnd}
 use Rattle.emu_names.specs.declared.kinds.SessionNo.{SessionNo}
 use Rattle.emu_names.specs.declared.names.BundleKey.{BundleKey}
 use Rattle.bundle_edits.specs.declared.edit.Edit.{Edit}
 use Rattle.byte_forms.specs.Forms.{Form, ◌>>=◌}
-use Rattle.byte_forms.specs.Parts.{led, led_on, pair, shaped, u32_form}
+use Rattle.byte_forms.specs.Parts.{imaged, led, led_on, pair, shaped, u32_form}
 use Rattle.byte_forms.specs.declared.rest.ReadFault.{ReadFault}
 use Rattle.byte_forms.specs.declared.rest.ReadFault.TheVariants as faults
 use Rattle.byte_forms.specs.Inner.Reading.{Gives}
 use Rattle.byte_forms.specs.Lists.{times}
+use Rattle.byte_forms.specs.Utf8.{text_form}
 use Rattle.value_codes.specs.Annots.{key_form, session_form}
+use Rattle.value_codes.specs.Heads.{attribute_form, level_def_form}
 use Rattle.edit_code.specs.Counts.{count_form}
+use Rattle.edit_code.specs.declared.fields.Fields.{Fields}
+use Rattle.edit_code.specs.declared.kinds.Addition.TheVariants as additions
 use Rattle.edit_code.specs.declared.kinds.Body.{Body}
-use Rattle.edit_code.specs.Edits.{body_form, inner_form, several_form}
+use Rattle.edit_code.specs.declared.kinds.Body.TheVariants as bodies
+use Rattle.edit_code.specs.declared.kinds.Kind.{Kind}
+use Rattle.edit_code.specs.Additions.{addition_at}
+use Rattle.edit_code.specs.Edits.{act_form, body_form, edit_form, inner_form, keyed_form, several_form, told_form}
+use Rattle.edit_code.specs.Fields.{fields_form}
+use Rattle.edit_code.specs.Kinds.{all_kinds, kind_number}
+use Rattle.edit_code.specs.Tags.{tag_form}
 use Rattle.edit_code.specs.Inner.Reading.{GivesIf, Skips}
-use Rattle.edit_code.proofs.ListSteps.{several_read}
+use Rattle.edit_code.proofs.ListSteps.{Passes, passes_fail, several_read}
 
 -- what stops an earlier reading stops the whole
 fault_if : {A B : Type 0} (test : B → Bool) (fault : ReadFault) (left new : List ℕ) (step : Result (A × List ℕ) ℕ)
@@ -54,3 +64,40 @@ pub line_stops : (b : Body) (old mid : List ℕ) (session : SessionNo) (n : ℕ)
     → u32_form.read mid ≡ Err n → (body_form b).read old ≡ Err n
 unfolding body_form shaped pair
 line_stops b old mid session n first e = rw (first, e) refl
+
+-- the same of edits that are passed over, of what is added, and of one edit
+pub skip_exit : (answer : Result (Unit {0}) ReadFault) (fault : ReadFault) (count place : ℕ) (bytes from new : List ℕ)
+    → IsErrAnd answer (λ x. x ≡ fault) → Passes count (count - place) from bytes → place < count
+    → Gives {A = Fields} (Err fault) new (told_form.read from)
+    → (key : BundleKey) → Skips {A = List Edit} {U = Unit {0}} answer new ((times (inner_form key) count).read bytes)
+skip_exit (Ok done) fault count place bytes from new same whole h gives key = absurd same
+skip_exit (Err e) fault count place bytes from new same whole h gives key =
+    subst (λ (f : ReadFault). Skips {A = List Edit} {U = Unit {0}} (Err f) new ((times (inner_form key) count).read bytes)) (sym same)
+    (passes_fail count place bytes from new fault whole h gives key)
+
+pub level_stops : (old : List ℕ) (n : ℕ) → level_def_form.read old ≡ Err n → (addition_at additions.Level).read old ≡ Err n
+unfolding imaged
+level_stops old n e = rw e refl
+
+pub name_stops : (old : List ℕ) (n : ℕ) → text_form.read old ≡ Err n → (addition_at additions.Attribute).read old ≡ Err n
+unfolding imaged pair
+name_stops old n e = rw e refl
+
+pub attribute_stops : (old mid level : List ℕ) (n : ℕ) → text_form.read old ≡ Ok (level, mid) → attribute_form.read mid ≡ Err n
+    → (addition_at additions.Attribute).read old ≡ Err n
+unfolding imaged pair
+attribute_stops old mid level n first e = rw (first, e) refl
+
+pub kind_stops : (old : List ℕ) (n : ℕ) → (tag_form all_kinds kind_number).read old ≡ Err n → (act_form bodies.One).read old ≡ Err n
+unfolding imaged edit_form led
+kind_stops old n e = rw e refl
+
+pub one_key_stops : (old mid : List ℕ) (k : Kind) (n : ℕ) → (tag_form all_kinds kind_number).read old ≡ Ok (k, mid)
+    → key_form.read mid ≡ Err n → (act_form bodies.One).read old ≡ Err n
+unfolding imaged edit_form keyed_form led shaped pair
+one_key_stops old mid k n first e = rw (first, e) refl
+
+pub fields_stop : (old mid behind : List ℕ) (k : Kind) (key : BundleKey) (n : ℕ) → (tag_form all_kinds kind_number).read old ≡ Ok (k, mid)
+    → key_form.read mid ≡ Ok (key, behind) → (fields_form k).read behind ≡ Err n → (act_form bodies.One).read old ≡ Err n
+unfolding imaged edit_form keyed_form led shaped pair
+fields_stop old mid behind k key n first second e = rw (first, second, e) refl

@@ -1,3 +1,4 @@
+use Rattle.edit_code.proofs.Exits.{exit_if, level_stops}
 use Rattle.std.proofs.Common.{refl}
 use Rattle.db_config.specs.Made.{is_level}
 use Rattle.edit_rules.specs.declared.acts.ConfigEdit.TheVariants as edits
@@ -6,6 +7,9 @@ use Rattle.edit_code.specs.Additions.{level_of}
 use Rattle.edit_code.specs.Names.{is_addition}
 use Rattle.edit_code.proofs.ReadSteps.{given_made}
 use Rattle.edit_code.proofs.additions.read_level.Goals as goal
+
+pub returns-in_err-raw : goal.returns-in_err-raw
+returns-in_err-raw c = exit_if _ _ _ _ _ _ _ c.from_residual.ensures.1 c.in_err-raw.ensures (λ n e. level_stops c.args.from.now n e)
 
 pub returns : goal.returns
 returns c =

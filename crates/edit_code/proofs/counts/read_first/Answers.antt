@@ -13,4 +13,4 @@ returns-in-Ok c =
 
 pub returns-in-Err : goal.returns-in-Err
 unfolding byte_in count_form
-returns-in-Err c = stop_gives 3 0 (λ b. b == 0) zero_first c.args.from.now c.read_byte_is.new.self c.in-Err.fault c.in-Err.ensures
+returns-in-Err c = stop_gives 3 0 (λ b. b == 0) zero_first c.args.from.now c.read_byte_is.new.self c.in-Err.fault c.in-Err.ensures.byte

@@ -16,4 +16,4 @@ unfolding byte_in
 returns-in-Err c =
     stop_gives 0 c.args.front (λ b. nat_le c.least_behind.result b && nat_le b 255)
     (from_least c.args.front c.least_behind.result (omega arith) c.least_behind.ensures.none c.least_behind.ensures.some)
-    c.args.from.now c.read_byte_from_to.new.self c.in-Err.fault c.in-Err.ensures
+    c.args.from.now c.read_byte_from_to.new.self c.in-Err.fault c.in-Err.ensures.byte

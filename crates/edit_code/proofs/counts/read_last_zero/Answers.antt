@@ -1,5 +1,5 @@
 use Rattle.std.specs.Prelude.{◌==◌}
-use Rattle.std.proofs.Common.{◌≡◌, ℕ, List, ◌∙◌, ap, arith}
+use Rattle.std.proofs.Common.{◌≡◌, ℕ, ◌+◌, ◌*◌, List, ◌∙◌, ap, arith}
 use Rattle.std.specs.Prelude.{Ok}
 use Rattle.byte_forms.specs.Parts.{byte_in}
 use Rattle.edit_code.proofs.CountLaws.{count_step, stop_gives, zero_last}
@@ -15,4 +15,4 @@ returns-in-Ok c =
 pub returns-in-Err : goal.returns-in-Err
 unfolding byte_in
 returns-in-Err c =
-    stop_gives 0 256 (λ b. b == 0) zero_last c.args.from.now c.read_byte_is.new.self c.in-Err.fault c.in-Err.ensures
+    stop_gives 0 256 (λ b. b == 0) zero_last c.args.from.now c.read_byte_is.new.self c.in-Err.fault c.in-Err.ensures.byte

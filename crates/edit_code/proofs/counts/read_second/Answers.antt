@@ -12,4 +12,4 @@ returns-in-Ok c =
 
 pub returns-in-Err : goal.returns-in-Err
 unfolding byte_in
-returns-in-Err c = stop_gives 2 0 (λ b. nat_lt b 2) below_two c.args.from.now c.read_byte_below.new.self c.in-Err.fault c.in-Err.ensures
+returns-in-Err c = stop_gives 2 0 (λ b. nat_lt b 2) below_two c.args.from.now c.read_byte_below.new.self c.in-Err.fault c.in-Err.ensures.byte

@@ -12,4 +12,4 @@ returns-in-Ok c =
 
 pub returns-in-Err : goal.returns-in-Err
 unfolding byte_in
-returns-in-Err c = stop_gives 1 0 (λ b. nat_le 0 b && nat_le b 255) any_third c.args.from.now c.read_byte_from_to.new.self c.in-Err.fault c.in-Err.ensures
+returns-in-Err c = stop_gives 1 0 (λ b. nat_le 0 b && nat_le b 255) any_third c.args.from.now c.read_byte_from_to.new.self c.in-Err.fault c.in-Err.ensures.byte

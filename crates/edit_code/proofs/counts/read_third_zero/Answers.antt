@@ -12,4 +12,4 @@ returns-in-Ok c =
 
 pub returns-in-Err : goal.returns-in-Err
 unfolding byte_in
-returns-in-Err c = stop_gives 1 1 (λ b. b == 0) zero_third c.args.from.now c.read_byte_is.new.self c.in-Err.fault c.in-Err.ensures
+returns-in-Err c = stop_gives 1 1 (λ b. b == 0) zero_third c.args.from.now c.read_byte_is.new.self c.in-Err.fault c.in-Err.ensures.byte

@@ -1,4 +1,6 @@
-use Rattle.std.proofs.Common.{◌≡◌, ◌≤◌, length, sym, ap, ◌∙◌, arith, min, ◌^◌}
+use Rattle.std.proofs.Common.{◌≡◌, ◌≤◌, ◌<◌, List, length, sym, ap, subst, ◌∙◌, arith, min, ◌^◌}
+use Rattle.bundle_edits.specs.declared.edit.Edit.{Edit}
+use Rattle.edit_code.specs.Edits.{several_form}
 use Rattle.edit_code.proofs.EntrySteps.{one_code, one_fits, two_edits, several_code, several_fits}
 use Rattle.edit_code.proofs.entries.edits_size.Goals as goal
 
@@ -13,8 +15,11 @@ returns-then-len-eq1 c =
 
 pub returns : goal.returns
 returns c =
-    let two = two_edits c.args.edits.now c.len.ensures.together (λ one. omega (arith, c.len.ensures.length, one)) in record {
-      len = c.several_size.ensures.len ∙ ap (λ bytes. min (2 ^ 32) (length bytes)) (sym (several_code c.args.edits.now two));
+    let two = two_edits c.args.edits.now c.len.ensures.together (λ one. omega (arith, c.len.ensures.length, one)) in
+    let size = subst (λ (es : List Edit). (c.several_size.result ≡ min (2 ^ 32) (length (several_form.code es)))
+        × (c.several_size.result < 2 ^ 32 → several_form.fits es)) c.as_slice.ensures
+        (c.several_size.ensures.len, c.several_size.ensures.fits) in record {
+      len = size.0 ∙ ap (λ bytes. min (2 ^ 32) (length bytes)) (sym (several_code c.args.edits.now two));
       some = c.several_size.ensures.some;
-      fits = λ small. several_fits c.args.edits.now two (c.several_size.ensures.fits small);
+      fits = λ small. several_fits c.args.edits.now two (size.1 small);
     }

@@ -1,5 +1,6 @@
-use Rattle.std.proofs.Common.{◌≡◌, ◌++◌, ℕ, List, length, sym, subst, arith}
+use Rattle.std.proofs.Common.{◌≡◌, ◌++◌, ℕ, List, length, sym, ap, subst, ◌∙◌, arith}
 use Rattle.std.specs.Prelude.{OnOk}
+use Rattle.edit_code.specs.Edits.{several_form}
 use Rattle.edit_code.proofs.EntrySteps.{one_code, two_edits, several_code}
 use Rattle.edit_code.proofs.entries.put_edits.Goals as goal
 
@@ -13,4 +14,4 @@ pub returns : goal.returns
 returns c =
     let two = two_edits c.args.edits.now c.len.ensures.together (λ one. omega (arith, c.len.ensures.length, one)) in
     subst (λ (code : List ℕ). OnOk c.put_several.result (c.put_several.new.out ≡ c.args.out.now ++ code))
-    (sym (several_code c.args.edits.now two)) c.put_several.ensures
+    (ap several_form.code c.as_slice.ensures ∙ sym (several_code c.args.edits.now two)) c.put_several.ensures

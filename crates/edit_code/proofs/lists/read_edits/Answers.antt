@@ -28,7 +28,7 @@ pub returns-in-Err : goal.returns-in-Err
 unfolding times
 returns-in-Err c =
     read_fails (inner_form c.args.key.now) (items_at (inner_form c.args.key.now) c.args.count c.args.from.now) c.loop-place.edits c.args.count
-    c.loop-place._place c.loop-place.from c.read_inner-in-loop-place.new.from c.in-Err.fault c.loop-place.invariant.0 (omega arith) c.in-Err.ensures
+    c.loop-place._place c.loop-place.from c.read_inner-in-loop-place.new.from c.in-Err.fault c.loop-place.invariant.0 (omega arith) c.in-Err.ensures.edit
 
 pub returns : goal.returns
 unfolding times

@@ -5,11 +5,11 @@ use Rattle.edit_code.proofs.lists.read_several.Goals as goal
 
 pub returns-in_err-raw : goal.returns-in_err-raw
 returns-in_err-raw c =
-    exit_if _ _ _ _ _ _ _ c.from_residual-in_err-raw.ensures.1 c.in_err-raw.ensures (λ n e. key_stops c.args.from.now n e)
+    exit_if _ _ _ _ _ _ _ c.from_residual.ensures.1 c.in_err-raw.ensures (λ n e. key_stops c.args.from.now n e)
 
 pub returns-in_err-count : goal.returns-in_err-count
 returns-in_err-count c =
-    exit_if _ _ _ _ _ _ _ c.from_residual-in_err-count.ensures.1 c.in_err-count.ensures.count
+    exit_if _ _ _ _ _ _ _ c.from_residual.ensures.1 c.in_err-count.ensures.count
     (λ n e. count_stops c.args.from.now c.read.new.from c.in_ok-raw.raw n c.in_ok-raw.ensures e)
 
 pub returns-in-Some : goal.returns-in-Some
