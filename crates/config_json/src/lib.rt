@@ -12,5 +12,7 @@ mod read_parts;
 mod values;
 
 pub use faults::{ConfigFault, ConfigWhat};
+pub use named::NamedLink;
 pub use print::print_config;
 pub use read::read_config;
+pub use read_parts::{attribute_in, level_in, link_in};
