@@ -1,5 +1,5 @@
 -- Exits by a fault of an earlier reading.
-use Rattle.std.proofs.Common.{◌≡◌, ℕ, ◌-◌, ◌<◌, Bool, List, refl, sym, subst}
+use Rattle.std.proofs.Common.{◌≡◌, ℕ, zero, suc, ◌-◌, ◌<◌, ◌≤◌, Bool, List, refl, sym, subst, arith}
 use Rattle.std.specs.Prelude.{Option, Result, Ok, Err, IsErrAnd}
 use Rattle.emu_names.specs.declared.kinds.SessionNo.{SessionNo}
 use Rattle.emu_names.specs.declared.names.BundleKey.{BundleKey}
@@ -101,3 +101,24 @@ pub fields_stop : (old mid behind : List ℕ) (k : Kind) (key : BundleKey) (n : 
     → key_form.read mid ≡ Ok (key, behind) → (fields_form k).read behind ≡ Err n → (act_form bodies.One).read old ≡ Err n
 unfolding imaged edit_form keyed_form led shaped pair
 fields_stop old mid behind k key n first second e = rw (first, second, e) refl
+
+-- the same of the first edit of a list
+first_by : (key : BundleKey) (count : ℕ) (bytes : List ℕ) (n : ℕ) → 1 ≤ count → (inner_form key).read bytes ≡ Err n
+    → (times (inner_form key) count).read bytes ≡ Err n
+unfolding times
+first_by key zero bytes n some e = absurd (omega (arith, some))
+first_by key (suc count) bytes n some e = rw e refl
+
+first_fault : (key : BundleKey) (count : ℕ) (bytes new : List ℕ) (fault : ReadFault) → 1 ≤ count
+    → Gives {A = Edit} (Err fault) new ((inner_form key).read bytes)
+    → Gives {A = List Edit} (Err fault) new ((times (inner_form key) count).read bytes)
+first_fault key count bytes new (faults.Left n) some gives = first_by key count bytes n some gives
+first_fault key count bytes new faults.Memory some gives = tt
+
+pub first_exit : (answer : Result (List Edit) ReadFault) (fault : ReadFault) (key : BundleKey) (count : ℕ) (bytes new : List ℕ)
+    → IsErrAnd answer (λ x. x ≡ fault) → 1 ≤ count → Gives {A = Edit} (Err fault) new ((inner_form key).read bytes)
+    → Gives answer new ((times (inner_form key) count).read bytes)
+first_exit (Ok made) fault key count bytes new same some gives = absurd same
+first_exit (Err e) fault key count bytes new same some gives =
+    subst (λ (f : ReadFault). Gives {A = List Edit} (Err f) new ((times (inner_form key) count).read bytes)) (sym same)
+    (first_fault key count bytes new fault some gives)

@@ -7,7 +7,7 @@ returns-in_err-level c = exit_if _ _ _ _ _ _ _ c.from_residual.ensures.1 c.in_er
 
 pub returns-in_err-raw : goal.returns-in_err-raw
 returns-in_err-raw c =
-    exit_if _ _ _ _ _ _ _ c.from_residual.ensures.1 c.in_err-raw.ensures
+    exit_if _ _ _ _ _ _ _ c.from_residual-in_err-raw.ensures.1 c.in_err-raw.ensures
     (λ n e. attribute_stops c.args.from.now c.read.new.from c.in_ok-level.level n c.in_ok-level.ensures e)
 
 pub returns : goal.returns

@@ -1,3 +1,4 @@
+use Rattle.edit_code.proofs.Exits.{first_exit}
 use Rattle.std.proofs.Common.{◌-◌, arith, refl, ap, ◌∙◌, true}
 use Rattle.std.proofs.lemmas.Bool.{and_from}
 use Rattle.byte_forms.specs.Lists.{items_at, times}
@@ -6,6 +7,11 @@ use Rattle.value_codes.proofs.Loops.{put_front, read_first, read_more, read_done
 use Rattle.edit_code.specs.Edits.{inner_form}
 use Rattle.edit_code.proofs.ListSteps.{begun_edits, more_edits, together_and}
 use Rattle.edit_code.proofs.lists.read_edits.Goals as goal
+
+pub returns-in_err-first : goal.returns-in_err-first
+returns-in_err-first c =
+    first_exit _ _ c.args.key.now c.args.count c.args.from.now c.read_inner.new.from c.from_residual.ensures.1 (omega arith)
+    c.in_err-first.ensures.edit
 
 pub loop-place-init : goal.loop-place-init
 loop-place-init c =

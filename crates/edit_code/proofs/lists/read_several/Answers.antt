@@ -9,7 +9,7 @@ returns-in_err-raw c =
 
 pub returns-in_err-count : goal.returns-in_err-count
 returns-in_err-count c =
-    exit_if _ _ _ _ _ _ _ c.from_residual.ensures.1 c.in_err-count.ensures.count
+    exit_if _ _ _ _ _ _ _ c.from_residual-in_err-count.ensures.1 c.in_err-count.ensures.count
     (λ n e. count_stops c.args.from.now c.read.new.from c.in_ok-raw.raw n c.in_ok-raw.ensures e)
 
 pub returns-in-Some : goal.returns-in-Some
