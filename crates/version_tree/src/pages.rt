@@ -353,8 +353,8 @@ pub(crate) fn pages_under(
     let mut made = Series::new(alloc);
     'pages: for page in pages {
         let bundles = under(alloc, page.as_ref().as_slice(), config)?;
-        let page = Shared::new(alloc, Page::new(bundles))?;
-        made.push(page)?;
+        let next = Shared::new(alloc, Page::new(bundles))?;
+        made.push(next)?;
     }
     Ok(made)
 }
