@@ -1,6 +1,6 @@
 -- Exits by a fault of an earlier reading.
 use Rattle.std.proofs.Common.{◌≡◌, ℕ, zero, suc, ◌-◌, ◌<◌, ◌≤◌, Bool, List, refl, sym, subst, arith}
-use Rattle.std.specs.Prelude.{Option, Result, Ok, Err, IsErrAnd}
+use Rattle.std.specs.Prelude.{Option, Some, Result, Ok, Err, IsErrAnd}
 use Rattle.emu_names.specs.declared.kinds.SessionNo.{SessionNo}
 use Rattle.emu_names.specs.declared.names.BundleKey.{BundleKey}
 use Rattle.bundle_edits.specs.declared.edit.Edit.{Edit}
@@ -13,6 +13,8 @@ use Rattle.byte_forms.specs.Lists.{times}
 use Rattle.byte_forms.specs.Utf8.{text_form}
 use Rattle.value_codes.specs.Annots.{key_form, session_form}
 use Rattle.value_codes.specs.Heads.{attribute_form, level_def_form}
+use Rattle.value_codes.specs.Inner.Names.{if_so}
+use Rattle.value_codes.specs.Names.{is_key}
 use Rattle.edit_code.specs.Counts.{count_form}
 use Rattle.edit_code.specs.declared.fields.Fields.{Fields}
 use Rattle.edit_code.specs.declared.kinds.Addition.TheVariants as additions
@@ -26,6 +28,7 @@ use Rattle.edit_code.specs.Kinds.{all_kinds, kind_number}
 use Rattle.edit_code.specs.Tags.{tag_form}
 use Rattle.edit_code.specs.Inner.Reading.{GivesIf, Skips}
 use Rattle.edit_code.proofs.ListSteps.{Passes, passes_fail, several_read}
+use Rattle.edit_code.proofs.Tested.{so_by}
 
 -- what stops an earlier reading stops the whole
 fault_if : {A B : Type 0} (test : B → Bool) (fault : ReadFault) (left new : List ℕ) (step : Result (A × List ℕ) ℕ)
@@ -122,3 +125,26 @@ first_exit (Ok made) fault key count bytes new same some gives = absurd same
 first_exit (Err e) fault key count bytes new same some gives =
     subst (λ (f : ReadFault). Gives {A = List Edit} (Err f) new ((times (inner_form key) count).read bytes)) (sym same)
     (first_fault key count bytes new fault some gives)
+
+-- what stops edits that are passed over stops the whole
+skips_if : {A B : Type 0} (test : B → Bool) (fault : ReadFault) (left new : List ℕ) (step : Result (A × List ℕ) ℕ)
+    (whole : Result (B × List ℕ) ℕ) → Skips {A = A} {U = Unit {0}} (Err fault) left step → ((n : ℕ) → step ≡ Err n → whole ≡ Err n)
+    → GivesIf test (Err fault) new whole
+skips_if test (faults.Left n) left new step whole gives on = on n gives
+skips_if test faults.Memory left new step whole gives on = tt
+
+pub exit_skips : {A B : Type 0} (test : B → Bool) (answer : Result (Option B) ReadFault) (fault : ReadFault) (left new : List ℕ)
+    (step : Result (A × List ℕ) ℕ) (whole : Result (B × List ℕ) ℕ) → IsErrAnd answer (λ x. x ≡ fault)
+    → Skips {A = A} {U = Unit {0}} (Err fault) left step → ((n : ℕ) → step ≡ Err n → whole ≡ Err n) → GivesIf test answer new whole
+exit_skips test (Ok made) fault left new step whole same gives on = absurd same
+exit_skips {A = A} {B = B} test (Err e) fault left new step whole same gives on =
+    subst (λ (f : ReadFault). GivesIf {A = B} test (Err f) new whole) (sym same)
+    (skips_if {A = A} {B = B} test fault left new step whole gives on)
+
+-- edits of a key that is the one that was read
+pub made_stop : (old mid behind : List ℕ) (raw key : BundleKey) (count n : ℕ) → key_form.read old ≡ Ok (raw, mid)
+    → count_form.read mid ≡ Ok (count, behind) → Some key ≡ if_so is_key raw → (times (inner_form key) count).read behind ≡ Err n
+    → several_form.read old ≡ Err n
+made_stop old mid behind raw key count n first second made e =
+    edits_stop old mid behind raw count n first second
+    (subst (λ (k : BundleKey). (times (inner_form k) count).read behind ≡ Err n) (so_by is_key raw key made).0 e)

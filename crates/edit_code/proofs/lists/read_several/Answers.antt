@@ -1,5 +1,5 @@
 use Rattle.std.proofs.Common.{sym, ◌∙◌}
-use Rattle.edit_code.proofs.Exits.{exit_if, key_stops, count_stops}
+use Rattle.edit_code.proofs.Exits.{exit_if, exit_skips, key_stops, count_stops, edits_stop, made_stop}
 use Rattle.edit_code.proofs.SeveralSteps.{several_some, several_none}
 use Rattle.edit_code.proofs.lists.read_several.Goals as goal
 
@@ -23,3 +23,15 @@ returns c =
     several_none c.args.from.now c.read.new.from c.read_count.new.from c.skip_edits.new.from c.in_ok-raw.raw c.in_ok-count.count
     c.in_ok-raw.ensures c.in_ok-count.ensures.count c.in_ok-count.ensures.some
     (sym c.in-None.is ∙ c.in_ok-key.ensures) (c.in_ok-skip_edits-in-None.ensures c.in_ok-raw.raw)
+
+pub returns-in_err-edits-in-Some : goal.returns-in_err-edits-in-Some
+returns-in_err-edits-in-Some c =
+    exit_if _ _ _ _ _ _ _ c.from_residual-in_err-edits-in-Some.ensures.1 c.in_err-edits-in-Some.ensures
+    (λ n e. made_stop c.args.from.now c.read.new.from c.read_count.new.from c.in_ok-raw.raw c.in-Some.key c.in_ok-count.count n
+    c.in_ok-raw.ensures c.in_ok-count.ensures.count (sym c.in-Some.is ∙ c.in_ok-key.ensures) e)
+
+pub returns-in_err-skip_edits-in-None : goal.returns-in_err-skip_edits-in-None
+returns-in_err-skip_edits-in-None c =
+    exit_skips _ _ _ _ _ _ _ c.from_residual-in_err-skip_edits-in-None.ensures.1 (c.in_err-skip_edits-in-None.ensures c.in_ok-raw.raw)
+    (λ n e. edits_stop c.args.from.now c.read.new.from c.read_count.new.from c.in_ok-raw.raw c.in_ok-count.count n
+    c.in_ok-raw.ensures c.in_ok-count.ensures.count e)
