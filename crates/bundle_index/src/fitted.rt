@@ -1,5 +1,5 @@
 //! An indexed bundle under a configuration that has more parts than its own.
-ghost use Rattle.std.specs.Prelude.{◌≡◌, ◌<◌, ◌≤◌, ℕ, false, length, IfOk};
+ghost use Rattle.std.specs.Prelude.{◌≡◌, ◌+◌, ◌<◌, length, false, IfOk};
 ghost use Rattle.bundle_state.specs.Fitted.{CanFit, fitted};
 ghost use Rattle.bundle_index.specs.Inner.Fitted.{AreWide, attributes_at};
 

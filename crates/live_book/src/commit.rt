@@ -1,5 +1,5 @@
 //! One commit: what it makes before it calls the disk, the entry in the store, and the new version.
-ghost use Rattle.std.specs.Prelude.{◌≡◌, ◌⊎◌, ◌+◌, ◌≤◌, ◌++◌, [], ◌∷◌, ℕ, suc, true, List, None, Some, Ok, Err, length, IfOk, IfErr, OnOk, OnErr, IsErrOf};
+ghost use Rattle.std.specs.Prelude.{◌≡◌, ◌⊎◌, ◌+◌, ◌≤◌, ◌<◌, ◌++◌, [], ◌∷◌, ℕ, suc, true, List, None, Some, Ok, Err, length, IfOk, IfErr, OnOk, OnErr, IsErrOf};
 ghost use Rattle.std.specs.Arc.{arc_value};
 ghost use Rattle.emu_names.specs.Count.{Rose};
 ghost use Rattle.emu_names.specs.declared.limits.TheConstants.{HISTORY_EDITS};
