@@ -1,4 +1,3 @@
 pub mod Effects
-pub mod Given
 pub mod Kept
 pub mod KeyPlaces

@@ -1,0 +1,11 @@
+pub mod Cuts
+pub mod LabelSteps
+pub mod Lookups
+pub mod Next
+mod PairSteps
+pub mod Places
+pub mod Spans
+pub mod Steps
+pub mod Traces
+pub mod TimedLinks
+pub mod TimedSteps

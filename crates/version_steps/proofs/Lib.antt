@@ -1,0 +1,4 @@
+mod Marking
+mod Touching
+mod StepChanges
+mod Drafting
