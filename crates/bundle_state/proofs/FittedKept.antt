@@ -1,13 +1,13 @@
 -- A bundle that is made to fit a configuration with more parts: it fits it, keeps the rules, and has the same ids and links.
-use Rattle.std.proofs.Common.{◌≡◌, ℕ, zero, suc, ◌+◌, ◌<◌, ◌≤◌, Bool, true, false, cond, List, [], ◌∷◌, ◌++◌, length, map, take, drop, Option, Some, None, IfSome, IsTrue, nat_eq, refl, sym, ◌∙◌, ap, subst, arith, eqb-true, add-one, zero-add, get_or}
+use Rattle.std.proofs.Common.{Bor, ◌≡◌, ℕ, zero, suc, ◌+◌, ◌<◌, ◌≤◌, Bool, true, false, cond, List, [], ◌∷◌, ◌++◌, length, map, take, drop, Option, Some, None, IfSome, IsTrue, nat_eq, refl, sym, ◌∙◌, ap, subst, arith, eqb-true, add-one, zero-add, get_or}
 use Rattle.std.specs.Prelude.{All}
-use Rattle.std.specs.List.{list_any, filter, slice_get, IsDistinct}
-use Rattle.std.specs.Option.{option_map_or}
+use Rattle.std.specs.List.{list_any, filter, slice_get, HoldsAt, IsDistinct}
+use Rattle.std.specs.Option.{option_copied, MatchOption, option_map_or}
 use Rattle.std.proofs.lemmas.Bool.{eqb-false}
 use Rattle.std.proofs.lemmas.List.{append-nil, length-map, length-append, take_all}
 use Rattle.std.proofs.lemmas.List.Sums.{sum_by-cons}
 use Rattle.std.proofs.lemmas.List.Elements.{All-nil, All-cons, All-head, All-tail}
-use Rattle.std.proofs.lemmas.Option.{slice_get_read, slice_get_within}
+use Rattle.std.proofs.lemmas.Option.{slice_get_read, slice_get_past, slice_get-get_or}
 use Rattle.emu_names.specs.declared.kinds.LevelKind.{LevelKind}
 use Rattle.emu_names.specs.declared.names.BundleKey.{BundleKey}
 use Rattle.emu_names.specs.declared.kinds.LevelKind.TheVariants as kinds
@@ -241,6 +241,11 @@ pub can_fit_here : (defs : List LevelDef) (levels : List Level) (n : ℕ) (d : L
     IfSome o (CanFitLevel d)
 can_fit_here defs levels n d None can at is = tt
 can_fit_here defs levels n d (Some l) can at is = can_fit_at defs levels n d l can at (sym is)
+
+-- the element of a number, by what `get` gives of it
+pub copied_at : {A : Type 0} (xs : List A) (i : ℕ) (o : Option (Bor A)) → MatchOption o (length xs ≤ i) (λ x. (i < length xs) × HoldsAt (λ y. x.now ≡ y) xs i) → option_copied o ≡ slice_get xs i
+copied_at xs i None past = sym (slice_get_past xs i past)
+copied_at xs i (Some x) here = sym (slice_get-get_or xs i x.now here.0 ∙ ap Some (sym (here.1 x.now)))
 
 -- the same by what a loop has of the definition
 pub can_fit_next : (defs : List LevelDef) (levels : List Level) (n : ℕ) (d : LevelDef) (o : Option Level) → CanFitLevels defs levels → n < length defs → d ≡ get_or defs n d → o ≡ slice_get levels n →
