@@ -1,7 +1,7 @@
 use Rattle.std.proofs.Common.{◌∙◌, ap, codes, sym}
 use Rattle.emudb_files.specs.Names.{path_in}
 use Rattle.emudb_files.proofs.Reading.{bundle_read, bundle_stops}
-use Rattle.emudb_files.proofs.bundles.bundle_edit.Goals as goal
+use Rattle.emudb_files.proofs.bundles.bundle_act.Goals as goal
 
 pub returns-in-Ok-clause-reads : goal.returns-in-Ok-clause-reads
 returns-in-Ok-clause-reads g c =
