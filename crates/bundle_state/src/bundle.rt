@@ -355,7 +355,6 @@ impl Bundle {
 
     /// The bundle under a configuration that begins with the one that it fits: new levels are empty, and
     /// new attributes have the empty label. The only refusal is want of memory.
-    #[tactic(auto, using(crate::proofs::FittedKept::fit_kept))]
     pub fn fit(&self, alloc: Global, config: &Config) -> Result<Bundle, Memory>
         requires { CanFit config.now self.now }
         ensures { IfOk result (λ made. made ≡ fitted config.now self.now) }
