@@ -1,11 +1,10 @@
 -- What a change of one level makes of all levels: their ids, the level of an id, the rules.
-use Rattle.std.proofs.Common.{◌≡◌, ℕ, zero, suc, ◌+◌, ◌<◌, Bool, true, false, cond, ◌&&◌, ◌||◌, ◌==◌, List, [], ◌∷◌, ◌++◌, length, take, drop, get_or, Option, Some, None, Result, Ok, Err, OnOk, is_some, nat_eq, refl, sym, ◌∙◌, ap, subst, arith, All, append_assoc, length-append, eqb-true, eq-eqb, slice_set, zero-add}
+use Rattle.std.proofs.Common.{◌≡◌, ℕ, zero, suc, ◌+◌, ◌<◌, Bool, true, false, cond, ◌&&◌, ◌||◌, ◌==◌, List, [], ◌∷◌, ◌++◌, length, take, drop, Option, Some, None, is_some, nat_eq, refl, sym, ◌∙◌, ap, subst, arith, All, append_assoc, length-append, eqb-true, eq-eqb, slice_set, zero-add}
 use Rattle.std.specs.List.{list_any, list_all, slice_get, insert, remove}
 use Rattle.std.proofs.lemmas.Bool.{true≢false, and_parts, and_from}
 use Rattle.std.proofs.lemmas.List.{length-map, length-set, take-append-drop}
 use Rattle.std.proofs.lemmas.List.Sums.{sum_by-cons}
 use Rattle.std.proofs.lemmas.List.Folds.{list_any-append}
-use Rattle.std.proofs.lemmas.Option.{slice_get-get_or}
 use Rattle.std.proofs.lemmas.List.Elements.{All-cons, All-head, All-tail}
 use Rattle.emu_names.specs.declared.limits.TheConstants.{BUNDLE_ITEMS}
 use Rattle.emu_names.specs.declared.kinds.LevelKind.{LevelKind}

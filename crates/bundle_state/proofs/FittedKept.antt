@@ -1,10 +1,9 @@
 -- A bundle that is made to fit a configuration with more parts: it fits it, keeps the rules, and has the same ids and links.
-use Rattle.std.proofs.Common.{Bor, ◌≡◌, ℕ, zero, suc, ◌+◌, ◌<◌, ◌≤◌, Bool, true, false, cond, List, [], ◌∷◌, ◌++◌, length, map, take, drop, Option, Some, None, IfSome, IsTrue, nat_eq, refl, sym, ◌∙◌, ap, subst, arith, eqb-true, add-one, zero-add, get_or}
+use Rattle.std.proofs.Common.{Bor, ◌≡◌, ℕ, zero, suc, ◌+◌, ◌<◌, ◌≤◌, Bool, true, false, cond, List, [], ◌∷◌, ◌++◌, length, map, take, Option, Some, None, IfSome, nat_eq, refl, sym, ◌∙◌, ap, subst, arith, eqb-true, add-one, zero-add, get_or}
 use Rattle.std.specs.Prelude.{All}
-use Rattle.std.specs.List.{list_any, filter, slice_get, HoldsAt, IsDistinct}
+use Rattle.std.specs.List.{list_any, slice_get, HoldsAt, IsDistinct}
 use Rattle.std.specs.Option.{option_copied, MatchOption, option_map_or}
-use Rattle.std.proofs.lemmas.Bool.{eqb-false}
-use Rattle.std.proofs.lemmas.List.{append-nil, length-map, length-append, take_all}
+use Rattle.std.proofs.lemmas.List.{length-append, take_all}
 use Rattle.std.proofs.lemmas.List.Sums.{sum_by-cons}
 use Rattle.std.proofs.lemmas.List.Elements.{All-nil, All-cons, All-head, All-tail}
 use Rattle.std.proofs.lemmas.Option.{slice_get_read, slice_get_past, slice_get-get_or}
@@ -13,15 +12,14 @@ use Rattle.emu_names.specs.declared.names.BundleKey.{BundleKey}
 use Rattle.emu_names.specs.declared.kinds.LevelKind.TheVariants as kinds
 use Rattle.emu_names.specs.declared.kinds.LinkKind.{LinkKind}
 use Rattle.emu_names.specs.declared.kinds.LinkKind.TheVariants.{OneToOne, OneToMany, ManyToMany}
-use Rattle.level_items.specs.declared.items.Item.{Item}
-use Rattle.level_items.specs.Levels.{Level, level_of, ids_of, widened, KeepsLevelRule, are_different}
+use Rattle.level_items.specs.Levels.{Level, level_of, ids_of, KeepsLevelRule, are_different}
 use Rattle.level_items.proofs.Wider.{ids_widened, rule_widened, length_widened}
 use Rattle.link_graph.specs.declared.link.Link.{Link}
 use Rattle.link_graph.specs.Kind.{of_definition, KeepKind}
 use Rattle.db_config.specs.declared.parts.LevelDef.{LevelDef}
 use Rattle.db_config.specs.declared.parts.LinkDef.{LinkDef}
 use Rattle.db_config.specs.declared.parts.ConfigParts.{ConfigParts}
-use Rattle.db_config.specs.Added.{Begins, ExtendsLevel, ExtendLevels, Extends}
+use Rattle.db_config.specs.Added.{Begins, ExtendLevels}
 use Rattle.bundle_state.specs.declared.places.Places.{Places}
 use Rattle.bundle_state.specs.Inner.Placed.{level_in}
 use Rattle.bundle_state.specs.Inner.Kept.{IsKept}

@@ -1,28 +1,25 @@
 -- A link that is put at a place of the list of links.
-use Rattle.std.proofs.Common.{◌≡◌, ◌≢◌, ℕ, zero, suc, ◌+◌, Bool, true, false, cond, List, [], ◌∷◌, ◌++◌, length, insert, Option, Some, None, Result, Ok, Err, OnOk, OnErr, nat_eq, refl, sym, ◌∙◌, ap, subst, arith, eqb-true}
+use Rattle.std.proofs.Common.{◌≡◌, ℕ, zero, suc, Bool, true, false, cond, List, [], ◌∷◌, length, insert, Option, Some, None, Result, Ok, Err, OnOk, OnErr, nat_eq, refl, sym, ◌∙◌, ap, subst, arith, eqb-true}
 use Rattle.std.specs.Prelude.{All, nat_le}
 use Rattle.std.specs.List.{list_any}
 use Rattle.std.specs.Option.{option_or}
 use Rattle.std.proofs.lemmas.Bool.{eqb-false, leb-false}
-use Rattle.std.proofs.lemmas.List.Elements.{All-nil, All-cons, All-head, All-tail}
+use Rattle.std.proofs.lemmas.List.Elements.{All-cons, All-head, All-tail}
 use Rattle.emu_names.specs.declared.kinds.ItemId.{ItemId}
 use Rattle.emu_names.specs.declared.limits.TheConstants.{BUNDLE_LINKS}
-use Rattle.emu_names.specs.declared.rules.Broken.{Broken}
 use Rattle.emu_names.specs.declared.rules.Broken.TheVariants as rules
 use Rattle.emu_names.specs.declared.rules.What.TheVariants as counted
 use Rattle.emu_names.specs.declared.rules.Fault.{Fault}
 use Rattle.emu_names.specs.Inner.Gives.{FindsFault}
-use Rattle.level_items.specs.declared.annot.AnnotLink.{AnnotLink}
 use Rattle.link_graph.specs.declared.link.Link.{Link}
 use Rattle.link_graph.specs.Kind.{KeepKind}
 use Rattle.link_graph.specs.Link.{joins, link_of, add_fault, kind_fault}
 use Rattle.link_graph.proofs.Inserted.{keep_inserted, keep_other_inserted, pairs_inserted, length_insert}
-use Rattle.db_config.specs.declared.parts.ConfigParts.{ConfigParts}
 use Rattle.db_config.specs.declared.parts.LinkDef.{LinkDef}
 use Rattle.bundle_state.specs.declared.places.Places.{Places}
 use Rattle.bundle_state.specs.Bundle.{BundleParts, level_of_id}
 use Rattle.bundle_state.specs.Built.{FitsConfig}
-use Rattle.bundle_state.specs.Linked.{unless_broken, kind_of, definition_for, IsBetween, KeepLinkRule}
+use Rattle.bundle_state.specs.Linked.{kind_of, definition_for, IsBetween}
 use Rattle.bundle_state.specs.Valid.{KeepsBundleRules}
 use Rattle.bundle_state.specs.Inner.Kept.{IsKept}
 use Rattle.bundle_state.specs.Inner.Placed.{level_in}
@@ -31,7 +28,7 @@ use Rattle.bundle_state.specs.ChangedLaws.{KeepsForm, KeepsRules}
 use Rattle.bundle_state.proofs.Tests.{cond_none, or_none}
 use Rattle.bundle_state.proofs.LinksKept.{AreFineLinks, goes_on, level_parts}
 use Rattle.bundle_state.proofs.BuiltKept.{unbroken}
-use Rattle.bundle_state.proofs.ChangedKept.{levels_of, links_of}
+use Rattle.bundle_state.proofs.ChangedKept.{links_of}
 
 all_insert : {A : Type 0} (P : A → Type 0) (xs : List A) (i : ℕ) (y : A) → All P xs → P y → All P (insert xs i y)
 all_insert P [] zero y all own = All-cons P y [] own all

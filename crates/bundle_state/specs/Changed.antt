@@ -1,17 +1,16 @@
 -- What becomes of a bundle where one of its items or links changes, or the rule that the change breaks
 -- first (EMU-SDMS Manual, "The emuDB format": `_annot.json`).
-use Rattle.std.specs.Prelude.{ℕ, zero, suc, not, List, [], ◌∷◌, ◌++◌, length, nat_eq, nat_le, insert, remove, Option, Some, None, Result, Ok, if◌then◌else◌, ok_or}
-use Rattle.std.specs.List.{list_any, filter, slice_get}
-use Rattle.std.specs.Option.{option_and_then, option_or}
+use Rattle.std.specs.Prelude.{ℕ, not, List, [], ◌∷◌, ◌++◌, nat_eq, insert, Option, Some, Result, Ok, if◌then◌else◌, ok_or}
+use Rattle.std.specs.List.{list_any, filter}
+use Rattle.std.specs.Option.{option_or}
 use Rattle.emu_names.specs.declared.kinds.ItemId.{ItemId}
 use Rattle.emu_names.specs.declared.rules.Broken.{Broken}
 use Rattle.emu_names.specs.declared.rules.Broken.TheVariants as rules
 use Rattle.level_items.specs.declared.times.Time.{Time}
 use Rattle.level_items.specs.declared.items.Item.{Item}
-use Rattle.level_items.specs.Levels.{Level, with_items, change_at, retimed, relabelled, put_at_place}
-use Rattle.level_items.specs.Faults.{insert_fault, retime_fault}
+use Rattle.level_items.specs.Levels.{Level, retimed, relabelled}
 use Rattle.link_graph.specs.declared.link.Link.{Link}
-use Rattle.link_graph.specs.Link.{names_item, joins, link_of, add_fault}
+use Rattle.link_graph.specs.Link.{names_item, link_of, add_fault}
 use Rattle.bundle_state.specs.Bundle.{BundleParts, all_ids, level_of_id, place_of}
 use Rattle.bundle_state.specs.Linked.{unless_broken, kind_of, definition_for}
 use Rattle.emu_names.specs.Steps.{onward}

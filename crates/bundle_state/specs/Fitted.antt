@@ -1,6 +1,6 @@
 -- A bundle under a configuration that has more levels, attributes or link definitions than the one that it
 -- was made under. What is new stands last, so all numbers stay.
-use Rattle.std.specs.Prelude.{◌≡◌, ◌≤◌, ℕ, List, [], ◌∷◌, length, Option, Some, None}
+use Rattle.std.specs.Prelude.{◌≡◌, ◌≤◌, List, [], ◌∷◌, length, Option, Some, None}
 use Rattle.level_items.specs.Levels.{Level, level_of, widened}
 use Rattle.db_config.specs.declared.parts.LevelDef.{LevelDef}
 use Rattle.db_config.specs.declared.parts.ConfigParts.{ConfigParts}

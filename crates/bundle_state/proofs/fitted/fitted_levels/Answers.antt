@@ -1,5 +1,4 @@
-use Rattle.std.proofs.Common.{rules, ◌≡◌, option_copied}
-use Rattle.std.specs.List.{slice_get}
+use Rattle.std.proofs.Common.{option_copied}
 use Rattle.bundle_state.proofs.FittedKept.{copied_at, can_fit_next, fitted_next}
 use Rattle.bundle_state.proofs.fitted.fitted_levels.Goals as goal
 
