@@ -4,6 +4,7 @@ pub mod Lookups
 pub mod Next
 mod PairSteps
 pub mod Places
+mod SameEdit
 pub mod Spans
 pub mod Steps
 pub mod Traces

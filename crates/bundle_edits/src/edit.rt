@@ -1,6 +1,6 @@
 //! The edits of a database.
-ghost use Rattle.std.specs.Prelude.{◌≡◌, IfOk};
-ghost use Rattle.bundle_edits.specs.Edits.{key_of};
+ghost use Rattle.std.specs.Prelude.{◌≡◌, IfOk, IsTrue};
+ghost use Rattle.bundle_edits.specs.Edits.{key_of, is_of_item, is_of_label, is_of_time, is_of_link};
 
 use emu_names::{BundleKey, ItemId, Memory, PlainData, Text};
 use level_items::{Annot, AnnotItem};
@@ -226,122 +226,178 @@ impl Edit {
                 Ok(Edit::AddBundle { key, annot })
             }
             Edit::DropBundle { .. } => Ok(Edit::DropBundle { key }),
-            Edit::AddItem {
-                level,
-                position,
-                item,
-                ..
-            } => {
-                let level = level.copy(alloc)?;
-                let item = item.copy(alloc)?;
-                Ok(Edit::AddItem {
-                    key,
-                    level,
-                    position: *position,
-                    item,
-                })
+            Edit::AddItem { .. } | Edit::PutItem { .. } | Edit::RemoveItem { .. } => {
+                copy_of_item(alloc, key, self)
             }
-            Edit::SetLabel {
-                id,
-                attribute,
-                label,
-                ..
-            } => {
-                let attribute = attribute.copy(alloc)?;
-                let label = label.copy(alloc)?;
-                Ok(Edit::SetLabel {
-                    key,
-                    id: *id,
-                    attribute,
-                    label,
-                })
+            Edit::SetLabel { .. } | Edit::PutLabel { .. } => copy_of_label(alloc, key, self),
+            Edit::SetSegment { .. }
+            | Edit::MoveBoundary { .. }
+            | Edit::SetPoint { .. }
+            | Edit::Split { .. }
+            | Edit::Merge { .. } => Ok(copy_of_time(key, self)),
+            Edit::AddLink { .. } | Edit::RemoveLink { .. } | Edit::PutLink { .. } => {
+                Ok(copy_of_link(key, self))
             }
-            Edit::RemoveItem { id, .. } => Ok(Edit::RemoveItem { key, id: *id }),
-            Edit::SetSegment { id, start, dur, .. } => Ok(Edit::SetSegment {
-                key,
-                id: *id,
-                start: *start,
-                dur: *dur,
-            }),
-            Edit::MoveBoundary { id, start, .. } => Ok(Edit::MoveBoundary {
-                key,
-                id: *id,
-                start: *start,
-            }),
-            Edit::SetPoint { id, at, .. } => Ok(Edit::SetPoint {
-                key,
-                id: *id,
-                at: *at,
-            }),
-            Edit::Split {
-                id,
-                new_id,
-                start,
-                ..
-            } => Ok(Edit::Split {
-                key,
-                id: *id,
-                new_id: *new_id,
-                start: *start,
-            }),
-            Edit::Merge { id, .. } => Ok(Edit::Merge { key, id: *id }),
-            Edit::AddLink { from, to, .. } => Ok(Edit::AddLink {
-                key,
-                from: *from,
-                to: *to,
-            }),
-            Edit::RemoveLink { from, to, .. } => Ok(Edit::RemoveLink {
-                key,
-                from: *from,
-                to: *to,
-            }),
             Edit::LinkTimes { upper, lower, .. } => {
                 let upper = upper.copy(alloc)?;
                 let lower = lower.copy(alloc)?;
                 Ok(Edit::LinkTimes { key, upper, lower })
             }
-            Edit::PutItem {
+        }
+    }
+}
+
+/// An edit of one item again, which takes this key.
+fn copy_of_item(alloc: Global, key: BundleKey, edit: &Edit) -> Result<Edit, Memory>
+    requires kind { IsTrue (is_of_item edit.now) }
+    requires key { key ≡ key_of edit.now }
+    ensures { IfOk result (λ made. made ≡ edit.now) }
+{
+    match edit {
+        Edit::AddItem {
+            level,
+            position,
+            item,
+            ..
+        } => {
+            let level = level.copy(alloc)?;
+            let item = item.copy(alloc)?;
+            Ok(Edit::AddItem {
+                key,
                 level,
-                position,
+                position: *position,
                 item,
-                ..
-            } => {
-                let level = level.copy(alloc)?;
-                let item = item.copy(alloc)?;
-                Ok(Edit::PutItem {
-                    key,
-                    level,
-                    position: *position,
-                    item,
-                })
-            }
-            Edit::PutLabel {
-                id,
+            })
+        }
+        Edit::PutItem {
+            level,
+            position,
+            item,
+            ..
+        } => {
+            let level = level.copy(alloc)?;
+            let item = item.copy(alloc)?;
+            Ok(Edit::PutItem {
+                key,
+                level,
+                position: *position,
+                item,
+            })
+        }
+        Edit::RemoveItem { id, .. } => Ok(Edit::RemoveItem { key, id: *id }),
+        _ => unreachable!(),
+    }
+}
+
+/// An edit of a label again, which takes this key.
+fn copy_of_label(alloc: Global, key: BundleKey, edit: &Edit) -> Result<Edit, Memory>
+    requires kind { IsTrue (is_of_label edit.now) }
+    requires key { key ≡ key_of edit.now }
+    ensures { IfOk result (λ made. made ≡ edit.now) }
+{
+    match edit {
+        Edit::SetLabel {
+            id,
+            attribute,
+            label,
+            ..
+        } => {
+            let attribute = attribute.copy(alloc)?;
+            let label = label.copy(alloc)?;
+            Ok(Edit::SetLabel {
+                key,
+                id: *id,
                 attribute,
                 label,
-                ..
-            } => {
-                let attribute = attribute.copy(alloc)?;
-                let label = label.copy(alloc)?;
-                Ok(Edit::PutLabel {
-                    key,
-                    id: *id,
-                    attribute,
-                    label,
-                })
-            }
-            Edit::PutLink {
-                from,
-                to,
-                place,
-                ..
-            } => Ok(Edit::PutLink {
-                key,
-                from: *from,
-                to: *to,
-                place: *place,
-            }),
+            })
         }
+        Edit::PutLabel {
+            id,
+            attribute,
+            label,
+            ..
+        } => {
+            let attribute = attribute.copy(alloc)?;
+            let label = label.copy(alloc)?;
+            Ok(Edit::PutLabel {
+                key,
+                id: *id,
+                attribute,
+                label,
+            })
+        }
+        _ => unreachable!(),
+    }
+}
+
+/// An edit of the times of segments or points again, which takes this key.
+fn copy_of_time(key: BundleKey, edit: &Edit) -> Edit
+    requires kind { IsTrue (is_of_time edit.now) }
+    requires key { key ≡ key_of edit.now }
+    ensures { result ≡ edit.now }
+{
+    match edit {
+        Edit::SetSegment { id, start, dur, .. } => Edit::SetSegment {
+            key,
+            id: *id,
+            start: *start,
+            dur: *dur,
+        },
+        Edit::MoveBoundary { id, start, .. } => Edit::MoveBoundary {
+            key,
+            id: *id,
+            start: *start,
+        },
+        Edit::SetPoint { id, at, .. } => Edit::SetPoint {
+            key,
+            id: *id,
+            at: *at,
+        },
+        Edit::Split {
+            id,
+            new_id,
+            start,
+            ..
+        } => Edit::Split {
+            key,
+            id: *id,
+            new_id: *new_id,
+            start: *start,
+        },
+        Edit::Merge { id, .. } => Edit::Merge { key, id: *id },
+        _ => unreachable!(),
+    }
+}
+
+/// An edit of one link again, which takes this key.
+fn copy_of_link(key: BundleKey, edit: &Edit) -> Edit
+    requires kind { IsTrue (is_of_link edit.now) }
+    requires key { key ≡ key_of edit.now }
+    ensures { result ≡ edit.now }
+{
+    match edit {
+        Edit::AddLink { from, to, .. } => Edit::AddLink {
+            key,
+            from: *from,
+            to: *to,
+        },
+        Edit::RemoveLink { from, to, .. } => Edit::RemoveLink {
+            key,
+            from: *from,
+            to: *to,
+        },
+        Edit::PutLink {
+            from,
+            to,
+            place,
+            ..
+        } => Edit::PutLink {
+            key,
+            from: *from,
+            to: *to,
+            place: *place,
+        },
+        _ => unreachable!(),
     }
 }
 
