@@ -22,6 +22,7 @@ use Rattle.bundle_edits.specs.Changes.{changed, bundle_added, unless_too_many}
 use Rattle.bundle_edits.specs.Edits.{key_of}
 use Rattle.edit_rules.specs.declared.acts.Act.TheVariants as acts
 use Rattle.edit_rules.specs.declared.acts.Breach.{Breach}
+use Rattle.edit_rules.specs.declared.acts.ChangeFault.{ChangeFault}
 use Rattle.edit_rules.specs.Database.{DatabaseParts, KeepsDatabaseRules, bundle_with, counts_of}
 use Rattle.edit_rules.specs.Effects.{at_place, edit_effect, in_turn, put_back}
 use Rattle.edit_rules.specs.Inner.Effects.{IsFirstBreach, is_placed}
@@ -154,9 +155,14 @@ alone_state v es e made next is at effect =
     ap (in_turn 1 (state_of v)) (alone v.config es e made is at)
     ∙ ap (λ (r : Result DatabaseParts Broken). onward (at_place 1 r) (λ d. in_turn 2 d [])) effect
 
-pub alone_broken : (v : VersionParts) (es : List Edit) (e : Edit) (made : Result IndexParts Fault) (fault : Fault) → IsAddedBy v.config (acts.Edits es) (Some made) → slice_get es 0 ≡ Some e → IsFirstFault fault (edit_effect (state_of v) e) →
+alone_first : (v : VersionParts) (es : List Edit) (e : Edit) (made : Result IndexParts Fault) (fault : Fault) → IsAddedBy v.config (acts.Edits es) (Some made) → slice_get es 0 ≡ Some e → IsFirstFault fault (edit_effect (state_of v) e) →
     IsFirstBreach (is_placed 1 fault) (in_turn 1 (state_of v) es)
-alone_broken v es e made (faults.Broken rule) is at broken =
+alone_first v es e made (faults.Broken rule) is at broken =
     ap (in_turn 1 (state_of v)) (alone v.config es e made is at)
     ∙ ap (λ (r : Result DatabaseParts Broken). onward (at_place 1 r) (λ d. in_turn 2 d [])) broken
-alone_broken v es e made faults.Memory is at broken = tt
+alone_first v es e made faults.Memory is at broken = tt
+
+pub alone_broken : (v : VersionParts) (es : List Edit) (e : Edit) (made : Result IndexParts Fault) (fault : Fault) (placed : ChangeFault) → placed ≡ is_placed 1 fault → IsAddedBy v.config (acts.Edits es) (Some made) → slice_get es 0 ≡ Some e →
+    IsFirstFault fault (edit_effect (state_of v) e) → IsFirstBreach placed (in_turn 1 (state_of v) es)
+alone_broken v es e made fault placed same is at broken =
+    subst (λ (p : ChangeFault). IsFirstBreach p (in_turn 1 (state_of v) es)) (sym same) (alone_first v es e made fault is at broken)

@@ -2,3 +2,4 @@ mod Marking
 mod Touching
 mod StepChanges
 mod Drafting
+mod Configuring

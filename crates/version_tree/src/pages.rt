@@ -338,7 +338,7 @@ pub(crate) fn bundle_at<'a>(pages: &'a [Shared<Page>], place: usize) -> &'a Inde
 }
 
 /// The pages with each of their bundles made to fit a configuration. The only refusal is want of memory.
-#[tactic(auto, using(crate::proofs::Fitting::none_made, crate::proofs::Fitting::page_more, crate::proofs::Fitting::pages_whole, crate::proofs::Fitting::page_fits, crate::proofs::Fitting::page_sized, crate::proofs::Fitting::pages_fitted, crate::proofs::Fitting::pages_kept))]
+#[tactic(auto, using(crate::proofs::Fitting::none_made, crate::proofs::Fitting::page_more, crate::proofs::Fitting::pages_whole, crate::proofs::Fitting::page_sized, crate::proofs::Fitting::pages_fitted))]
 pub(crate) fn pages_under(
     alloc: Global,
     pages: &[Shared<Page>],

@@ -62,9 +62,9 @@ version_without key version = record {
 }
 
 -- the next version under a configuration that begins with its own: each bundle is made to fit it
-pub record IsUnder (config : ConfigParts) (old next : VersionParts) : Type 0 where
-  pub config : next.config ≡ config
-  pub bundles : bundles_of next.bundles ≡ map (fitted config) (bundles_of old.bundles)
+pub record IsUnder (wider : ConfigParts) (old next : VersionParts) : Type 0 where
+  pub config : next.config ≡ wider
+  pub bundles : bundles_of next.bundles ≡ map (fitted wider) (bundles_of old.bundles)
   pub number : next.number ≡ next_number old.number
 
 -- a version keeps the rules: there are at most 10,000 bundles, in order of their keys, each of them valid

@@ -10,7 +10,7 @@ use Rattle.version_tree.proofs.version.Version.with_config.Goals as goal
 
 pub under-requires : goal.under-requires
 under-requires c =
-    all_can_fit c.args.self.now _ c.args.config c.self.view_is c.len-_count.ensures.rules c.requires
+    all_can_fit c.args.self.now _ c.args.config c.self.view_is c.len-count.ensures.rules c.requires
 
 pub invariant_of-result : goal.invariant_of-result
 invariant_of-result c =
