@@ -1,5 +1,5 @@
 -- The bundle that an edit adds, of what was made of its annotation before.
-use Rattle.std.proofs.Common.{◌≡◌, ◌<◌, ◌≤◌, true, false, Bool, ℕ, List, [], ◌∷◌, length, slice_get, Option, None, Some, Result, Ok, Err, refl, sym, ◌∙◌, ap, subst, cond, arith}
+use Rattle.std.proofs.Common.{◌≡◌, ◌<◌, ◌≤◌, true, false, true≢false, Bool, ℕ, List, [], ◌∷◌, length, slice_get, Option, None, Some, Result, Ok, Err, refl, sym, ◌∙◌, ap, subst, cond, arith}
 use Rattle.std.specs.Prelude.{nat_le, nat_lt, ◌+◌}
 use Rattle.emu_names.specs.Inner.Gives.{broken_in}
 use Rattle.emu_names.specs.Steps.{onward}
@@ -23,6 +23,7 @@ use Rattle.bundle_edits.specs.Edits.{key_of}
 use Rattle.edit_rules.specs.declared.acts.Act.TheVariants as acts
 use Rattle.edit_rules.specs.declared.acts.Breach.{Breach}
 use Rattle.edit_rules.specs.declared.acts.ChangeFault.{ChangeFault}
+use Rattle.edit_rules.specs.Acts.{AreTogether}
 use Rattle.edit_rules.specs.Database.{DatabaseParts, KeepsDatabaseRules, bundle_with, counts_of}
 use Rattle.edit_rules.specs.Effects.{at_place, edit_effect, in_turn, put_back}
 use Rattle.edit_rules.specs.Inner.Effects.{IsFirstBreach, is_placed}
@@ -119,6 +120,10 @@ module _ (v : VersionParts) (edit : Edit) (x : IndexParts) (keeps : KeepsDatabas
   added_effect next put = whole ∙ ap fine_state (sym put)
 
 -- What is made ahead of a list of edits.
+
+pub some_there : (es : List Edit) → AreTogether es → 0 < length es
+some_there [] together = absurd (true≢false (sym together.together))
+some_there (x ∷ es) together = omega arith
 
 pub added_alone : (config : ConfigParts) (es : List Edit) (e : Edit) (added : Option (Result IndexParts Fault)) → length es ≤ 1 → slice_get es 0 ≡ Some e → IsAddedByEdit config e added → IsAddedBy config (acts.Edits es) added
 added_alone config [] e added few at is = absurd cc

@@ -9,12 +9,14 @@ use Rattle.emu_names.specs.declared.names.BundleKey.{BundleKey}
 use Rattle.emu_names.specs.declared.rules.Broken.{Broken}
 use Rattle.emu_names.specs.declared.rules.Broken.TheVariants as rules
 use Rattle.emu_names.specs.declared.rules.What.TheVariants as counted
+use Rattle.level_items.specs.Levels.{Level}
 use Rattle.level_items.specs.declared.annot.Annot.{Annot}
 use Rattle.db_config.specs.declared.parts.ConfigParts.{ConfigParts}
 use Rattle.bundle_state.specs.Bundle.{BundleParts, item_count}
 use Rattle.bundle_state.specs.Built.{built, FitsConfig}
 use Rattle.bundle_state.proofs.LinksKept.{goes_on}
 use Rattle.bundle_index.specs.Index.{IndexParts}
+use Rattle.bundle_index.specs.Inner.Columns.{AreSameBut}
 use Rattle.bundle_edits.specs.declared.bundle_change.Counts.{Counts}
 use Rattle.bundle_edits.specs.declared.edit.Edit.{Edit}
 use Rattle.bundle_edits.specs.declared.edit.Edit.TheVariants as edits
@@ -37,7 +39,7 @@ use Rattle.edit_rules.proofs.Turns.{at_ok, told, told_same, turn_keeps, goes_on 
 use Rattle.std.proofs.lemmas.Bool.{and_parts}
 use Rattle.version_tree.specs.Version.{VersionParts, state_of, bundles_of}
 use Rattle.version_tree.specs.Inner.Version.{state_put, indexed_with}
-use Rattle.version_steps.specs.Inner.Steps.{AreTouchedBy, changed_in}
+use Rattle.version_steps.specs.Inner.Steps.{AreMarked, AreTouchedBy, changed_in}
 use Rattle.version_steps.proofs.Touching.{edits_touch}
 
 -- where no indexed bundle has a key, no bundle has it
@@ -203,3 +205,11 @@ touched_there v key es old b keeps together found is =
     ap (λ (o : Option BundleParts). changed_in_turn v.config (beside (counts_of (state_of v).bundles) o) 1 o es) (sym found) ∙ is in
     let rules = (all_found (IsBundleOf v.config) key (state_of v).bundles old found keeps.bundles).0.rules in
     edits_touch v.config others old b es together rules.apart own
+
+-- the levels that the edits touch, as they are marked
+pub touched_rows : (config : ConfigParts) (old : BundleParts) (es : List Edit) (new : List Level) (row : List Bool) (b : BundleParts) (seen : List Edit) → AreTouchedBy config old.levels es new → b ≡ old → seen ≡ es → AreMarked config b.levels seen row →
+    AreSameBut row old.levels new
+touched_rows config old es new row b seen touched own all marks =
+    touched row
+    (subst (λ (c : BundleParts). AreMarked config c.levels es row) own
+    (subst (λ (xs : List Edit). AreMarked config b.levels xs row) all marks))

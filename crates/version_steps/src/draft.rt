@@ -53,7 +53,7 @@ fn added_by_edit(alloc: Global, config: &Config, edit: &Edit) -> Option<Result<I
 }
 
 /// What edits add, where they are one that adds a bundle.
-#[tactic(auto, using(crate::proofs::Drafting::added_alone, crate::proofs::Drafting::added_several))]
+#[tactic(auto, using(crate::proofs::Drafting::some_there, crate::proofs::Drafting::added_alone, crate::proofs::Drafting::added_several))]
 fn added_by_edits(alloc: Global, config: &Config, edits: &Edits) -> Option<Result<Indexed, Fault>>
     ensures { IsAddedBy config.now (acts.Edits edits.now) result }
 {
