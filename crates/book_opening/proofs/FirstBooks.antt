@@ -39,7 +39,7 @@ module _ {D : Type 0} (may_leave : D → List ℕ → Type 0) where
   first_book own version current entries opened since board journal valid few state is all from number list held =
       let first : Published = record { version = version; last = None } in
       let low : length entries ≤ opened = omega (arith, all) in
-      let front : take opened entries ≡ entries = take_all entries opened low in
+      let front : take opened entries ≡ entries = take_all opened entries low in
       let back : drop opened entries ≡ [] = drop_all opened entries low in
       let shown : AreShown own entries [] (entry (length entries) first ∷ []) = (record { number = refl; version = state; last = refl }, refl) in
       subst (λ (p : Published). IsBookOf may_leave own p entries opened since board journal) (sym is) (record {
