@@ -4,9 +4,9 @@
     tools/ahead.py CRATE [--only PATH].. [FLAG..]      from the top of the repository
 
 A library that is built is read as it is. Each other one below is read as source, from a copy in which a hole stands in the place of
-every proof that has files of its own: what is above takes such a function by its contract. So nothing of these libraries is proved here, and no verdict is
-given; a function without such files is still proved where it is called. PATH is a function, a type or a module, as for `rt check --only`;
-without one it is every module of the crate. FLAG goes to the check, which has --allow-holes. Copies and kept work stand in
+every proof: what is above takes such a function by its contract. So nothing of these libraries is proved here, and no verdict is
+given; what a macro writes and a closure are still proved where they are called. PATH is a function, a type or a module, as for
+`rt check --only`; without one it is every module of the crate. FLAG goes to the check, which has --allow-holes. Copies and kept work stand in
 CRATE/out/ahead. The first run reads all these sources, some minutes of a processor where many are above one another.
 """
 import importlib.machinery
@@ -39,19 +39,59 @@ def is_proof(folder, names):
     return not any(it.startswith("+") for it in folder.split("/")) and any(it in names for it in ("Answers.antt", "Invariants.antt"))
 
 
+def lines_of(path):
+    """The lines of a source without their comments."""
+    with open(path, encoding="utf-8") as file:
+        return re.sub(r"//[^\n]*", "", file.read()).split("\n")
+
+
+def owner(head):
+    """The name under which proofs/ has the functions of an `impl`, of which this is what stands behind that word."""
+    depth = 0
+    for place, sign in enumerate(head if head.startswith("<") else ""):
+        depth += (sign == "<") - (sign == ">")
+        if depth == 0:
+            head = head[place + 1 :]
+            break
+    of, _, whom = head.split("{")[0].split(" where ")[0].strip().partition(" for ")
+    names = [re.sub(r"<.*", "", it).strip().lstrip("&").split("::")[-1] for it in (whom, of)]
+    name = "".join([*names, *(re.findall(r"<(.*)>", of) if whom else [])])
+    return name[:1].upper() + name[1:]
+
+
+def functions_of(folder):
+    """The functions of a library, each as the folder that its proof has below proofs/."""
+    for at, _, names in os.walk(f"{folder}/src"):
+        for name in (it for it in names if it.endswith(".rt")):
+            module = os.path.relpath(f"{at}/{name[:-3]}", f"{folder}/src").split("/")
+            module = [] if module == ["lib"] else module[:-1] if module[-1] == "mod" else module
+            inside = []
+            for line in lines_of(f"{at}/{name}"):
+                if found := re.match(r"(?:unsafe )?impl\b(.*)", line):
+                    inside = [owner(found[1].strip())]
+                elif line.startswith("}"):
+                    inside = []
+                elif found := re.match(r"( {4})?(?:pub(?:\([a-z ]+\))? )?(?:const )?(?:unsafe )?fn (\w+)", line):
+                    if bool(found[1]) == bool(inside) and all(re.fullmatch(r"\w+", it) for it in inside):
+                        yield "/".join([*module, *inside, found[2]])
+
+
 def with_holes(crate, to):
     """Copies a library, with a hole for each proof that has files. What did not change keeps its time."""
     new = f"{to}.new"
     shutil.rmtree(new, ignore_errors=True)
     shutil.copytree(crate.folder, new, ignore=shutil.ignore_patterns("out", "must-fail"))
-    for at, _, names in os.walk(f"{new}/proofs"):
-        folder = os.path.relpath(at, f"{new}/proofs")
-        if is_proof(folder, names):
-            for name in ("Answers.antt", "Invariants.antt"):
-                if name in names:
-                    os.remove(f"{at}/{name}")
-            with open(f"{at}/Proof.antt", "w", encoding="utf-8") as file:
-                file.write(HOLE.format(crate=crate.name, path=folder.replace("/", "."), name=os.path.basename(folder)))
+    folders = {os.path.relpath(at, f"{new}/proofs"): names for at, _, names in os.walk(f"{new}/proofs")}
+    in_cycles = {os.path.dirname(it) for it in folders if os.path.basename(it).startswith("+")}
+    alone = {it for it in functions_of(new) if os.path.dirname(it) not in in_cycles}
+    for folder in sorted({*(it for it in folders if is_proof(it, folders[it])), *alone}):
+        at = f"{new}/proofs/{folder}"
+        os.makedirs(at, exist_ok=True)
+        for name in ("Answers.antt", "Invariants.antt"):
+            if name in folders.get(folder, []):
+                os.remove(f"{at}/{name}")
+        with open(f"{at}/Proof.antt", "w", encoding="utf-8") as file:
+            file.write(HOLE.format(crate=crate.name, path=folder.replace("/", "."), name=os.path.basename(folder)))
     for at, _, names in os.walk(new):
         for name in names:
             old = f"{at}/{name}".replace(new, to, 1)
