@@ -96,6 +96,13 @@ refit_kept d config bundles items kept more valid is =
       count = kept.count ∙ sym (items_fitted d.config config d.bundles more kept.rules.bundles);
     })
 
+-- the same, where configuration and bundles are handed on
+pub refitted : (d : DatabaseParts) (asked config : ConfigParts) (given bundles : List BundleParts) (items : ℕ) → IsKept d items → Extends d.config asked → is_valid asked ≡ true →
+    config ≡ asked → given ≡ d.bundles → bundles ≡ map (fitted asked) given → IsKept (record { config = config; bundles = bundles }) items
+refitted d asked config given bundles items kept more valid same alike is =
+    subst (λ c. IsKept (record { config = c; bundles = bundles }) items) (sym same)
+    (refit_kept d asked bundles items kept more valid (is ∙ ap (map (fitted asked)) alike))
+
 pub all_fit_by : (d : DatabaseParts) (config : ConfigParts) → KeepsDatabaseRules d → Extends d.config config → All (CanFit config) d.bundles
 all_fit_by d config keeps more = all_can_fit d.config config d.bundles more keeps.bundles
 

@@ -22,7 +22,6 @@ use Rattle.bundle_state.proofs.BuiltKept.{unbroken}
 use Rattle.bundle_edits.specs.declared.bundle_change.Counts.{Counts}
 use Rattle.bundle_edits.specs.declared.edit.Edit.{Edit}
 use Rattle.bundle_edits.specs.declared.edit.Edit.TheVariants as edits
-use Rattle.bundle_edits.specs.declared.segments.Segment.{Segment}
 use Rattle.bundle_edits.specs.Edits.{key_of}
 use Rattle.bundle_edits.specs.Changes.{unless_too_many, bundle_added, level_found, NumberedLevel, room_fault, id_fault, given_item_fault, put_on, item_put, segment_of, last_of, cut_fault, cut_at, split_in, segment_split, bundle_changed, if_kept, changed}
 use Rattle.edit_rules.specs.Database.{DatabaseParts, with_bundles, same_key, is_before, bundle_with, without, put_in_order, put_for, counts_of, are_keys_rising, KeepsDatabaseRules}
@@ -157,8 +156,8 @@ split_alike one two id new_id start b x y first second =
     let f = goes_on (segment_of id b.levels) (split_in one new_id start b) x first in
     let g = goes_on (segment_of id b.levels) (split_in two new_id start b) y second in
     let same : f.middle ≡ g.middle = ok_same f.middle g.middle (sym f.first ∙ g.first) in
-    let s : Segment = f.middle in
-    let other : split_in two new_id start b s ≡ Ok y = ap (λ (t : Segment). split_in two new_id start b t) same ∙ g.second in
+    let s = f.middle in
+    let other : split_in two new_id start b s ≡ Ok y = ap (split_in two new_id start b) same ∙ g.second in
     let whole : BundleParts = with_levels b (change_level (cut_at new_id start s) s.level b.levels) in
     sym (unbroken (option_or (room_fault one b.levels) (option_or (id_fault new_id b.levels) (cut_fault s (last_of s) start))) whole x f.second).1
     ∙ (unbroken (option_or (room_fault two b.levels) (option_or (id_fault new_id b.levels) (cut_fault s (last_of s) start))) whole y other).1

@@ -15,7 +15,7 @@ pub use config_change::change_config;
 pub use database::Database;
 pub use effects::{apply, check};
 pub use laws::{
-    acts_are_whole, acts_change_one_bundle, acts_keep_rules, edits_keep_rules, order_does_not_matter,
-    prefixes_are_legal, replay_goes_on, states_keep_rules,
+    acts_are_whole, acts_change_one_bundle, acts_keep_rules, edits_keep_rules,
+    order_does_not_matter, prefixes_are_legal, replay_goes_on, states_keep_rules,
 };
 pub use list_change::change;

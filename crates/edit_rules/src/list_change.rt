@@ -11,9 +11,9 @@ ghost use Rattle.edit_rules.specs.Turns.{with_own, beside, IsCounted, changed_in
 ghost use Rattle.edit_rules.specs.Inner.Effects.{GivesOrBreach, is_placed, kept};
 
 use crate::acts::{Breach, ChangeFault, Edits};
+use bundle_edits::{Counts, Edit, change_own};
 use bundle_state::Bundle;
 use db_config::Config;
-use bundle_edits::{Counts, Edit, change_own};
 use emu_names::{Broken, Fault};
 use std::alloc::Global;
 

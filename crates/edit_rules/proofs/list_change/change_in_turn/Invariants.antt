@@ -8,7 +8,7 @@ abbrev pub invariant-loop-rest : goal.invariant-loop-rest
 invariant-loop-rest l = record {
   turn : own_in_turn l.config l.others l.place l.next l.rest ≡ own_in_turn l.config l.others 1 l.fn.bundle l.edits;
   fits : FitsConfig l.config l.next;
-  placed : l.place + length l.rest ≡ 1 + length l.edits
+  placed : l.place + length l.rest ≡ 1 + length l.edits;
 }
 
 abbrev pub decreases-loop-rest : goal.decreases-loop-rest
