@@ -256,6 +256,14 @@ pub still : (now : List (List ℕ)) (levels : List Level) (marked : List Bool) (
 still now levels marked k old columns made are unmarked at-columns same own at-level =
     subst (AreColumnsOf now own) (sym same) (are.each k own columns unmarked at-level at-columns)
 
+-- the columns of the levels that are not marked stay so where the labels grow
+pub but_stay : (now new : List (List ℕ)) (levels : List Level) (marked : List Bool) (old : List LevelColumns) → HasGrown now new →
+    AreColumnsBut now levels marked old → AreColumnsBut new levels marked old
+but_stay now new levels marked old grown are = record {
+  there = are.there;
+  each = λ k level columns unmarked at-level at-columns. columns_stay now new level columns grown (are.each k level columns unmarked at-level at-columns);
+}
+
 -- a list of labels goes on from itself
 pub grown_self : (now : List (List ℕ)) → HasGrown now now
 grown_self now = record { kept = λ i l at. at }

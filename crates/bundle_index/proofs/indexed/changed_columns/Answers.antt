@@ -2,8 +2,12 @@ use Rattle.std.proofs.Common.{◌≡◌, [], Some, get_or, slice_get, arith}
 use Rattle.std.proofs.lemmas.Option.{slice_get-get_or}
 use Rattle.emu_names.specs.declared.kinds.LevelKind.TheVariants as kinds
 use Rattle.level_items.specs.Levels.{Level, level_of}
-use Rattle.bundle_index.proofs.Asked.{changed_more, all_filled}
+use Rattle.bundle_index.proofs.Asked.{but_stay, changed_more, all_filled}
 use Rattle.bundle_index.proofs.indexed.changed_columns.Goals as goal
+
+pub changed_level-requires-clause-same : goal.changed_level-requires-clause-same
+changed_level-requires-clause-same c =
+    but_stay c.args.labels.now c.loop-level.labels c.args.bundle.now.levels c.args.marked.now c.args.old.now c.loop-level.invariant.grown c.requires
 
 pub loop-level-preserved : goal.loop-level-preserved
 loop-level-preserved c =
