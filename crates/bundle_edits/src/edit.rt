@@ -1,6 +1,7 @@
 //! The edits of a database.
 ghost use Rattle.std.specs.Prelude.{◌≡◌, IfOk, IsTrue};
-ghost use Rattle.bundle_edits.specs.Edits.{key_of, is_of_item, is_of_label, is_of_time, is_of_link};
+ghost use Rattle.bundle_edits.specs.Edits.{key_of};
+ghost use Rattle.bundle_edits.specs.Inner.Kinds.{is_of_item, is_of_label, is_of_time, is_of_link};
 
 use emu_names::{BundleKey, ItemId, Memory, PlainData, Text};
 use level_items::{Annot, AnnotItem};

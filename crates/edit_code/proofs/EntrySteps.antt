@@ -9,7 +9,7 @@ use Rattle.bundle_edits.specs.declared.edit.Edit.{Edit}
 use Rattle.edit_rules.specs.declared.acts.Act.{Act}
 use Rattle.edit_rules.specs.declared.acts.Act.TheVariants as acts
 use Rattle.edit_rules.specs.declared.acts.Entry.{Entry}
-use Rattle.edit_rules.specs.Acts.{AreTogether}
+use Rattle.edit_rules.specs.Inner.Acts.{AreTogether}
 use Rattle.byte_forms.specs.declared.rest.ReadFault.{ReadFault}
 use Rattle.byte_forms.specs.declared.rest.ReadFault.TheVariants as faults
 use Rattle.byte_forms.specs.Forms.{Form, ◌>>=◌}

@@ -5,7 +5,7 @@ use Rattle.emu_names.specs.declared.names.BundleKey.{BundleKey}
 use Rattle.bundle_edits.specs.declared.edit.Edit.{Edit}
 use Rattle.bundle_edits.specs.declared.edit.Edit.TheVariants as edits
 use Rattle.bundle_edits.specs.Edits.{key_of}
-use Rattle.edit_rules.specs.Acts.{is_inner}
+use Rattle.edit_rules.specs.Inner.Acts.{is_inner}
 use Rattle.byte_forms.specs.Forms.{Form, ◌>>=◌, IsForm}
 use Rattle.byte_forms.specs.Parts.{pair, imaged, just, option_of, u32_form, u64_form, read_as}
 use Rattle.byte_forms.specs.Utf8.{text_form}

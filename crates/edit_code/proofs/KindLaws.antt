@@ -8,7 +8,7 @@ use Rattle.bundle_edits.specs.declared.edit.Edit.TheVariants as edits
 use Rattle.edit_rules.specs.declared.acts.Act.{Act}
 use Rattle.edit_rules.specs.declared.acts.ConfigEdit.{ConfigEdit}
 use Rattle.edit_rules.specs.declared.acts.ConfigEdit.TheVariants as config_edits
-use Rattle.edit_rules.specs.Acts.{is_inner}
+use Rattle.edit_rules.specs.Inner.Acts.{is_inner}
 use Rattle.edit_code.specs.declared.kinds.Addition.{Addition}
 use Rattle.edit_code.specs.declared.kinds.Addition.TheVariants as additions
 use Rattle.edit_code.specs.declared.kinds.Body.{Body}

@@ -8,7 +8,8 @@ use Rattle.emu_names.specs.declared.limits.TheConstants.{LIST_EDITS}
 use Rattle.emu_names.specs.declared.names.BundleKey.{BundleKey}
 use Rattle.bundle_edits.specs.declared.edit.Edit.{Edit}
 use Rattle.bundle_edits.specs.Edits.{key_of}
-use Rattle.edit_rules.specs.Acts.{is_inner, has_key, is_edit_of, are_together, AreTogether}
+use Rattle.edit_rules.specs.Acts.{has_key}
+use Rattle.edit_rules.specs.Inner.Acts.{is_inner, is_edit_of, are_together, AreTogether}
 use Rattle.edit_rules.specs.Database.{same_key}
 use Rattle.edit_rules.proofs.KeyPlaces.{key_same, same_itself}
 use Rattle.byte_forms.specs.Forms.{Form, ◌>>=◌}

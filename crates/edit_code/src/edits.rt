@@ -1,7 +1,7 @@
 //! The codes of edits: how many bytes they have, how they are written, and how they are read.
 ghost use Rattle.std.specs.Prelude.{◌≡◌, ◌<◌, ◌^◌, ◌++◌, length, min, true, IfOk, OnOk};
 ghost use Rattle.bundle_edits.specs.Edits.{key_of};
-ghost use Rattle.edit_rules.specs.Acts.{is_edit_of, is_inner};
+ghost use Rattle.edit_rules.specs.Inner.Acts.{is_edit_of, is_inner};
 ghost use Rattle.byte_forms.specs.Inner.Reading.{Gives};
 ghost use Rattle.edit_code.specs.Edits.{edit_form, inner_form, told_form};
 ghost use Rattle.edit_code.specs.Fields.{edit_of, fields_form, fields_of, kind_of};

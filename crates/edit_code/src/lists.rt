@@ -3,7 +3,7 @@ ghost use Rattle.std.specs.Prelude.{◌≡◌, ◌≤◌, ◌<◌, ◌^◌, ◌+
 ghost use Rattle.std.specs.List.{list_all};
 ghost use Rattle.emu_names.specs.declared.limits.TheConstants.{LIST_EDITS};
 ghost use Rattle.emu_names.specs.declared.names.BundleKey.{BundleKey as Key};
-ghost use Rattle.edit_rules.specs.Acts.{is_edit_of};
+ghost use Rattle.edit_rules.specs.Inner.Acts.{is_edit_of};
 ghost use Rattle.byte_forms.specs.Inner.Reading.{Gives};
 ghost use Rattle.byte_forms.specs.Lists.{items_code, list_of, times};
 ghost use Rattle.edit_code.specs.Edits.{first_key, inner_form, several_form};

@@ -18,7 +18,8 @@ use Rattle.edit_rules.proofs.Stays.{less_found, edits_keep_rules}
 use Rattle.edit_rules.specs.declared.acts.Act.TheVariants as acts
 use Rattle.edit_rules.specs.declared.acts.Breach.{Breach}
 use Rattle.edit_rules.specs.Acts.{has_key}
-use Rattle.edit_rules.specs.Turns.{with_own, beside, HasOwn, IsCounted, changed_in_turn}
+use Rattle.edit_rules.specs.Turns.{with_own, changed_in_turn}
+use Rattle.edit_rules.specs.Inner.Turns.{beside, HasOwn, IsCounted}
 use Rattle.edit_rules.specs.Laws.{put_whole}
 use Rattle.edit_rules.proofs.Turns.{told, told_same, goes_on, at_ok}
 use Rattle.edit_rules.proofs.Bundles.{without_for, found_own, own_old, own_next, counts_split, put_one, one_as, one_bundle}

@@ -16,10 +16,11 @@ use Rattle.bundle_edits.specs.Changes.{bundle_changed, changed, if_kept}
 use Rattle.edit_rules.specs.declared.acts.Breach.{Breach}
 use Rattle.edit_rules.specs.declared.acts.ChangeFault.{ChangeFault}
 use Rattle.edit_rules.specs.declared.acts.ChangeFault.TheVariants as places
-use Rattle.edit_rules.specs.Acts.{is_inner}
+use Rattle.edit_rules.specs.Inner.Acts.{is_inner}
 use Rattle.edit_rules.specs.Inner.Effects.{GivesOrBreach, kept}
 use Rattle.edit_rules.specs.Effects.{at_place}
-use Rattle.edit_rules.specs.Turns.{with_own, beside, HasOwn, IsCounted, changed_in_turn, own_in_turn}
+use Rattle.edit_rules.specs.Turns.{with_own, changed_in_turn}
+use Rattle.edit_rules.specs.Inner.Turns.{beside, HasOwn, IsCounted, own_in_turn}
 use Rattle.edit_rules.proofs.Turns.{told, fine, broken_at}
 use Rattle.bundle_edits.proofs.Spans.{some_same}
 

@@ -8,7 +8,8 @@ use Rattle.bundle_edits.specs.declared.edit.Edit.{Edit}
 use Rattle.bundle_edits.specs.Edits.{key_of}
 use Rattle.edit_rules.proofs.KeyPlaces.{key_same, same_itself}
 use Rattle.bundle_edits.proofs.Spans.{some_same}
-use Rattle.edit_rules.specs.Acts.{is_inner, has_key, is_edit_of, are_together, AreTogether}
+use Rattle.edit_rules.specs.Acts.{has_key}
+use Rattle.edit_rules.specs.Inner.Acts.{is_inner, is_edit_of, are_together, AreTogether}
 use Rattle.emu_names.specs.declared.limits.TheConstants.{LIST_EDITS}
 
 -- edits of the key of the last are edits of the key of the first

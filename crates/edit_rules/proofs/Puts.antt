@@ -19,7 +19,8 @@ use Rattle.edit_rules.specs.Acts.{has_key}
 use Rattle.edit_rules.specs.Inner.Effects.{breach_of, IsFirstBreach}
 use Rattle.emu_names.specs.Inner.Gives.{IsFaultOf as IsTold}
 use Rattle.edit_rules.specs.Effects.{in_turn}
-use Rattle.edit_rules.specs.Turns.{beside, IsCounted, changed_in_turn}
+use Rattle.edit_rules.specs.Turns.{changed_in_turn}
+use Rattle.edit_rules.specs.Inner.Turns.{beside, IsCounted}
 use Rattle.edit_rules.proofs.Beside.{counted_is, effect_at, fault_at}
 
 -- what the call on one bundle says, in other words

@@ -1,3 +1,5 @@
+pub mod Acts
 pub mod Effects
 pub mod Kept
 pub mod KeyPlaces
+pub mod Turns

@@ -4,7 +4,8 @@ ghost use Rattle.std.specs.Prelude.{◌≡◌, ◌<◌, ◌++◌, ◌∷◌, [],
 ghost use Rattle.std.specs.List.{list_all};
 ghost use Rattle.emu_names.specs.declared.limits.TheConstants.{LIST_EDITS};
 ghost use Rattle.bundle_edits.specs.Edits.{key_of};
-ghost use Rattle.edit_rules.specs.Acts.{AreTogether, is_edit_of, has_key};
+ghost use Rattle.edit_rules.specs.Acts.{has_key};
+ghost use Rattle.edit_rules.specs.Inner.Acts.{AreTogether, is_edit_of};
 
 use bundle_edits::Edit;
 use db_config::{AttributeDef, LevelDef};
@@ -22,7 +23,7 @@ pub struct Edits {
 impl Model for Edits {
     ghost use Rattle.std.specs.Prelude.{List};
     ghost use Rattle.bundle_edits.specs.declared.edit.Edit.{Edit};
-    ghost use Rattle.edit_rules.specs.Acts.{AreTogether};
+    ghost use Rattle.edit_rules.specs.Inner.Acts.{AreTogether};
 
     ghost Value = { List Edit };
 

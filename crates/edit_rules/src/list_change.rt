@@ -4,10 +4,11 @@ ghost use Rattle.std.specs.List.{list_all};
 ghost use Rattle.emu_names.specs.declared.limits.TheConstants.{ALL_ITEMS, BUNDLES};
 ghost use Rattle.bundle_state.specs.Built.{FitsConfig};
 ghost use Rattle.bundle_edits.specs.Changes.{bundle_changed, changed};
-ghost use Rattle.edit_rules.specs.Acts.{is_inner};
+ghost use Rattle.edit_rules.specs.Inner.Acts.{is_inner};
 ghost use Rattle.edit_rules.specs.Effects.{at_place};
 ghost use Rattle.emu_names.specs.declared.limits.TheConstants.{LIST_EDITS};
-ghost use Rattle.edit_rules.specs.Turns.{with_own, beside, IsCounted, changed_in_turn, own_in_turn};
+ghost use Rattle.edit_rules.specs.Turns.{with_own, changed_in_turn};
+ghost use Rattle.edit_rules.specs.Inner.Turns.{beside, IsCounted, own_in_turn};
 ghost use Rattle.edit_rules.specs.Inner.Effects.{GivesOrBreach, is_placed, kept};
 
 use crate::acts::{Breach, ChangeFault, Edits};

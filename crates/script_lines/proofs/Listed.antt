@@ -18,7 +18,8 @@ use Rattle.emu_names.specs.declared.names.BundleKey.{BundleKey}
 use Rattle.bundle_edits.specs.declared.edit.Edit.{Edit}
 use Rattle.bundle_edits.specs.declared.edit.Edit.TheVariants as edits
 use Rattle.bundle_edits.specs.Edits.{key_of}
-use Rattle.edit_rules.specs.Acts.{is_inner, has_key, is_edit_of}
+use Rattle.edit_rules.specs.Acts.{has_key}
+use Rattle.edit_rules.specs.Inner.Acts.{is_inner, is_edit_of}
 use Rattle.edit_rules.specs.Database.{same_key}
 use Rattle.edit_rules.proofs.KeyPlaces.{key_same, same_itself}
 use Rattle.session_core.specs.declared.line.Command.{Command}

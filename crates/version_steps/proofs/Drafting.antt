@@ -23,7 +23,7 @@ use Rattle.bundle_edits.specs.Edits.{key_of}
 use Rattle.edit_rules.specs.declared.acts.Act.TheVariants as acts
 use Rattle.edit_rules.specs.declared.acts.Breach.{Breach}
 use Rattle.edit_rules.specs.declared.acts.ChangeFault.{ChangeFault}
-use Rattle.edit_rules.specs.Acts.{AreTogether}
+use Rattle.edit_rules.specs.Inner.Acts.{AreTogether}
 use Rattle.edit_rules.specs.Database.{DatabaseParts, KeepsDatabaseRules, bundle_with, counts_of}
 use Rattle.edit_rules.specs.Effects.{at_place, edit_effect, in_turn, put_back}
 use Rattle.edit_rules.specs.Inner.Effects.{IsFirstBreach, is_placed}

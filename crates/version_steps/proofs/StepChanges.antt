@@ -24,11 +24,13 @@ use Rattle.bundle_edits.specs.Changes.{changed, missing_changed, bundle_added, u
 use Rattle.edit_rules.specs.declared.acts.Breach.{Breach}
 use Rattle.edit_rules.specs.declared.acts.ChangeFault.{ChangeFault}
 use Rattle.edit_rules.specs.declared.acts.ChangeFault.TheVariants as places
-use Rattle.edit_rules.specs.Acts.{AreTogether, has_key}
+use Rattle.edit_rules.specs.Acts.{has_key}
+use Rattle.edit_rules.specs.Inner.Acts.{AreTogether}
 use Rattle.edit_rules.specs.Database.{DatabaseParts, IsBundleOf, KeepsDatabaseRules, same_key, bundle_with, counts_of, put_for, put_in_order, with_bundles, without}
 use Rattle.edit_rules.specs.Effects.{at_place, in_turn}
 use Rattle.edit_rules.specs.Inner.Effects.{GivesOrBreach, IsFirstBreach}
-use Rattle.edit_rules.specs.Turns.{IsCounted, beside, changed_in_turn, with_own}
+use Rattle.edit_rules.specs.Turns.{changed_in_turn, with_own}
+use Rattle.edit_rules.specs.Inner.Turns.{IsCounted, beside}
 use Rattle.edit_rules.proofs.Beside.{beside_is, counted_is, effect_at, fault_at, own_last}
 use Rattle.edit_rules.proofs.Bundles.{found_own}
 use Rattle.edit_rules.proofs.Calls.{inner_missing}

@@ -40,9 +40,10 @@ use Rattle.bundle_edits.proofs.Lookups.{level_is, no_level_is}
 use Rattle.bundle_edits.proofs.Places.{placed_at}
 use Rattle.bundle_edits.proofs.Spans.{some_same}
 use Rattle.edit_rules.specs.declared.acts.Breach.{Breach}
-use Rattle.edit_rules.specs.Acts.{is_inner, AreTogether}
+use Rattle.edit_rules.specs.Inner.Acts.{is_inner, AreTogether}
 use Rattle.edit_rules.specs.Effects.{at_place}
-use Rattle.edit_rules.specs.Turns.{with_own, changed_in_turn, own_in_turn}
+use Rattle.edit_rules.specs.Turns.{with_own, changed_in_turn}
+use Rattle.edit_rules.specs.Inner.Turns.{own_in_turn}
 use Rattle.edit_rules.proofs.Calls.{own_kept}
 use Rattle.edit_rules.proofs.Lists.{inner_of}
 use Rattle.edit_rules.proofs.Turns.{at_ok, told, told_same, goes_on as turn_goes_on}

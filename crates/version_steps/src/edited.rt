@@ -2,7 +2,8 @@
 ghost use Rattle.std.specs.Prelude.{◌≡◌, IfOk, IfErr, IfSome, IsTrue, option_copied, Ok, Some, None};
 ghost use Rattle.std.specs.List.{list_all};
 ghost use Rattle.bundle_state.specs.Built.{FitsConfig};
-ghost use Rattle.edit_rules.specs.Acts.{AreTogether, has_key};
+ghost use Rattle.edit_rules.specs.Acts.{has_key};
+ghost use Rattle.edit_rules.specs.Inner.Acts.{AreTogether};
 ghost use Rattle.edit_rules.specs.Database.{bundle_with, KeepsDatabaseRules};
 ghost use Rattle.edit_rules.specs.Effects.{in_turn};
 ghost use Rattle.edit_rules.specs.Inner.Effects.{GivesOrBreach, IsFirstBreach};

@@ -16,7 +16,8 @@ use Rattle.bundle_edits.specs.Edits.{key_of}
 use Rattle.bundle_edits.specs.Changes.{changed}
 use Rattle.edit_rules.specs.declared.acts.Breach.{Breach}
 use Rattle.edit_rules.specs.Database.{DatabaseParts, bundle_with, counts_of}
-use Rattle.edit_rules.specs.Turns.{beside, changed_in_turn}
+use Rattle.edit_rules.specs.Turns.{changed_in_turn}
+use Rattle.edit_rules.specs.Inner.Turns.{beside}
 
 -- what edits make one after another of the bundle of a key in a database
 abbrev pub changed_in : DatabaseParts → BundleKey → List Edit → Result (Option BundleParts) Breach

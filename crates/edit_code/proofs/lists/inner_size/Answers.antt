@@ -1,7 +1,7 @@
 use Rattle.std.proofs.Common.{arith}
 use Rattle.byte_forms.specs.Parts.{imaged}
 use Rattle.value_codes.proofs.Loops.{sized_first, sized_more, sized_done}
-use Rattle.edit_rules.specs.Acts.{is_edit_of}
+use Rattle.edit_rules.specs.Inner.Acts.{is_edit_of}
 use Rattle.edit_code.specs.Edits.{first_key, inner_form}
 use Rattle.edit_code.proofs.ListSteps.{each_at, inner_here, made_here}
 use Rattle.edit_code.proofs.lists.inner_size.Goals as goal

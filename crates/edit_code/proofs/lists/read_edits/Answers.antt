@@ -2,7 +2,7 @@ use Rattle.edit_code.proofs.Exits.{first_exit}
 use Rattle.std.proofs.Common.{◌-◌, arith, refl, ap, ◌∙◌, true}
 use Rattle.std.proofs.lemmas.Bool.{and_from}
 use Rattle.byte_forms.specs.Lists.{items_at, times}
-use Rattle.edit_rules.specs.Acts.{is_edit_of}
+use Rattle.edit_rules.specs.Inner.Acts.{is_edit_of}
 use Rattle.value_codes.proofs.Loops.{put_front, read_first, read_more, read_done, read_fails}
 use Rattle.edit_code.specs.Edits.{inner_form}
 use Rattle.edit_code.proofs.ListSteps.{begun_edits, more_edits, together_and}

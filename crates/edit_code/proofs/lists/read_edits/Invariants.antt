@@ -2,7 +2,7 @@
 use Rattle.std.proofs.Common.{◌≡◌, ◌-◌, true, length}
 use Rattle.std.specs.List.{list_all}
 use Rattle.byte_forms.specs.Lists.{items_at}
-use Rattle.edit_rules.specs.Acts.{is_edit_of}
+use Rattle.edit_rules.specs.Inner.Acts.{is_edit_of}
 use Rattle.value_codes.proofs.Loops.{put_front}
 use Rattle.edit_code.specs.Edits.{inner_form}
 use Rattle.edit_code.proofs.lists.read_edits.Given as goal

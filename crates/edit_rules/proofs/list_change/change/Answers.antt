@@ -1,7 +1,7 @@
 use Rattle.std.proofs.Common.{◌≡◌, ◌<◌, ◌≤◌, true, List, length, IsTrue, option_copied, subst, sym, arith}
 use Rattle.std.specs.List.{list_all}
 use Rattle.bundle_edits.specs.declared.edit.Edit.{Edit}
-use Rattle.edit_rules.specs.Acts.{is_inner}
+use Rattle.edit_rules.specs.Inner.Acts.{is_inner}
 use Rattle.edit_rules.proofs.Lists.{inner_many, some_edit}
 use Rattle.edit_rules.proofs.Calls.{one_gives}
 use Rattle.edit_rules.proofs.list_change.change.Goals as goal

@@ -1,6 +1,6 @@
 use Rattle.std.proofs.Common.{◌≡◌, ◌-◌, ◌∷◌, List, length, take, drop, arith}
 use Rattle.bundle_edits.specs.declared.edit.Edit.{Edit}
-use Rattle.edit_rules.specs.Turns.{own_in_turn}
+use Rattle.edit_rules.specs.Inner.Turns.{own_in_turn}
 use Rattle.edit_rules.proofs.Calls.{cut_first, turn_on, length_rest}
 use Rattle.edit_rules.proofs.list_change.change_in_turn.Goals as goal
 

@@ -1,6 +1,6 @@
 use Rattle.std.proofs.Common.{◌≡◌, ◌+◌, length}
 use Rattle.bundle_state.specs.Built.{FitsConfig}
-use Rattle.edit_rules.specs.Turns.{own_in_turn}
+use Rattle.edit_rules.specs.Inner.Turns.{own_in_turn}
 use Rattle.edit_rules.proofs.list_change.change_in_turn.Given as goal
 
 -- the edits that are left make of the bundle so far what all make of the first one

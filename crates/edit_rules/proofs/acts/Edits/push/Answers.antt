@@ -2,7 +2,7 @@ use Rattle.std.proofs.Common.{◌≡◌, ◌<◌, ◌++◌, ◌∷◌, [], true,
 use Rattle.std.specs.List.{list_all}
 use Rattle.bundle_edits.specs.declared.edit.Edit.{Edit}
 use Rattle.bundle_edits.specs.Edits.{key_of}
-use Rattle.edit_rules.specs.Acts.{is_edit_of}
+use Rattle.edit_rules.specs.Inner.Acts.{is_edit_of}
 use Rattle.emu_names.specs.declared.limits.TheConstants.{LIST_EDITS}
 use Rattle.edit_rules.proofs.Lists.{pushed}
 use Rattle.edit_rules.proofs.acts.Edits.push.Goals as goal
