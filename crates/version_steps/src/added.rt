@@ -66,7 +66,7 @@ fn added_in(version: &Version, edit: &Edit, made: Result<Indexed, Fault>) -> Res
 }
 
 /// The version with the bundle that an edit adds.
-#[tactic(auto, using(crate::proofs::Drafting::added_keeps, crate::proofs::Drafting::added_effect))]
+#[tactic(auto, using(crate::proofs::Drafting::added_effect))]
 fn with_added(
     alloc: Global,
     version: &Version,

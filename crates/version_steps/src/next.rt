@@ -16,7 +16,7 @@ use std::alloc::Global;
 use version_tree::Version;
 
 /// The version behind an edit of its configuration, or the rule that the edit breaks first, or want of memory.
-#[tactic(auto, using(crate::proofs::Configuring::wider, crate::proofs::Configuring::configured, crate::proofs::Configuring::not_configured, crate::proofs::Configuring::counted_on))]
+#[tactic(auto, using(crate::proofs::Configuring::configured, crate::proofs::Configuring::not_configured, crate::proofs::Configuring::counted_on))]
 fn next_configured(
     alloc: Global,
     version: &Version,
