@@ -17,6 +17,9 @@ import shutil
 import subprocess
 import sys
 
+# methods that std's types have too, which are in no cycle
+OF_STD = {"as_ref", "as_slice", "copy", "find", "first", "get", "insert", "is_empty", "last", "len", "new", "push", "remove"}
+
 HOLE = """use Rattle.{crate}.proofs.{path}.Statement.{{statement}}
 
 pub {name}_spec : {{M : Type 1}} → statement M
@@ -59,21 +62,50 @@ def owner(head):
     return name[:1].upper() + name[1:]
 
 
-def functions_of(folder):
-    """The functions of a library, each as the folder that its proof has below proofs/."""
+def modules_of(folder):
+    """The modules of a library, each with the lines of its source."""
     for at, _, names in os.walk(f"{folder}/src"):
         for name in (it for it in names if it.endswith(".rt")):
             module = os.path.relpath(f"{at}/{name[:-3]}", f"{folder}/src").split("/")
-            module = [] if module == ["lib"] else module[:-1] if module[-1] == "mod" else module
-            inside = []
-            for line in lines_of(f"{at}/{name}"):
-                if found := re.match(r"(?:unsafe )?impl\b(.*)", line):
-                    inside = [owner(found[1].strip())]
-                elif line.startswith("}"):
-                    inside = []
-                elif found := re.match(r"( {4})?(?:pub(?:\([a-z ]+\))? )?(?:const )?(?:unsafe )?fn (\w+)", line):
-                    if bool(found[1]) == bool(inside) and all(re.fullmatch(r"\w+", it) for it in inside):
-                        yield "/".join([*module, *inside, found[2]])
+            yield "/".join([] if module == ["lib"] else module[:-1] if module[-1] == "mod" else module), lines_of(f"{at}/{name}")
+
+
+def in_a_cycle(name, calls):
+    """Whether a function of this name may come to call one of its name."""
+    seen, todo = set(), [name]
+    while todo:
+        for it in calls.get(todo.pop(), ()):
+            if it == name:
+                return True
+            if it not in seen:
+                seen.add(it)
+                todo.append(it)
+    return False
+
+
+def functions_of(folder):
+    """The functions of a library that are in no cycle, each as the folder that its proof has below proofs/."""
+    modules = list(modules_of(folder))
+    homes = {found[1]: module for module, lines in modules for line in lines if (found := re.match(r"(?:pub(?:\([a-z ]+\))? )?(?:struct|enum) (\w+)", line))}
+    found, calls, name = [], {}, None
+    for module, lines in modules:
+        inside = []
+        for line in lines:
+            if begun := re.match(r"(?:unsafe )?impl\b(.*)", line):
+                inside = [owner(begun[1].strip())]
+            elif line.startswith("}"):
+                inside = []
+            elif begun := re.match(r"( {4})?(?:pub(?:\([a-z ]+\))? )?(?:const )?(?:unsafe )?fn (\w+)", line):
+                name = begun[2]
+                calls.setdefault(name, set())
+                if bool(begun[1]) == bool(inside) and all(re.fullmatch(r"\w+", it) for it in inside):
+                    home = homes.get(inside[0], module) if inside else module
+                    found.append(("/".join(it for it in [home, *inside, name] if it), name))
+                continue
+            if name:
+                called = re.findall(r"(\.|::)?\b(\w+)\(", line)
+                calls[name].update(it for how, it in called if how != "::" and not (how and it in OF_STD))
+    return [path for path, name in found if not in_a_cycle(name, calls)]
 
 
 def with_holes(crate, to):
