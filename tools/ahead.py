@@ -108,8 +108,23 @@ def functions_of(folder):
     return [path for path, name in found if not in_a_cycle(name, calls)]
 
 
-def with_holes(crate, to):
-    """Copies a library, with a hole for each proof that has files. What did not change keeps its time."""
+def refused_in(output):
+    """The files with a hole that the check does not take, since their functions call one another in a circle."""
+    return set(re.findall(r"^(\S+/proofs/\S+/Proof\.antt): error\[", output, re.M))
+
+
+def run(call, folder):
+    """Runs a check, prints what it prints, and answers its status and its output."""
+    made = subprocess.Popen(call, cwd=folder, stdin=subprocess.DEVNULL, stdout=subprocess.PIPE, stderr=subprocess.STDOUT, text=True)
+    output = []
+    for line in made.stdout:
+        print(line, end="", flush=True)
+        output.append(line)
+    return made.wait(), "".join(output)
+
+
+def with_holes(crate, to, refused):
+    """Copies a library, with a hole for each proof that has files, but those that were refused. What did not change keeps its time."""
     new = f"{to}.new"
     shutil.rmtree(new, ignore_errors=True)
     shutil.copytree(crate.folder, new, ignore=shutil.ignore_patterns("out", "must-fail"))
@@ -118,6 +133,8 @@ def with_holes(crate, to):
     alone = {it for it in functions_of(new) if os.path.dirname(it) not in in_cycles}
     for folder in sorted({*(it for it in folders if is_proof(it, folders[it])), *alone}):
         at = f"{new}/proofs/{folder}"
+        if f"{to}/proofs/{folder}/Proof.antt" in refused:
+            continue
         os.makedirs(at, exist_ok=True)
         for name in ("Answers.antt", "Invariants.antt"):
             if name in folders.get(folder, []):
@@ -142,6 +159,10 @@ def main(words):
     crate = next((it for it in rt.crates_of(root) if it.name == words[0]), None) or sys.exit(f"there is no crate {words[0]}")
     ahead, flags = f"{crate.folder}/out/ahead", words[1:]
     os.makedirs(ahead, exist_ok=True)
+    refused = set()
+    if os.path.isfile(f"{ahead}/refused"):
+        with open(f"{ahead}/refused", encoding="utf-8") as file:
+            refused = set(file.read().split())
     built = {}
     for it in crate.below():
         built[it.name] = it.is_built() and all(built[low.name] for low in it.below())
@@ -154,7 +175,7 @@ def main(words):
         if built[it.name]:
             call += ["--extern", f"{it.name}={it.rlib}", "-L", f"dependency={os.path.dirname(it.rlib)}"]
         else:
-            with_holes(it, f"{ahead}/{it.name}")
+            with_holes(it, f"{ahead}/{it.name}", refused)
             uses = ",".join(dict.fromkeys(["core", *it.of_kit, *(low.name for low in it.deps)]))
             call += ["--lib", f"{it.name}:{uses}={ahead}/{it.name}/src/lib.rt"]
             print(f"ahead: {it.name} as source", flush=True)
@@ -164,7 +185,13 @@ def main(words):
         with open(f"{crate.folder}/{call[4]}", encoding="utf-8") as file:
             modules = re.findall(r"^(?:pub(?:\(\w+\))? )?mod (\w+);", file.read(), re.M)
         flags += [word for it in modules for word in ("--only", f"{crate.name}::{it}")]
-    return subprocess.run([*call, *flags], cwd=crate.folder, stdin=subprocess.DEVNULL).returncode
+    status, output = run([*call, *flags], crate.folder)
+    new = refused_in(output) - refused
+    if not new or not all(it.startswith(f"{os.path.abspath(ahead)}/") for it in new):
+        return status
+    with open(f"{ahead}/refused", "w", encoding="utf-8") as file:
+        file.write("\n".join(sorted(refused | new)))
+    return main(words)
 
 
 if __name__ == "__main__":
