@@ -9,7 +9,7 @@ use Rattle.session_core.specs.declared.line.Reply.{Reply}
 use Rattle.session_core.specs.declared.line.Request.TheVariants as requests
 use Rattle.session_core.specs.Answers.{entry_of}
 
--- the disk refused the edit of the line, which would be this entry
+-- the disk refused the act of the line, which would be this entry
 pub record IsDiskRefused (l : Line) (reply : Reply) (next : Entry) : Type 0 where
   pub act : Act
   pub asks : l.request ≡ requests.Edit (Ok act)

@@ -33,7 +33,7 @@ pub fn or_memory(head: Head, made: Result<Reply, Memory>) -> Reply
     }
 }
 
-/// The reply to a line whose edit was committed with this answer.
+/// The reply to a line whose act was committed with this answer.
 pub fn commit_reply(head: Head, made: Result<u64, EditFault>) -> Reply
     ensures { (request : Request) → result ≡ commit_reply (line_of head request) made }
 {
@@ -51,7 +51,7 @@ pub fn commit_reply(head: Head, made: Result<u64, EditFault>) -> Reply
     }
 }
 
-/// Commits the edit of a line, unless its TextGrid has a fault: the reply.
+/// Commits the act of a line, unless its TextGrid has a fault: the reply.
 fn try_edit<D: Disk, R: Wait>(
     rt: &R,
     alloc: Global,

@@ -34,7 +34,7 @@ state_of run = record {
 
 -- The line of an edit.
 
--- the reply to a line whose edit was committed with this answer
+-- the reply to a line whose act was committed with this answer
 abbrev pub commit_reply : Line → Result ℕ EditFault → Reply
 commit_reply l (Ok n) = reply_to l (Some n) (Done l.command)
 commit_reply l (Err (faults.HistoryFull n)) = reply_to l (Some n) (Refused refusals.HistoryFull)
@@ -43,7 +43,7 @@ commit_reply l (Err (faults.StoreFull n)) = reply_to l (Some n) (Refused refusal
 commit_reply l (Err faults.Disk) = reply_to l None (Refused refusals.Disk)
 commit_reply l (Err faults.Memory) = reply_to l None memory
 
--- the edit of a line was committed, and the reply tells the commit's answer
+-- the act of a line was committed, and the reply tells the commit's answer
 pub record IsCommitted {D : Type 0} (may_leave : D → List ℕ → Type 0) (moment : D → ℕ)
     (left_since : D → ℕ → List ℕ → Type 0) (faults : D → ℕ) (old : BookParts D) (l : Line) (act : Act)
     (reply : Reply) (new : BookParts D) : Type 0 where
@@ -51,7 +51,7 @@ pub record IsCommitted {D : Type 0} (may_leave : D → List ℕ → Type 0) (mom
   pub commits : Commits may_leave moment left_since faults old (entry_of l act) made new
   pub told : reply ≡ commit_reply l made
 
--- what the request of a line does to the book: the commit of its edit, and nothing else
+-- what the request of a line does to the book: the commit of its act, and nothing else
 abbrev pub ChangesBook : {D : Type 0} → (D → List ℕ → Type 0) → (D → ℕ) → (D → ℕ → List ℕ → Type 0) → (D → ℕ)
     → BookParts D → Line → Request → Reply → BookParts D → Type 0
 ChangesBook may_leave moment left_since faults old l (requests.Edit (Ok act)) reply new =
@@ -72,7 +72,7 @@ pub record LeftBehind {D : Type 0} (may_leave : D → List ℕ → Type 0) (l : 
 
 -- The answer to a line. Its reply and the state behind it are those of the core's turn, in which perhaps memory
 -- ran out or the disk failed, and the disk's count rose where it failed; the book is changed by the commit of the
--- line's edit alone
+-- line's act alone
 pub record Answers {D : Type 0} (may_leave : D → List ℕ → Type 0) (moment : D → ℕ)
     (left_since : D → ℕ → List ℕ → Type 0) (faults : D → ℕ) (old : OrderParts D) (l : Line)
     (reply : Reply) (new : OrderParts D) : Type 0 where

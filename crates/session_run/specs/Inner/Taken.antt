@@ -55,7 +55,7 @@ pub record IsAnsweredAt (config : ConfigParts) (history : List Entry) (head : He
   pub made : reply ≡ query_reply head.line head.session (held_at head ask (length history) database)
       (lacks_memory ask)
 
--- the edit of a line, or the fault of its TextGrid, for which it is refused
+-- the act of a line, or the fault of its TextGrid, for which it is refused
 abbrev pub EditsBook : {D : Type 0} → (D → List ℕ → Type 0) → (D → ℕ) → (D → ℕ → List ℕ → Type 0) → (D → ℕ)
     → BookParts D → Head → Result Act GridFault → Reply → BookParts D → Type 0
 EditsBook may_leave moment left_since faults old head (Ok act) reply new =
