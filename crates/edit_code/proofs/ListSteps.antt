@@ -124,11 +124,11 @@ pub begun_edits : (key : BundleKey) (count : ℕ) (bytes behind : List ℕ) (e :
     → (put_front es (items_at (inner_form key) (count - 1) behind) ≡ items_at (inner_form key) count bytes)
     × (list_all (is_edit_of key) es ≡ true) × (length es ≡ 1)
 begun_edits key count bytes behind e es some read is one = (
-    read_more (inner_form key) (items_at (inner_form key) count bytes) [] es count 0 bytes behind e
-    (read_first (inner_form key) (items_at (inner_form key) count bytes) count bytes refl) (omega (arith, some)) read one,
-    subst (λ (l : List Edit). list_all (is_edit_of key) l ≡ true) (sym one) (and_from (is_edit_of key e) true is refl),
-    ap length one,
-  )
+  read_more (inner_form key) (items_at (inner_form key) count bytes) [] es count 0 bytes behind e
+      (read_first (inner_form key) (items_at (inner_form key) count bytes) count bytes refl) (omega (arith, some)) read one,
+  subst (λ (l : List Edit). list_all (is_edit_of key) l ≡ true) (sym one) (and_from (is_edit_of key e) true is refl),
+  ap length one,
+)
 
 pub more_edits : (key : BundleKey) (count place : ℕ) (bytes from behind : List ℕ) (es next : List Edit) (e : Edit)
     → put_front es (items_at (inner_form key) (count - place) from) ≡ items_at (inner_form key) count bytes
@@ -137,10 +137,10 @@ pub more_edits : (key : BundleKey) (count place : ℕ) (bytes from behind : List
     → (put_front next (items_at (inner_form key) (count - (place + 1)) behind) ≡ items_at (inner_form key) count bytes)
     × (list_all (is_edit_of key) next ≡ true) × (length next ≡ place + 1)
 more_edits key count place bytes from behind es next e whole all len h read is put = (
-    read_more (inner_form key) (items_at (inner_form key) count bytes) es next count place from behind e whole h read put,
-    subst (λ (l : List Edit). list_all (is_edit_of key) l ≡ true) (sym put) (all_and (is_edit_of key) es e all is),
-    ap length put ∙ length-append es (e ∷ []) ∙ ap (λ n. n + 1) len,
-  )
+  read_more (inner_form key) (items_at (inner_form key) count bytes) es next count place from behind e whole h read put,
+  subst (λ (l : List Edit). list_all (is_edit_of key) l ≡ true) (sym put) (all_and (is_edit_of key) es e all is),
+  ap length put ∙ length-append es (e ∷ []) ∙ ap (λ n. n + 1) len,
+)
 
 -- The loop that passes over edits.
 

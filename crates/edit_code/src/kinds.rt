@@ -44,6 +44,7 @@ pub(crate) enum Addition {
 
 impl Tag for Body {
     ghost kinds = { all_bodies };
+
     ghost number_of = { body_number };
 
     fn number(self) -> u8 {
@@ -67,6 +68,7 @@ impl Tag for Body {
 
 impl Tag for Kind {
     ghost kinds = { all_kinds };
+
     ghost number_of = { kind_number };
 
     fn number(self) -> u8 {
@@ -116,6 +118,7 @@ impl Tag for Kind {
 
 impl Tag for Addition {
     ghost kinds = { all_additions };
+
     ghost number_of = { addition_number };
 
     fn number(self) -> u8 {

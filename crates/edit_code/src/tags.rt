@@ -8,6 +8,7 @@ use byte_forms::{ReadFault, Rest};
 /// A kind that stands in codes as the byte that is its number.
 pub(crate) trait Tag: Copy {
     ghost kinds: { List Self };
+
     ghost number_of: { Self → ℕ };
 
     /// The number of the kind.

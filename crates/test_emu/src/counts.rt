@@ -10,10 +10,14 @@ use std::test::Fail;
 fn word<T>(ended: &Result<T, ChangeFault>) -> &'static str {
     match ended {
         Ok(_) => "none",
-        Err(ChangeFault::Broken(Breach {
-            rule: Broken::TooMany(what),
-            ..
-        })) => what.word(),
+        Err(
+            ChangeFault::Broken(
+                Breach {
+                    rule: Broken::TooMany(what),
+                    ..
+                },
+            ),
+        ) => what.word(),
         Err(ChangeFault::Broken(_)) => "another rule",
         Err(ChangeFault::Memory) => "memory",
     }

@@ -17,8 +17,8 @@ pub returns : goal.returns
 returns c =
     let two = two_edits c.args.edits.now c.len.ensures.together (λ one. omega (arith, c.len.ensures.length, one)) in
     let size = subst (λ (es : List Edit). (c.several_size.result ≡ min (2 ^ 32) (length (several_form.code es)))
-        × (c.several_size.result < 2 ^ 32 → several_form.fits es)) c.as_slice.ensures
-        (c.several_size.ensures.len, c.several_size.ensures.fits) in record {
+    × (c.several_size.result < 2 ^ 32 → several_form.fits es)) c.as_slice.ensures
+    (c.several_size.ensures.len, c.several_size.ensures.fits) in record {
       len = size.0 ∙ ap (λ bytes. min (2 ^ 32) (length bytes)) (sym (several_code c.args.edits.now two));
       some = c.several_size.ensures.some;
       fits = λ small. several_fits c.args.edits.now two (size.1 small);
