@@ -14,8 +14,7 @@ use emu_disk::Disk;
 use emu_names::Memory;
 use live_book::{Book, EditFault, Published};
 use session_core::{
-    Answer, Ask, Head, Line, Refusal, Reply, Request, Slots, memory_reply, refuse_grid,
-    refuse_rule,
+    Answer, Ask, Head, Line, Refusal, Reply, Request, Slots, memory_reply, refuse_grid, refuse_rule,
 };
 use std::alloc::Global;
 use std::sync::Wait;
