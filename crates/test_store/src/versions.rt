@@ -241,7 +241,6 @@ fn bundles_come_and_go(rt: HostRuntime) -> Result<(), Fail> {
 }
 
 /// The version under its configuration with a level more.
-#[tactic(auto, using(db_config::proofs::Grown::level_extends))]
 fn with_level(alloc: Global, version: &Version, def: &LevelDef) -> Result<Version, Fail> {
     let config = version.config().with_level(alloc, def)?;
     Ok(version.with_config(alloc, config)?)
