@@ -82,7 +82,7 @@ module _ (number count : ℕ) (H : List Entry) (legal : IsLegal work_config H) (
         let from = adding_in H own annot adds in
         let one = each from.entry from.there in
         let same : own ≡ work_key one.bundle =
-            addition_same own (work_key one.bundle) annot (work_annot number one.bundle) (sym from.is ∙ one.is) in
+        addition_same own (work_key one.bundle) annot (work_annot number one.bundle) (sym from.is ∙ one.is) in
         ap (λ (q : BundleKey). same_key q key) same ∙ apart one.bundle one.low);
   }
 
