@@ -14,7 +14,7 @@ use Rattle.emudb_files.specs.declared.sessions.Session.{Session}
 use Rattle.emudb_files.specs.Answers.{Told, Gives, Reads}
 use Rattle.emudb_files.specs.Inner.Running.{Goes}
 use Rattle.emudb_files.specs.Names.{path_in}
-use Rattle.emudb_files.specs.Wanted.{named, names_in, annot_in, key_of, bundle_path, bundle_wanted, bundles_of, session_path, session_in, session_wanted}
+use Rattle.emudb_files.specs.Wanted.{named, names_in, annot_in, key_of, bundle_path, bundle_wanted, bundles_of, session_path, session_in, session_wanted, bundle_added}
 use Rattle.emudb_files.proofs.Going.{names_go, goes_along}
 
 abbrev err_at : (A : Type 0) → CommandFault → Result A CommandFault

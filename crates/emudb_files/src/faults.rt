@@ -71,7 +71,7 @@ pub(crate) fn open_fault(fault: OpenFault) -> CommandFault
 
 /// The act that adds a bundle. The only refusal is want of memory.
 pub(crate) fn bundle_added(alloc: Global, key: BundleKey, annot: Annot) -> Result<Act, Memory>
-    ensures { IfOk result (λ act. act ≡ bundle_added key.now annot.now) }
+    ensures { IfOk result (λ act. act ≡ bundle_added key annot) }
 {
     let edits = Edits::one(alloc, Edit::AddBundle { key, annot })?;
     Ok(Act::Edits(edits))
