@@ -39,7 +39,7 @@ module _ (number count : ℕ) (lines : List Line) (script : IsScript number coun
   adds : (e : Entry) → Has H e → AddsOne number count e
   adds e has =
       let from = entry_from work_config lines replies H store before now legal e has in
-      let is = edit_is number count lines script from.line from.edit from.there from.request in
+      let is = edit_is number count lines script from.line from.act from.there from.request in
       record { bundle = is.bundle; low = is.low; is = ap (λ (x : Entry). x.act) from.entry ∙ is.is }
 
   all : (k : ℕ) → k < count → IsAddedIn number k H
