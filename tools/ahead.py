@@ -4,9 +4,9 @@
     tools/ahead.py CRATE [--only PATH].. [FLAG..]      from the top of the repository
 
 A library that is built is read as it is. Each other one below is read as source, from a copy in which a hole stands in the place of
-every proof that has files of its own: what is above takes such a function by its contract. So nothing of these libraries is proved here, and no verdict is
-given; a function without such files is still proved where it is called. PATH is a function, a type or a module, as for `rt check --only`;
-without one it is every module of the crate. FLAG goes to the check, which has --allow-holes. Copies and kept work stand in
+every proof: what is above takes such a function by its contract. So nothing of these libraries is proved here, and no verdict is
+given; what a macro writes and a closure are still proved where they are called. PATH is a function, a type or a module, as for
+`rt check --only`; without one it is every module of the crate. FLAG goes to the check, which has --allow-holes. Copies and kept work stand in
 CRATE/out/ahead. The first run reads all these sources, some minutes of a processor where many are above one another.
 """
 import importlib.machinery
@@ -16,6 +16,9 @@ import re
 import shutil
 import subprocess
 import sys
+
+# methods that std's types have too, which are in no cycle
+OF_STD = {"as_ref", "as_slice", "copy", "find", "first", "get", "insert", "is_empty", "last", "len", "new", "push", "remove"}
 
 HOLE = """use Rattle.{crate}.proofs.{path}.Statement.{{statement}}
 
@@ -39,19 +42,105 @@ def is_proof(folder, names):
     return not any(it.startswith("+") for it in folder.split("/")) and any(it in names for it in ("Answers.antt", "Invariants.antt"))
 
 
-def with_holes(crate, to):
-    """Copies a library, with a hole for each proof that has files. What did not change keeps its time."""
+def lines_of(path):
+    """The lines of a source without their comments."""
+    with open(path, encoding="utf-8") as file:
+        return re.sub(r"//[^\n]*", "", file.read()).split("\n")
+
+
+def owner(head):
+    """The name under which proofs/ has the functions of an `impl`, of which this is what stands behind that word."""
+    depth = 0
+    for place, sign in enumerate(head if head.startswith("<") else ""):
+        depth += (sign == "<") - (sign == ">")
+        if depth == 0:
+            head = head[place + 1 :]
+            break
+    of, _, whom = head.split("{")[0].split(" where ")[0].strip().partition(" for ")
+    names = [re.sub(r"<.*", "", it).strip().lstrip("&").split("::")[-1] for it in (whom, of)]
+    name = "".join([*names, *(re.findall(r"<(.*)>", of) if whom else [])])
+    return name[:1].upper() + name[1:]
+
+
+def modules_of(folder):
+    """The modules of a library, each with the lines of its source."""
+    for at, _, names in os.walk(f"{folder}/src"):
+        for name in (it for it in names if it.endswith(".rt")):
+            module = os.path.relpath(f"{at}/{name[:-3]}", f"{folder}/src").split("/")
+            yield "/".join([] if module == ["lib"] else module[:-1] if module[-1] == "mod" else module), lines_of(f"{at}/{name}")
+
+
+def in_a_cycle(name, calls):
+    """Whether a function of this name may come to call one of its name."""
+    seen, todo = set(), [name]
+    while todo:
+        for it in calls.get(todo.pop(), ()):
+            if it == name:
+                return True
+            if it not in seen:
+                seen.add(it)
+                todo.append(it)
+    return False
+
+
+def functions_of(folder):
+    """The functions of a library that are in no cycle, each as the folder that its proof has below proofs/."""
+    modules = list(modules_of(folder))
+    homes = {found[1]: module for module, lines in modules for line in lines if (found := re.match(r"(?:pub(?:\([a-z ]+\))? )?(?:struct|enum) (\w+)", line))}
+    found, calls, name = [], {}, None
+    for module, lines in modules:
+        inside = []
+        for line in lines:
+            if begun := re.match(r"(?:unsafe )?impl\b(.*)", line):
+                inside = [owner(begun[1].strip())]
+            elif line.startswith("}"):
+                inside = []
+            elif begun := re.match(r"( {4})?(?:pub(?:\([a-z ]+\))? )?(?:const )?(?:unsafe )?fn (\w+)", line):
+                name = begun[2]
+                calls.setdefault(name, set())
+                if bool(begun[1]) == bool(inside) and all(re.fullmatch(r"\w+", it) for it in inside):
+                    home = homes.get(inside[0], module) if inside else module
+                    found.append(("/".join(it for it in [home, *inside, name] if it), name))
+                continue
+            if name:
+                called = re.findall(r"(\.|::)?\b(\w+)\(", line)
+                calls[name].update(it for how, it in called if how != "::" and not (how and it in OF_STD))
+    return [path for path, name in found if not in_a_cycle(name, calls)]
+
+
+def refused_in(output):
+    """The files with a hole that the check does not take, since their functions call one another in a circle."""
+    return set(re.findall(r"^(\S+/proofs/\S+/Proof\.antt): error\[", output, re.M))
+
+
+def run(call, folder):
+    """Runs a check, prints what it prints, and answers its status and its output."""
+    made = subprocess.Popen(call, cwd=folder, stdin=subprocess.DEVNULL, stdout=subprocess.PIPE, stderr=subprocess.STDOUT, text=True)
+    output = []
+    for line in made.stdout:
+        print(line, end="", flush=True)
+        output.append(line)
+    return made.wait(), "".join(output)
+
+
+def with_holes(crate, to, refused):
+    """Copies a library, with a hole for each proof that has files, but those that were refused. What did not change keeps its time."""
     new = f"{to}.new"
     shutil.rmtree(new, ignore_errors=True)
     shutil.copytree(crate.folder, new, ignore=shutil.ignore_patterns("out", "must-fail"))
-    for at, _, names in os.walk(f"{new}/proofs"):
-        folder = os.path.relpath(at, f"{new}/proofs")
-        if is_proof(folder, names):
-            for name in ("Answers.antt", "Invariants.antt"):
-                if name in names:
-                    os.remove(f"{at}/{name}")
-            with open(f"{at}/Proof.antt", "w", encoding="utf-8") as file:
-                file.write(HOLE.format(crate=crate.name, path=folder.replace("/", "."), name=os.path.basename(folder)))
+    folders = {os.path.relpath(at, f"{new}/proofs"): names for at, _, names in os.walk(f"{new}/proofs")}
+    in_cycles = {os.path.dirname(it) for it in folders if os.path.basename(it).startswith("+")}
+    alone = {it for it in functions_of(new) if os.path.dirname(it) not in in_cycles}
+    for folder in sorted({*(it for it in folders if is_proof(it, folders[it])), *alone}):
+        at = f"{new}/proofs/{folder}"
+        if f"{to}/proofs/{folder}/Proof.antt" in refused:
+            continue
+        os.makedirs(at, exist_ok=True)
+        for name in ("Answers.antt", "Invariants.antt"):
+            if name in folders.get(folder, []):
+                os.remove(f"{at}/{name}")
+        with open(f"{at}/Proof.antt", "w", encoding="utf-8") as file:
+            file.write(HOLE.format(crate=crate.name, path=folder.replace("/", "."), name=os.path.basename(folder)))
     for at, _, names in os.walk(new):
         for name in names:
             old = f"{at}/{name}".replace(new, to, 1)
@@ -70,6 +159,10 @@ def main(words):
     crate = next((it for it in rt.crates_of(root) if it.name == words[0]), None) or sys.exit(f"there is no crate {words[0]}")
     ahead, flags = f"{crate.folder}/out/ahead", words[1:]
     os.makedirs(ahead, exist_ok=True)
+    refused = set()
+    if os.path.isfile(f"{ahead}/refused"):
+        with open(f"{ahead}/refused", encoding="utf-8") as file:
+            refused = set(file.read().split())
     built = {}
     for it in crate.below():
         built[it.name] = it.is_built() and all(built[low.name] for low in it.below())
@@ -82,7 +175,7 @@ def main(words):
         if built[it.name]:
             call += ["--extern", f"{it.name}={it.rlib}", "-L", f"dependency={os.path.dirname(it.rlib)}"]
         else:
-            with_holes(it, f"{ahead}/{it.name}")
+            with_holes(it, f"{ahead}/{it.name}", refused)
             uses = ",".join(dict.fromkeys(["core", *it.of_kit, *(low.name for low in it.deps)]))
             call += ["--lib", f"{it.name}:{uses}={ahead}/{it.name}/src/lib.rt"]
             print(f"ahead: {it.name} as source", flush=True)
@@ -92,7 +185,13 @@ def main(words):
         with open(f"{crate.folder}/{call[4]}", encoding="utf-8") as file:
             modules = re.findall(r"^(?:pub(?:\(\w+\))? )?mod (\w+);", file.read(), re.M)
         flags += [word for it in modules for word in ("--only", f"{crate.name}::{it}")]
-    return subprocess.run([*call, *flags], cwd=crate.folder, stdin=subprocess.DEVNULL).returncode
+    status, output = run([*call, *flags], crate.folder)
+    new = refused_in(output) - refused
+    if not new or not all(it.startswith(f"{os.path.abspath(ahead)}/") for it in new):
+        return status
+    with open(f"{ahead}/refused", "w", encoding="utf-8") as file:
+        file.write("\n".join(sorted(refused | new)))
+    return main(words)
 
 
 if __name__ == "__main__":

@@ -6,7 +6,7 @@ use Rattle.std.proofs.lemmas.Bool.{ltb-true, ltb-false}
 use Rattle.emu_names.specs.declared.limits.TheConstants.{HISTORY_EDITS}
 use Rattle.db_config.specs.declared.parts.ConfigParts.{ConfigParts}
 use Rattle.db_config.specs.Valid.{is_valid}
-use Rattle.edit_rules.specs.declared.edit.Entry.{Entry}
+use Rattle.edit_rules.specs.declared.acts.Entry.{Entry}
 use Rattle.edit_rules.specs.Database.{empty_database}
 use Rattle.edit_code.specs.Codes.{head_code, IsHeadCode}
 use Rattle.emu_disk.proofs.Moments.{started, weaker}
@@ -24,7 +24,8 @@ use Rattle.live_book.specs.declared.published.Published.{Published}
 use Rattle.live_book.specs.Histories.{head_size, HeadPassesLimit, IsBare, IsStorable}
 use Rattle.live_book.specs.Published.{IsStateAfter, AreShown}
 use Rattle.live_book.specs.Kept.{CrashLeaves, Keeps}
-use Rattle.live_book.specs.Inner.Kept.{Holding, IsBookOf}
+use Rattle.live_book.specs.Inner.Kept.{HasConfigSince, Holding, IsBookOf}
+use Rattle.live_book.proofs.Configs.{settled_first}
 use Rattle.book_opening.specs.Opens.{DuringNew, IsEmptyOrLost, IsHeadTooMuch, LeavesNew}
 use Rattle.book_opening.specs.Inner.Opens.{IsEmpty}
 use Rattle.live_book.specs.Inner.Prepared.{IsTest}
@@ -32,26 +33,27 @@ use Rattle.live_book.specs.Inner.Prepared.{IsTest}
 -- The first book.
 
 module _ {D : Type 0} (may_leave : D → List ℕ → Type 0) where
-  pub first_book : (config : ConfigParts) (version : VersionParts) (current : Published) (entries : List Entry) (opened : ℕ) (board : Board Published) (journal : Option (Journal D)) → IsTrue (is_valid config) → version.config ≡ config
-      → length entries ≤ HISTORY_EDITS → IsStateAfter config entries version → current ≡ record { version = version; last = None } → opened ≡ length entries → board.number ≡ length entries → board.list ≡ entry (length entries) current ∷ []
-      → Holding may_leave config entries journal → IsBookOf may_leave current entries opened board journal
-  first_book config version current entries opened board journal valid own few state is all number list held =
+  pub first_book : (own : ConfigParts) (version : VersionParts) (current : Published) (entries : List Entry) (opened since : ℕ) (board : Board Published) (journal : Option (Journal D)) → IsTrue (is_valid own)
+      → length entries ≤ HISTORY_EDITS → IsStateAfter own entries version → current ≡ record { version = version; last = None } → opened ≡ length entries → since ≡ length entries → board.number ≡ length entries → board.list ≡ entry (length entries) current ∷ []
+      → Holding may_leave own entries journal → IsBookOf may_leave own current entries opened since board journal
+  first_book own version current entries opened since board journal valid few state is all from number list held =
       let first : Published = record { version = version; last = None } in
       let low : length entries ≤ opened = omega (arith, all) in
       let front : take opened entries ≡ entries = take_all opened entries low in
       let back : drop opened entries ≡ [] = drop_all opened entries low in
-      let shown : AreShown version.config entries [] (entry (length entries) first ∷ []) = (record { number = refl; version = subst (λ (c : ConfigParts). IsStateAfter c entries version) (sym own) state; last = refl }, refl) in
-      subst (λ (p : Published). IsBookOf may_leave p entries opened board journal) (sym is) (record {
-        valid = subst (λ (c : ConfigParts). IsTrue (is_valid c)) (sym own) valid;
+      let shown : AreShown own entries [] (entry (length entries) first ∷ []) = (record { number = refl; version = state; last = refl }, refl) in
+      subst (λ (p : Published). IsBookOf may_leave own p entries opened since board journal) (sym is) (record {
+        valid = valid;
         few = few;
         opened_some = omega (arith, all);
+        settled = subst (λ (n : ℕ). HasConfigSince own entries n version.config) (sym from) (settled_first own entries version state);
         number = number;
-        state = subst (λ (c : ConfigParts). IsStateAfter c entries version) (sym own) state;
-        shown = subst (λ (l : List (Numbered Published)). AreShown version.config (take opened entries) (drop opened entries) l) (sym (list ∙ ap (λ (p : Published). entry (length entries) p ∷ []) is))
-            (subst (λ (h : List Entry). AreShown version.config h (drop opened entries) (entry (length entries) first ∷ [])) (sym front)
-            (subst (λ (h : List Entry). AreShown version.config entries h (entry (length entries) first ∷ [])) (sym back) shown));
+        state = state;
+        shown = subst (λ (l : List (Numbered Published)). AreShown own (take opened entries) (drop opened entries) l) (sym (list ∙ ap (λ (p : Published). entry (length entries) p ∷ []) is))
+            (subst (λ (h : List Entry). AreShown own h (drop opened entries) (entry (length entries) first ∷ [])) (sym front)
+            (subst (λ (h : List Entry). AreShown own entries h (entry (length entries) first ∷ [])) (sym back) shown));
         last = ([], list ∙ ap (λ (p : Published). entry (length entries) p ∷ []) is);
-        held = subst (λ (c : ConfigParts). Holding may_leave c entries journal) (sym own) held;
+        held = held;
       })
 
   -- Writing the configuration.

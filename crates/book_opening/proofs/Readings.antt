@@ -2,10 +2,10 @@
 use Rattle.std.proofs.Common.{◌≡◌, ℕ, suc, ◌+◌, ◌<◌, List, [], ◌∷◌, ◌++◌, length, map, take, drop, Result, Ok, Err, IfErr, IsTrue, inl, inr, refl, sym, ◌∙◌, ap, subst, arith, get_or, length-append, take-append-drop, drop-cons}
 use Rattle.std.specs.Prelude.{IsErrAnd}
 use Rattle.std.proofs.lemmas.List.{take_more}
-use Rattle.emu_names.specs.declared.rules.Broken.{Broken}
 use Rattle.db_config.specs.declared.parts.ConfigParts.{ConfigParts}
 use Rattle.db_config.specs.Valid.{is_valid}
-use Rattle.edit_rules.specs.declared.edit.Entry.{Entry}
+use Rattle.edit_rules.specs.declared.acts.Breach.{Breach}
+use Rattle.edit_rules.specs.declared.acts.Entry.{Entry}
 use Rattle.edit_rules.specs.Effects.{effect}
 use Rattle.edit_code.specs.Codes.{entry_code, head_code, IsEntryCode, IsHeadCode}
 use Rattle.edit_journal.specs.declared.body.Body.{Body}
@@ -62,23 +62,23 @@ module _ (config : ConfigParts) (texts : List (List ℕ)) (old : Replayed) (is :
   pub replay_history : IsHistory config old.entries
   replay_history = record { legal = (state_of old.version, is.state.state); few = is.few }
 
-  pub replay_next : (text : List ℕ) (e : Entry) (new : Replayed) → HasRoom old.entries → IsEntryCode text e → new.entries ≡ old.entries ++ e ∷ [] → new.version.config ≡ old.version.config → new.version.number ≡ next_number old.version.number
-      → effect (state_of old.version) e.edit ≡ Ok (state_of new.version) → IsReplay config (texts ++ text ∷ []) new
+  pub replay_next : (text : List ℕ) (e : Entry) (new : Replayed) → HasRoom old.entries → IsEntryCode text e → new.entries ≡ old.entries ++ e ∷ [] → new.opening ≡ old.opening → new.version.number ≡ next_number old.version.number
+      → effect (state_of old.version) e.act ≡ Ok (state_of new.version) → IsReplay config (texts ++ text ∷ []) new
   replay_next text e new room code pushed same number effects =
       let state = next_state config old.entries e old.version is.state new.version room effects number in
       let long = length-append old.entries (e ∷ []) in
       record {
         valid = is.valid;
-        config = same ∙ is.config;
+        opening = same ∙ is.opening;
         entries = subst (AreEntryCodes (texts ++ text ∷ [])) (sym pushed) (codes-push texts old.entries text e is.entries code);
         few = omega (arith, ap length pushed, long, room);
         state = subst (λ (h : List Entry). IsStateAfter config h new.version) (sym pushed) state;
       }
 
-  pub broken_entry : (text : List ℕ) (e : Entry) (rule : Broken) → IsEntryCode text e → effect (state_of old.version) e.edit ≡ Err rule → IsBrokenEntry config old.entries text
-  broken_entry text e rule code broken = record { entry = e; code = code; rule = rule; broken = edited_as config old.entries e old.version is.state (Err rule) broken }
+  pub broken_entry : (text : List ℕ) (e : Entry) (breach : Breach) → IsEntryCode text e → effect (state_of old.version) e.act ≡ Err breach → IsBrokenEntry config old.entries text
+  broken_entry text e breach code broken = record { entry = e; code = code; breach = breach; broken = edited_as config old.entries e old.version is.state (Err breach) broken }
 
-  pub broken_next : (body : Body) (e : Entry) → IsEntryCode body.bytes e → (at : ℕ) → (at ≡ body.at) × BreaksRule old.version e.edit → (at ≡ body.at) × IsNoNext config old.entries body.bytes
+  pub broken_next : (body : Body) (e : Entry) → IsEntryCode body.bytes e → (at : ℕ) → (at ≡ body.at) × BreaksRule old.version e.act → (at ≡ body.at) × IsNoNext config old.entries body.bytes
   broken_next body e code at is = (is.0, inr (inl (broken_entry body.bytes e is.1.0 code is.1.1)))
 
   pub wrong_tail : (all front behind : List Body) (wrong : Body) (at : ℕ) → all ≡ front ++ wrong ∷ behind → texts ≡ texts_of front → at ≡ wrong.at → IsNoNext config old.entries wrong.bytes → IsWrongTail config all at
@@ -105,10 +105,10 @@ module _ (config : ConfigParts) (texts : List (List ℕ)) (old : Replayed) (is :
   replay_codes head code = ap (λ (l : List ℕ). l ∷ texts) (head_is head config code) ∙ ap (λ (l : List (List ℕ)). head_code config ∷ l) (codes_are texts old.entries is.entries)
 
 -- the first replay
-pub replay_first : (config : ConfigParts) (new : Replayed) → IsTrue (is_valid config) → new.version ≡ first_version config → new.entries ≡ [] → IsReplay config [] new
-replay_first config new valid version none = record {
+pub replay_first : (config : ConfigParts) (new : Replayed) → IsTrue (is_valid config) → new.opening ≡ config → new.version ≡ first_version config → new.entries ≡ [] → IsReplay config [] new
+replay_first config new valid opening version none = record {
   valid = valid;
-  config = ap (λ (v : VersionParts). v.config) version;
+  opening = opening;
   entries = subst (AreEntryCodes []) (sym none) tt;
   few = omega (arith, ap length none);
   state = subst (λ (h : List Entry). IsStateAfter config h new.version) (sym none)

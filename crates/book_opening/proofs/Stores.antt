@@ -3,7 +3,7 @@ use Rattle.std.proofs.Common.{◌≡◌, inl, inr, ℕ, List, [], ◌∷◌, len
 use Rattle.std.specs.Arc.{arc_value}
 use Rattle.emu_names.specs.Count.{Rose}
 use Rattle.db_config.specs.declared.parts.ConfigParts.{ConfigParts}
-use Rattle.edit_rules.specs.declared.edit.Entry.{Entry}
+use Rattle.edit_rules.specs.declared.acts.Entry.{Entry}
 use Rattle.edit_code.specs.Codes.{IsHeadCode}
 use Rattle.edit_journal.specs.declared.body.Body.{Body}
 use Rattle.edit_journal.specs.declared.fault.JournalFault.{JournalFault}
@@ -39,7 +39,7 @@ module _ {D : Type 0} (may_leave : D → List ℕ → Type 0) where
       → IsOpenedBook may_leave old replayed readers opened → IsOpenedOver may_leave (head ∷ texts) old readers opened
   opened_over head texts old replayed readers config code is (stores.Bare journal) opened = absurd opened
   opened_over head texts old replayed readers config code is (stores.Stored book passes) opened =
-      let own : config ≡ book.config = sym (opened.0 ∙ is.config) in
+      let own : config ≡ book.config = sym (opened.0 ∙ is.opening) in
       let all : replayed.entries ≡ book.history = sym opened.1 in
       let storable : IsStorable book.config book.history =
       subst (IsStorable book.config) all (subst (λ (c : ConfigParts). IsStorable c replayed.entries) own (replay_storable config texts replayed is head code)) in
@@ -63,7 +63,7 @@ wrong_at c found at read w = inr (record { front = w.front; wrong = w.wrong; beh
 module _ {D : Type 0} (may_leave : D → List ℕ → Type 0) where
   -- the first book of a history that was read
   pub history_book : (texts : List (List ℕ)) (replayed : Replayed) (journal : Journal D) (count opened readers : ℕ) (shown : Shown) → IsHistoryOf texts replayed → Holds may_leave texts None journal → IsFirstShown replayed.version count readers shown → count ≡ length replayed.entries → opened ≡ length replayed.entries
-      → IsBookOf may_leave (arc_value shown.current) replayed.entries opened shown.publisher (Some journal)
+      → IsBookOf may_leave replayed.opening (arc_value shown.current) replayed.entries opened opened shown.publisher (Some journal)
   history_book [] replayed journal count opened readers shown history holds first counted all = absurd history
   history_book (head ∷ texts) replayed journal count opened readers shown history holds first counted all =
       let config = history.0 in
@@ -71,14 +71,15 @@ module _ {D : Type 0} (may_leave : D → List ℕ → Type 0) where
       let is = history.2 in
       let kept : Keeps may_leave config replayed.entries None journal =
       opened_keeps may_leave config replayed.entries (head ∷ texts) journal (replay_storable config texts replayed is head code) (replay_codes config texts replayed is head code) holds in
-      first_book may_leave config replayed.version (arc_value shown.current) replayed.entries opened shown.publisher (Some journal) is.valid is.config is.few is.state first.current all (first.number ∙ counted)
-      (first.list ∙ ap (λ (n : ℕ). entry n (arc_value shown.current) ∷ []) counted) (None, kept)
+      subst (λ (own : ConfigParts). IsBookOf may_leave own (arc_value shown.current) replayed.entries opened opened shown.publisher (Some journal)) (sym is.opening)
+      (first_book may_leave config replayed.version (arc_value shown.current) replayed.entries opened opened shown.publisher (Some journal) is.valid is.few is.state first.current all all (first.number ∙ counted)
+      (first.list ∙ ap (λ (n : ℕ). entry n (arc_value shown.current) ∷ []) counted) (None, kept))
 
-  pub opened_book : (replayed : Replayed) (journal : Journal D) (count opened readers : ℕ) (shown : Shown) (book : BookParts D) → book ≡ record { config = (arc_value shown.current).version.config; history = replayed.entries; opened = opened; journal = Some journal; gate = shown.publisher.gate; list = shown.publisher.list }
+  pub opened_book : (replayed : Replayed) (journal : Journal D) (count opened readers : ℕ) (shown : Shown) (book : BookParts D) → book ≡ record { config = replayed.opening; history = replayed.entries; opened = opened; journal = Some journal; gate = shown.publisher.gate; list = shown.publisher.list }
       → IsFirstShown replayed.version count readers shown → opened ≡ length replayed.entries → IsOpenedBook may_leave journal replayed readers (stores.Stored book shown.passes)
   opened_book replayed journal count opened readers shown book is first all =
       subst (λ (b : BookParts D). IsOpenedBook may_leave journal replayed readers (stores.Stored b shown.passes)) (sym is)
-      (ap (λ (p : Published). p.version.config) first.current, refl, all, refl, record { each = first.passes; some = first.some; most = first.most })
+      (refl, refl, all, refl, record { each = first.passes; some = first.some; most = first.most })
 
   pub opened_from : (texts : List (List ℕ)) (old : Journal D) (replayed : Replayed) (readers : ℕ) → IsHistoryOf texts replayed → (opened : Opened D)
       → IsOpenedBook may_leave old replayed readers opened → IsOpenedOver may_leave texts old readers opened

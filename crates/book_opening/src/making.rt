@@ -4,7 +4,6 @@ ghost use Rattle.emu_names.specs.Count.{HasCause};
 ghost use Rattle.db_config.specs.declared.parts.ConfigParts.{ConfigParts};
 ghost use Rattle.edit_journal.specs.Held.{Holds, LeavesIn, count_in};
 ghost use Rattle.edit_code.specs.Codes.{head_code, IsHeadCode};
-ghost use Rattle.version_tree.specs.Inner.Version.{first_version};
 ghost use Rattle.live_book.specs.Histories.{HeadPassesLimit};
 ghost use Rattle.live_book.specs.Kept.{Keeps, KeepsIn, CrashLeaves, faults_in};
 ghost use Rattle.live_book.specs.Commits.{has_journal};
@@ -19,8 +18,8 @@ use edit_code::{head_len, write_head};
 use edit_journal::{Frame, Journal, JournalFault};
 use edit_rules::Entries;
 use emu_disk::{Disk, Failed};
-use emu_names::Memory;
 use emu_names::limits::STORE_BYTES;
+use emu_names::{Memory, Shared};
 use live_book::{Book, Parts, Published};
 use std::alloc::Global;
 use std::sync::{Arc, Wait};
@@ -206,22 +205,9 @@ pub fn new_book<D: Disk, R: Wait>(
     }
 }
 
-/// A gate whose opening is the first version of a configuration.
-fn show_config<R: Wait>(
-    rt: &R,
-    alloc: Global,
-    config: Config,
-    readers: u32,
-) -> Result<Shown, Memory>
-    requires { (1 ≤ readers) × (readers ≤ 16) }
-    ensures { IfOk result (λ shown. IsFirstShown (first_version config) 0 readers shown) }
-{
-    let version = Version::new(alloc, config)?;
-    show_first(rt, alloc, version, 0, readers)
-}
-
 /// What a new book needs before the disk is called.
 struct Begun {
+    opening: Shared<Config>,
     frame: Option<Frame>,
     entries: Entries,
     shown: Shown,
@@ -240,8 +226,11 @@ fn prepare<D: Disk, R: Wait>(
     ensures { IfOk result (λ begun. IsBegun journal.now config readers begun) }
 {
     let frame = head_frame(alloc, journal, &config)?;
-    let shown = show_config(rt, alloc, config, readers)?;
+    let version = Version::new(alloc, config)?;
+    let opening = version.shared_config(alloc)?;
+    let shown = show_first(rt, alloc, version, 0, readers)?;
     Ok(Begun {
+        opening,
         frame,
         entries: Entries::new(alloc),
         shown,
@@ -271,6 +260,7 @@ fn begin<D: Disk, R: Wait>(
 {
     let mut journal = journal;
     let Begun {
+        opening,
         frame,
         entries,
         shown,
@@ -280,12 +270,14 @@ fn begin<D: Disk, R: Wait>(
         publisher,
         passes,
     } = shown;
-    match append_head(&mut journal, current.version.config(), &frame) {
+    match append_head(&mut journal, opening.as_ref(), &frame) {
         Ok(()) => {
             let book = Book::of(Parts {
+                opening,
                 current,
                 entries,
                 opened: 0,
+                since: 0,
                 publisher,
                 journal,
             });

@@ -41,7 +41,7 @@ pub struct NoStore<D: Disk> {
 /// bare. It writes nothing, and nothing is in doubt then.
 ///
 /// `Damaged` comes exactly where they stand for neither, and names the place: where the list of bodies
-/// breaks; else the gate of the first body that is no code, whose edit breaks a rule, or that would be entry
+/// breaks; else the gate of the first body that is no code, whose act breaks a rule, or that would be entry
 /// 100,001. `Disk` comes only where the disk failed in this call, `StoreFull` never. The disk is handed back
 /// with a refusal. It may wait for passes that read.
 pub fn open_store<D: Disk, R: Wait>(
@@ -133,7 +133,11 @@ fn open_replayed<D: Disk, R: Wait>(
     ensures err { IfErr result (λ e.
         (e.disk ≡ disk_of journal) × (e.fault ≡ OpenFault.Memory)) }
 {
-    let Replayed { version, entries } = replayed;
+    let Replayed {
+        opening,
+        version,
+        entries,
+    } = replayed;
     match show_first(rt, alloc, version, entries.len() as u64, readers) {
         Err(Memory) => Err(NoStore {
             fault: OpenFault::Memory,
@@ -147,9 +151,11 @@ fn open_replayed<D: Disk, R: Wait>(
             } = shown;
             let opened = entries.len();
             let book = Book::of(Parts {
+                opening,
                 current,
                 entries,
                 opened,
+                since: opened,
                 publisher,
                 journal: Some(journal),
             });

@@ -16,15 +16,17 @@ use crate::fault::OpenFault;
 use db_config::Config;
 use edit_code::{CodeFault, read_entry, read_head};
 use edit_journal::Body;
-use edit_rules::{Entries, Entry};
+use edit_rules::{ChangeFault, Entries, Entry};
 use emu_names::limits::HISTORY_EDITS;
-use emu_names::{Fault, Memory};
+use emu_names::{Memory, Shared};
 use std::alloc::Global;
-use version_tree::{Version, next_version};
+use version_steps::next_version;
+use version_tree::Version;
 
-/// Entries that were read, and the version after them.
+/// Entries that were read, the configuration before them, and the version after them.
 #[derive(Drop)]
 pub(crate) struct Replayed {
+    pub(crate) opening: Shared<Config>,
     pub(crate) version: Version,
     pub(crate) entries: Entries,
 }
@@ -64,16 +66,15 @@ fn version_behind(
 ) -> Result<Version, OpenFault>
     requires { KeepsDatabaseRules (state_of version.now) }
     ensures state { IfOk result (λ next.
-        effect (state_of version.now) entry.now.edit ≡ Ok (state_of next)) }
-    ensures config { IfOk result (λ next. next.config ≡ version.now.config) }
+        effect (state_of version.now) entry.now.act ≡ Ok (state_of next)) }
     ensures number { IfOk result (λ next. next.number ≡ next_number version.now.number) }
     ensures err { IfErr result (λ fault. IsWrong (λ at.
-        (at ≡ body.now.at) × BreaksRule version.now entry.now.edit) fault) }
+        (at ≡ body.now.at) × BreaksRule version.now entry.now.act) fault) }
 {
-    match next_version(alloc, version, &entry.edit) {
+    match next_version(alloc, version, &entry.act) {
         Ok(next) => Ok(next),
-        Err(Fault::Broken(_)) => Err(OpenFault::Damaged(body.at)),
-        Err(Fault::Memory) => Err(OpenFault::Memory),
+        Err(ChangeFault::Broken(_)) => Err(OpenFault::Damaged(body.at)),
+        Err(ChangeFault::Memory) => Err(OpenFault::Memory),
     }
 }
 
@@ -81,6 +82,7 @@ fn version_behind(
 fn put(replayed: &mut Replayed, entry: Entry, version: Version) -> Result<(), Memory>
     ensures entries { OnOk result (replayed.new.entries ≡ replayed.old.entries ++ entry ∷ []) }
     ensures version { OnOk result (replayed.new.version ≡ version) }
+    ensures opening { OnOk result (replayed.new.opening ≡ replayed.old.opening) }
 {
     replayed.entries.push(entry)?;
     replayed.version = version;
@@ -107,13 +109,19 @@ fn add(alloc: Global, replayed: &mut Replayed, body: &Body) -> Result<(), OpenFa
 }
 
 /// Adds the entries of bodies, behind the version of a configuration.
-fn add_all(alloc: Global, version: Version, bodies: &[Body]) -> Result<Replayed, OpenFault>
-    requires first { version ≡ first_version version.config }
-    requires valid { IsTrue (is_valid version.config) }
-    ensures ok { IfOk result (λ r. IsReplay version.config (texts_of bodies.now) r) }
-    ensures err { IfErr result (λ fault. IsWrong (IsWrongTail version.config bodies.now) fault) }
+fn add_all(
+    alloc: Global,
+    opening: Shared<Config>,
+    version: Version,
+    bodies: &[Body],
+) -> Result<Replayed, OpenFault>
+    requires first { version ≡ first_version opening }
+    requires valid { IsTrue (is_valid opening) }
+    ensures ok { IfOk result (λ r. IsReplay opening (texts_of bodies.now) r) }
+    ensures err { IfErr result (λ fault. IsWrong (IsWrongTail opening bodies.now) fault) }
 {
     let mut replayed = Replayed {
+        opening,
         version,
         entries: Entries::new(alloc),
     };
@@ -130,7 +138,8 @@ fn replay_behind(alloc: Global, head: &Body, rest: &[Body]) -> Result<Replayed, 
 {
     let config = config_of(alloc, head)?;
     let version = Version::new(alloc, config)?;
-    add_all(alloc, version, rest)
+    let opening = version.shared_config(alloc)?;
+    add_all(alloc, opening, version, rest)
 }
 
 /// The configuration and the history of bodies, of which there is one.

@@ -1,10 +1,10 @@
 -- The columns of all levels, and rows that are asked of them.
-use Rattle.std.proofs.Common.{◌≡◌, ◌<◌, ◌≤◌, ◌+◌, ◌==◌, ◌⊎◌, inl, inr, ℕ, zero, suc, Bool, true, false, cond, nat_lt, List, [], ◌∷◌, ◌++◌, length, map, replicate, get_or, slice_get, Option, Some, None, Result, Ok, Err, IfOk, IfSome, Bor, refl, sym, ap, subst, ◌∙◌, arith, true≢false}
-use Rattle.std.proofs.lemmas.Bool.{cases_lt}
+use Rattle.std.proofs.Common.{◌≡◌, ◌≢◌, ◌<◌, ◌≤◌, ◌+◌, ◌==◌, ◌⊎◌, inl, inr, ℕ, zero, suc, Bool, true, false, cond, nat_lt, List, [], ◌∷◌, ◌++◌, length, map, replicate, get_or, slice_get, slice_set, Option, Some, None, Result, Ok, Err, IfOk, IfSome, Bor, refl, sym, ap, subst, ◌∙◌, arith, true≢false}
+use Rattle.std.proofs.lemmas.Bool.{cases_eq, cases_lt}
 use Rattle.std.proofs.lemmas.Bool.Decides.{nat_tests, Decides-eqb, same_from_decides}
-use Rattle.std.proofs.lemmas.List.{length-append, length-map, length-replicate, get_or_at, get_or_append_left}
+use Rattle.std.proofs.lemmas.List.{length-append, length-map, length-replicate, get_or_at, get_or_append_left, get_or_past, get_or-set_same}
 use Rattle.std.proofs.lemmas.List.Sums.{fails_before_first}
-use Rattle.std.proofs.lemmas.Option.{slice_get_within, slice_get-get_or, get_or_from_slice_get, same_Some}
+use Rattle.std.proofs.lemmas.Option.{slice_get_past, slice_get_within, slice_get-get_or, get_or_from_slice_get, same_Some}
 use Rattle.std.proofs.lemmas.Slice.Eq.{bytes_eq-Decides}
 use Rattle.std.specs.List.{position, position_or_len}
 use Rattle.std.specs.Option.{option_map, option_map_or}
@@ -12,7 +12,7 @@ use Rattle.std.specs.Str.{bytes_eq}
 use Rattle.lane_bits.specs.Inner.Row.{is_between}
 use Rattle.emu_names.specs.declared.kinds.LevelKind.TheVariants as kinds
 use Rattle.level_items.specs.declared.items.Item.{Item}
-use Rattle.level_items.specs.Levels.{Level, ids_of, items_at, label_of}
+use Rattle.level_items.specs.Levels.{Level, level_of, ids_of, items_at, label_of}
 use Rattle.db_config.specs.declared.parts.ConfigParts.{ConfigParts}
 use Rattle.bundle_state.specs.Bundle.{BundleParts}
 use Rattle.bundle_state.specs.Built.{FitsConfig}
@@ -24,7 +24,7 @@ use Rattle.bundle_index.specs.declared.columns.LevelColumns.{LevelColumns}
 use Rattle.bundle_index.specs.Inner.Numbered.{AreNumbered, HasGrown, IsColumnOf}
 use Rattle.bundle_index.specs.Index.{IndexParts}
 use Rattle.bundle_index.specs.Inner.Index.{IsTimed, attributes_on, has_label, starts_within}
-use Rattle.bundle_index.specs.Inner.Columns.{AreColumnsBut, AreColumnsOf, AreColumnsFor, AreOtherwiseSame, starts_of, ends_of}
+use Rattle.bundle_index.specs.Inner.Columns.{AreColumnsBut, AreColumnsOf, AreColumnsFor, AreOtherwiseSame, AreSameBut, starts_of, ends_of}
 use Rattle.bundle_index.proofs.Steps.{column_stays, grown_twice}
 
 -- ---- the columns of the levels, one level after another
@@ -225,7 +225,7 @@ pub range_is : (low high : ℕ) (items : List Item) →
 range_is low high [] = refl
 range_is low high (i ∷ items) = ap (λ (bits : List Bool). starts_within low high i ∷ bits) (range_is low high items)
 
--- ---- one level changed
+-- ---- some levels changed
 
 -- the columns of the first k levels, and the labels that they were begun with
 pub record AreChangedSoFar (first now : List (List ℕ)) (levels : List Level) (k : ℕ) (all : List LevelColumns) : Type 0 where
@@ -243,39 +243,85 @@ changed_more first now new levels k all level columns so grown at are = record {
   filled = filled_more now new levels k all level columns so.filled grown at are;
 }
 
--- what is kept of a level that has not changed
-pub still : (first now : List (List ℕ)) (levels : List Level) (changed k : ℕ) (old : List LevelColumns) (level : Level)
-    (columns : LevelColumns) (anew : Bool) → AreColumnsBut first levels changed old → HasGrown first now →
-    anew ≡ (k == changed) → slice_get levels k ≡ Some level → slice_get old k ≡ Some columns →
-    anew ≡ false → AreColumnsOf now level columns
-still first now levels changed k old level columns anew are grown is at-level at-columns unchanged =
-    columns_stay first now level columns grown
-    (are.each k level columns
-    (λ same. true≢false (sym ((Decides-eqb k changed).1 same) ∙ sym is ∙ unchanged)) at-level at-columns)
+-- what is kept of a level that is not marked: its columns, which have a place there
+pub still_there : (numbered : List (List ℕ)) (levels : List Level) (marked : List Bool) (old : List LevelColumns) (k : ℕ) → AreColumnsBut numbered levels marked old →
+    k < length levels → get_or marked k false ≡ false → k < length old
+still_there numbered levels marked old k are within unmarked =
+    let level : Level = get_or levels k (level_of kinds.Item 0 []) in
+    are.there k level unmarked (slice_get-get_or levels k (level_of kinds.Item 0 []) within)
 
-pub others_same : (x y : IndexParts) (all : List LevelColumns) (levels : List Level) (changed : ℕ) (labels : List (List ℕ)) →
-    x ≡ y → AreColumnsFor x.labels x.bundle.levels all → AreOtherwiseSame y.bundle.levels levels changed →
-    labels ≡ x.labels → AreColumnsBut labels levels changed all
-others_same x y all levels changed labels shown are others is = record {
-  each = λ k level columns other at-level at-columns.
+pub still : (now : List (List ℕ)) (levels : List Level) (marked : List Bool) (k : ℕ) (old : List LevelColumns) (columns made : LevelColumns) →
+    AreColumnsBut now levels marked old → get_or marked k false ≡ false → slice_get old k ≡ Some columns → made ≡ columns →
+    (own : Level) → slice_get levels k ≡ Some own → AreColumnsOf now own made
+still now levels marked k old columns made are unmarked at-columns same own at-level =
+    subst (AreColumnsOf now own) (sym same) (are.each k own columns unmarked at-level at-columns)
+
+-- the columns of the levels that are not marked stay so where the labels grow
+pub but_stay : (now new : List (List ℕ)) (levels : List Level) (marked : List Bool) (old : List LevelColumns) → HasGrown now new →
+    AreColumnsBut now levels marked old → AreColumnsBut new levels marked old
+but_stay now new levels marked old grown are = record {
+  there = are.there;
+  each = λ k level columns unmarked at-level at-columns. columns_stay now new level columns grown (are.each k level columns unmarked at-level at-columns);
+}
+
+-- a list of labels goes on from itself
+pub grown_self : (now : List (List ℕ)) → HasGrown now now
+grown_self now = record { kept = λ i l at. at }
+
+-- the columns of the levels that are not marked, where these are as they were
+pub others_same : (x y : IndexParts) (all : List LevelColumns) (levels : List Level) (marked : List Bool) (labels : List (List ℕ)) →
+    x ≡ y → AreColumnsFor x.labels x.bundle.levels all → AreSameBut marked y.bundle.levels levels →
+    labels ≡ x.labels → AreColumnsBut labels levels marked all
+others_same x y all levels marked labels shown are others is = record {
+  there = λ k level unmarked at-level.
+      let old : slice_get y.bundle.levels k ≡ Some level = sym (others k unmarked) ∙ at-level in
+      let within : k < length y.bundle.levels = slice_get_within y.bundle.levels k level old in
+      let same : length x.bundle.levels ≡ length y.bundle.levels = ap (λ (i : IndexParts). length i.bundle.levels) shown in
+      omega (arith, are.count, same, within);
+  each = λ k level columns unmarked at-level at-columns.
       subst (λ (ls : List (List ℕ)). AreColumnsOf ls level columns) (sym is)
       (are.each k level columns
       (subst (λ (i : IndexParts). slice_get i.bundle.levels k ≡ Some level) (sym shown)
-      (sym (others.same k other) ∙ at-level)) at-columns);
+      (sym (others k unmarked) ∙ at-level)) at-columns);
 }
 
-pub others_count : (x y : IndexParts) (all : List LevelColumns) (levels : List Level) (changed : ℕ) →
-    x ≡ y → AreColumnsFor x.labels x.bundle.levels all → AreOtherwiseSame y.bundle.levels levels changed →
-    length all ≡ length levels
-others_count x y all levels changed shown are others =
-    are.count ∙ ap (λ (i : IndexParts). length i.bundle.levels) shown ∙ sym others.count
-
--- the ids of the levels that have not changed
-pub ids_stay : (x y : IndexParts) (levels : List Level) (changed : ℕ) → x ≡ y → AreOtherwiseSame y.bundle.levels levels changed →
-    HaveSameIdsBut changed x.bundle.levels levels
-ids_stay x y levels changed shown others k other =
-    ap (λ (o : Option Level). option_map_or (λ (l : Level). ids_of l.items) o []) (others.same k other)
+-- the ids of the levels that are not marked
+pub ids_stay : (x y : IndexParts) (levels : List Level) (marked : List Bool) → x ≡ y → AreSameBut marked y.bundle.levels levels →
+    HaveSameIdsBut marked x.bundle.levels levels
+ids_stay x y levels marked shown others k unmarked =
+    ap (λ (o : Option Level). option_map_or (λ (l : Level). ids_of l.items) o []) (others k unmarked)
     ∙ ap (λ (i : IndexParts). ids_at i.bundle.levels k) (sym shown)
+
+-- where one level may have changed, and it is marked if it is there, all others are as they were
+pub same_but_one : (old new : List Level) (changed : ℕ) (marked : List Bool) → AreOtherwiseSame old new changed →
+    (changed < length new → get_or marked changed false ≡ true) → AreSameBut marked old new
+same_but_one old new changed marked others here k unmarked = by (cases_eq k changed)
+  where
+    by_place : k ≡ changed → (k < length new) ⊎ (length new ≤ k) → slice_get new k ≡ slice_get old k
+    by_place same (inl within) =
+        let marks : get_or marked k false ≡ true =
+        ap (λ (j : ℕ). get_or marked j false) same ∙ here (subst (λ (j : ℕ). j < length new) same within) in
+        absurd (true≢false (sym marks ∙ unmarked))
+    by_place same (inr beyond) =
+        let count = others.count in
+        slice_get_past new k beyond ∙ sym (slice_get_past old k (omega (arith, count, beyond)))
+
+    by : (k ≡ changed) ⊎ (k ≢ changed) → slice_get new k ≡ slice_get old k
+    by (inl same) = by_place same (cases_lt k (length new))
+    by (inr other) = others.same k other
+
+-- what a row tells of a level
+pub mark_told : (marked : List Bool) (level : ℕ) (bit : Bool) → slice_get marked level ≡ Some bit → bit ≡ get_or marked level false
+mark_told marked level bit at = sym (get_or_from_slice_get marked level bit false at)
+
+pub mark_past : (marked : List Bool) (level : ℕ) → length marked ≤ level → false ≡ get_or marked level false
+mark_past marked level past = sym (get_or_past marked level false past)
+
+-- a mark that is set is there
+pub mark_set : (row next : List Bool) (level count : ℕ) → row ≡ replicate count false → next ≡ slice_set row level true → level < count → get_or next level false ≡ true
+mark_set row next level count unset is within =
+    ap (λ (r : List Bool). get_or r level false) is
+    ∙ get_or-set_same row level true false (omega (arith, ap length unset, length-replicate count false, within))
 
 -- ---- rows of dominance that are kept
 

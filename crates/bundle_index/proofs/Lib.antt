@@ -4,3 +4,4 @@ pub mod ShortLabels
 pub mod Steps
 pub mod Facts
 pub mod Asked
+mod Widening

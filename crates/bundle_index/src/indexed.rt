@@ -1,13 +1,14 @@
 //! A bundle with its columns.
-ghost use Rattle.std.specs.Prelude.{◌≡◌, ◌<◌, false, length, map, replicate, IfOk, IfSome, position};
+ghost use Rattle.std.specs.Prelude.{◌≡◌, ◌<◌, true, false, get_or, length, map, replicate, IfOk, IfSome, OnOk, Some, position};
+ghost use Rattle.std.specs.List.{slice_get};
 ghost use Rattle.std.specs.Str.{bytes_eq};
 ghost use Rattle.lane_bits.specs.Inner.Row.{is_between};
 ghost use Rattle.bundle_state.specs.Built.{FitsConfig};
 ghost use Rattle.hier_closure.specs.Dominance.{closure_of};
-ghost use Rattle.bundle_index.specs.Inner.Numbered.{AreNumbered, IsColumnOf};
+ghost use Rattle.bundle_index.specs.Inner.Numbered.{AreNumbered, HasGrown, IsColumnOf};
 ghost use Rattle.bundle_index.specs.Inner.Index.{IsTimed, attributes_on, has_label, starts_within};
-ghost use Rattle.level_items.specs.Levels.{items_at, label_of};
-ghost use Rattle.bundle_index.specs.Inner.Columns.{AreColumnsBut, AreColumnsFor, AreKeptOf, AreOtherwiseSame, ends_of, starts_of};
+ghost use Rattle.level_items.specs.Levels.{Level, items_at, label_of};
+ghost use Rattle.bundle_index.specs.Inner.Columns.{AreColumnsBut, AreColumnsFor, AreColumnsOf, AreKeptOf, AreOtherwiseSame, AreSameBut, ends_of, starts_of};
 ghost use Rattle.bundle_index.specs.Inner.Keys.{AreKeysOf};
 
 use crate::labels::Labels;
@@ -66,16 +67,33 @@ impl Indexed {
     }
 
     /// The bundle, whose levels are those of this one but for one level, with its columns. The columns of
-    /// that level are made anew, and all others are shared; so are the rows of links, where neither the links
-    /// nor the ids of that level have changed. The only refusal is want of memory, or of a number for a label.
-    ///
-    /// The labels of this one keep their numbers, unless there are more than 4,194,304 labels then, many
-    /// of which no item may have any longer: all columns are made anew in that case.
+    /// that level are made anew, and all others are shared, as by [`Indexed::changed_on`].
+    #[tactic(auto, using(crate::proofs::Asked::same_but_one))]
     pub fn changed(&self, alloc: Global, bundle: Bundle, level: usize) -> Result<Indexed, Memory>
         requires { AreOtherwiseSame self.now.bundle.levels bundle.levels level }
         ensures { IfOk result (λ made. made.bundle ≡ bundle) }
     {
-        match self.changed_beside(alloc, &bundle, level) {
+        let marked = one_mark(alloc, bundle.level_count(), level)?;
+        self.changed_on(alloc, bundle, &marked)
+    }
+
+    /// The bundle, whose levels are those of this one but for the marked ones, with its columns. The columns of
+    /// the marked levels are made anew, and all others are shared; so are the rows of links, where neither the
+    /// links nor the ids of those levels have changed. The only refusal is want of memory, or of a number for a
+    /// label.
+    ///
+    /// The labels of this one keep their numbers, unless there are more than 4,194,304 labels then, many
+    /// of which no item may have any longer: all columns are made anew in that case.
+    pub fn changed_on(
+        &self,
+        alloc: Global,
+        bundle: Bundle,
+        marked: &BitRow,
+    ) -> Result<Indexed, Memory>
+        requires { AreSameBut marked.now self.now.bundle.levels bundle.levels }
+        ensures { IfOk result (λ made. made.bundle ≡ bundle) }
+    {
+        match self.changed_beside(alloc, &bundle, marked) {
             Ok(kept) => Ok(Indexed::of(bundle, kept)),
             Err(fault) => Err(fault),
         }
@@ -101,19 +119,24 @@ impl Indexed {
         }
     }
 
-    /// What is kept beside a bundle whose levels are those of this one but for one level. The only refusal
+    /// What is kept beside a bundle whose levels are those of this one but for the marked ones. The only refusal
     /// is want of memory, or of a number for a label.
-    fn changed_beside(&self, alloc: Global, bundle: &Bundle, level: usize) -> Result<Kept, Memory>
-        requires { AreOtherwiseSame self.now.bundle.levels bundle.now.levels level }
+    fn changed_beside(
+        &self,
+        alloc: Global,
+        bundle: &Bundle,
+        marked: &BitRow,
+    ) -> Result<Kept, Memory>
+        requires { AreSameBut marked.now self.now.bundle.levels bundle.now.levels }
         ensures { IfOk result (λ kept.
             AreKeptOf bundle.now kept.labels kept.keys kept.columns kept.linked) }
     {
         let mut labels = self.labels.copy()?;
-        let columns = changed_columns(alloc, &self.columns, bundle, level, &mut labels)?;
+        let columns = changed_columns(alloc, &self.columns, bundle, marked, &mut labels)?;
         if labels.len() > KEPT_LABELS {
             return kept_beside(alloc, bundle);
         }
-        let linked = relinked_levels(alloc, &self.bundle, &self.linked, bundle, level)?;
+        let linked = relinked_levels(alloc, &self.bundle, &self.linked, bundle, marked)?;
         keyed(alloc, labels, columns, linked)
     }
 
@@ -306,32 +329,73 @@ fn all_columns(
     Ok(all)
 }
 
-/// The columns of all levels: those of one level made anew, all others shared. The only refusal is want of
+/// A row with a bit for each level, of which that of this level is set, if there is one. The only refusal is want
+/// of memory.
+#[tactic(auto, using(crate::proofs::Asked::mark_set))]
+fn one_mark(alloc: Global, count: usize, level: usize) -> Result<BitRow, Memory>
+    ensures { IfOk result (λ marked. level < count → get_or marked level false ≡ true) }
+{
+    let mut marked = row_of(alloc, count)?;
+    if level < count {
+        marked.set(level, true);
+    }
+    Ok(marked)
+}
+
+/// Whether a level is marked.
+#[tactic(auto, using(crate::proofs::Asked::mark_told, crate::proofs::Asked::mark_past))]
+fn is_marked(marked: &BitRow, level: usize) -> bool
+    ensures { result ≡ get_or marked.now level false }
+{
+    level < marked.len() && marked.get(level)
+}
+
+/// The columns of a level: made anew where it is marked, else those that were there. The only refusal is want of
+/// memory, or of a number for a label.
+#[tactic(auto, using(crate::proofs::Asked::still_there, crate::proofs::Asked::still, crate::proofs::Asked::grown_self))]
+fn changed_level(
+    alloc: Global,
+    old: &Series<SharedColumns>,
+    bundle: &Bundle,
+    level: usize,
+    marked: &BitRow,
+    labels: &mut Labels,
+) -> Result<SharedColumns, Memory>
+    requires level { level < length bundle.now.levels }
+    requires same { AreColumnsBut labels.old bundle.now.levels marked.now old.now }
+    ensures columns { IfOk result (λ columns. (own : Level) → slice_get bundle.now.levels level ≡ Some own
+        → AreColumnsOf labels.new own columns) }
+    ensures grown { OnOk result (HasGrown labels.old labels.new) }
+{
+    if is_marked(marked, level) {
+        SharedColumns::of_level(alloc, bundle.level(level), labels)
+    } else {
+        old.get(level).copy()
+    }
+}
+
+/// The columns of all levels: those of the marked levels made anew, all others shared. The only refusal is want of
 /// memory, or of a number for a label.
 fn changed_columns(
     alloc: Global,
     old: &Series<SharedColumns>,
     bundle: &Bundle,
-    changed: usize,
+    marked: &BitRow,
     labels: &mut Labels,
 ) -> Result<Series<SharedColumns>, Memory>
-    requires count { length old.now ≡ length bundle.now.levels }
-    requires same { AreColumnsBut labels.old bundle.now.levels changed old.now }
+    requires { AreColumnsBut labels.old bundle.now.levels marked.now old.now }
     ensures { IfOk result (λ all. AreColumnsFor labels.new bundle.now.levels all) }
 {
     let mut all = Series::new(alloc);
     for level in 0..bundle.level_count() {
-        let anew = level == changed;
-        let columns = old
-            .get(level)
-            .anew_or_same(alloc, bundle.level(level), anew, labels)?;
+        let columns = changed_level(alloc, old, bundle, level, marked, labels)?;
         all.push(columns)?;
     }
     Ok(all)
 }
 
 /// A row of bits, none of which is set. The only refusal is want of memory.
-fn row_of(alloc: Global, len: usize) -> Result<BitRow, Memory>
+pub(crate) fn row_of(alloc: Global, len: usize) -> Result<BitRow, Memory>
     ensures { IfOk result (λ row. row ≡ replicate len false) }
 {
     match BitRow::new(alloc, len) {

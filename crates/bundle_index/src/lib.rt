@@ -2,6 +2,7 @@
 #![tactic(auto)]
 
 mod columns;
+mod fitted;
 mod indexed;
 mod labels;
 mod shared;

@@ -1,5 +1,5 @@
 //! The columns of a level as indexed bundles share them, where that level has not changed.
-ghost use Rattle.std.specs.Prelude.{◌≡◌, IfOk, OnOk, false};
+ghost use Rattle.std.specs.Prelude.{◌≡◌, IfOk, OnOk};
 ghost use Rattle.level_items.specs.Levels.{KeepsLevelRule};
 ghost use Rattle.bundle_index.specs.Inner.Numbered.{HasGrown};
 ghost use Rattle.bundle_index.specs.Inner.Columns.{AreColumnsOf};
@@ -58,31 +58,10 @@ impl SharedColumns {
     }
 
     /// The same columns, with one owner more. The only refusal is want of memory.
-    fn copy(&self) -> Result<SharedColumns, Memory>
+    pub fn copy(&self) -> Result<SharedColumns, Memory>
         ensures { IfOk result (λ made. made ≡ self.now) }
     {
         let inside = self.inside.clone()?;
         Ok(SharedColumns { inside })
-    }
-
-    /// The columns of a level: made anew where that is asked for, else these. The only refusal is want of
-    /// memory, or of a number for a label.
-    pub fn anew_or_same(
-        &self,
-        alloc: Global,
-        level: &LevelList,
-        anew: bool,
-        labels: &mut Labels,
-    ) -> Result<SharedColumns, Memory>
-        requires rule { KeepsLevelRule level.now }
-        requires same { anew ≡ false → AreColumnsOf labels.old level.now self.now }
-        ensures columns { IfOk result (λ columns. AreColumnsOf labels.new level.now columns) }
-        ensures grown { OnOk result (HasGrown labels.old labels.new) }
-    {
-        if anew {
-            SharedColumns::of_level(alloc, level, labels)
-        } else {
-            self.copy()
-        }
     }
 }

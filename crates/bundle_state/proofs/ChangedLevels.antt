@@ -1,11 +1,10 @@
 -- What a change of one level makes of all levels: their ids, the level of an id, the rules.
-use Rattle.std.proofs.Common.{◌≡◌, ℕ, zero, suc, ◌+◌, ◌<◌, Bool, true, false, cond, ◌&&◌, ◌||◌, ◌==◌, List, [], ◌∷◌, ◌++◌, length, take, drop, get_or, Option, Some, None, Result, Ok, Err, OnOk, is_some, nat_eq, refl, sym, ◌∙◌, ap, subst, arith, All, append_assoc, length-append, eqb-true, eq-eqb, slice_set, zero-add}
+use Rattle.std.proofs.Common.{◌≡◌, ℕ, zero, suc, ◌+◌, ◌<◌, Bool, true, false, cond, ◌&&◌, ◌||◌, ◌==◌, List, [], ◌∷◌, ◌++◌, length, take, drop, Option, Some, None, is_some, nat_eq, refl, sym, ◌∙◌, ap, subst, arith, All, append_assoc, length-append, eqb-true, eq-eqb, slice_set, zero-add}
 use Rattle.std.specs.List.{list_any, list_all, slice_get, insert, remove}
 use Rattle.std.proofs.lemmas.Bool.{true≢false, and_parts, and_from}
 use Rattle.std.proofs.lemmas.List.{length-map, length-set, take-append-drop}
 use Rattle.std.proofs.lemmas.List.Sums.{sum_by-cons}
 use Rattle.std.proofs.lemmas.List.Folds.{list_any-append}
-use Rattle.std.proofs.lemmas.Option.{slice_get-get_or}
 use Rattle.std.proofs.lemmas.List.Elements.{All-cons, All-head, All-tail}
 use Rattle.emu_names.specs.declared.limits.TheConstants.{BUNDLE_ITEMS}
 use Rattle.emu_names.specs.declared.kinds.LevelKind.{LevelKind}
@@ -181,14 +180,6 @@ rules_changed f zero (x ∷ levels) l at all rule =
 rules_changed f (suc k) (x ∷ levels) l at all rule =
     All-cons KeepsLevelRule x (change_level f k levels) (All-head KeepsLevelRule x levels all) (rules_changed f k levels l at (All-tail KeepsLevelRule x levels all) rule)
 
--- a level that is put in the place of another
-pub set_level : (f : Level → Level) (k : ℕ) (levels : List Level) (l new : Level) → slice_get levels k ≡ Some l → new ≡ f l → slice_set levels k new ≡ change_level f k levels
-set_level f k [] l new at is = absurd cc
-set_level f zero (x ∷ levels) l new at is =
-    let same : l ≡ x = cc in
-    ap (λ z. z ∷ levels) (is ∙ ap f same)
-set_level f (suc k) (x ∷ levels) l new at is = ap (λ zs. x ∷ zs) (set_level f k levels l new at is)
-
 -- the levels around one of them
 pub levels_around : (k : ℕ) (levels : List Level) (l : Level) → slice_get levels k ≡ Some l → take k levels ++ l ∷ drop (suc k) levels ≡ levels
 levels_around k levels l at = around levels k l at
@@ -339,10 +330,3 @@ label_rule kind attributes items place item attribute label keeps at short =
     and_from (fits_kind kind item.time && ends_in_time item.time) (are_labels_for attributes labels) (and_from (fits_kind kind item.time) (ends_in_time item.time) fit.form fit.end) whole in
     subst (λ zs. KeepsLevelRule (level_of kind attributes zs)) (sym (change_around (relabelled attribute label) place items item at))
     (rule_with kind attributes before y behind without.rule without.fresh fits (order_same kind before item y behind refl rule.ordered))
-
--- a level that was changed in its place, where that went well
-pub written_level : {T E : Type 0} (f : Level → Level) (k : ℕ) (levels all : List Level) (old new : Level) (r : Result T E) → levels ≡ all → k < length levels →
-    old ≡ get_or levels k old → OnOk r (new ≡ f old) → OnOk r (slice_set levels k new ≡ change_level f k all)
-written_level f k levels all old new (Ok x) same low is ok =
-    set_level f k levels old new (slice_get-get_or levels k old low ∙ ap Some (sym is)) ok ∙ ap (change_level f k) same
-written_level f k levels all old new (Err e) same low is ok = tt

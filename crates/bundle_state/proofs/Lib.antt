@@ -14,3 +14,5 @@ pub mod NamedLinks
 pub mod Refusals
 pub mod Tests
 pub mod Walks
+pub mod FittedKept
+pub mod LinkPlaces

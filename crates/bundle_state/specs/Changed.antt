@@ -1,20 +1,20 @@
 -- What becomes of a bundle where one of its items or links changes, or the rule that the change breaks
 -- first (EMU-SDMS Manual, "The emuDB format": `_annot.json`).
-use Rattle.std.specs.Prelude.{ℕ, zero, suc, not, List, [], ◌∷◌, ◌++◌, nat_eq, remove, Option, Some, None, Result, Ok, if◌then◌else◌, ok_or}
-use Rattle.std.specs.List.{list_any, filter, slice_get}
-use Rattle.std.specs.Option.{option_and_then}
+use Rattle.std.specs.Prelude.{ℕ, not, List, [], ◌∷◌, ◌++◌, nat_eq, insert, Option, Some, Result, Ok, if◌then◌else◌, ok_or}
+use Rattle.std.specs.List.{list_any, filter}
+use Rattle.std.specs.Option.{option_or}
 use Rattle.emu_names.specs.declared.kinds.ItemId.{ItemId}
 use Rattle.emu_names.specs.declared.rules.Broken.{Broken}
 use Rattle.emu_names.specs.declared.rules.Broken.TheVariants as rules
 use Rattle.level_items.specs.declared.times.Time.{Time}
 use Rattle.level_items.specs.declared.items.Item.{Item}
-use Rattle.level_items.specs.Levels.{Level, with_items, change_at, retimed, relabelled, put_at_place}
-use Rattle.level_items.specs.Faults.{insert_fault, retime_fault}
+use Rattle.level_items.specs.Levels.{Level, retimed, relabelled}
 use Rattle.link_graph.specs.declared.link.Link.{Link}
-use Rattle.link_graph.specs.Link.{names_item, joins, link_of, add_fault}
+use Rattle.link_graph.specs.Link.{names_item, link_of, add_fault}
 use Rattle.bundle_state.specs.Bundle.{BundleParts, all_ids, level_of_id, place_of}
 use Rattle.bundle_state.specs.Linked.{unless_broken, kind_of, definition_for}
 use Rattle.emu_names.specs.Steps.{onward}
+pub use Rattle.bundle_lists.specs.Changed.{change_level, with_item, without_item, with_changed, put_fault, new_time_fault, links_but, place_fault, missing_fault}
 
 -- the bundle with other levels
 abbrev pub with_levels : BundleParts → List Level → BundleParts
@@ -24,46 +24,15 @@ with_levels b levels = record b { levels = levels }
 abbrev pub with_links : BundleParts → List Link → BundleParts
 with_links b links = record b { links = links }
 
--- the level of this number changed, and all others as they are
-abbrev pub change_level : (Level → Level) → ℕ → List Level → List Level
-change_level change number [] = []
-change_level change zero (level ∷ levels) = change level ∷ levels
-change_level change (suc number) (level ∷ levels) = level ∷ change_level change number levels
-
--- the level with a new item at its place
-abbrev pub with_item : Option ℕ → Item → Level → Level
-with_item position item level =
-    with_items level (put_at_place level.kind level.items position item)
-
--- the level without the item at this position
-abbrev pub without_item : ℕ → Level → Level
-without_item position level = with_items level (remove level.items position)
-
--- the level with the item at this position changed
-abbrev pub with_changed : (Item → Item) → ℕ → Level → Level
-with_changed change position level = with_items level (change_at change position level.items)
-
 -- the level and the position of an item, which has to be there
 abbrev pub place_for : ItemId → List Level → Result (ℕ × ℕ) Broken
 place_for id levels = ok_or (place_of levels id.0) (rules.NoItem id)
-
--- the rule that a new item breaks first on the level of this number
-abbrev pub put_fault : ℕ → Option ℕ → Item → List Level → Option Broken
-put_fault number position item levels =
-    option_and_then (λ level. insert_fault level.kind level.items position item)
-    (slice_get levels number)
 
 -- the rule that a new item breaks first: its id is on any level, or a rule of its own level
 abbrev pub new_item_fault : ℕ → Option ℕ → Item → List Level → Option Broken
 new_item_fault number position item levels =
     if list_any (nat_eq item.id.0) (all_ids levels) then Some (rules.IdTaken item.id)
     else put_fault number position item levels
-
--- the rule that another time breaks for the item at this place
-abbrev pub new_time_fault : ℕ × ℕ → Time → List Level → Option Broken
-new_time_fault place time levels =
-    option_and_then (λ level. retime_fault level.kind level.items place.1 time)
-    (slice_get levels place.0)
 
 -- a new item on the level of this number, at its place there
 abbrev pub item_added : ℕ → Option ℕ → Item → BundleParts → Result BundleParts Broken
@@ -74,10 +43,6 @@ item_added number position item b =
 -- the links that do not name an item
 abbrev pub links_without : ItemId → List Link → List Link
 links_without id links = filter (λ link. not (names_item id link)) links
-
--- the links but that of a pair of items
-abbrev pub links_but : ItemId → ItemId → List Link → List Link
-links_but from to links = filter (λ link. not (joins from to link)) links
 
 -- the bundle without the item at this place, and without the links that name it
 abbrev pub without : ItemId → ℕ × ℕ → BundleParts → BundleParts
@@ -119,9 +84,17 @@ link_added from to b =
     onward (definition_for b.definitions (record { from = from; to = to })
     (level_of_id b.levels from.0) (level_of_id b.levels to.0)) (link_put from to b)
 
--- a pair of items that is to be taken out has to be there
-abbrev pub missing_fault : ItemId → ItemId → List Link → Option Broken
-missing_fault from to links = if list_any (joins from to) links then None else Some rules.NoLink
+-- a new link of the definition of this number, put at a place, which is tested last
+abbrev pub link_put_at : ℕ → ItemId → ItemId → BundleParts → ℕ → Result BundleParts Broken
+link_put_at place from to b number =
+    unless_broken (option_or (add_fault (kind_of b.definitions number) number from to b.links) (place_fault place b.links))
+    (with_links b (insert b.links place (link_of number from to)))
+
+-- a new link between two items, put at a place
+abbrev pub link_inserted : ℕ → ItemId → ItemId → BundleParts → Result BundleParts Broken
+link_inserted place from to b =
+    onward (definition_for b.definitions (record { from = from; to = to })
+    (level_of_id b.levels from.0) (level_of_id b.levels to.0)) (link_put_at place from to b)
 
 -- the link of a pair of items taken out
 abbrev pub link_removed : ItemId → ItemId → BundleParts → Result BundleParts Broken

@@ -4,6 +4,7 @@ pub mod Faults
 pub mod Made
 pub mod Linked
 pub mod Built
+pub mod Fitted
 pub mod Changed
 pub mod ChangedLaws
 pub mod Valid

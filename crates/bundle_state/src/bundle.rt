@@ -11,17 +11,18 @@ ghost use Rattle.emu_names.specs.Inner.Gives.{GivesOrBroken};
 ghost use Rattle.level_items.specs.Levels.{KeepsLevelRule, are_labels_for, is_short};
 ghost use Rattle.bundle_state.specs.Bundle.{item_count, level_of_id, place_of};
 ghost use Rattle.bundle_state.specs.Built.{built, bundle_of, FitsConfig};
-ghost use Rattle.bundle_state.specs.Changed.{item_added, item_removed, label_set, item_retimed, link_added, link_removed};
+ghost use Rattle.bundle_state.specs.Changed.{item_added, item_removed, label_set, item_retimed, link_added, link_inserted, link_removed};
+ghost use Rattle.bundle_state.specs.Fitted.{CanFit, fitted};
 ghost use Rattle.bundle_state.specs.Inner.Changed.{attributes_with};
 ghost use Rattle.bundle_state.specs.Inner.Kept.{ArePlacesOf};
 ghost use Rattle.bundle_state.specs.Valid.{KeepsBundleRules};
 
 use crate::changes::{put_item, take_out};
+use crate::fitted::fitted_levels;
 use crate::given_levels::levels_for;
 use crate::given_links::{definition_for, shared_links};
-use crate::handle::Handle;
 use crate::places::{Places, shared_places};
-use crate::shared_levels::SharedLevels;
+use bundle_lists::{Handle, SharedLevels};
 use db_config::{Config, LinkDefs};
 use emu_names::{Broken, BundleKey, Fault, ItemId, Memory, PlainData, Text};
 use level_items::{Annot, AnnotLink, Item, LevelList, Time};
@@ -320,6 +321,27 @@ impl Bundle {
         self.links.add(number, config.link_kind(number), from, to)
     }
 
+    /// Puts a link at a place of the list of links, before the link that stands there. The refusals are those
+    /// of `add_link`, and last a place past the end (`PositionOut`). A refusal, or want of memory, changes
+    /// nothing.
+    pub fn add_link_at(
+        &mut self,
+        config: &Config,
+        place: u32,
+        from: ItemId,
+        to: ItemId,
+    ) -> Result<(), Fault>
+        requires { FitsConfig config.now self.old }
+        ensures ok { OnOk result (link_inserted place from to self.old ≡ Ok self.new) }
+        ensures broken { (rule : Rule) → result ≡ Err (Fault.Broken rule)
+            → link_inserted place from to self.old ≡ Err rule }
+        ensures kept { OnErr result (self.new ≡ self.old) }
+    {
+        let number = definition_for(config, self.places.as_ref(), &AnnotLink { from, to })?;
+        let kind = config.link_kind(number);
+        self.links.add_at(place as usize, number, kind, from, to)
+    }
+
     /// Takes the link of a pair out; the links behind it move up. `NoLink` comes exactly where the pair is not
     /// there. A refusal, or want of memory, changes nothing.
     pub fn remove_link(&mut self, from: ItemId, to: ItemId) -> Result<(), Fault>
@@ -329,6 +351,27 @@ impl Bundle {
         ensures kept { OnErr result (self.new ≡ self.old) }
     {
         self.links.remove(from, to)
+    }
+
+    /// The bundle under a configuration that begins with the one that it fits: new levels are empty, and
+    /// new attributes have the empty label. The only refusal is want of memory.
+    pub fn fit(&self, alloc: Global, config: &Config) -> Result<Bundle, Memory>
+        requires { CanFit config.now self.now }
+        ensures { IfOk result (λ made. made ≡ fitted config.now self.now) }
+    {
+        let _rules = self.item_count();
+        let parts = config.parts();
+        let levels = fitted_levels(alloc, parts.levels.as_slice(), self.levels.as_slice())?;
+        let definitions = parts.links.copy(alloc)?;
+        Ok(Bundle {
+            key: self.key.copy(alloc)?,
+            annotates: self.annotates.copy(alloc)?,
+            rate: self.rate,
+            levels,
+            definitions: Handle::new(alloc, definitions)?,
+            links: self.links.copy(alloc)?,
+            places: self.places.copy(alloc)?,
+        })
     }
 
     /// The same bundle again, which shares its levels and links. The only refusal is want of memory.

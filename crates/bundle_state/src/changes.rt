@@ -8,9 +8,8 @@ ghost use Rattle.link_graph.specs.Link.{names_item};
 ghost use Rattle.bundle_state.specs.Inner.Placed.{level_in};
 ghost use Rattle.bundle_state.specs.Changed.{change_level, links_without, put_fault, with_item, without_item};
 
-use crate::handle::Handle;
 use crate::places::Places;
-use crate::shared_levels::SharedLevels;
+use bundle_lists::{Handle, SharedLevels};
 use emu_names::{Fault, ItemId, Memory};
 use level_items::Item;
 use link_graph::Links;

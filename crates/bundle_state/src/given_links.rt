@@ -5,8 +5,8 @@ ghost use Rattle.emu_names.specs.Inner.Gives.{GivesOrBroken};
 ghost use Rattle.bundle_state.specs.Inner.Placed.{level_in};
 ghost use Rattle.bundle_state.specs.Linked.{definition_for, put_link, put_links};
 
-use crate::handle::Handle;
 use crate::places::Places;
+use bundle_lists::Handle;
 use db_config::Config;
 use emu_names::{Broken, Fault};
 use level_items::AnnotLink;

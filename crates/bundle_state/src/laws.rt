@@ -4,9 +4,12 @@ ghost use Rattle.emu_names.specs.declared.kinds.ItemId.{ItemId};
 ghost use Rattle.level_items.specs.declared.items.Item.{Item};
 ghost use Rattle.level_items.specs.declared.times.Time.{Time};
 ghost use Rattle.level_items.specs.Levels.{is_short};
-ghost use Rattle.bundle_state.specs.Bundle.{BundleParts};
+ghost use Rattle.db_config.specs.declared.parts.ConfigParts.{ConfigParts};
+ghost use Rattle.bundle_state.specs.Bundle.{BundleParts, all_ids, item_count};
+ghost use Rattle.bundle_state.specs.Built.{FitsConfig};
+ghost use Rattle.bundle_state.specs.Fitted.{CanFit, ExtensionsCanFit, fitted, fitted_levels};
 ghost use Rattle.bundle_state.specs.Valid.{KeepsBundleRules};
-ghost use Rattle.bundle_state.specs.Changed.{item_added, item_removed, label_set, item_retimed, link_added, link_removed};
+ghost use Rattle.bundle_state.specs.Changed.{item_added, item_removed, label_set, item_retimed, link_added, link_inserted, link_removed};
 ghost use Rattle.bundle_state.specs.ChangedLaws.{KeepsForm, KeepsRules, HasRoomFor};
 ghost use Rattle.bundle_state.specs.Laws.{BuiltKeepsRules, BuiltFitsConfig, BuiltKeepLinkRule, BuiltLinksAreGiven, LevelsRefuseExactly, BuildingRefusesExactly};
 
@@ -49,6 +52,8 @@ pub fn changed_bundles_fit()
         → KeepsForm (label_set id attribute label) }
     ensures retimed { (id : ItemId) → (time : Time) → KeepsForm (item_retimed id time) }
     ensures linked { (from : ItemId) → (to : ItemId) → KeepsForm (link_added from to) }
+    ensures placed { (place : ℕ) → (from : ItemId) → (to : ItemId)
+        → KeepsForm (link_inserted place from to) }
     ensures unlinked { (from : ItemId) → (to : ItemId) → KeepsForm (link_removed from to) }
 {}
 
@@ -63,5 +68,25 @@ pub fn changed_bundles_keep_rules()
         → KeepsRules (label_set id attribute label) }
     ensures retimed { (id : ItemId) → (time : Time) → KeepsRules (item_retimed id time) }
     ensures linked { (from : ItemId) → (to : ItemId) → KeepsRules (link_added from to) }
+    ensures placed { (place : ℕ) → (from : ItemId) → (to : ItemId)
+        → KeepsRules (link_inserted place from to) }
     ensures unlinked { (from : ItemId) → (to : ItemId) → KeepsRules (link_removed from to) }
+{}
+
+/// A bundle that fits a configuration can be made to fit one that extends it.
+pub fn extensions_can_fit()
+    ensures { ExtensionsCanFit }
+{}
+
+/// A bundle that is made to fit a configuration fits it, keeps the rules of bundles, and has the same ids, as
+/// many items and the same links as before.
+pub fn fitted_bundles_keep_rules()
+    ensures fits { (config : ConfigParts) → (b : BundleParts) → CanFit config b
+        → FitsConfig config (fitted config b) }
+    ensures rules { (config : ConfigParts) → (b : BundleParts) → CanFit config b
+        → KeepsBundleRules b → KeepsBundleRules (fitted config b) }
+    ensures ids { (config : ConfigParts) → (b : BundleParts) → CanFit config b
+        → all_ids (fitted_levels config.levels b.levels) ≡ all_ids b.levels }
+    ensures count { (config : ConfigParts) → (b : BundleParts) → CanFit config b
+        → item_count (fitted_levels config.levels b.levels) ≡ item_count b.levels }
 {}

@@ -5,17 +5,16 @@
 mod annot_rules;
 mod bundle;
 mod changes;
+mod fitted;
 mod given_levels;
 mod given_links;
-mod handle;
 mod laws;
-mod own;
 mod places;
-mod shared_levels;
 mod used_ids;
 
 pub use bundle::Bundle;
 pub use laws::{
     building_refuses_exactly, built_fits_config, built_keep_link_rule, built_keeps_rules,
-    built_links_are_given, changed_bundles_fit, changed_bundles_keep_rules, levels_refuse_exactly,
+    built_links_are_given, changed_bundles_fit, changed_bundles_keep_rules, extensions_can_fit,
+    fitted_bundles_keep_rules, levels_refuse_exactly,
 };

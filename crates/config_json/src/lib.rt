@@ -14,5 +14,7 @@ mod values;
 
 pub use faults::{ConfigFault, ConfigWhat};
 pub use laws::printed_is_read;
+pub use named::NamedLink;
 pub use print::print_config;
 pub use read::read_config;
+pub use read_parts::{attribute_in, level_in, link_in};

@@ -4,10 +4,13 @@ use emu_names::{LinkKind, Name, Series, Text};
 
 /// A link definition by the names of its levels.
 #[derive(Drop)]
-pub(crate) struct NamedLink {
-    pub(crate) kind: LinkKind,
-    pub(crate) upper: Text,
-    pub(crate) lower: Text,
+pub struct NamedLink {
+    /// Its type.
+    pub kind: LinkKind,
+    /// The name of the upper level (`superlevelName`).
+    pub upper: Text,
+    /// The name of the lower level (`sublevelName`).
+    pub lower: Text,
 }
 
 /// Link definitions by the names of their levels, in order.

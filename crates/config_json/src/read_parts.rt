@@ -143,9 +143,9 @@ fn legal_member(alloc: Global, view: &View) -> Result<Option<GroupValues>, Confi
     }
 }
 
-// An attribute.
+/// An attribute, or its first fault, at the path of the view.
 #[tactic(auto, unfolding(crate::specs::Read::attribute_in))]
-fn attribute_in(alloc: Global, view: &View) -> Result<AttributeDef, ConfigFault>
+pub fn attribute_in(alloc: Global, view: &View) -> Result<AttributeDef, ConfigFault>
     ensures { Reads result (attribute_in (seen_at view.now)) }
 {
     object_in(view)?;
@@ -189,9 +189,9 @@ fn attributes_member(alloc: Global, view: &View) -> Result<AttributeDefs, Config
     listed_attributes(alloc, &part)
 }
 
-// A level.
+/// A level, or its first fault, at the path of the view.
 #[tactic(auto, unfolding(crate::specs::Read::level_in))]
-fn level_in(alloc: Global, view: &View) -> Result<LevelDef, ConfigFault>
+pub fn level_in(alloc: Global, view: &View) -> Result<LevelDef, ConfigFault>
     ensures { Reads result (level_in (seen_at view.now)) }
 {
     object_in(view)?;
@@ -236,9 +236,10 @@ pub(crate) fn levels_member(alloc: Global, view: &View) -> Result<LevelDefs, Con
     listed_levels(alloc, &part)
 }
 
-// A link definition, which names its levels.
+/// A link definition, which names its levels, or its first fault, at the path of the view. Whether there are
+/// such levels is not asked.
 #[tactic(auto, unfolding(crate::specs::Read::link_in))]
-fn link_in(alloc: Global, view: &View) -> Result<NamedLink, ConfigFault>
+pub fn link_in(alloc: Global, view: &View) -> Result<NamedLink, ConfigFault>
     ensures { Reads result (link_in (seen_at view.now)) }
 {
     object_in(view)?;

@@ -2,3 +2,5 @@ pub mod Doubles
 pub mod Tables
 pub mod Tests
 pub mod Above
+pub mod Grown
+pub mod Steps

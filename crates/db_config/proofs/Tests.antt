@@ -1,6 +1,6 @@
 -- Steps of the loops that test each element of a list.
-use Rattle.std.proofs.Common.{◌≡◌, ℕ, suc, ◌+◌, ◌<◌, ◌≤◌, Bool, true, false, List, length, drop, get_or, refl, sym, ap, ◌∙◌, arith, drop-cons, drop_of_length-le}
-use Rattle.std.specs.Prelude.{◌&&◌, Some, None}
+use Rattle.std.proofs.Common.{◌≡◌, ℕ, suc, ◌+◌, ◌<◌, ◌≤◌, Bool, true, false, List, length, drop, get_or, sym, ap, ◌∙◌, arith, drop-cons, drop_of_length-le}
+use Rattle.std.specs.Prelude.{◌&&◌}
 use Rattle.std.specs.List.{list_all}
 
 module _ {A : Type 0} (test : A → Bool) (items : List A) (all : Bool) (place : ℕ) (whole : list_all test (drop place items) ≡ all) where

@@ -3,5 +3,6 @@ pub mod Names
 pub mod Above
 pub mod Valid
 pub mod Lookups
+pub mod Added
 pub mod Laws
 pub mod Inner

@@ -2,6 +2,7 @@
 //! Manual, "The emuDB format": `_DBconfig.json`).
 #![tactic(auto)]
 
+mod additions;
 mod attributes;
 mod config;
 mod faults;
@@ -18,7 +19,9 @@ pub use attributes::{AttributeDef, AttributeDefs};
 pub use config::Config;
 pub use faults::PartsFault;
 pub use groups::{GroupDef, GroupDefs, GroupValues};
-pub use laws::{above_is_by_paths, cycles_are_found, doubles_are_found};
+pub use laws::{
+    above_is_by_paths, additions_extend, additions_keep_rules, cycles_are_found, doubles_are_found,
+};
 pub use names::double_name;
 pub use parts::{AttributePlace, ConfigParts, LevelDef, LevelDefs, LinkDef, LinkDefs, TrackNames};
 pub use places::level_named;

@@ -1,9 +1,11 @@
 //! The names that the levels of a configuration take.
-ghost use Rattle.std.specs.Prelude.{◌≡◌, ◌++◌, ◌∷◌, ℕ, [], IfOk, OnOk, option_map, is_none};
+ghost use Rattle.std.specs.Prelude.{◌≡◌, ◌≤◌, ◌&&◌, ◌++◌, ◌∷◌, ℕ, [], not, take, drop, length, IfOk, OnOk, option_map, is_none};
+ghost use Rattle.db_config.specs.Added.{has_attribute, new_names};
 ghost use Rattle.std.specs.List.{list_any, flat_map};
 ghost use Rattle.db_config.specs.Names.{names_of, all_names, first_double, are_distinct};
 ghost use Rattle.emu_names.specs.Texts.{same_text};
 
+use crate::attributes::AttributeDef;
 use crate::parts::LevelDef;
 use emu_names::{Memory, Series, Text};
 use std::alloc::Global;
@@ -68,16 +70,30 @@ pub(crate) fn are_distinct(names: &[Text]) -> bool
     true
 }
 
-/// The first name that stands earlier.
-fn first_double(names: &[Text]) -> Option<&Text>
-    ensures { option_map (λ name. name.now) result ≡ first_double [] names.now }
+/// The first name from a place on that stands earlier.
+fn first_double(names: &[Text], from: usize) -> Option<&Text>
+    requires { from ≤ length names.now }
+    ensures { option_map (λ name. name.now) result
+        ≡ first_double (take from names.now) (drop from names.now) }
 {
-    for place in 0..names.len() {
+    for place in from..names.len() {
         if is_among(names[place].as_str(), &names[..place]) {
             return Some(&names[place]);
         }
     }
     None
+}
+
+/// A copy of that name. The only refusal is want of memory.
+fn copied_double(alloc: Global, names: &[Text], from: usize) -> Result<Option<Text>, Memory>
+    requires { from ≤ length names.now }
+    ensures { IfOk result (λ found. found
+        ≡ first_double (take from names.now) (drop from names.now)) }
+{
+    match first_double(names, from) {
+        Some(name) => Ok(Some(name.copy(alloc)?)),
+        None => Ok(None),
+    }
 }
 
 /// The first name that an earlier level or attribute has, in reading order; a level may share its name
@@ -86,8 +102,63 @@ pub fn double_name(alloc: Global, levels: &[LevelDef]) -> Result<Option<Text>, M
     ensures { IfOk result (λ found. found ≡ first_double [] (all_names levels.now)) }
 {
     let names = all_names(alloc, levels)?;
-    match first_double(names.as_slice()) {
-        Some(name) => Ok(Some(name.copy(alloc)?)),
-        None => Ok(None),
+    copied_double(alloc, names.as_slice(), 0)
+}
+
+/// The first name of a level behind these that an earlier level or attribute has, in reading order. The
+/// only refusal is want of memory.
+#[tactic(auto, using(crate::proofs::Grown::behind_names))]
+pub(crate) fn double_of_level(
+    alloc: Global,
+    levels: &[LevelDef],
+    def: &LevelDef,
+) -> Result<Option<Text>, Memory>
+    ensures { IfOk result (λ found. found ≡ first_double (all_names levels.now) (names_of def.now)) }
+{
+    let mut names = all_names(alloc, levels)?;
+    let count = names.len();
+    put_names(alloc, &mut names, def)?;
+    copied_double(alloc, names.as_slice(), count)
+}
+
+/// Whether a level has an attribute of this name.
+fn has_attribute(defs: &[AttributeDef], name: &str) -> bool
+    ensures { result ≡ list_any (λ a. same_text a.name name.now) defs.now }
+{
+    for def in defs {
+        if def.name.as_str() == name {
+            return true;
+        }
+    }
+    false
+}
+
+/// Whether an attribute of this name would be the first to share its level's name.
+fn shares_first(def: &LevelDef, name: &str) -> bool
+    ensures { result ≡ (same_text def.now.name name.now && not (has_attribute name.now def.now)) }
+{
+    def.name.as_str() == name && !has_attribute(def.attributes.as_slice(), name)
+}
+
+/// The name of a new attribute of one of these levels, where an earlier level or attribute has it; it may
+/// be the first to share its level's name. The only refusal is want of memory.
+#[tactic(auto, using(crate::proofs::Grown::shares_none, crate::proofs::Grown::one_double, crate::proofs::Grown::one_fresh))]
+pub(crate) fn double_of_attribute(
+    alloc: Global,
+    levels: &[LevelDef],
+    def: &LevelDef,
+    name: &str,
+) -> Result<Option<Text>, Memory>
+    ensures { IfOk result (λ found. found
+        ≡ first_double (all_names levels.now) (new_names def.now name.now)) }
+{
+    if shares_first(def, name) {
+        return Ok(None);
+    }
+    let names = all_names(alloc, levels)?;
+    if is_among(name, names.as_slice()) {
+        Ok(Some(Text::new(alloc, name)?))
+    } else {
+        Ok(None)
     }
 }

@@ -75,7 +75,7 @@ pub(crate) fn values_named<'a>(groups: &'a [GroupDef], name: &str) -> Option<&'a
 }
 
 /// The place of the definition that leads from the one level to the other.
-pub(crate) fn definition_between(links: &[LinkDef], upper: usize, lower: usize) -> Option<usize>
+pub(crate) fn definition_leading(links: &[LinkDef], upper: usize, lower: usize) -> Option<usize>
     ensures { result ≡ position (leads upper lower) links.now }
 {
     links.iter().position(|def| def.upper as usize == upper && def.lower as usize == lower)

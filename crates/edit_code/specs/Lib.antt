@@ -1,6 +1,9 @@
-pub mod Annots
+pub mod Tags
+pub mod Counts
+pub mod Kinds
+pub mod Fields
+pub mod Additions
 pub mod Edits
-pub mod Heads
 pub mod Names
 pub mod Codes
 pub mod Example

@@ -1,31 +1,22 @@
 //! The codes of entries and of configurations.
 ghost use Rattle.std.specs.Prelude.{◌≡◌, ◌<◌, ◌^◌, length, min, IfOk, IfErr, true};
 ghost use Rattle.db_config.specs.declared.parts.ConfigParts.{ConfigParts};
-ghost use Rattle.edit_rules.specs.declared.edit.Entry.{Entry};
+ghost use Rattle.edit_rules.specs.declared.acts.Entry.{Entry};
 ghost use Rattle.edit_code.specs.Codes.{entry_code, head_code, IsEntryCode, IsHeadCode};
-ghost use Rattle.edit_code.specs.Inner.Codes.{HasCode, HasHeadCode, entry_of, head_of, Answers, IsReadAs, IsPlace, whole};
+ghost use Rattle.edit_code.specs.Inner.Codes.{HasCode, HasHeadCode, entry_of, head_of, Answers, AnswersIf, IsReadAs, IsPlace, whole};
 ghost use Rattle.edit_code.specs.Edits.{entry_form};
-ghost use Rattle.edit_code.specs.Heads.{head_form};
-ghost use Rattle.edit_code.specs.Names.{is_key};
+ghost use Rattle.edit_code.specs.Names.{is_entry};
+ghost use Rattle.value_codes.specs.Heads.{head_form};
 
-use crate::coded::{Coded, Readable};
+use crate::entries::{entry_size, put_entry, read_raw};
 use crate::fault::CodeFault;
-use crate::made_head::config_in;
-use crate::raw_entry::{RawEntry, entry_in};
-use crate::raw_head::RawParts;
+use crate::sound::entry_is;
 use byte_forms::{CodeBytes, ReadFault, Rest};
 use db_config::Config;
 use edit_rules::Entry;
-use emu_names::{BundleKey, Memory};
+use emu_names::Memory;
 use std::alloc::Global;
-
-/// Both parts of a key are names.
-fn names_are(key: &BundleKey)
-    ensures { is_key key.now ≡ true }
-{
-    let _session = key.session.as_str();
-    let _bundle = key.bundle.as_str();
-}
+use value_codes::{Coded, RawParts, Readable, config_in};
 
 /// The code of an entry that has one. The only refusal is want of memory.
 #[tactic(auto, unfolding(crate::specs::Codes::entry_code, crate::specs::Inner::Codes::HasCode))]
@@ -34,9 +25,9 @@ pub fn write_entry(alloc: Global, entry: &Entry) -> Result<CodeBytes, Memory>
     ensures code { IfOk result (λ bytes. bytes ≡ entry_code entry.now) }
     ensures is { IfOk result (λ bytes. IsEntryCode bytes entry.now) }
 {
-    names_are(entry.edit.key());
+    entry_is(entry);
     let mut code = CodeBytes::new(alloc);
-    entry.put(&mut code)?;
+    put_entry(entry, &mut code)?;
     Ok(code)
 }
 
@@ -59,7 +50,7 @@ pub fn entry_len(entry: &Entry) -> u64
     ensures len { result ≡ min (2 ^ 32) (length (entry_code entry.now)) }
     ensures has { result < 2 ^ 32 → HasCode entry.now }
 {
-    entry.size()
+    entry_size(entry)
 }
 
 /// How many bytes the code of a configuration has, or 2^32 where it has as many or more. It takes no memory.
@@ -71,18 +62,39 @@ pub fn head_len(config: &Config) -> u64
     config.parts().size()
 }
 
-/// The value in whose form all of the bytes are, or the place where they stop being in it.
-fn read_whole<R: Readable>(alloc: Global, bytes: &[u8]) -> Result<R, CodeFault>
-    ensures { Answers result (whole bytes.now (R.form.read bytes.now)) }
+/// The configuration's parts in whose form all of the bytes are, or the place where they stop being in it.
+fn read_parts(alloc: Global, bytes: &[u8]) -> Result<RawParts, CodeFault>
+    ensures { Answers result (whole bytes.now (head_form.read bytes.now)) }
 {
     let mut from = Rest::new(bytes);
-    match R::read(alloc, &mut from) {
-        Ok(value) => {
+    match RawParts::read(alloc, &mut from) {
+        Ok(parts) => {
             let left = from.len();
             if left > 0 {
                 return Err(CodeFault::NotAnEntry(bytes.len().saturating_sub(left) as u64));
             }
-            Ok(value)
+            Ok(parts)
+        }
+        Err(ReadFault::Left(left)) => {
+            Err(CodeFault::NotAnEntry(bytes.len().saturating_sub(left) as u64))
+        }
+        Err(ReadFault::Memory) => Err(CodeFault::Memory),
+    }
+}
+
+/// The entry in whose form all of the bytes are, or none where its data are none; or the place where the bytes stop
+/// being in the form.
+fn read_all(alloc: Global, bytes: &[u8]) -> Result<Option<Entry>, CodeFault>
+    ensures { AnswersIf is_entry result (whole bytes.now (entry_form.read bytes.now)) }
+{
+    let mut from = Rest::new(bytes);
+    match read_raw(alloc, &mut from) {
+        Ok(made) => {
+            let left = from.len();
+            if left > 0 {
+                return Err(CodeFault::NotAnEntry(bytes.len().saturating_sub(left) as u64));
+            }
+            Ok(made)
         }
         Err(ReadFault::Left(left)) => {
             Err(CodeFault::NotAnEntry(bytes.len().saturating_sub(left) as u64))
@@ -96,8 +108,7 @@ fn read_whole<R: Readable>(alloc: Global, bytes: &[u8]) -> Result<R, CodeFault>
 fn entry_of(alloc: Global, bytes: &[u8]) -> Result<Entry, CodeFault>
     ensures { Answers result (entry_of bytes.now) }
 {
-    let raw: RawEntry = read_whole(alloc, bytes)?;
-    match entry_in(alloc, raw)? {
+    match read_all(alloc, bytes)? {
         Some(entry) => Ok(entry),
         None => Err(CodeFault::NotAnEntry(bytes.len() as u64)),
     }
@@ -108,7 +119,7 @@ fn entry_of(alloc: Global, bytes: &[u8]) -> Result<Entry, CodeFault>
 fn head_of(alloc: Global, bytes: &[u8]) -> Result<Config, CodeFault>
     ensures { Answers result (head_of bytes.now) }
 {
-    let raw: RawParts = read_whole(alloc, bytes)?;
+    let raw = read_parts(alloc, bytes)?;
     match config_in(alloc, &raw)? {
         Some(config) => Ok(config),
         None => Err(CodeFault::NotAnEntry(bytes.len() as u64)),

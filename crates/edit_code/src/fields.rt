@@ -1,13 +1,15 @@
 //! What an edit has behind its key: the fields of each kind of edits, and how they are read.
-ghost use Rattle.std.specs.Prelude.{◌≡◌, ◌≤◌};
+ghost use Rattle.std.specs.Prelude.{◌≡◌};
 ghost use Rattle.byte_forms.specs.Inner.Reading.{Gives};
-ghost use Rattle.edit_code.specs.Edits.{fields_at};
+ghost use Rattle.edit_code.specs.declared.kinds.Kind.TheVariants as kinds;
+ghost use Rattle.edit_code.specs.Fields.{fields_form};
 
-use crate::coded::Readable;
+use crate::kinds::Kind;
 use byte_forms::{ReadFault, Rest};
 use emu_names::{ItemId, Text};
 use level_items::{Annot, AnnotItem};
 use std::alloc::Global;
+use value_codes::Readable;
 
 /// The fields of an edit behind its key, in their order.
 #[derive(Drop)]
@@ -58,12 +60,31 @@ pub(crate) enum Fields {
         from: ItemId,
         to: ItemId,
     },
+    LinkTimes {
+        upper: Text,
+        lower: Text,
+    },
+    PutItem {
+        level: Text,
+        position: Option<u32>,
+        item: AnnotItem,
+    },
+    PutLabel {
+        id: ItemId,
+        attribute: Text,
+        label: Text,
+    },
+    PutLink {
+        from: ItemId,
+        to: ItemId,
+        place: u32,
+    },
 }
 
 /// Reads the annotation of a bundle that is added.
 #[tactic(auto, unfolding(byte_forms::specs::Parts::imaged))]
 fn read_add_bundle(alloc: Global, from: &mut Rest<'_>) -> Result<Fields, ReadFault>
-    ensures { Gives result from.new ((fields_at 1).read from.old) }
+    ensures { Gives result from.new ((fields_form kinds.AddBundle).read from.old) }
 {
     let annot = Annot::read(alloc, from)?;
     Ok(Fields::AddBundle { annot })
@@ -72,7 +93,7 @@ fn read_add_bundle(alloc: Global, from: &mut Rest<'_>) -> Result<Fields, ReadFau
 /// Reads the level, the position and the item that is put there.
 #[tactic(auto, unfolding(byte_forms::specs::Parts::imaged))]
 fn read_add_item(alloc: Global, from: &mut Rest<'_>) -> Result<Fields, ReadFault>
-    ensures { Gives result from.new ((fields_at 3).read from.old) }
+    ensures { Gives result from.new ((fields_form kinds.AddItem).read from.old) }
 {
     let (level, (position, item)) = Readable::read(alloc, from)?;
     Ok(Fields::AddItem {
@@ -85,7 +106,7 @@ fn read_add_item(alloc: Global, from: &mut Rest<'_>) -> Result<Fields, ReadFault
 /// Reads the id of an item that is taken out.
 #[tactic(auto, unfolding(byte_forms::specs::Parts::imaged))]
 fn read_remove_item(alloc: Global, from: &mut Rest<'_>) -> Result<Fields, ReadFault>
-    ensures { Gives result from.new ((fields_at 4).read from.old) }
+    ensures { Gives result from.new ((fields_form kinds.RemoveItem).read from.old) }
 {
     let id = ItemId::read(alloc, from)?;
     Ok(Fields::RemoveItem { id })
@@ -94,7 +115,7 @@ fn read_remove_item(alloc: Global, from: &mut Rest<'_>) -> Result<Fields, ReadFa
 /// Reads an item's id, the name of an attribute and its label.
 #[tactic(auto, unfolding(byte_forms::specs::Parts::imaged))]
 fn read_set_label(alloc: Global, from: &mut Rest<'_>) -> Result<Fields, ReadFault>
-    ensures { Gives result from.new ((fields_at 5).read from.old) }
+    ensures { Gives result from.new ((fields_form kinds.SetLabel).read from.old) }
 {
     let (id, (attribute, label)) = Readable::read(alloc, from)?;
     Ok(Fields::SetLabel {
@@ -107,7 +128,7 @@ fn read_set_label(alloc: Global, from: &mut Rest<'_>) -> Result<Fields, ReadFaul
 /// Reads a segment's id, and its new start and duration.
 #[tactic(auto, unfolding(byte_forms::specs::Parts::imaged))]
 fn read_set_segment(alloc: Global, from: &mut Rest<'_>) -> Result<Fields, ReadFault>
-    ensures { Gives result from.new ((fields_at 6).read from.old) }
+    ensures { Gives result from.new ((fields_form kinds.SetSegment).read from.old) }
 {
     let (id, (start, dur)) = Readable::read(alloc, from)?;
     Ok(Fields::SetSegment { id, start, dur })
@@ -116,7 +137,7 @@ fn read_set_segment(alloc: Global, from: &mut Rest<'_>) -> Result<Fields, ReadFa
 /// Reads the id of the segment before a boundary, and the boundary's new place.
 #[tactic(auto, unfolding(byte_forms::specs::Parts::imaged))]
 fn read_move_boundary(alloc: Global, from: &mut Rest<'_>) -> Result<Fields, ReadFault>
-    ensures { Gives result from.new ((fields_at 7).read from.old) }
+    ensures { Gives result from.new ((fields_form kinds.MoveBoundary).read from.old) }
 {
     let (id, start) = Readable::read(alloc, from)?;
     Ok(Fields::MoveBoundary { id, start })
@@ -125,7 +146,7 @@ fn read_move_boundary(alloc: Global, from: &mut Rest<'_>) -> Result<Fields, Read
 /// Reads a point's id, and its new sample.
 #[tactic(auto, unfolding(byte_forms::specs::Parts::imaged))]
 fn read_set_point(alloc: Global, from: &mut Rest<'_>) -> Result<Fields, ReadFault>
-    ensures { Gives result from.new ((fields_at 8).read from.old) }
+    ensures { Gives result from.new ((fields_form kinds.SetPoint).read from.old) }
 {
     let (id, at) = Readable::read(alloc, from)?;
     Ok(Fields::SetPoint { id, at })
@@ -134,7 +155,7 @@ fn read_set_point(alloc: Global, from: &mut Rest<'_>) -> Result<Fields, ReadFaul
 /// Reads the ids of both parts of a segment that is cut, and the place of the cut.
 #[tactic(auto, unfolding(byte_forms::specs::Parts::imaged))]
 fn read_split(alloc: Global, from: &mut Rest<'_>) -> Result<Fields, ReadFault>
-    ensures { Gives result from.new ((fields_at 9).read from.old) }
+    ensures { Gives result from.new ((fields_form kinds.Split).read from.old) }
 {
     let (id, (new_id, start)) = Readable::read(alloc, from)?;
     Ok(Fields::Split { id, new_id, start })
@@ -143,7 +164,7 @@ fn read_split(alloc: Global, from: &mut Rest<'_>) -> Result<Fields, ReadFault>
 /// Reads the id of a segment that is joined with the next one.
 #[tactic(auto, unfolding(byte_forms::specs::Parts::imaged))]
 fn read_merge(alloc: Global, from: &mut Rest<'_>) -> Result<Fields, ReadFault>
-    ensures { Gives result from.new ((fields_at 10).read from.old) }
+    ensures { Gives result from.new ((fields_form kinds.Merge).read from.old) }
 {
     let id = ItemId::read(alloc, from)?;
     Ok(Fields::Merge { id })
@@ -152,7 +173,7 @@ fn read_merge(alloc: Global, from: &mut Rest<'_>) -> Result<Fields, ReadFault>
 /// Reads the ids of two items that are linked.
 #[tactic(auto, unfolding(byte_forms::specs::Parts::imaged))]
 fn read_add_link(alloc: Global, from: &mut Rest<'_>) -> Result<Fields, ReadFault>
-    ensures { Gives result from.new ((fields_at 11).read from.old) }
+    ensures { Gives result from.new ((fields_form kinds.AddLink).read from.old) }
 {
     let (upper, lower) = Readable::read(alloc, from)?;
     Ok(Fields::AddLink {
@@ -164,7 +185,7 @@ fn read_add_link(alloc: Global, from: &mut Rest<'_>) -> Result<Fields, ReadFault
 /// Reads the ids of two items whose link is taken out.
 #[tactic(auto, unfolding(byte_forms::specs::Parts::imaged))]
 fn read_remove_link(alloc: Global, from: &mut Rest<'_>) -> Result<Fields, ReadFault>
-    ensures { Gives result from.new ((fields_at 12).read from.old) }
+    ensures { Gives result from.new ((fields_form kinds.RemoveLink).read from.old) }
 {
     let (upper, lower) = Readable::read(alloc, from)?;
     Ok(Fields::RemoveLink {
@@ -173,29 +194,79 @@ fn read_remove_link(alloc: Global, from: &mut Rest<'_>) -> Result<Fields, ReadFa
     })
 }
 
-/// Reads the fields of the edits of a number, 1 to 12.
+/// Reads the names of two levels whose items are linked by their times.
+#[tactic(auto, unfolding(byte_forms::specs::Parts::imaged))]
+fn read_link_times(alloc: Global, from: &mut Rest<'_>) -> Result<Fields, ReadFault>
+    ensures { Gives result from.new ((fields_form kinds.LinkTimes).read from.old) }
+{
+    let (upper, lower) = Readable::read(alloc, from)?;
+    Ok(Fields::LinkTimes { upper, lower })
+}
+
+/// Reads the level, the position and the item that is put there with any labels.
+#[tactic(auto, unfolding(byte_forms::specs::Parts::imaged))]
+fn read_put_item(alloc: Global, from: &mut Rest<'_>) -> Result<Fields, ReadFault>
+    ensures { Gives result from.new ((fields_form kinds.PutItem).read from.old) }
+{
+    let (level, (position, item)) = Readable::read(alloc, from)?;
+    Ok(Fields::PutItem {
+        level,
+        position,
+        item,
+    })
+}
+
+/// Reads an item's id, the name of an attribute and any label.
+#[tactic(auto, unfolding(byte_forms::specs::Parts::imaged))]
+fn read_put_label(alloc: Global, from: &mut Rest<'_>) -> Result<Fields, ReadFault>
+    ensures { Gives result from.new ((fields_form kinds.PutLabel).read from.old) }
+{
+    let (id, (attribute, label)) = Readable::read(alloc, from)?;
+    Ok(Fields::PutLabel {
+        id,
+        attribute,
+        label,
+    })
+}
+
+/// Reads the ids of two items that are linked, and the place of the link.
+#[tactic(auto, unfolding(byte_forms::specs::Parts::imaged))]
+fn read_put_link(alloc: Global, from: &mut Rest<'_>) -> Result<Fields, ReadFault>
+    ensures { Gives result from.new ((fields_form kinds.PutLink).read from.old) }
+{
+    let (upper, (lower, place)) = Readable::read(alloc, from)?;
+    Ok(Fields::PutLink {
+        from: upper,
+        to: lower,
+        place,
+    })
+}
+
+/// Reads the fields of a kind of edits.
 #[tactic(auto, unfolding(byte_forms::specs::Parts::just))]
 pub(crate) fn read_fields(
     alloc: Global,
-    number: u8,
+    kind: Kind,
     from: &mut Rest<'_>,
 ) -> Result<Fields, ReadFault>
-    requires some { 1 ≤ number }
-    requires most { number ≤ 12 }
-    ensures { Gives result from.new ((fields_at number).read from.old) }
+    ensures { Gives result from.new ((fields_form kind).read from.old) }
 {
-    match number {
-        1 => read_add_bundle(alloc, from),
-        2 => Ok(Fields::DropBundle),
-        3 => read_add_item(alloc, from),
-        4 => read_remove_item(alloc, from),
-        5 => read_set_label(alloc, from),
-        6 => read_set_segment(alloc, from),
-        7 => read_move_boundary(alloc, from),
-        8 => read_set_point(alloc, from),
-        9 => read_split(alloc, from),
-        10 => read_merge(alloc, from),
-        11 => read_add_link(alloc, from),
-        _ => read_remove_link(alloc, from),
+    match kind {
+        Kind::AddBundle => read_add_bundle(alloc, from),
+        Kind::DropBundle => Ok(Fields::DropBundle),
+        Kind::AddItem => read_add_item(alloc, from),
+        Kind::RemoveItem => read_remove_item(alloc, from),
+        Kind::SetLabel => read_set_label(alloc, from),
+        Kind::SetSegment => read_set_segment(alloc, from),
+        Kind::MoveBoundary => read_move_boundary(alloc, from),
+        Kind::SetPoint => read_set_point(alloc, from),
+        Kind::Split => read_split(alloc, from),
+        Kind::Merge => read_merge(alloc, from),
+        Kind::AddLink => read_add_link(alloc, from),
+        Kind::RemoveLink => read_remove_link(alloc, from),
+        Kind::LinkTimes => read_link_times(alloc, from),
+        Kind::PutItem => read_put_item(alloc, from),
+        Kind::PutLabel => read_put_label(alloc, from),
+        Kind::PutLink => read_put_link(alloc, from),
     }
 }

@@ -1,20 +1,18 @@
 //! The one code of entries and of configurations: how it is written, measured and read.
 #![tactic(auto)]
 
-mod annots;
-mod coded;
+mod additions;
 mod codes;
+mod counts;
 mod edits;
+mod entries;
 mod fault;
 mod fields;
-mod heads;
+mod kinds;
 mod laws;
 mod lists;
-mod made_head;
-mod plain;
-mod raw_entry;
-mod raw_head;
-mod raw_key;
+mod sound;
+mod tags;
 
 pub use codes::{entry_len, head_len, read_entry, read_head, write_entry, write_head};
 pub use fault::CodeFault;

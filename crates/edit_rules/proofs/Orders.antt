@@ -19,23 +19,22 @@ use Rattle.bundle_state.specs.Made.{made_item}
 use Rattle.bundle_state.specs.Changed.{with_levels, change_level, item_added}
 use Rattle.bundle_state.proofs.LinksKept.{goes_on, ok_same, fine_value}
 use Rattle.bundle_state.proofs.BuiltKept.{unbroken}
-use Rattle.edit_rules.specs.declared.bundle_change.Counts.{Counts}
-use Rattle.edit_rules.specs.declared.edit.Edit.{Edit}
-use Rattle.edit_rules.specs.declared.edit.Edit.TheVariants as edits
-use Rattle.edit_rules.specs.declared.segments.Segment.{Segment}
-use Rattle.edit_rules.specs.Edits.{key_of}
-use Rattle.edit_rules.specs.Changes.{unless_too_many, bundle_added, level_found, NumberedLevel, room_fault, id_fault, given_item_fault, put_on, item_put, segment_of, last_of, cut_fault, cut_at, split_in, segment_split, bundle_changed, if_kept, changed}
+use Rattle.bundle_edits.specs.declared.bundle_change.Counts.{Counts}
+use Rattle.bundle_edits.specs.declared.edit.Edit.{Edit}
+use Rattle.bundle_edits.specs.declared.edit.Edit.TheVariants as edits
+use Rattle.bundle_edits.specs.Edits.{key_of}
+use Rattle.bundle_edits.specs.Changes.{unless_too_many, bundle_added, level_found, NumberedLevel, room_fault, id_fault, given_item_fault, put_on, item_put, segment_of, last_of, cut_fault, cut_at, split_in, segment_split, bundle_changed, if_kept, changed}
 use Rattle.edit_rules.specs.Database.{DatabaseParts, with_bundles, same_key, is_before, bundle_with, without, put_in_order, put_for, counts_of, are_keys_rising, KeepsDatabaseRules}
-use Rattle.edit_rules.specs.Effects.{put_back, effect}
+use Rattle.edit_rules.specs.Effects.{put_back, edit_effect}
 use Rattle.edit_rules.specs.Laws.{OrderDoesNotMatter}
 use Rattle.edit_rules.proofs.KeyPlaces.{Apart, above_own, apart_all, apart_find, key_same, same_itself, before_or, rising_tail}
 use Rattle.edit_rules.proofs.Stays.{apart_left, limit_passed, limit_before, changed_stored, old_is, edits_keep_rules}
-use Rattle.edit_rules.proofs.Spans.{some_same}
+use Rattle.bundle_edits.proofs.Spans.{some_same}
 
 -- Look-ups in a list that was changed.
 
 -- keys that are the same as a third one are the same
-same_to : (a b c : BundleKey) → same_key a b ≡ true → same_key b c ≡ same_key a c
+pub same_to : (a b c : BundleKey) → same_key a b ≡ true → same_key b c ≡ same_key a c
 same_to a b c is = ap (λ (k : BundleKey). same_key k c) (sym (key_same a b is))
 
 not_both : (a b c : BundleKey) → same_key a b ≡ false → same_key a c ≡ true → same_key b c ≡ true → ⊥
@@ -43,7 +42,7 @@ not_both a b c apart first second =
     let same : a ≡ b = key_same a c first ∙ sym (key_same b c second) in
     true≢false (sym (same_itself b) ∙ ap (λ (k : BundleKey). same_key k b) (sym same) ∙ apart)
 
-found_without : (k key : BundleKey) (bs : List BundleParts) → bundle_with k (without key bs) ≡ cond (same_key key k) None (bundle_with k bs)
+pub found_without : (k key : BundleKey) (bs : List BundleParts) → bundle_with k (without key bs) ≡ cond (same_key key k) None (bundle_with k bs)
 found_without k key [] = none (same_key key k)
   where
     none : (t : Bool) → bundle_with k [] ≡ cond t None (bundle_with k [])
@@ -60,7 +59,7 @@ found_without k key (b ∷ bs) = by (same_key b.key key) refl (same_key b.key k)
     by false e true f false g rest = ap (λ (t : Bool). cond t (Some b) (bundle_with k (without key bs))) f
     by false e false f v g rest = ap (λ (t : Bool). cond t (Some b) (bundle_with k (without key bs))) f ∙ rest
 
-found_put : (k : BundleKey) (new : BundleParts) (bs : List BundleParts) → Apart new.key bs → bundle_with k (put_in_order new bs) ≡ cond (same_key new.key k) (Some new) (bundle_with k bs)
+pub found_put : (k : BundleKey) (new : BundleParts) (bs : List BundleParts) → Apart new.key bs → bundle_with k (put_in_order new bs) ≡ cond (same_key new.key k) (Some new) (bundle_with k bs)
 found_put k new [] apart = refl
 found_put k new (b ∷ bs) apart = by (is_before new.key b.key) (same_key b.key k) refl (same_key new.key k) refl (found_put k new bs apart.1)
   where
@@ -72,10 +71,10 @@ found_put k new (b ∷ bs) apart = by (is_before new.key b.key) (same_key b.key 
     by false false f v g rest = ap (λ (t : Bool). cond t (Some b) (bundle_with k (put_in_order new bs))) f ∙ rest
 
 -- the bundle, if there is one, has this key
-abbrev IsOfKey : BundleKey → Option BundleParts → Type 0
+abbrev pub IsOfKey : BundleKey → Option BundleParts → Type 0
 IsOfKey key next = (new : BundleParts) → next ≡ Some new → new.key ≡ key
 
-found_for : (k key : BundleKey) (next : Option BundleParts) (bs : List BundleParts) → IsOfKey key next → bundle_with k (put_for key next bs) ≡ cond (same_key key k) next (bundle_with k bs)
+pub found_for : (k key : BundleKey) (next : Option BundleParts) (bs : List BundleParts) → IsOfKey key next → bundle_with k (put_for key next bs) ≡ cond (same_key key k) next (bundle_with k bs)
 found_for k key None bs own = found_without k key bs
 found_for k key (Some new) bs own =
     let same : new.key ≡ key = own new refl in
@@ -134,31 +133,31 @@ lists_same (x ∷ xs) (y ∷ ys) up upper alike =
 both_same : {A : Type 0} (r : Result A Broken) (x y : A) → r ≡ Ok x → r ≡ Ok y → x ≡ y
 both_same r x y first second = ok_same x y (sym first ∙ second)
 
-put_alike : (one two : Counts) (position : Option ℕ) (item : AnnotItem) (b x y : BundleParts) (m : NumberedLevel) → put_on one position item b m ≡ Ok x → put_on two position item b m ≡ Ok y → x ≡ y
-put_alike one two position item b x y (number, def) first second =
-    let f = goes_on (unless_broken (given_item_fault one b.levels def item) b) (item_added number position (made_item def.attributes item)) x first in
-    let g = goes_on (unless_broken (given_item_fault two b.levels def item) b) (item_added number position (made_item def.attributes item)) y second in
-    let left = unbroken (given_item_fault one b.levels def item) b f.middle f.first in
-    let right = unbroken (given_item_fault two b.levels def item) b g.middle g.first in
+put_alike : (tested : Bool) (one two : Counts) (position : Option ℕ) (item : AnnotItem) (b x y : BundleParts) (m : NumberedLevel) → put_on tested one position item b m ≡ Ok x → put_on tested two position item b m ≡ Ok y → x ≡ y
+put_alike tested one two position item b x y (number, def) first second =
+    let f = goes_on (unless_broken (given_item_fault tested one b.levels def item) b) (item_added number position (made_item def.attributes item)) x first in
+    let g = goes_on (unless_broken (given_item_fault tested two b.levels def item) b) (item_added number position (made_item def.attributes item)) y second in
+    let left = unbroken (given_item_fault tested one b.levels def item) b f.middle f.first in
+    let right = unbroken (given_item_fault tested two b.levels def item) b g.middle g.first in
     both_same (item_added number position (made_item def.attributes item) b) x y
     (ap (λ (c : BundleParts). item_added number position (made_item def.attributes item) c) left.1 ∙ f.second)
     (ap (λ (c : BundleParts). item_added number position (made_item def.attributes item) c) right.1 ∙ g.second)
 
-item_alike : (config : ConfigParts) (one two : Counts) (level : List ℕ) (position : Option ℕ) (item : AnnotItem) (b x y : BundleParts) →
-    item_put config one level position item b ≡ Ok x → item_put config two level position item b ≡ Ok y → x ≡ y
-item_alike config one two level position item b x y first second =
-    let f = goes_on (level_found level config.levels) (put_on one position item b) x first in
-    let g = goes_on (level_found level config.levels) (put_on two position item b) y second in
+item_alike : (tested : Bool) (config : ConfigParts) (one two : Counts) (level : List ℕ) (position : Option ℕ) (item : AnnotItem) (b x y : BundleParts) →
+    item_put tested config one level position item b ≡ Ok x → item_put tested config two level position item b ≡ Ok y → x ≡ y
+item_alike tested config one two level position item b x y first second =
+    let f = goes_on (level_found level config.levels) (put_on tested one position item b) x first in
+    let g = goes_on (level_found level config.levels) (put_on tested two position item b) y second in
     let same : f.middle ≡ g.middle = ok_same f.middle g.middle (sym f.first ∙ g.first) in
-    put_alike one two position item b x y f.middle f.second (ap (λ (m : NumberedLevel). put_on two position item b m) same ∙ g.second)
+    put_alike tested one two position item b x y f.middle f.second (ap (λ (m : NumberedLevel). put_on tested two position item b m) same ∙ g.second)
 
 split_alike : (one two : Counts) (id new_id : ItemId) (start : ℕ) (b x y : BundleParts) → segment_split one id new_id start b ≡ Ok x → segment_split two id new_id start b ≡ Ok y → x ≡ y
 split_alike one two id new_id start b x y first second =
     let f = goes_on (segment_of id b.levels) (split_in one new_id start b) x first in
     let g = goes_on (segment_of id b.levels) (split_in two new_id start b) y second in
     let same : f.middle ≡ g.middle = ok_same f.middle g.middle (sym f.first ∙ g.first) in
-    let s : Segment = f.middle in
-    let other : split_in two new_id start b s ≡ Ok y = ap (λ (t : Segment). split_in two new_id start b t) same ∙ g.second in
+    let s = f.middle in
+    let other : split_in two new_id start b s ≡ Ok y = ap (split_in two new_id start b) same ∙ g.second in
     let whole : BundleParts = with_levels b (change_level (cut_at new_id start s) s.level b.levels) in
     sym (unbroken (option_or (room_fault one b.levels) (option_or (id_fault new_id b.levels) (cut_fault s (last_of s) start))) whole x f.second).1
     ∙ (unbroken (option_or (room_fault two b.levels) (option_or (id_fault new_id b.levels) (cut_fault s (last_of s) start))) whole y other).1
@@ -166,7 +165,7 @@ split_alike one two id new_id start b x y first second =
 bundle_alike : (config : ConfigParts) (one two : Counts) (edit : Edit) (b x y : BundleParts) → bundle_changed config one edit b ≡ Ok x → bundle_changed config two edit b ≡ Ok y → x ≡ y
 bundle_alike config one two (edits.AddBundle key annot) b x y first second = absurd cc
 bundle_alike config one two (edits.DropBundle key) b x y first second = sym (ok_same b x first) ∙ ok_same b y second
-bundle_alike config one two (edits.AddItem key level position item) b x y first second = item_alike config one two level position item b x y first second
+bundle_alike config one two (edits.AddItem key level position item) b x y first second = item_alike true config one two level position item b x y first second
 bundle_alike config one two (edits.RemoveItem key id) b x y first second = ok_same x y (sym first ∙ second)
 bundle_alike config one two (edits.SetLabel key id attribute label) b x y first second = ok_same x y (sym first ∙ second)
 bundle_alike config one two (edits.SetSegment key id start dur) b x y first second = ok_same x y (sym first ∙ second)
@@ -176,6 +175,10 @@ bundle_alike config one two (edits.Split key id new_id start) b x y first second
 bundle_alike config one two (edits.Merge key id) b x y first second = ok_same x y (sym first ∙ second)
 bundle_alike config one two (edits.AddLink key from to) b x y first second = ok_same x y (sym first ∙ second)
 bundle_alike config one two (edits.RemoveLink key from to) b x y first second = ok_same x y (sym first ∙ second)
+bundle_alike config one two (edits.LinkTimes key upper lower) b x y first second = ok_same x y (sym first ∙ second)
+bundle_alike config one two (edits.PutItem key level position item) b x y first second = item_alike false config one two level position item b x y first second
+bundle_alike config one two (edits.PutLabel key id attribute label) b x y first second = ok_same x y (sym first ∙ second)
+bundle_alike config one two (edits.PutLink key from to place) b x y first second = ok_same x y (sym first ∙ second)
 
 added_alike : (config : ConfigParts) (one two : Counts) (key : BundleKey) (annot : Annot) (x y : Option BundleParts) → bundle_added config one key annot ≡ Ok x → bundle_added config two key annot ≡ Ok y → x ≡ y
 added_alike config one two key annot x y first second =
@@ -187,7 +190,7 @@ added_alike config one two key annot x y first second =
     sym (limit_passed (nat_lt ALL_ITEMS (one.items + item_count f.middle.levels)) (rules.TooMany counted.AllItems) (Some f.middle) x f.second).1
     ∙ ap Some same ∙ (limit_passed (nat_lt ALL_ITEMS (two.items + item_count g.middle.levels)) (rules.TooMany counted.AllItems) (Some g.middle) y g.second).1
 
-changed_alike : (config : ConfigParts) (one two : Counts) (old : Option BundleParts) (edit : Edit) (x y : Option BundleParts) → changed config one old edit ≡ Ok x → changed config two old edit ≡ Ok y → x ≡ y
+pub changed_alike : (config : ConfigParts) (one two : Counts) (old : Option BundleParts) (edit : Edit) (x y : Option BundleParts) → changed config one old edit ≡ Ok x → changed config two old edit ≡ Ok y → x ≡ y
 changed_alike config one two None (edits.AddBundle key annot) x y first second = added_alike config one two key annot x y first second
 changed_alike config one two None (edits.DropBundle key) x y first second = absurd cc
 changed_alike config one two None (edits.AddItem key level position item) x y first second = absurd cc
@@ -200,6 +203,10 @@ changed_alike config one two None (edits.Split key id new_id start) x y first se
 changed_alike config one two None (edits.Merge key id) x y first second = absurd cc
 changed_alike config one two None (edits.AddLink key from to) x y first second = absurd cc
 changed_alike config one two None (edits.RemoveLink key from to) x y first second = absurd cc
+changed_alike config one two None (edits.LinkTimes key upper lower) x y first second = absurd cc
+changed_alike config one two None (edits.PutItem key level position item) x y first second = absurd cc
+changed_alike config one two None (edits.PutLabel key id attribute label) x y first second = absurd cc
+changed_alike config one two None (edits.PutLink key from to place) x y first second = absurd cc
 changed_alike config one two (Some b) edit x y first second =
     let f = goes_on (bundle_changed config one edit b) (if_kept edit) x first in
     let g = goes_on (bundle_changed config two edit b) (if_kept edit) y second in
@@ -208,13 +215,13 @@ changed_alike config one two (Some b) edit x y first second =
 
 -- Two edits.
 
-record Goes (d next : DatabaseParts) (edit : Edit) : Type 0 where
-  new : Option BundleParts
-  made : changed d.config (counts_of d.bundles) (bundle_with (key_of edit) d.bundles) edit ≡ Ok new
-  own : IsOfKey (key_of edit) new
-  is : with_bundles d (put_for (key_of edit) new d.bundles) ≡ next
+pub record Goes (d next : DatabaseParts) (edit : Edit) : Type 0 where
+  pub new : Option BundleParts
+  pub made : changed d.config (counts_of d.bundles) (bundle_with (key_of edit) d.bundles) edit ≡ Ok new
+  pub own : IsOfKey (key_of edit) new
+  pub is : with_bundles d (put_for (key_of edit) new d.bundles) ≡ next
 
-goes : (d next : DatabaseParts) (edit : Edit) → KeepsDatabaseRules d → effect d edit ≡ Ok next → Goes d next edit
+pub goes : (d next : DatabaseParts) (edit : Edit) → KeepsDatabaseRules d → edit_effect d edit ≡ Ok next → Goes d next edit
 goes d next edit keeps is =
     let old : Option BundleParts = bundle_with (key_of edit) d.bundles in
     let on = goes_on (changed d.config (counts_of d.bundles) old edit) (put_back d edit) next is in

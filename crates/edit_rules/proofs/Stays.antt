@@ -18,20 +18,20 @@ use Rattle.bundle_state.specs.Built.{built}
 use Rattle.emu_names.specs.Steps.{onward}
 use Rattle.bundle_state.proofs.LinksKept.{goes_on, ok_same, fine_value}
 use Rattle.bundle_state.proofs.BuiltKept.{IsBuilt, built_parts, built_keeps, built_fits}
-use Rattle.edit_rules.specs.declared.bundle_change.Counts.{Counts}
+use Rattle.bundle_edits.specs.declared.bundle_change.Counts.{Counts}
 use Rattle.edit_rules.specs.declared.database.KeyPlace.{KeyPlace}
 use Rattle.edit_rules.specs.declared.database.KeyPlace.TheVariants.{At, Free}
-use Rattle.edit_rules.specs.declared.edit.Edit.{Edit}
-use Rattle.edit_rules.specs.declared.edit.Edit.TheVariants as edits
-use Rattle.edit_rules.specs.Edits.{key_of}
-use Rattle.edit_rules.specs.Changes.{unless_too_many, bundle_added, bundle_changed, is_kept_by, if_kept, missing_changed, changed}
+use Rattle.bundle_edits.specs.declared.edit.Edit.{Edit}
+use Rattle.bundle_edits.specs.declared.edit.Edit.TheVariants as edits
+use Rattle.bundle_edits.specs.Edits.{key_of}
+use Rattle.bundle_edits.specs.Changes.{unless_too_many, bundle_added, bundle_changed, is_kept_by, if_kept, missing_changed, changed}
 use Rattle.edit_rules.specs.Database.{DatabaseParts, with_bundles, same_key, is_before, bundle_with, without, put_in_order, put_for, all_items, counts_of, are_keys_rising, IsBundleOf, KeepsDatabaseRules}
-use Rattle.edit_rules.specs.Effects.{put_back, effect}
+use Rattle.edit_rules.specs.Effects.{put_back, edit_effect}
 use Rattle.edit_rules.specs.Inner.Kept.{IsKept}
 use Rattle.edit_rules.specs.Inner.KeyPlaces.{IsKeyPlace, found_at, put_at}
 use Rattle.edit_rules.proofs.KeyPlaces.{Above, Apart, above_own, above_next, key_same, before_or, rising_tail}
-use Rattle.edit_rules.proofs.Next.{HasNext, bundle_next}
-use Rattle.edit_rules.proofs.Spans.{some_same}
+use Rattle.bundle_edits.proofs.Next.{HasNext, bundle_next}
+use Rattle.bundle_edits.proofs.Spans.{some_same}
 
 -- The order of keys.
 
@@ -48,7 +48,7 @@ above_without k key (b ∷ bs) up above = by (same_key b.key key) (above_without
     by true rest = rest
     by false rest = above
 
-rising_without : (key : BundleKey) (bs : List BundleParts) → are_keys_rising bs ≡ true → are_keys_rising (without key bs) ≡ true
+pub rising_without : (key : BundleKey) (bs : List BundleParts) → are_keys_rising bs ≡ true → are_keys_rising (without key bs) ≡ true
 rising_without key [] up = refl
 rising_without key (b ∷ bs) up = by (same_key b.key key) (rising_without key bs (rising_tail b bs up))
   where
@@ -72,7 +72,7 @@ above_put k new (b ∷ bs) is above = by (is_before new.key b.key)
     by true = is
     by false = above
 
-rising_put : (new : BundleParts) (bs : List BundleParts) → Apart new.key bs → are_keys_rising bs ≡ true → are_keys_rising (put_in_order new bs) ≡ true
+pub rising_put : (new : BundleParts) (bs : List BundleParts) → Apart new.key bs → are_keys_rising bs ≡ true → are_keys_rising (put_in_order new bs) ≡ true
 rising_put new [] apart up = refl
 rising_put new (b ∷ bs) apart up = by (is_before new.key b.key) refl (rising_put new bs apart.1 (rising_tail b bs up))
   where
@@ -82,10 +82,10 @@ rising_put new (b ∷ bs) apart up = by (is_before new.key b.key) refl (rising_p
 
 -- How many bundles and items there are.
 
-items_cons : (b : BundleParts) (bs : List BundleParts) → all_items (b ∷ bs) ≡ item_count b.levels + all_items bs
+pub items_cons : (b : BundleParts) (bs : List BundleParts) → all_items (b ∷ bs) ≡ item_count b.levels + all_items bs
 items_cons b bs = sum_by-cons (λ (x : BundleParts). item_count x.levels) b bs
 
-put_length : (new : BundleParts) (bs : List BundleParts) → length (put_in_order new bs) ≡ length bs + 1
+pub put_length : (new : BundleParts) (bs : List BundleParts) → length (put_in_order new bs) ≡ length bs + 1
 put_length new [] = refl
 put_length new (b ∷ bs) = by (is_before new.key b.key) (put_length new bs)
   where
@@ -93,7 +93,7 @@ put_length new (b ∷ bs) = by (is_before new.key b.key) (put_length new bs)
     by true rest = omega arith
     by false rest = omega (arith, rest)
 
-put_items : (new : BundleParts) (bs : List BundleParts) → all_items (put_in_order new bs) ≡ all_items bs + item_count new.levels
+pub put_items : (new : BundleParts) (bs : List BundleParts) → all_items (put_in_order new bs) ≡ all_items bs + item_count new.levels
 put_items new [] = let one = items_cons new [] in omega (arith, one)
 put_items new (b ∷ bs) = by (is_before new.key b.key) (put_items new bs)
   where
@@ -104,7 +104,7 @@ put_items new (b ∷ bs) = by (is_before new.key b.key) (put_items new bs)
         let two = items_cons b bs in
         omega (arith, rest, one, two)
 
-left_length : (key : BundleKey) (bs : List BundleParts) → length (without key bs) ≤ length bs
+pub left_length : (key : BundleKey) (bs : List BundleParts) → length (without key bs) ≤ length bs
 left_length key [] = omega arith
 left_length key (b ∷ bs) = by (same_key b.key key) (left_length key bs)
   where
@@ -112,7 +112,7 @@ left_length key (b ∷ bs) = by (same_key b.key key) (left_length key bs)
     by true rest = omega (arith, rest)
     by false rest = omega (arith, rest)
 
-left_items : (key : BundleKey) (bs : List BundleParts) → all_items (without key bs) ≤ all_items bs
+pub left_items : (key : BundleKey) (bs : List BundleParts) → all_items (without key bs) ≤ all_items bs
 left_items key [] = omega arith
 left_items key (b ∷ bs) = by (same_key b.key key) (left_items key bs)
   where
@@ -126,11 +126,11 @@ left_items key (b ∷ bs) = by (same_key b.key key) (left_items key bs)
         omega (arith, rest, one, two)
 
 -- without a bundle that is there, one less at least
-record IsLess (bs left : List BundleParts) (old : BundleParts) : Type 0 where
-  count : length left + 1 ≤ length bs
-  items : all_items left + item_count old.levels ≤ all_items bs
+pub record IsLess (bs left : List BundleParts) (old : BundleParts) : Type 0 where
+  pub count : length left + 1 ≤ length bs
+  pub items : all_items left + item_count old.levels ≤ all_items bs
 
-less_found : (key : BundleKey) (bs : List BundleParts) (old : BundleParts) → bundle_with key bs ≡ Some old → IsLess bs (without key bs) old
+pub less_found : (key : BundleKey) (bs : List BundleParts) (old : BundleParts) → bundle_with key bs ≡ Some old → IsLess bs (without key bs) old
 less_found key [] old is = absurd cc
 less_found key (b ∷ bs) old is = by (same_key b.key key) (λ h. less_found key bs old h) is
   where
@@ -188,7 +188,7 @@ all_put P new (b ∷ bs) own all = by (is_before new.key b.key) (all_put P new b
     by true rest = All-cons P new (b ∷ bs) own all
     by false rest = All-cons P b (put_in_order new bs) (All-head P b bs all) rest
 
-all_found : (P : BundleParts → Type 0) (key : BundleKey) (bs : List BundleParts) (old : BundleParts) → bundle_with key bs ≡ Some old → All P bs → P old × (old.key ≡ key)
+pub all_found : (P : BundleParts → Type 0) (key : BundleKey) (bs : List BundleParts) (old : BundleParts) → bundle_with key bs ≡ Some old → All P bs → P old × (old.key ≡ key)
 all_found P key [] old is all = absurd cc
 all_found P key (b ∷ bs) old is all = by (same_key b.key key) refl (λ h. all_found P key bs old h (All-tail P b bs all)) is
   where
@@ -201,7 +201,7 @@ all_found P key (b ∷ bs) old is all = by (same_key b.key key) refl (λ h. all_
 -- What a bundle becomes.
 
 -- the items of a bundle, if there is one
-abbrev items_of : Option BundleParts → ℕ
+abbrev pub items_of : Option BundleParts → ℕ
 items_of None = 0
 items_of (Some b) = item_count b.levels
 
@@ -224,7 +224,7 @@ pub limit_before : (t : Bool) (rule : Broken) (r : Result (Option BundleParts) B
 limit_before true rule r next is = absurd cc
 limit_before false rule r next is = (refl, is)
 
-added_stored : (config : ConfigParts) (counts : Counts) (key : BundleKey) (annot : Annot) (new : BundleParts) → is_valid config ≡ true → bundle_added config counts key annot ≡ Ok (Some new) →
+pub added_stored : (config : ConfigParts) (counts : Counts) (key : BundleKey) (annot : Annot) (new : BundleParts) → is_valid config ≡ true → bundle_added config counts key annot ≡ Ok (Some new) →
     IsStored config counts key None new
 added_stored config counts key annot new valid is =
     let first = limit_before (nat_le BUNDLES counts.bundles) (rules.TooMany counted.Bundles) (onward (built config key annot) (unless_too_many counts)) (Some new) is in
@@ -242,7 +242,7 @@ added_stored config counts key annot new valid is =
       few = λ _. leb-false BUNDLES counts.bundles first.0;
     }
 
-missing_stored : (config : ConfigParts) (counts : Counts) (edit : Edit) (new : BundleParts) → is_valid config ≡ true → missing_changed config counts edit ≡ Ok (Some new) → IsStored config counts (key_of edit) None new
+pub missing_stored : (config : ConfigParts) (counts : Counts) (edit : Edit) (new : BundleParts) → is_valid config ≡ true → missing_changed config counts edit ≡ Ok (Some new) → IsStored config counts (key_of edit) None new
 missing_stored config counts (edits.AddBundle key annot) new valid is = added_stored config counts key annot new valid is
 missing_stored config counts (edits.DropBundle key) new valid is = absurd cc
 missing_stored config counts (edits.AddItem key level position item) new valid is = absurd cc
@@ -255,8 +255,12 @@ missing_stored config counts (edits.Split key id new_id start) new valid is = ab
 missing_stored config counts (edits.Merge key id) new valid is = absurd cc
 missing_stored config counts (edits.AddLink key from to) new valid is = absurd cc
 missing_stored config counts (edits.RemoveLink key from to) new valid is = absurd cc
+missing_stored config counts (edits.LinkTimes key upper lower) new valid is = absurd cc
+missing_stored config counts (edits.PutItem key level position item) new valid is = absurd cc
+missing_stored config counts (edits.PutLabel key id attribute label) new valid is = absurd cc
+missing_stored config counts (edits.PutLink key from to place) new valid is = absurd cc
 
-kept_same : (t : Bool) (b new : BundleParts) → fine_value (cond t (Some b) None) ≡ Ok (Some new) → b ≡ new
+pub kept_same : (t : Bool) (b new : BundleParts) → fine_value (cond t (Some b) None) ≡ Ok (Some new) → b ≡ new
 kept_same true b new is = some_same b new (ok_same (Some b) (Some new) is)
 kept_same false b new is = absurd cc
 
@@ -280,7 +284,7 @@ changed_stored config counts edit (Some b) new valid was is =
     some_is e = cc
 
 -- a list with another bundle, or none, for a key
-stored : (d : DatabaseParts) (key : BundleKey) (old next : Option BundleParts) → KeepsDatabaseRules d → bundle_with key d.bundles ≡ old →
+pub stored : (d : DatabaseParts) (key : BundleKey) (old next : Option BundleParts) → KeepsDatabaseRules d → bundle_with key d.bundles ≡ old →
     ((new : BundleParts) → next ≡ Some new → IsStored d.config (counts_of d.bundles) key old new) → KeepsDatabaseRules (with_bundles d (put_for key next d.bundles))
 stored d key old None keeps is new =
     let count = left_length key d.bundles in
@@ -338,7 +342,7 @@ abbrev parts_as : ConfigParts → List BundleParts → DatabaseParts
 parts_as config bundles = record { config = config; bundles = bundles }
 
 -- an edit that breaks no rule leaves a database that keeps the rules
-pub edits_keep_rules : (d next : DatabaseParts) (edit : Edit) → KeepsDatabaseRules d → effect d edit ≡ Ok next → KeepsDatabaseRules next
+pub edits_keep_rules : (d next : DatabaseParts) (edit : Edit) → KeepsDatabaseRules d → edit_effect d edit ≡ Ok next → KeepsDatabaseRules next
 edits_keep_rules d next edit keeps is =
     let key : BundleKey = key_of edit in
     let old : Option BundleParts = bundle_with key d.bundles in
@@ -357,11 +361,11 @@ kept_as config own xs ys items same alike count keeps =
 
 -- The place of a key.
 
-place_found : (bs : List BundleParts) (key : BundleKey) (place : KeyPlace) → IsKeyPlace key bs place → bundle_with key bs ≡ found_at bs place
+pub place_found : (bs : List BundleParts) (key : BundleKey) (place : KeyPlace) → IsKeyPlace key bs place → bundle_with key bs ≡ found_at bs place
 place_found bs key (At k) is = is.found ∙ sym is.there
 place_found bs key (Free k) is = is.absent
 
-place_put : (bs : List BundleParts) (key : BundleKey) (place : KeyPlace) (next : Option BundleParts) → IsKeyPlace key bs place → ((new : BundleParts) → next ≡ Some new → new.key ≡ key) →
+pub place_put : (bs : List BundleParts) (key : BundleKey) (place : KeyPlace) (next : Option BundleParts) → IsKeyPlace key bs place → ((new : BundleParts) → next ≡ Some new → new.key ≡ key) →
     put_for key next bs ≡ put_at bs place next
 place_put bs key (At k) None is own = is.taken
 place_put bs key (At k) (Some new) is own = is.put new (own new refl)
@@ -376,7 +380,7 @@ changed_as config own counts number old there edit next same alike found is =
 
 -- what an edit leaves, by the place of its key
 pub effect_at : (d : DatabaseParts) (edit : Edit) (place : KeyPlace) (next : Option BundleParts) → KeepsDatabaseRules d → IsKeyPlace (key_of edit) d.bundles place →
-    changed d.config (counts_of d.bundles) (found_at d.bundles place) edit ≡ Ok next → effect d edit ≡ Ok (with_bundles d (put_at d.bundles place next))
+    changed d.config (counts_of d.bundles) (found_at d.bundles place) edit ≡ Ok next → edit_effect d edit ≡ Ok (with_bundles d (put_at d.bundles place next))
 effect_at d edit place next keeps at is =
     let key : BundleKey = key_of edit in
     let counts : Counts = counts_of d.bundles in
@@ -389,7 +393,7 @@ effect_at d edit place next keeps at is =
 
 -- the rule that an edit breaks, by the place of its key
 pub fault_at : (d : DatabaseParts) (edit : Edit) (place : KeyPlace) (rule : Broken) → IsKeyPlace (key_of edit) d.bundles place →
-    changed d.config (counts_of d.bundles) (found_at d.bundles place) edit ≡ Err rule → effect d edit ≡ Err rule
+    changed d.config (counts_of d.bundles) (found_at d.bundles place) edit ≡ Err rule → edit_effect d edit ≡ Err rule
 fault_at d edit place rule at is =
     ap (λ (old : Option BundleParts). onward (changed d.config (counts_of d.bundles) old edit) (put_back d edit)) (place_found d.bundles (key_of edit) place at)
     ∙ ap (λ (r : Result (Option BundleParts) Broken). onward r (put_back d edit)) is

@@ -1,4 +1,5 @@
+pub mod Acts
 pub mod Effects
-pub mod Given
 pub mod Kept
 pub mod KeyPlaces
+pub mod Turns

@@ -1,34 +1,80 @@
 -- Laws over the definitions: what edits keep, and what histories have in common.
-use Rattle.std.specs.Prelude.{◌≡◌, ℕ, false, not, List, [], ◌∷◌, ◌++◌, take, Ok, IsTrue}
-use Rattle.std.specs.List.{filter}
-use Rattle.emu_names.specs.declared.kinds.ItemId.{ItemId}
-use Rattle.link_graph.specs.declared.link.Link.{Link}
-use Rattle.link_graph.specs.Link.{names_item, joins}
+use Rattle.std.specs.Prelude.{◌≡◌, ℕ, suc, false, List, [], ◌∷◌, ◌++◌, length, take, Option, Result, Ok, Err, IsTrue}
+use Rattle.std.specs.List.{list_all}
+use Rattle.emu_names.specs.declared.names.BundleKey.{BundleKey}
+use Rattle.emu_names.specs.Steps.{onward}
 use Rattle.db_config.specs.declared.parts.ConfigParts.{ConfigParts}
 use Rattle.db_config.specs.Valid.{is_valid}
-use Rattle.bundle_state.specs.Bundle.{BundleParts, all_ids}
-use Rattle.bundle_state.specs.Built.{FitsConfig}
-use Rattle.bundle_state.specs.Valid.{KeepsBundleRules}
-use Rattle.edit_rules.specs.declared.bundle_change.Counts.{Counts}
-use Rattle.edit_rules.specs.declared.edit.Edit.{Edit}
-use Rattle.edit_rules.specs.declared.edit.Edit.TheVariants as edits
-use Rattle.edit_rules.specs.declared.edit.Entry.{Entry}
-use Rattle.edit_rules.specs.Changes.{bundle_changed}
-use Rattle.edit_rules.specs.Edits.{key_of}
-use Rattle.edit_rules.specs.Database.{DatabaseParts, same_key, KeepsDatabaseRules}
-use Rattle.edit_rules.specs.Effects.{effect, after, edited, IsLegal, database_after}
+use Rattle.bundle_state.specs.Bundle.{BundleParts}
+use Rattle.bundle_edits.specs.declared.edit.Edit.{Edit}
+use Rattle.bundle_edits.specs.Edits.{key_of}
+use Rattle.edit_rules.specs.declared.acts.Act.{Act}
+use Rattle.edit_rules.specs.declared.acts.Act.TheVariants as acts
+use Rattle.edit_rules.specs.declared.acts.Breach.{Breach}
+use Rattle.edit_rules.specs.declared.acts.Entry.{Entry}
+use Rattle.edit_rules.specs.Database.{DatabaseParts, same_key, bundle_with, without, with_bundles, put_for, counts_of, KeepsDatabaseRules}
+use Rattle.edit_rules.specs.Acts.{has_key}
+use Rattle.edit_rules.specs.Effects.{edit_effect, effect, after, edited, IsLegal, database_after}
+use Rattle.edit_rules.specs.Turns.{changed_in_turn}
 
 -- a database that keeps the rules keeps them also behind an edit that breaks none
 abbrev pub EditsKeepRules : Type 0
 EditsKeepRules =
     (database next : DatabaseParts) (edit : Edit) →
-    KeepsDatabaseRules database → effect database edit ≡ Ok next → KeepsDatabaseRules next
+    KeepsDatabaseRules database → edit_effect database edit ≡ Ok next → KeepsDatabaseRules next
 
--- one more entry changes the database as its edit does
+-- a database that keeps the rules keeps them also behind an act that breaks none
+abbrev pub ActsKeepRules : Type 0
+ActsKeepRules =
+    (database next : DatabaseParts) (act : Act) →
+    KeepsDatabaseRules database → effect database act ≡ Ok next → KeepsDatabaseRules next
+
+-- edits one by one lead from one database to another, and none breaks a rule
+abbrev pub LeadTo : DatabaseParts → List Edit → DatabaseParts → Type 0
+LeadTo from [] to = from ≡ to
+LeadTo from (e ∷ es) to =
+    (next : DatabaseParts) × ((edit_effect from e ≡ Ok next) × LeadTo next es to)
+
+-- edits are stopped: behind some that break no rule one breaks this rule, and its place is counted from 1
+pub record AreStopped (database : DatabaseParts) (es : List Edit) (breach : Breach) : Type 0 where
+  pub before : List Edit
+  pub edit : Edit
+  pub behind : List Edit
+  pub all : es ≡ before ++ edit ∷ behind
+  pub place : breach.place ≡ suc (length before)
+  pub state : DatabaseParts
+  pub fine : LeadTo database before state
+  pub breaks : edit_effect state edit ≡ Err breach.rule
+
+-- all edits, or none
+abbrev pub IsAllOrNothing : DatabaseParts → List Edit → Result DatabaseParts Breach → Type 0
+IsAllOrNothing database es (Ok next) = LeadTo database es next
+IsAllOrNothing database es (Err breach) = AreStopped database es breach
+
+-- a list of edits is its edits one by one; or the first of them that breaks a rule over the database behind
+-- those before it is named with its place
+abbrev pub AllOrNothing : Type 0
+AllOrNothing =
+    (database : DatabaseParts) (es : List Edit) → IsAllOrNothing database es (effect database (acts.Edits es))
+
+-- the database with this bundle, or none, in the place of that of a key
+abbrev pub put_whole : DatabaseParts → BundleKey → Option BundleParts → Result DatabaseParts Breach
+put_whole database key next = Ok (with_bundles database (put_for key next database.bundles))
+
+-- edits of one bundle change that bundle beside all others, and nothing else
+abbrev pub ChangeOneBundle : Type 0
+ChangeOneBundle =
+    (database : DatabaseParts) (key : BundleKey) (es : List Edit) →
+    KeepsDatabaseRules database → IsTrue (list_all (has_key key) es) →
+    effect database (acts.Edits es) ≡
+    onward (changed_in_turn database.config (counts_of (without key database.bundles)) 1 (bundle_with key database.bundles) es)
+    (put_whole database key)
+
+-- one more entry changes the database as its act does
 abbrev pub ReplayGoesOn : Type 0
 ReplayGoesOn =
     (config : ConfigParts) (history : List Entry) (entry : Entry) →
-    after config (history ++ entry ∷ []) ≡ edited config history entry.edit
+    after config (history ++ entry ∷ []) ≡ edited config history entry.act
 
 -- each beginning of a legal history is legal
 abbrev pub PrefixesAreLegal : Type 0
@@ -43,50 +89,10 @@ StatesKeepRules =
     IsTrue (is_valid config) → IsLegal config history →
     (n : ℕ) → KeepsDatabaseRules (database_after config (take n history))
 
--- the one list is the other with a number put in
-pub record HasOneMore (id : ℕ) (short long : List ℕ) : Type 0 where
-  pub front : List ℕ
-  pub back : List ℕ
-  pub short_is : short ≡ front ++ back
-  pub long_is : long ≡ front ++ id ∷ back
-
--- the ids of a bundle behind an edit: those before it with one put in, with one taken out, or the same
-abbrev pub NewIds : Edit → List ℕ → List ℕ → Type 0
-NewIds (edits.AddItem key level position item) old new = HasOneMore item.id.0 old new
-NewIds (edits.Split key id new_id start) old new = HasOneMore new_id.0 old new
-NewIds (edits.RemoveItem key id) old new = HasOneMore id.0 new old
-NewIds (edits.Merge key id) old new = (other : ItemId) × HasOneMore other.0 new old
-NewIds edit old new = new ≡ old
-
--- the links of a bundle behind an edit: those that the edit does not take out stay in their order, and a
--- new one stands last
-abbrev pub NewLinks : Edit → List Link → List Link → Type 0
-NewLinks (edits.RemoveItem key id) old new = new ≡ filter (λ link. not (names_item id link)) old
-NewLinks (edits.Merge key id) old new =
-    (other : ItemId) × (new ≡ filter (λ link. not (names_item other link)) old)
-NewLinks (edits.AddLink key from to) old new =
-    (link : Link) × IsTrue (joins from to link) × (new ≡ old ++ link ∷ [])
-NewLinks (edits.RemoveLink key from to) old new = new ≡ filter (λ link. not (joins from to link)) old
-NewLinks edit old new = new ≡ old
-
--- what an edit that breaks no rule makes of the links of a bundle
-abbrev pub EditsKeepLinks : Type 0
-EditsKeepLinks =
-    (config : ConfigParts) (counts : Counts) (edit : Edit) (bundle next : BundleParts) →
-    bundle_changed config counts edit bundle ≡ Ok next → NewLinks edit bundle.links next.links
-
--- what an edit that breaks no rule makes of the ids of a bundle that keeps the rules and fits the
--- configuration
-abbrev pub EditsKeepIds : Type 0
-EditsKeepIds =
-    (config : ConfigParts) (counts : Counts) (edit : Edit) (bundle next : BundleParts) →
-    KeepsBundleRules bundle → FitsConfig config bundle → bundle_changed config counts edit bundle ≡ Ok next →
-    NewIds edit (all_ids bundle.levels) (all_ids next.levels)
-
 -- two edits of different bundles leave the same database in either order, where both orders break no rule
 abbrev pub OrderDoesNotMatter : Type 0
 OrderDoesNotMatter =
     (database one other both same : DatabaseParts) (first second : Edit) →
     KeepsDatabaseRules database → same_key (key_of first) (key_of second) ≡ false →
-    effect database first ≡ Ok one → effect one second ≡ Ok both →
-    effect database second ≡ Ok other → effect other first ≡ Ok same → both ≡ same
+    edit_effect database first ≡ Ok one → edit_effect one second ≡ Ok both →
+    edit_effect database second ≡ Ok other → edit_effect other first ≡ Ok same → both ≡ same

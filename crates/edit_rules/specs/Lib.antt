@@ -1,6 +1,6 @@
-pub mod Edits
 pub mod Database
-pub mod Changes
+pub mod Acts
 pub mod Effects
+pub mod Turns
 pub mod Laws
 pub mod Inner

@@ -1,12 +1,16 @@
 //! A database, valid by its type.
-ghost use Rattle.std.specs.Prelude.{◌≡◌, ◌<◌, ◌≤◌, true, false, ◌+◌, length, insert, remove, slice_set, IfOk, IfSome, OnErr, OnOk, Some, option_copied};
+ghost use Rattle.std.specs.Prelude.{◌≡◌, ◌<◌, ◌≤◌, true, false, ◌+◌, All, IsTrue, map, length, insert, remove, slice_set, IfOk, IfSome, OnErr, OnOk, Some, option_copied};
 ghost use Rattle.std.specs.List.{slice_get};
 ghost use Rattle.std.specs.List.Sorted.{IsPartitionPoint};
 ghost use Rattle.bundle_state.specs.Built.{FitsConfig};
+ghost use Rattle.bundle_state.specs.Fitted.{CanFit, fitted};
+ghost use Rattle.db_config.specs.Added.{Extends};
+ghost use Rattle.db_config.specs.Valid.{is_valid};
+ghost use Rattle.edit_rules.specs.Effects.{fitted_database};
 ghost use Rattle.edit_rules.specs.Database.{empty_database, with_bundles, is_before, same_key, bundle_with, all_items, counts_of, KeepsDatabaseRules};
 ghost use Rattle.edit_rules.specs.Inner.KeyPlaces.{IsKeyPlace, IsPlaceIn, has_key_at, found_at, put_at};
 
-use crate::bundle_change::Counts;
+use bundle_edits::Counts;
 use bundle_state::Bundle;
 use db_config::Config;
 use emu_names::{BundleKey, Memory, PlainData, Series, Shared};
@@ -243,6 +247,24 @@ impl Database {
         }
     }
 
+    /// Puts the database under a configuration that begins with its own: all bundles are made to fit it. The
+    /// only refusal is want of memory, which changes nothing.
+    #[tactic(auto, using(crate::proofs::Fits::all_fit_by, crate::proofs::Fits::refit_kept))]
+    pub(crate) fn refit(&mut self, alloc: Global, config: Config) -> Result<(), Memory>
+        requires extends { Extends self.old.config config }
+        requires valid { IsTrue (is_valid config) }
+        ensures ok { OnOk result (self.new ≡ fitted_database self.old config) }
+        ensures err { OnErr result (self.new ≡ self.old) }
+    {
+        let _count = self.len();
+        let list = fitted(alloc, self.list.as_ref().as_slice(), &config)?;
+        let list = Shared::new(alloc, list)?;
+        let config = Shared::new(alloc, config)?;
+        self.list = list;
+        self.config = config;
+        Ok(())
+    }
+
     /// The same database again, which shares its bundles. The only refusal is want of memory.
     pub fn copy(&self, alloc: Global) -> Result<Database, Memory>
         ensures { IfOk result (λ made. made ≡ self.now) }
@@ -253,6 +275,24 @@ impl Database {
             items: self.items,
         })
     }
+}
+
+/// These bundles, made to fit a configuration. The only refusal is want of memory.
+#[tactic(auto, using(crate::proofs::Fits::fit_at))]
+fn fitted(
+    alloc: Global,
+    bundles: &[Shared<Bundle>],
+    config: &Config,
+) -> Result<Series<Shared<Bundle>>, Memory>
+    requires { All (CanFit config.now) bundles.now }
+    ensures { IfOk result (λ made. made ≡ map (fitted config.now) bundles.now) }
+{
+    let mut made = Series::new(alloc);
+    for bundle in bundles {
+        let next = bundle.as_ref().fit(alloc, config)?;
+        made.push(Shared::new(alloc, next)?)?;
+    }
+    Ok(made)
 }
 
 impl PlainData for Database {

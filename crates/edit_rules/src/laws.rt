@@ -1,22 +1,28 @@
-//! Laws with nothing to run: what edits keep, and what histories have in common.
-ghost use Rattle.edit_rules.specs.Laws.{EditsKeepIds, EditsKeepLinks, EditsKeepRules, OrderDoesNotMatter, ReplayGoesOn, PrefixesAreLegal, StatesKeepRules};
+//! Laws with nothing to run: what acts keep, and what histories have in common.
+ghost use Rattle.edit_rules.specs.Laws.{ActsKeepRules, AllOrNothing, ChangeOneBundle, EditsKeepRules, OrderDoesNotMatter, ReplayGoesOn, PrefixesAreLegal, StatesKeepRules};
 
 /// A database that keeps the rules keeps them also behind an edit that breaks none.
 pub fn edits_keep_rules()
     ensures { EditsKeepRules }
 {}
 
-/// The ids of a bundle behind an edit are those before it with one put in, with one taken out, or the same.
-pub fn edits_keep_ids()
-    ensures { EditsKeepIds }
+/// A database that keeps the rules keeps them also behind an act that breaks none.
+pub fn acts_keep_rules()
+    ensures { ActsKeepRules }
 {}
 
-/// The links of a bundle that an edit does not take out stay in their order; a new one stands last.
-pub fn edits_keep_links()
-    ensures { EditsKeepLinks }
+/// A list of edits that is accepted is its edits one by one; one that is refused names the first edit that
+/// breaks a rule, behind edits that break none.
+pub fn acts_are_whole()
+    ensures { AllOrNothing }
 {}
 
-/// One more entry of a history changes the database as its edit does.
+/// A list of edits of one bundle changes that bundle and nothing else.
+pub fn acts_change_one_bundle()
+    ensures { ChangeOneBundle }
+{}
+
+/// One more entry of a history changes the database as its act does.
 pub fn replay_goes_on()
     ensures { ReplayGoesOn }
 {}

@@ -1,20 +1,21 @@
-//! The edits of a database: what each of them changes, and the rule that it breaks first.
+//! The edits of a database in lists and its configuration's: what each act makes of it, and the rule that it
+//! breaks first.
 #![tactic(auto)]
 
-mod bundle_change;
+mod acts;
+mod config_change;
 mod database;
-mod edit;
 mod effects;
-mod item_changes;
-mod labels;
 mod laws;
-mod segments;
+mod list_change;
 
-pub use bundle_change::{Counts, change};
+pub use acts::{Act, Breach, ChangeFault, ConfigEdit, Edits, Entries, Entry};
+pub use bundle_edits::{Counts, Edit};
+pub use config_change::change_config;
 pub use database::Database;
-pub use edit::{Edit, Entries, Entry};
 pub use effects::{apply, check};
 pub use laws::{
-    edits_keep_ids, edits_keep_links, edits_keep_rules, order_does_not_matter, prefixes_are_legal,
-    replay_goes_on, states_keep_rules,
+    acts_are_whole, acts_change_one_bundle, acts_keep_rules, edits_keep_rules,
+    order_does_not_matter, prefixes_are_legal, replay_goes_on, states_keep_rules,
 };
+pub use list_change::change;

@@ -6,8 +6,8 @@ use Rattle.cli_words.specs.declared.words.Words.{Words}
 use Rattle.cli_words.specs.declared.words.Words.TheVariants as forms
 use Rattle.emu_io.specs.declared.tree.Stored.{Stored}
 use Rattle.db_config.specs.declared.parts.ConfigParts.{ConfigParts}
-use Rattle.edit_rules.specs.declared.edit.Edit.{Edit}
-use Rattle.edit_rules.specs.declared.edit.Entry.{Entry}
+use Rattle.edit_rules.specs.declared.acts.Act.{Act}
+use Rattle.edit_rules.specs.declared.acts.Entry.{Entry}
 use Rattle.emu_disk.specs.declared.disk.Disk as disks
 use Rattle.store_texts.specs.declared.faults.Refused.{Refused}
 use Rattle.store_texts.specs.declared.faults.CommandFault.{CommandFault}
@@ -101,7 +101,7 @@ module _ {D : Type 0} (disk : disks.Ghosts D) (folder : FolderTold) (sink sink_a
   load_well name ending (inr (inl a, untouched)) = refused_well _ ending a.4
   load_well name ending (inr (inr u, untouched)) = unopened_well ending u
 
-  import_well : (wanted : List Stored → Result Edit Refused) (ending : Ending) → EndsImport disk folder wanted ending before now → EndsWell ending
+  import_well : (wanted : List Stored → Result Act Refused) (ending : Ending) → EndsImport disk folder wanted ending before now → EndsWell ending
   import_well wanted ending (inl i) = done_well (codes "import") i.2.result ending i.2.read i.2.failed i.2.end
   import_well wanted ending (inr (inl b, untouched)) = refused_well _ ending b.2
   import_well wanted ending (inr (inr u, untouched)) = unopened_well ending u

@@ -3,8 +3,8 @@ use Rattle.std.proofs.Common.{◌≡◌, ◌⊎◌, inl, inr, ℕ, ◌≤◌, Li
 use Rattle.std.specs.Option.{option_map}
 use Rattle.emu_io.specs.declared.tree.Stored.{Stored}
 use Rattle.db_config.specs.declared.parts.ConfigParts.{ConfigParts}
-use Rattle.edit_rules.specs.declared.edit.Edit.{Edit}
-use Rattle.edit_rules.specs.declared.edit.Entry.{Entry}
+use Rattle.edit_rules.specs.declared.acts.Act.{Act}
+use Rattle.edit_rules.specs.declared.acts.Entry.{Entry}
 use Rattle.emu_disk.specs.declared.disk.Disk as disks
 use Rattle.emu_disk.proofs.Moments.{joined, weaker}
 use Rattle.edit_journal.specs.declared.journal.Journal.{Journal}
@@ -59,36 +59,36 @@ load_count faults journal disk start before result low e cause = earlier start b
 
 -- What is in doubt behind an `import`.
 
-pub record Doubt {D : Type 0} (may_leave : D → List ℕ → Type 0) (new : BookParts D) (edit : Option Edit) (result : Result ℕ CommandFault) : Type 0 where
+pub record Doubt {D : Type 0} (may_leave : D → List ℕ → Type 0) (new : BookParts D) (act : Option Act) (result : Result ℕ CommandFault) : Type 0 where
   pub lost : Option Entry
   pub keeps : KeepsIn may_leave new.config new.history lost new.journal
-  pub doubt : IsDoubtOf edit result lost
+  pub doubt : IsDoubtOf act result lost
 
 module _ {D : Type 0} (may_leave : D → List ℕ → Type 0) (moment : D → ℕ) (left_since : D → ℕ → List ℕ → Type 0) (count : D → ℕ) where
   keeps_as : (new : BookParts D) (config : ConfigParts) (history : List Entry) (lost : Option Entry) → new.config ≡ config → new.history ≡ history → KeepsIn may_leave config history lost new.journal → KeepsIn may_leave new.config new.history lost new.journal
   keeps_as new config history lost c h keeps = subst (λ d. KeepsIn may_leave d new.history lost new.journal) (sym c) (subst (λ e. KeepsIn may_leave config e lost new.journal) (sym h) keeps)
 
   -- after a fault of the disk, by what is left in doubt
-  disk_failed : (new : BookParts D) (edit : Edit) (left : Option Entry) → KeepsIn may_leave new.config new.history left new.journal → (left ≡ None) ⊎ (left ≡ None) ⊎ (left ≡ Some (own_entry edit)) → Doubt may_leave new (Some edit) (edit_answer (Err edit_faults.Disk))
-  disk_failed new edit left keeps (inl none) = record { lost = None; keeps = subst (λ l. KeepsIn may_leave new.config new.history l new.journal) none keeps; doubt = tt }
-  disk_failed new edit left keeps (inr (inl none)) = record { lost = None; keeps = subst (λ l. KeepsIn may_leave new.config new.history l new.journal) none keeps; doubt = tt }
-  disk_failed new edit left keeps (inr (inr own)) = record { lost = Some (own_entry edit); keeps = subst (λ l. KeepsIn may_leave new.config new.history l new.journal) own keeps; doubt = (refl, edit, refl, refl) }
+  disk_failed : (new : BookParts D) (act : Act) (left : Option Entry) → KeepsIn may_leave new.config new.history left new.journal → (left ≡ None) ⊎ (left ≡ None) ⊎ (left ≡ Some (own_entry act)) → Doubt may_leave new (Some act) (edit_answer (Err edit_faults.Disk))
+  disk_failed new act left keeps (inl none) = record { lost = None; keeps = subst (λ l. KeepsIn may_leave new.config new.history l new.journal) none keeps; doubt = tt }
+  disk_failed new act left keeps (inr (inl none)) = record { lost = None; keeps = subst (λ l. KeepsIn may_leave new.config new.history l new.journal) none keeps; doubt = tt }
+  disk_failed new act left keeps (inr (inr own)) = record { lost = Some (own_entry act); keeps = subst (λ l. KeepsIn may_leave new.config new.history l new.journal) own keeps; doubt = (refl, act, refl, refl) }
 
-  committed : (old new : BookParts D) (edit : Edit) (answer : Result ℕ EditFault) → KeepsIn may_leave old.config old.history None old.journal → Commits may_leave moment left_since count old (own_entry edit) answer new → Doubt may_leave new (Some edit) (edit_answer answer)
-  committed old new edit (Ok n) settled commits = record { lost = None; keeps = keeps_as new old.config (old.history ++ own_entry edit ∷ []) None commits.same.config commits.history (commits.kept None settled); doubt = tt }
-  committed old new edit (Err (edit_faults.HistoryFull n)) settled commits = record { lost = None; keeps = keeps_as new old.config old.history None commits.same.config commits.history (commits.kept None settled); doubt = tt }
-  committed old new edit (Err (edit_faults.Broken rule n)) settled commits = record { lost = None; keeps = keeps_as new old.config old.history None commits.same.config commits.history (commits.kept None settled); doubt = tt }
-  committed old new edit (Err (edit_faults.StoreFull n)) settled commits = record { lost = None; keeps = keeps_as new old.config old.history None commits.same.config commits.history (commits.kept None settled); doubt = tt }
-  committed old new edit (Err edit_faults.Disk) settled commits =
+  committed : (old new : BookParts D) (act : Act) (answer : Result ℕ EditFault) → KeepsIn may_leave old.config old.history None old.journal → Commits may_leave moment left_since count old (own_entry act) answer new → Doubt may_leave new (Some act) (edit_answer answer)
+  committed old new act (Ok n) settled commits = record { lost = None; keeps = keeps_as new old.config (old.history ++ own_entry act ∷ []) None commits.same.config commits.history (commits.kept None settled); doubt = tt }
+  committed old new act (Err (edit_faults.HistoryFull n)) settled commits = record { lost = None; keeps = keeps_as new old.config old.history None commits.same.config commits.history (commits.kept None settled); doubt = tt }
+  committed old new act (Err (edit_faults.Broken breach n)) settled commits = record { lost = None; keeps = keeps_as new old.config old.history None commits.same.config commits.history (commits.kept None settled); doubt = tt }
+  committed old new act (Err (edit_faults.StoreFull n)) settled commits = record { lost = None; keeps = keeps_as new old.config old.history None commits.same.config commits.history (commits.kept None settled); doubt = tt }
+  committed old new act (Err edit_faults.Disk) settled commits =
       let before = commits.kept None settled in
-      disk_failed new edit before.left (keeps_as new old.config old.history before.left commits.same.config commits.history before.keeps) before.which
-  committed old new edit (Err edit_faults.Memory) settled commits = record { lost = None; keeps = keeps_as new old.config old.history None commits.same.config commits.history (commits.kept None settled); doubt = tt }
+      disk_failed new act before.left (keeps_as new old.config old.history before.left commits.same.config commits.history before.keeps) before.which
+  committed old new act (Err edit_faults.Memory) settled commits = record { lost = None; keeps = keeps_as new old.config old.history None commits.same.config commits.history (commits.kept None settled); doubt = tt }
 
 module _ {D : Type 0} (disk : disks.Ghosts D) where
-  pub imported : (content : Option (List Stored)) (wanted : List Stored → Result Edit Refused) (old new : BookParts D) (result : Result ℕ CommandFault) → KeepsIn disk.may_leave old.config old.history None old.journal →
+  pub imported : (content : Option (List Stored)) (wanted : List Stored → Result Act Refused) (old new : BookParts D) (result : Result ℕ CommandFault) → KeepsIn disk.may_leave old.config old.history None old.journal →
       (imports : Imports disk.may_leave disk.moment disk.left_since disk.faults content wanted old result new) → Doubt disk.may_leave new (edit_in disk content wanted old result new imports) result
   imported content wanted old new result settled (inl unread) = record { lost = None; keeps = subst (λ b. KeepsIn disk.may_leave b.config b.history None b.journal) (sym unread.same) settled; doubt = tt }
-  imported content wanted old new result settled (inr is) = subst (λ r. Doubt disk.may_leave new (Some is.edit) r) (sym is.added.answered) (committed disk.may_leave disk.moment disk.left_since disk.faults old new is.edit is.added.answer settled is.added.commits)
+  imported content wanted old new result settled (inr is) = subst (λ r. Doubt disk.may_leave new (Some is.act) r) (sym is.added.answered) (committed disk.may_leave disk.moment disk.left_since disk.faults old new is.act is.added.answer settled is.added.commits)
 
   -- The images behind a `load`.
 
@@ -128,18 +128,18 @@ import_same : {D : Type 0} (disk : disks.Ghosts D) (begin now : D) (journal : Op
 import_same disk begin now (Some journal) P Q one own leaves = subst (λ d. EachOf (disk.left_since d (disk.moment begin)) Q) (sym (some_same own)) (λ c left. one c (leaves.each c left))
 import_same disk begin now None P Q one own leaves = absurd leaves
 
-module _ {D : Type 0} (disk : disks.Ghosts D) (content : Option (List Stored)) (wanted : List Stored → Result Edit Refused) (old new : BookParts D) (result : Result ℕ CommandFault) (begin now : D)
+module _ {D : Type 0} (disk : disks.Ghosts D) (content : Option (List Stored)) (wanted : List Stored → Result Act Refused) (old new : BookParts D) (result : Result ℕ CommandFault) (begin now : D)
     (settled : KeepsIn disk.may_leave old.config old.history None old.journal) (own : Some now ≡ option_map disk_of new.journal) (leaves : LeavesFrom disk.moment disk.left_since begin old.journal (disk.may_leave begin)) where
-  during : (answer : Result ℕ EditFault) (edit : Edit) (c : List ℕ) → DuringCommit answer old.config old.history None (own_entry edit) c → AtImport (disk.may_leave begin) old.config old.history (Some edit) c
-  during answer edit c (inl h) = inr (inl h)
-  during answer edit c (inr h) = inr (inr h.1)
+  during : (answer : Result ℕ EditFault) (act : Act) (c : List ℕ) → DuringCommit answer old.config old.history None (own_entry act) c → AtImport (disk.may_leave begin) old.config old.history (Some act) c
+  during answer act c (inl h) = inr (inl h)
+  during answer act c (inr h) = inr (inr h.1)
 
   pub import_moments : (imports : Imports disk.may_leave disk.moment disk.left_since disk.faults content wanted old result new) → EachOf (disk.left_since now (disk.moment begin)) (AtImport (disk.may_leave begin) old.config old.history (edit_in disk content wanted old result new imports))
   import_moments (inl unread) =
       import_same disk begin now new.journal (disk.may_leave begin) (AtImport (disk.may_leave begin) old.config old.history None) (λ c was. inl was) own
       (subst (λ b. LeavesFrom disk.moment disk.left_since begin b.journal (disk.may_leave begin)) (sym unread.same) leaves)
   import_moments (inr is) =
-      import_joined disk begin now old.journal new.journal (disk.may_leave begin) (DuringCommit is.added.answer old.config old.history None (own_entry is.edit)) (AtImport (disk.may_leave begin) old.config old.history (Some is.edit)) (λ c was. inl was) (during is.added.answer is.edit) own leaves (is.added.commits.any_moment None settled)
+      import_joined disk begin now old.journal new.journal (disk.may_leave begin) (DuringCommit is.added.answer old.config old.history None (own_entry is.act)) (AtImport (disk.may_leave begin) old.config old.history (Some is.act)) (λ c was. inl was) (during is.added.answer is.act) own leaves (is.added.commits.any_moment None settled)
 
 -- What a crash at some moment of a `load` leaves.
 

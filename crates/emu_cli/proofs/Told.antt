@@ -2,7 +2,7 @@
 use Rattle.std.proofs.Common.{◌≡◌, ◌⊎◌, inl, inr, ℕ, List, length, take, Option, None, Result, Ok, Err, refl, sym, ◌∙◌, ap, subst}
 use Rattle.std.proofs.Math.Seq.{take-length}
 use Rattle.db_config.specs.declared.parts.ConfigParts.{ConfigParts}
-use Rattle.edit_rules.specs.declared.edit.Entry.{Entry}
+use Rattle.edit_rules.specs.declared.acts.Entry.{Entry}
 use Rattle.edit_rules.specs.Database.{DatabaseParts, empty_database}
 use Rattle.edit_rules.specs.Effects.{database_after, found_or}
 use Rattle.eql_resolve.specs.Made.{Made}

@@ -10,8 +10,8 @@ use Rattle.emu_io.specs.declared.tree.Stored.{Stored}
 use Rattle.emu_io.specs.declared.folder.Folder as folders
 use Rattle.label_match.specs.declared.maker.PatternMaker as makers
 use Rattle.db_config.specs.declared.parts.ConfigParts.{ConfigParts}
-use Rattle.edit_rules.specs.declared.edit.Edit.{Edit}
-use Rattle.edit_rules.specs.declared.edit.Entry.{Entry}
+use Rattle.edit_rules.specs.declared.acts.Act.{Act}
+use Rattle.edit_rules.specs.declared.acts.Entry.{Entry}
 use Rattle.edit_rules.specs.Effects.{database_after}
 use Rattle.eql_resolve.specs.Made.{Made, IsMade, times_too_large}
 use Rattle.emu_disk.specs.Disk.{LeavesOnly}
@@ -166,34 +166,34 @@ EndsDone word (Ok n) ending = (ending ≡ Gives (done_text n word)) ⊎ (ending 
 EndsDone word (Err fault) ending = IsEndOf (Err fault) ending
 
 -- an entry is in doubt only where the disk failed, and it is that of the edit that was committed
-abbrev pub IsDoubtOf : Option Edit → Result ℕ CommandFault → Option Entry → Type 0
-IsDoubtOf edit result None = Unit {0}
-IsDoubtOf edit result (Some entry) =
-    IsErrOf result faults.Disk × (own : Edit) × (edit ≡ Some own) × (entry ≡ own_entry own)
+abbrev pub IsDoubtOf : Option Act → Result ℕ CommandFault → Option Entry → Type 0
+IsDoubtOf act result None = Unit {0}
+IsDoubtOf act result (Some entry) =
+    IsErrOf result faults.Disk × (own : Act) × (act ≡ Some own) × (entry ≡ own_entry own)
 
 module _ {D : Type 0} (disk : disks.Ghosts D) (content : Option (List Stored))
-    (wanted : List Stored → Result Edit Refused) (old : BookParts D) (result : Result ℕ CommandFault)
+    (wanted : List Stored → Result Act Refused) (old : BookParts D) (result : Result ℕ CommandFault)
     (new : BookParts D) where
   -- the edit that an `import` committed, if it came to that
   abbrev pub edit_in : Imports disk.may_leave disk.moment disk.left_since disk.faults content wanted old result new
-      → Option Edit
+      → Option Act
   edit_in (inl unread) = None
-  edit_in (inr committed) = Some committed.edit
+  edit_in (inr committed) = Some committed.act
 
 -- an image stands for a history with the edit that was committed behind it, if one was
-abbrev pub StandsWith : ConfigParts → List Entry → Option Edit → List ℕ → Type 0
+abbrev pub StandsWith : ConfigParts → List Entry → Option Act → List ℕ → Type 0
 StandsWith config history None c = ⊥
-StandsWith config history (Some edit) c = Stands config (history ++ own_entry edit ∷ []) c
+StandsWith config history (Some act) c = Stands config (history ++ own_entry act ∷ []) c
 
 -- what an image may be that a crash at some moment of an `import` leaves: it was possible before; or it stands for what
 -- the store stood for; or for that with the edit that was committed
-abbrev pub AtImport : (List ℕ → Type 0) → ConfigParts → List Entry → Option Edit → List ℕ → Type 0
-AtImport before config history edit c =
-    before c ⊎ (Stands config history c ⊎ StandsWith config history edit c)
+abbrev pub AtImport : (List ℕ → Type 0) → ConfigParts → List Entry → Option Act → List ℕ → Type 0
+AtImport before config history act c =
+    before c ⊎ (Stands config history c ⊎ StandsWith config history act c)
 
 -- An `import` into a book in which nothing was in doubt, the disk behind it, and what a crash may leave of that
 pub record IsImport {D : Type 0} (disk : disks.Ghosts D) (folder : FolderTold)
-    (wanted : List Stored → Result Edit Refused) (old : BookParts D) (ending : Ending) (before now : D) : Type 0 where
+    (wanted : List Stored → Result Act Refused) (old : BookParts D) (ending : Ending) (before now : D) : Type 0 where
   pub settled : KeepsIn disk.may_leave old.config old.history None old.journal
   pub result : Result ℕ CommandFault
   pub new : BookParts D
@@ -258,7 +258,7 @@ pub record IsLoad {D : Type 0} (disk : disks.Ghosts D) (folder : FolderTold) (na
 
 -- an `import` ends so: the store stood for what its book had, and the bundle was imported into that, or why not; or the
 -- store is as before, since it has no configuration or was not opened
-abbrev pub EndsImport : {D : Type 0} → disks.Ghosts D → FolderTold → (List Stored → Result Edit Refused) → Ending
+abbrev pub EndsImport : {D : Type 0} → disks.Ghosts D → FolderTold → (List Stored → Result Act Refused) → Ending
     → D → D → Type 0
 EndsImport {D = D} disk folder wanted ending before now =
     ((old : BookParts D) × OfRead (disk.reads before) (Stands old.config old.history)

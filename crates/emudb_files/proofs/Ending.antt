@@ -3,8 +3,8 @@ use Rattle.std.proofs.Common.{◌≡◌, ◌⊎◌, inl, inr, ℕ, List, [], ◌
 use Rattle.std.proofs.lemmas.List.{length-map}
 use Rattle.emu_io.specs.declared.tree.Stored.{Stored}
 use Rattle.db_config.specs.declared.parts.ConfigParts.{ConfigParts}
-use Rattle.edit_rules.specs.declared.edit.Edit.{Edit}
-use Rattle.edit_rules.specs.declared.edit.Entry.{Entry}
+use Rattle.edit_rules.specs.declared.acts.Act.{Act}
+use Rattle.edit_rules.specs.declared.acts.Entry.{Entry}
 use Rattle.edit_journal.specs.declared.journal.Journal.{Journal}
 use Rattle.live_book.specs.Histories.{Stands}
 use Rattle.live_book.specs.Kept.{BookParts, CrashLeaves, Keeps, KeepsIn}
@@ -19,7 +19,7 @@ use Rattle.emudb_files.proofs.Going.{along_joined, along_weaker}
 alone_part : (config : ConfigParts) (history : List Entry) (c : List ℕ) → Stands config [] c → IsPart config history c
 alone_part config history c h = record { count = 0; within = omega arith; stands = h }
 
-new_part : (config : ConfigParts) (history : List Entry) (next : List (Result Edit Refused)) (r : Result ℕ CommandFault)
+new_part : (config : ConfigParts) (history : List Entry) (next : List (Result Act Refused)) (r : Result ℕ CommandFault)
     (c : List ℕ) → DuringNew config c → DuringLoad config history next r c
 new_part config history next (Ok n) c (inl h) = inl h
 new_part config history next (Ok n) c (inr h) = inr (alone_part config history c h)
@@ -27,7 +27,7 @@ new_part config history next (Err e) c (inl h) = inl h
 new_part config history next (Err e) c (inr h) = inr (inl (alone_part config history c h))
 
 module _ {D : Type 0} (may_leave : D → List ℕ → Type 0) (moment : D → ℕ) (left_since : D → ℕ → List ℕ → Type 0) where
-  history_of : (old new : BookParts D) (more : List Edit) → old.history ≡ [] → IsBehind old more new
+  history_of : (old new : BookParts D) (more : List Act) → old.history ≡ [] → IsBehind old more new
       → new.history ≡ map own_entry more
   history_of old new more empty h = h.history ∙ ap (λ l. l ++ map own_entry more) empty
 
@@ -46,7 +46,7 @@ module _ {D : Type 0} (may_leave : D → List ℕ → Type 0) (moment : D → �
       (along_weaker moment left_since old.journal new.journal P Q change h)
 
   -- the configuration was stored before that
-  pub filled_from : (told : Option (List Stored)) (wanted : List Stored → List (Result Edit Refused)) (config : ConfigParts)
+  pub filled_from : (told : Option (List Stored)) (wanted : List Stored → List (Result Act Refused)) (config : ConfigParts)
       (start : Journal D) (mid : Option (Journal D)) (r : Result ℕ CommandFault) (journal : Journal D)
       → CrashLeaves moment left_since (Some start) mid (DuringNew config)
       → IsFilled may_leave moment left_since told wanted config mid r journal
@@ -63,7 +63,7 @@ module _ {D : Type 0} (may_leave : D → List ℕ → Type 0) (moment : D → �
         (new_part config (map own_entry h.done) h.next r) (λ c is. is) (inr crash) h.moments;
   }
 
-  pub filled : (told : Option (List Stored)) (wanted : List Stored → List (Result Edit Refused)) (old new : BookParts D)
+  pub filled : (told : Option (List Stored)) (wanted : List Stored → List (Result Act Refused)) (old new : BookParts D)
       (r : Result ℕ CommandFault) (journal : Journal D) → old.history ≡ []
       → Goes may_leave moment left_since told wanted old r new → ((n : ℕ) → r ≡ Ok n → n ≡ length new.history)
       → new.journal ≡ Some journal → IsFilled may_leave moment left_since told wanted old.config old.journal r journal

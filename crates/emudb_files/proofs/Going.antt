@@ -6,8 +6,8 @@ use Rattle.std.proofs.lemmas.Grind.{flat_map-append}
 use Rattle.std.proofs.Math.Seq.{take-length, drop-cons}
 use Rattle.emu_io.specs.declared.tree.Stored.{Stored}
 use Rattle.db_config.specs.declared.parts.ConfigParts.{ConfigParts}
-use Rattle.edit_rules.specs.declared.edit.Edit.{Edit}
-use Rattle.edit_rules.specs.declared.edit.Entry.{Entry}
+use Rattle.edit_rules.specs.declared.acts.Act.{Act}
+use Rattle.edit_rules.specs.declared.acts.Entry.{Entry}
 use Rattle.emu_disk.proofs.Moments.{joined, weaker}
 use Rattle.edit_journal.specs.declared.journal.Journal.{Journal}
 use Rattle.edit_journal.specs.Held.{disk_of}
@@ -17,6 +17,8 @@ use Rattle.live_book.specs.Histories.{Stands}
 use Rattle.live_book.specs.Kept.{BookParts, CrashLeaves, KeepsIn}
 use Rattle.live_book.specs.Commits.{Commits, DuringCommit, IsAnswer, IsWelcome, has_journal}
 use Rattle.session_core.specs.declared.line.Refusal.TheVariants as requests
+use Rattle.session_core.specs.declared.line.Command.TheVariants as commands
+use Rattle.session_core.specs.Answers.{rule_refusal}
 use Rattle.store_texts.specs.declared.faults.Refused.{Refused}
 use Rattle.store_texts.specs.declared.faults.Refused.TheVariants as refusals
 use Rattle.store_texts.specs.declared.faults.CommandFault.{CommandFault}
@@ -81,7 +83,7 @@ same_part old new c same same' h =
     whole_part new.config new.history c (subst₂ (λ d l. Stands d l c) (sym same) (sym same') h)
 
 -- a part of a history is a part of a longer one
-part_behind : {D : Type 0} (old new : BookParts D) (more : List Edit) (c : List ℕ) → IsBehind old more new
+part_behind : {D : Type 0} (old new : BookParts D) (more : List Act) (c : List ℕ) → IsBehind old more new
     → IsPart old.config old.history c → IsPart new.config new.history c
 part_behind old new more c b part =
     let long : length new.history ≡ length old.history + length (map own_entry more) =
@@ -115,50 +117,50 @@ module _ {D : Type 0} (may_leave : D → List ℕ → Type 0) (moment : D → �
       (subst₂ (λ c l. IsAnswer stored c l entry answer) (sym same) (sym same') h)
 
   module _ (count : D → ℕ) where
-    done_behind : (old new : BookParts D) (edit : Edit) (n : ℕ)
-        → Commits may_leave moment left_since count old (own_entry edit) (Ok n) new → AddsBundle edit
-        → IsBehind old (edit ∷ []) new
-    done_behind old new edit n commits adds =
+    done_behind : (old new : BookParts D) (act : Act) (n : ℕ)
+        → Commits may_leave moment left_since count old (own_entry act) (Ok n) new → AddsBundle act
+        → IsBehind old (act ∷ []) new
+    done_behind old new act n commits adds =
         record { config = commits.same.config; history = commits.history; add = (adds, tt) }
 
-    during_done : (old new : BookParts D) (edit : Edit) (n : ℕ)
-        → Commits may_leave moment left_since count old (own_entry edit) (Ok n) new → AddsBundle edit → (c : List ℕ)
-        → DuringCommit (Ok n) old.config old.history None (own_entry edit) c → IsPart new.config new.history c
-    during_done old new edit n commits adds c (inl h) =
-        part_behind old new (edit ∷ []) c (done_behind old new edit n commits adds)
+    during_done : (old new : BookParts D) (act : Act) (n : ℕ)
+        → Commits may_leave moment left_since count old (own_entry act) (Ok n) new → AddsBundle act → (c : List ℕ)
+        → DuringCommit (Ok n) old.config old.history None (own_entry act) c → IsPart new.config new.history c
+    during_done old new act n commits adds c (inl h) =
+        part_behind old new (act ∷ []) c (done_behind old new act n commits adds)
         (whole_part old.config old.history c h)
-    during_done old new edit n commits adds c (inr h) =
+    during_done old new act n commits adds c (inr h) =
         whole_part new.config new.history c
         (subst₂ (λ d l. Stands d l c) (sym commits.same.config) (sym commits.history) h.1)
 
-    one_done : (told : Option (List Stored)) (wanted : List Stored → Result Edit Refused) (old new : BookParts D)
-        (edit : Edit) (n : ℕ) → IsKept may_leave None old
-        → Commits may_leave moment left_since count old (own_entry edit) (Ok n) new → AddsBundle edit
-        → Told told (λ c. wanted c ≡ Ok edit) → Advances may_leave moment left_since told (λ c. wanted c ∷ []) old new
-    one_done told wanted old new edit n kept commits adds is_wanted = record {
-      more = edit ∷ [];
-      is_behind = done_behind old new edit n commits adds;
+    one_done : (told : Option (List Stored)) (wanted : List Stored → Result Act Refused) (old new : BookParts D)
+        (act : Act) (n : ℕ) → IsKept may_leave None old
+        → Commits may_leave moment left_since count old (own_entry act) (Ok n) new → AddsBundle act
+        → Told told (λ c. wanted c ≡ Ok act) → Advances may_leave moment left_since told (λ c. wanted c ∷ []) old new
+    one_done told wanted old new act n kept commits adds is_wanted = record {
+      more = act ∷ [];
+      is_behind = done_behind old new act n commits adds;
       kept = record {
         stored = commits.same.stored ∙ kept.stored;
-        keeps = keeps_along old.config new.config (old.history ++ own_entry edit ∷ []) new.history None new.journal
+        keeps = keeps_along old.config new.config (old.history ++ own_entry act ∷ []) new.history None new.journal
             commits.same.config commits.history (commits.kept None kept.keeps);
       };
       all = λ c is. ap (λ r. r ∷ []) (is_wanted c is);
       moments = inr (crash_weaker moment left_since old.journal new.journal
-          (DuringCommit (Ok n) old.config old.history None (own_entry edit)) (IsPart new.config new.history)
-          (during_done old new edit n commits adds) (commits.any_moment None kept.keeps));
+          (DuringCommit (Ok n) old.config old.history None (own_entry act)) (IsPart new.config new.history)
+          (during_done old new act n commits adds) (commits.any_moment None kept.keeps));
     }
 
     -- a commit that was refused, and what is in doubt behind it
-    one_stop : (told : Option (List Stored)) (wanted : List Stored → Result Edit Refused) (old new : BookParts D)
-        (edit : Edit) (fault : EditFault) (lost : Option Entry) (next : List (Result Edit Refused)) (e : CommandFault)
-        → IsKept may_leave None old → Commits may_leave moment left_since count old (own_entry edit) (Err fault) new
+    one_stop : (told : Option (List Stored)) (wanted : List Stored → Result Act Refused) (old new : BookParts D)
+        (act : Act) (fault : EditFault) (lost : Option Entry) (next : List (Result Act Refused)) (e : CommandFault)
+        → IsKept may_leave None old → Commits may_leave moment left_since count old (own_entry act) (Err fault) new
         → KeepsIn may_leave old.config old.history lost new.journal → IsStop new.config new.history next lost e
         → Told told (λ c. IsPrefix next (wanted c ∷ []))
-        → ((c : List ℕ) → DuringCommit {T = ℕ} (Err fault) old.config old.history None (own_entry edit) c
+        → ((c : List ℕ) → DuringCommit {T = ℕ} (Err fault) old.config old.history None (own_entry act) c
         → DuringStop new next e c)
         → Stops may_leave moment left_since told (λ c. wanted c ∷ []) old e new
-    one_stop told wanted old new edit fault lost next e kept commits keeps why front during = record {
+    one_stop told wanted old new act fault lost next e kept commits keeps why front during = record {
       more = [];
       next = next;
       lost = lost;
@@ -175,43 +177,43 @@ module _ {D : Type 0} (may_leave : D → List ℕ → Type 0) (moment : D → �
       why = why;
       front = front;
       moments = inr (crash_weaker moment left_since old.journal new.journal
-          (DuringCommit {T = ℕ} (Err fault) old.config old.history None (own_entry edit)) (DuringStop new next e) during
+          (DuringCommit {T = ℕ} (Err fault) old.config old.history None (own_entry act)) (DuringStop new next e) during
           (commits.any_moment None kept.keeps));
     }
 
     -- a commit that did not call the disk
-    unreached : (old new : BookParts D) (edit : Edit) (fault : EditFault) (next : List (Result Edit Refused))
+    unreached : (old new : BookParts D) (act : Act) (fault : EditFault) (next : List (Result Act Refused))
         (e : CommandFault) → new.config ≡ old.config → new.history ≡ old.history
-        → ((c : List ℕ) → DuringCommit {T = ℕ} (Err fault) old.config old.history None (own_entry edit) c
+        → ((c : List ℕ) → DuringCommit {T = ℕ} (Err fault) old.config old.history None (own_entry act) c
         → Stands old.config old.history c)
-        → (c : List ℕ) → DuringCommit {T = ℕ} (Err fault) old.config old.history None (own_entry edit) c
+        → (c : List ℕ) → DuringCommit {T = ℕ} (Err fault) old.config old.history None (own_entry act) c
         → DuringStop new next e c
-    unreached old new edit fault next e same same' only c h = inl (same_part old new c same same' (only c h))
+    unreached old new act fault next e same same' only c h = inl (same_part old new c same same' (only c h))
 
-    taken : (told : Option (List Stored)) (wanted : List Stored → Result Edit Refused) (edit : Edit)
-        → Told told (λ c. wanted c ≡ Ok edit) → Told told (λ c. IsPrefix (Ok edit ∷ []) (wanted c ∷ []))
-    taken told wanted edit is_wanted c is = ([], ap (λ r. r ∷ []) (sym (is_wanted c is)))
+    taken : (told : Option (List Stored)) (wanted : List Stored → Result Act Refused) (act : Act)
+        → Told told (λ c. wanted c ≡ Ok act) → Told told (λ c. IsPrefix (Ok act ∷ []) (wanted c ∷ []))
+    taken told wanted act is_wanted c is = ([], ap (λ r. r ∷ []) (sym (is_wanted c is)))
 
-    refused_stop : (told : Option (List Stored)) (wanted : List Stored → Result Edit Refused) (old new : BookParts D)
-        (edit : Edit) (fault : EditFault) (refused : Refused) → IsKept may_leave None old
-        → Commits may_leave moment left_since count old (own_entry edit) (Err fault) new
-        → Told told (λ c. wanted c ≡ Ok edit) → edit_fault fault ≡ faults.Refused refused
+    refused_stop : (told : Option (List Stored)) (wanted : List Stored → Result Act Refused) (old new : BookParts D)
+        (act : Act) (fault : EditFault) (refused : Refused) → IsKept may_leave None old
+        → Commits may_leave moment left_since count old (own_entry act) (Err fault) new
+        → Told told (λ c. wanted c ≡ Ok act) → edit_fault fault ≡ faults.Refused refused
         → KeepsIn may_leave old.config old.history None new.journal
-        → ((c : List ℕ) → DuringCommit {T = ℕ} (Err fault) old.config old.history None (own_entry edit) c
+        → ((c : List ℕ) → DuringCommit {T = ℕ} (Err fault) old.config old.history None (own_entry act) c
         → Stands old.config old.history c)
         → Stops may_leave moment left_since told (λ c. wanted c ∷ []) old (faults.Refused refused) new
-    refused_stop told wanted old new edit fault refused kept commits is_wanted is keeps only =
-        one_stop told wanted old new edit fault None (Ok edit ∷ []) (faults.Refused refused) kept commits keeps (
+    refused_stop told wanted old new act fault refused kept commits is_wanted is keeps only =
+        one_stop told wanted old new act fault None (Ok act ∷ []) (faults.Refused refused) kept commits keeps (
           refl,
           (
             fault,
             answer_along (has_journal old.journal) old.config new.config old.history new.history
-                (own_entry edit) (Err fault) kept.stored commits.same.config commits.history commits.right,
+                (own_entry act) (Err fault) kept.stored commits.same.config commits.history commits.right,
             is,
           ),
         )
-        (taken told wanted edit is_wanted)
-        (unreached old new edit fault (Ok edit ∷ []) (faults.Refused refused) commits.same.config commits.history only)
+        (taken told wanted act is_wanted)
+        (unreached old new act fault (Ok act ∷ []) (faults.Refused refused) commits.same.config commits.history only)
 
     doubt : (a : Option Entry) (entry : Entry) → (a ≡ None) ⊎ (a ≡ None) ⊎ (a ≡ Some entry)
         → (a ≡ None) ⊎ (a ≡ Some entry)
@@ -220,12 +222,12 @@ module _ {D : Type 0} (may_leave : D → List ℕ → Type 0) (moment : D → �
     doubt a entry (inr (inr some)) = inr some
 
     -- while the disk failed at an edit
-    during_failed : (old new : BookParts D) (edit : Edit) → new.config ≡ old.config → new.history ≡ old.history
-        → (c : List ℕ) → DuringCommit {T = ℕ} (Err edit_faults.Disk) old.config old.history None (own_entry edit) c
-        → DuringStop new (Ok edit ∷ []) faults.Disk c
-    during_failed old new edit same same' c (inl h) = inl (same_part old new c same same' h)
-    during_failed old new edit same same' c (inr h) =
-        inr (subst₂ (λ d l. Stands d (l ++ own_entry edit ∷ []) c) (sym same) (sym same') h.1)
+    during_failed : (old new : BookParts D) (act : Act) → new.config ≡ old.config → new.history ≡ old.history
+        → (c : List ℕ) → DuringCommit {T = ℕ} (Err edit_faults.Disk) old.config old.history None (own_entry act) c
+        → DuringStop new (Ok act ∷ []) faults.Disk c
+    during_failed old new act same same' c (inl h) = inl (same_part old new c same same' h)
+    during_failed old new act same same' c (inr h) =
+        inr (subst₂ (λ d l. Stands d (l ++ own_entry act ∷ []) c) (sym same) (sym same') h.1)
 
     welcome_along : (stored : Bool) (config config' : ConfigParts) (history history' : List Entry) (entry : Entry)
         → stored ≡ true → config' ≡ config → history' ≡ history → IsWelcome stored config history entry
@@ -234,37 +236,37 @@ module _ {D : Type 0} (may_leave : D → List ℕ → Type 0) (moment : D → �
         subst (λ b. IsWelcome b config' history' entry) is
         (subst₂ (λ c l. IsWelcome stored c l entry) (sym same) (sym same') h)
 
-    one_refused : (told : Option (List Stored)) (wanted : List Stored → Result Edit Refused) (old new : BookParts D)
-        (edit : Edit) (fault : EditFault) → IsKept may_leave None old
-        → Commits may_leave moment left_since count old (own_entry edit) (Err fault) new
-        → Told told (λ c. wanted c ≡ Ok edit) → Stops may_leave moment left_since told (λ c. wanted c ∷ []) old (edit_fault fault) new
-    one_refused told wanted old new edit (edit_faults.HistoryFull n) kept commits is_wanted =
-        refused_stop told wanted old new edit (edit_faults.HistoryFull n) (refusals.Request requests.HistoryFull) kept commits
+    one_refused : (told : Option (List Stored)) (wanted : List Stored → Result Act Refused) (old new : BookParts D)
+        (act : Act) (fault : EditFault) → IsKept may_leave None old
+        → Commits may_leave moment left_since count old (own_entry act) (Err fault) new
+        → Told told (λ c. wanted c ≡ Ok act) → Stops may_leave moment left_since told (λ c. wanted c ∷ []) old (edit_fault fault) new
+    one_refused told wanted old new act (edit_faults.HistoryFull n) kept commits is_wanted =
+        refused_stop told wanted old new act (edit_faults.HistoryFull n) (refusals.Request requests.HistoryFull) kept commits
         is_wanted refl (commits.kept None kept.keeps) (λ c h. not_reached (Stands old.config old.history c)
-        (Stands old.config (old.history ++ own_entry edit ∷ []) c) h)
-    one_refused told wanted old new edit (edit_faults.Broken rule n) kept commits is_wanted =
-        refused_stop told wanted old new edit (edit_faults.Broken rule n) (refusals.Request (requests.Rule rule)) kept commits
+        (Stands old.config (old.history ++ own_entry act ∷ []) c) h)
+    one_refused told wanted old new act (edit_faults.Broken breach n) kept commits is_wanted =
+        refused_stop told wanted old new act (edit_faults.Broken breach n) (refusals.Request (rule_refusal commands.AddBundle breach)) kept commits
         is_wanted refl (commits.kept None kept.keeps) (λ c h. not_reached (Stands old.config old.history c)
-        (Stands old.config (old.history ++ own_entry edit ∷ []) c) h)
-    one_refused told wanted old new edit (edit_faults.StoreFull n) kept commits is_wanted =
-        refused_stop told wanted old new edit (edit_faults.StoreFull n) (refusals.Request requests.StoreFull) kept commits
+        (Stands old.config (old.history ++ own_entry act ∷ []) c) h)
+    one_refused told wanted old new act (edit_faults.StoreFull n) kept commits is_wanted =
+        refused_stop told wanted old new act (edit_faults.StoreFull n) (refusals.Request requests.StoreFull) kept commits
         is_wanted refl (commits.kept None kept.keeps) (λ c h. not_reached (Stands old.config old.history c)
-        (Stands old.config (old.history ++ own_entry edit ∷ []) c) h)
-    one_refused told wanted old new edit edit_faults.Disk kept commits is_wanted =
+        (Stands old.config (old.history ++ own_entry act ∷ []) c) h)
+    one_refused told wanted old new act edit_faults.Disk kept commits is_wanted =
         let left = commits.kept None kept.keeps in
-        one_stop told wanted old new edit edit_faults.Disk left.left (Ok edit ∷ []) faults.Disk kept commits left.keeps (
-          edit,
+        one_stop told wanted old new act edit_faults.Disk left.left (Ok act ∷ []) faults.Disk kept commits left.keeps (
+          act,
           refl,
           welcome_along (has_journal old.journal) old.config new.config old.history new.history
-              (own_entry edit) kept.stored commits.same.config commits.history commits.right.1,
-          doubt left.left (own_entry edit) left.which,
+              (own_entry act) kept.stored commits.same.config commits.history commits.right.1,
+          doubt left.left (own_entry act) left.which,
         )
-        (taken told wanted edit is_wanted) (during_failed old new edit commits.same.config commits.history)
-    one_refused told wanted old new edit edit_faults.Memory kept commits is_wanted =
-        one_stop told wanted old new edit edit_faults.Memory None [] faults.Memory kept commits (commits.kept None kept.keeps)
+        (taken told wanted act is_wanted) (during_failed old new act commits.same.config commits.history)
+    one_refused told wanted old new act edit_faults.Memory kept commits is_wanted =
+        one_stop told wanted old new act edit_faults.Memory None [] faults.Memory kept commits (commits.kept None kept.keeps)
         (refl, refl) (λ c is. (wanted c ∷ [], refl))
-        (unreached old new edit edit_faults.Memory [] faults.Memory commits.same.config commits.history
-        (λ c h. not_reached (Stands old.config old.history c) (Stands old.config (old.history ++ own_entry edit ∷ []) c) h))
+        (unreached old new act edit_faults.Memory [] faults.Memory commits.same.config commits.history
+        (λ c h. not_reached (Stands old.config old.history c) (Stands old.config (old.history ++ own_entry act ∷ []) c) h))
 
     answered_ok : (n : ℕ) (answer : Result ℕ EditFault) → (let r : Result ℕ CommandFault = Ok n in r ≡ edit_answer answer)
         → answer ≡ Ok n
@@ -278,29 +280,29 @@ module _ {D : Type 0} (may_leave : D → List ℕ → Type 0) (moment : D → �
     answered_err e (Err fault) is = (fault, refl, cc)
 
     -- what an edit of the program that was tried does to a book under way
-    pub added_ok : (told : Option (List Stored)) (wanted : List Stored → Result Edit Refused) (old new : BookParts D)
-        (edit : Edit) (n : ℕ) → IsKept may_leave None old
-        → IsAdded may_leave moment left_since count old edit (Ok n) new → AddsBundle edit
-        → Told told (λ c. wanted c ≡ Ok edit) → Advances may_leave moment left_since told (λ c. wanted c ∷ []) old new
-    added_ok told wanted old new edit n kept added adds is_wanted =
-        one_done told wanted old new edit n kept
-        (subst (λ a. Commits may_leave moment left_since count old (own_entry edit) a new)
+    pub added_ok : (told : Option (List Stored)) (wanted : List Stored → Result Act Refused) (old new : BookParts D)
+        (act : Act) (n : ℕ) → IsKept may_leave None old
+        → IsAdded may_leave moment left_since count old act (Ok n) new → AddsBundle act
+        → Told told (λ c. wanted c ≡ Ok act) → Advances may_leave moment left_since told (λ c. wanted c ∷ []) old new
+    added_ok told wanted old new act n kept added adds is_wanted =
+        one_done told wanted old new act n kept
+        (subst (λ a. Commits may_leave moment left_since count old (own_entry act) a new)
         (answered_ok n added.answer added.answered) added.commits)
         adds is_wanted
 
-    pub added_err : (told : Option (List Stored)) (wanted : List Stored → Result Edit Refused) (old new : BookParts D)
-        (edit : Edit) (e : CommandFault) → IsKept may_leave None old
-        → IsAdded may_leave moment left_since count old edit (Err e) new
-        → Told told (λ c. wanted c ≡ Ok edit) → Stops may_leave moment left_since told (λ c. wanted c ∷ []) old e new
-    added_err told wanted old new edit e kept added is_wanted =
+    pub added_err : (told : Option (List Stored)) (wanted : List Stored → Result Act Refused) (old new : BookParts D)
+        (act : Act) (e : CommandFault) → IsKept may_leave None old
+        → IsAdded may_leave moment left_since count old act (Err e) new
+        → Told told (λ c. wanted c ≡ Ok act) → Stops may_leave moment left_since told (λ c. wanted c ∷ []) old e new
+    added_err told wanted old new act e kept added is_wanted =
         let (fault, is, same) = answered_err e added.answer added.answered in
         subst (λ v. Stops may_leave moment left_since told (λ c. wanted c ∷ []) old v new) same
-        (one_refused told wanted old new edit fault kept
-        (subst (λ a. Commits may_leave moment left_since count old (own_entry edit) a new) is added.commits) is_wanted)
+        (one_refused told wanted old new act fault kept
+        (subst (λ a. Commits may_leave moment left_since count old (own_entry act) a new) is added.commits) is_wanted)
 
   -- ---- one step behind another
 
-  pub same_wanted : (told : Option (List Stored)) (wanted wanted' : List Stored → List (Result Edit Refused))
+  pub same_wanted : (told : Option (List Stored)) (wanted wanted' : List Stored → List (Result Act Refused))
       (old new : BookParts D) → Told told (λ c. wanted' c ≡ wanted c) → Advances may_leave moment left_since told wanted old new
       → Advances may_leave moment left_since told wanted' old new
   same_wanted told wanted wanted' old new same h = record {
@@ -311,7 +313,7 @@ module _ {D : Type 0} (may_leave : D → List ℕ → Type 0) (moment : D → �
     moments = h.moments;
   }
 
-  pub stop_wanted : (told : Option (List Stored)) (wanted wanted' : List Stored → List (Result Edit Refused))
+  pub stop_wanted : (told : Option (List Stored)) (wanted wanted' : List Stored → List (Result Act Refused))
       (old : BookParts D) (e : CommandFault) (new : BookParts D) → Told told (λ c. wanted' c ≡ wanted c)
       → Stops may_leave moment left_since told wanted old e new → Stops may_leave moment left_since told wanted' old e new
   stop_wanted told wanted wanted' old e new same h = record {
@@ -325,11 +327,11 @@ module _ {D : Type 0} (may_leave : D → List ℕ → Type 0) (moment : D → �
     moments = h.moments;
   }
 
-  adds_append : (edits more : List Edit) → AddBundles edits → AddBundles more → AddBundles (edits ++ more)
+  adds_append : (acts more : List Act) → AddBundles acts → AddBundles more → AddBundles (acts ++ more)
   adds_append [] more h h' = h'
-  adds_append (edit ∷ edits) more h h' = (h.0, adds_append edits more h.1 h')
+  adds_append (act ∷ acts) more h h' = (h.0, adds_append acts more h.1 h')
 
-  behind_on : (old mid new : BookParts D) (more more' : List Edit) → IsBehind old more mid → IsBehind mid more' new
+  behind_on : (old mid new : BookParts D) (more more' : List Act) → IsBehind old more mid → IsBehind mid more' new
       → IsBehind old (more ++ more') new
   behind_on old mid new more more' h h' = record {
     config = h'.config ∙ h.config;
@@ -339,7 +341,7 @@ module _ {D : Type 0} (may_leave : D → List ℕ → Type 0) (moment : D → �
     add = adds_append more more' h.add h'.add;
   }
 
-  pub go_on : (told : Option (List Stored)) (first second : List Stored → List (Result Edit Refused))
+  pub go_on : (told : Option (List Stored)) (first second : List Stored → List (Result Act Refused))
       (old mid new : BookParts D) → Advances may_leave moment left_since told first old mid → Advances may_leave moment left_since told second mid new
       → Advances may_leave moment left_since told (λ c. first c ++ second c) old new
   go_on told first second old mid new h h' = record {
@@ -353,7 +355,7 @@ module _ {D : Type 0} (may_leave : D → List ℕ → Type 0) (moment : D → �
         (λ c part. part_behind mid new h'.more c h'.is_behind part) (λ c part. part) h.moments h'.moments;
   }
 
-  pub stop_on : (told : Option (List Stored)) (first second : List Stored → List (Result Edit Refused))
+  pub stop_on : (told : Option (List Stored)) (first second : List Stored → List (Result Act Refused))
       (old mid : BookParts D) (e : CommandFault) (new : BookParts D) → Advances may_leave moment left_since told first old mid
       → Stops may_leave moment left_since told second mid e new → Stops may_leave moment left_since told (λ c. first c ++ second c) old e new
   stop_on told first second old mid e new h h' = record {
@@ -375,7 +377,7 @@ module _ {D : Type 0} (may_leave : D → List ℕ → Type 0) (moment : D → �
         (λ c part. inl (part_behind mid new h'.more c h'.is_behind part)) (λ c is. is) h.moments h'.moments;
   }
 
-  pub stop_early : (told : Option (List Stored)) (first second : List Stored → List (Result Edit Refused))
+  pub stop_early : (told : Option (List Stored)) (first second : List Stored → List (Result Act Refused))
       (old : BookParts D) (e : CommandFault) (new : BookParts D) → Stops may_leave moment left_since told first old e new
       → Stops may_leave moment left_since told (λ c. first c ++ second c) old e new
   stop_early told first second old e new h = record {
@@ -401,8 +403,8 @@ module _ {D : Type 0} (may_leave : D → List ℕ → Type 0) (moment : D → �
   }
 
   -- a reading was refused or failed, and the book is as before
-  pub unread_stops : (told : Option (List Stored)) (wanted : List Stored → List (Result Edit Refused)) (old : BookParts D)
-      (next : List (Result Edit Refused)) (e : CommandFault) → IsKept may_leave None old
+  pub unread_stops : (told : Option (List Stored)) (wanted : List Stored → List (Result Act Refused)) (old : BookParts D)
+      (next : List (Result Act Refused)) (e : CommandFault) → IsKept may_leave None old
       → IsStop old.config old.history next None e → Told told (λ c. IsPrefix next (wanted c))
       → Stops may_leave moment left_since told wanted old e old
   unread_stops told wanted old next e kept why front = record {
@@ -416,7 +418,7 @@ module _ {D : Type 0} (may_leave : D → List ℕ → Type 0) (moment : D → �
     moments = inl refl;
   }
 
-  stop_at : (told : Option (List Stored)) (wanted : List Stored → List (Result Edit Refused)) (old : BookParts D)
+  stop_at : (told : Option (List Stored)) (wanted : List Stored → List (Result Act Refused)) (old : BookParts D)
       (e : CommandFault) → IsKept may_leave None old → (e ≡ faults.Disk → ⊥)
       → ((refused : Refused) → e ≡ faults.Refused refused → Told told (λ c. IsPrefix (Err refused ∷ []) (wanted c)))
       → Stops may_leave moment left_since told wanted old e old
@@ -429,7 +431,7 @@ module _ {D : Type 0} (may_leave : D → List ℕ → Type 0) (moment : D → �
       unread_stops told wanted old [] faults.Memory kept (refl, refl) (λ c is. (wanted c, refl))
 
   -- a reading that ended ends the run at what it wants
-  pub edit_stops : (told : Option (List Stored)) (wanted : List Stored → Result Edit Refused) (old : BookParts D)
+  pub edit_stops : (told : Option (List Stored)) (wanted : List Stored → Result Act Refused) (old : BookParts D)
       (e : CommandFault) → IsKept may_leave None old → Reads told wanted (Err e)
       → Stops may_leave moment left_since told (λ c. wanted c ∷ []) old e old
   edit_stops told wanted old e kept h =
@@ -437,7 +439,7 @@ module _ {D : Type 0} (may_leave : D → List ℕ → Type 0) (moment : D → �
       (λ refused same c is. ([], ap (λ r. r ∷ []) (sym (gives_refused (wanted c) e refused same (h.given c is)))))
 
   pub names_stop : {A : Type 0} (told : Option (List Stored)) (names : List Stored → Result A Refused)
-      (more : List Stored → A → List (Result Edit Refused)) (old : BookParts D) (e : CommandFault)
+      (more : List Stored → A → List (Result Act Refused)) (old : BookParts D) (e : CommandFault)
       → IsKept may_leave None old → Reads told names (Err e)
       → Stops may_leave moment left_since told (λ c. behind (names c) (more c)) old e old
   names_stop told names more old e kept h =
@@ -446,7 +448,7 @@ module _ {D : Type 0} (may_leave : D → List ℕ → Type 0) (moment : D → �
 
   -- behind a reading of names
   pub names_go : {A T : Type 0} (told : Option (List Stored)) (names : List Stored → Result A Refused) (x : A)
-      (more : List Stored → A → List (Result Edit Refused)) (old : BookParts D) (r : Result T CommandFault)
+      (more : List Stored → A → List (Result Act Refused)) (old : BookParts D) (r : Result T CommandFault)
       (new : BookParts D) → Reads told names (Ok x) → Goes may_leave moment left_since told (λ c. more c x) old r new
       → Goes may_leave moment left_since told (λ c. behind (names c) (more c)) old r new
   names_go told names x more old (Ok v) new h goes =
@@ -457,28 +459,28 @@ module _ {D : Type 0} (may_leave : D → List ℕ → Type 0) (moment : D → �
       (λ c is. ap (λ r. behind r (more c)) (h.given c is)) goes
 
   -- an edit of the program that was tried
-  pub added_goes : (count : D → ℕ) (told : Option (List Stored)) (wanted : List Stored → Result Edit Refused) (old new : BookParts D) (edit : Edit) (r : Result ℕ CommandFault)
-      → IsKept may_leave None old → IsAdded may_leave moment left_since count old edit r new → AddsBundle edit
-      → Told told (λ c. wanted c ≡ Ok edit) → Goes may_leave moment left_since told (λ c. wanted c ∷ []) old r new
-  added_goes count told wanted old new edit (Ok n) kept added adds is_wanted =
-      added_ok count told wanted old new edit n kept added adds is_wanted
-  added_goes count told wanted old new edit (Err e) kept added adds is_wanted =
-      added_err count told wanted old new edit e kept added is_wanted
+  pub added_goes : (count : D → ℕ) (told : Option (List Stored)) (wanted : List Stored → Result Act Refused) (old new : BookParts D) (act : Act) (r : Result ℕ CommandFault)
+      → IsKept may_leave None old → IsAdded may_leave moment left_since count old act r new → AddsBundle act
+      → Told told (λ c. wanted c ≡ Ok act) → Goes may_leave moment left_since told (λ c. wanted c ∷ []) old r new
+  added_goes count told wanted old new act (Ok n) kept added adds is_wanted =
+      added_ok count told wanted old new act n kept added adds is_wanted
+  added_goes count told wanted old new act (Err e) kept added adds is_wanted =
+      added_err count told wanted old new act e kept added is_wanted
 
   -- a run over the same content
-  pub goes_along : {T : Type 0} (told told' : Option (List Stored)) (wanted : List Stored → List (Result Edit Refused))
+  pub goes_along : {T : Type 0} (told told' : Option (List Stored)) (wanted : List Stored → List (Result Act Refused))
       (old : BookParts D) (r : Result T CommandFault) (new : BookParts D) → told' ≡ told
       → Goes may_leave moment left_since told' wanted old r new → Goes may_leave moment left_since told wanted old r new
   goes_along told told' wanted old r new same h = subst (λ o. Goes may_leave moment left_since o wanted old r new) same h
 
-  pub memory_stops : (told : Option (List Stored)) (wanted : List Stored → List (Result Edit Refused)) (old : BookParts D)
+  pub memory_stops : (told : Option (List Stored)) (wanted : List Stored → List (Result Act Refused)) (old : BookParts D)
       → IsKept may_leave None old → Stops may_leave moment left_since told wanted old faults.Memory old
   memory_stops told wanted old kept =
       unread_stops told wanted old [] faults.Memory kept (refl, refl) (λ c is. (wanted c, refl))
 
   -- behind a reading of names that are seen in another list
   pub names_along : {A T : Type 0} (told told' : Option (List Stored)) (names : List Stored → Result A Refused) (x y : A)
-      (more : List Stored → A → List (Result Edit Refused)) (old : BookParts D) (r : Result T CommandFault)
+      (more : List Stored → A → List (Result Act Refused)) (old : BookParts D) (r : Result T CommandFault)
       (new : BookParts D) → y ≡ x → told' ≡ told → Reads told names (Ok x)
       → Goes may_leave moment left_since told' (λ c. more c y) old r new → Goes may_leave moment left_since told (λ c. behind (names c) (more c)) old r new
   names_along told told' names x y more old r new is same h goes =
@@ -487,7 +489,7 @@ module _ {D : Type 0} (may_leave : D → List ℕ → Type 0) (moment : D → �
       (goes_along told told' (λ c. more c y) old r new same goes))
 
   -- a book under way has its journal
-  pub goes_stored : {T : Type 0} (told : Option (List Stored)) (wanted : List Stored → List (Result Edit Refused))
+  pub goes_stored : {T : Type 0} (told : Option (List Stored)) (wanted : List Stored → List (Result Act Refused))
       (old : BookParts D) (r : Result T CommandFault) (new : BookParts D) → Goes may_leave moment left_since told wanted old r new
       → has_journal new.journal ≡ true
   goes_stored told wanted old (Ok x) new h = h.kept.stored
@@ -495,7 +497,7 @@ module _ {D : Type 0} (may_leave : D → List ℕ → Type 0) (moment : D → �
 
   -- ---- a loop of steps over names
 
-  each_more : (g : List Stored → List ℕ → List (Result Edit Refused)) (names : List (List ℕ)) (i : ℕ) (name : List ℕ)
+  each_more : (g : List Stored → List ℕ → List (Result Act Refused)) (names : List (List ℕ)) (i : ℕ) (name : List ℕ)
       (c : List Stored) → i < length names → name ≡ get_or names i name
       → flat_map (g c) (take (i + 1) names) ≡ flat_map (g c) (take i names) ++ g c name
   each_more g names i name c low is =
@@ -503,7 +505,7 @@ module _ {D : Type 0} (may_leave : D → List ℕ → Type 0) (moment : D → �
       ∙ flat_map-append (g c) (take i names) (name ∷ [])
       ∙ ap (λ l. flat_map (g c) (take i names) ++ l) (append-nil (g c name))
 
-  each_split : (g : List Stored → List ℕ → List (Result Edit Refused)) (names : List (List ℕ)) (i : ℕ) (name : List ℕ)
+  each_split : (g : List Stored → List ℕ → List (Result Act Refused)) (names : List (List ℕ)) (i : ℕ) (name : List ℕ)
       (c : List Stored) → i < length names → name ≡ get_or names i name
       → flat_map (g c) names
       ≡ flat_map (g c) (take i names) ++ (g c name ++ flat_map (g c) (drop (suc i) names))
@@ -512,7 +514,7 @@ module _ {D : Type 0} (may_leave : D → List ℕ → Type 0) (moment : D → �
       ∙ ap (λ l. take i names ++ l) (drop-cons names i name low ∙ ap (λ v. v ∷ drop (suc i) names) (sym is)))
       ∙ flat_map-append (g c) (take i names) (name ∷ drop (suc i) names)
 
-  pub each_step : (g : List Stored → List ℕ → List (Result Edit Refused)) (told told' : Option (List Stored))
+  pub each_step : (g : List Stored → List ℕ → List (Result Act Refused)) (told told' : Option (List Stored))
       (names : List (List ℕ)) (i : ℕ) (name : List ℕ) (old mid new : BookParts D) → i < length names
       → name ≡ get_or names i name → told' ≡ told
       → Advances may_leave moment left_since told (λ c. flat_map (g c) (take i names)) old mid
@@ -524,7 +526,7 @@ module _ {D : Type 0} (may_leave : D → List ℕ → Type 0) (moment : D → �
       (go_on told (λ c. flat_map (g c) (take i names)) (λ c. g c name) old mid new h
       (subst (λ o. Advances may_leave moment left_since o (λ c. g c name) mid new) same h'))
 
-  pub each_stop : (g : List Stored → List ℕ → List (Result Edit Refused)) (told told' : Option (List Stored))
+  pub each_stop : (g : List Stored → List ℕ → List (Result Act Refused)) (told told' : Option (List Stored))
       (names : List (List ℕ)) (i : ℕ) (name : List ℕ) (old mid : BookParts D) (e : CommandFault) (new : BookParts D)
       → i < length names → name ≡ get_or names i name → told' ≡ told
       → Advances may_leave moment left_since told (λ c. flat_map (g c) (take i names)) old mid
@@ -537,7 +539,7 @@ module _ {D : Type 0} (may_leave : D → List ℕ → Type 0) (moment : D → �
       new h (stop_early told (λ c. g c name) (λ c. flat_map (g c) (drop (suc i) names)) mid e new
       (subst (λ o. Stops may_leave moment left_since o (λ c. g c name) mid e new) same h')))
 
-  pub each_end : (g : List Stored → List ℕ → List (Result Edit Refused)) (told : Option (List Stored))
+  pub each_end : (g : List Stored → List ℕ → List (Result Act Refused)) (told : Option (List Stored))
       (names : List (List ℕ)) (i : ℕ) (old new : BookParts D) → i ≡ length names
       → Advances may_leave moment left_since told (λ c. flat_map (g c) (take i names)) old new
       → Advances may_leave moment left_since told (λ c. flat_map (g c) names) old new
@@ -551,7 +553,7 @@ item_is a b names i is here = subst (λ v. v ≡ get_or names i v) (sym is) here
 
 -- what a loop over names keeps: what came so far was accepted, the folder's content is the same, and no count fell
 pub record Going {D : Type 0} (may_leave : D → List ℕ → Type 0) (moment : D → ℕ)
-    (left_since : D → ℕ → List ℕ → Type 0) (told now : Option (List Stored)) (wanted : List Stored → List (Result Edit Refused)) (old new : BookParts D)
+    (left_since : D → ℕ → List ℕ → Type 0) (told now : Option (List Stored)) (wanted : List Stored → List (Result Act Refused)) (old new : BookParts D)
     (faults_before faults_now misses_before misses_now disk_before disk_now : ℕ) : Type 0 where
   pub advances : Advances may_leave moment left_since told wanted old new
   pub same : now ≡ told

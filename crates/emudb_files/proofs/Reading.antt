@@ -3,8 +3,7 @@ use Rattle.std.proofs.Common.{◌≡◌, ℕ, List, map, Option, Result, Ok, IsE
 use Rattle.json_view.specs.Steps.{◌>>=◌}
 use Rattle.emu_io.specs.declared.tree.Stored.{Stored}
 use Rattle.level_items.specs.declared.annot.Annot.{Annot}
-use Rattle.edit_rules.specs.declared.edit.Edit.{Edit}
-use Rattle.edit_rules.specs.declared.edit.Edit.TheVariants as edits
+use Rattle.edit_rules.specs.declared.acts.Act.{Act}
 use Rattle.live_book.specs.Kept.{BookParts}
 use Rattle.store_texts.specs.declared.faults.FileFault.TheVariants as file_faults
 use Rattle.store_texts.specs.declared.faults.Refused.{Refused}
@@ -15,7 +14,7 @@ use Rattle.emudb_files.specs.declared.sessions.Session.{Session}
 use Rattle.emudb_files.specs.Answers.{Told, Gives, Reads}
 use Rattle.emudb_files.specs.Inner.Running.{Goes}
 use Rattle.emudb_files.specs.Names.{path_in}
-use Rattle.emudb_files.specs.Wanted.{named, names_in, annot_in, key_of, bundle_path, bundle_wanted, bundles_of, session_path, session_in, session_wanted}
+use Rattle.emudb_files.specs.Wanted.{named, names_in, annot_in, key_of, bundle_path, bundle_wanted, bundles_of, session_path, session_in, session_wanted, bundle_added}
 use Rattle.emudb_files.proofs.Going.{names_go, goes_along}
 
 abbrev err_at : (A : Type 0) → CommandFault → Result A CommandFault
@@ -36,7 +35,7 @@ pub bundle_read : (told : Option (List Stored)) (path session bundle below file 
     → below ≡ bundle_path path bundle → named (refusals.File below file_faults.BadName) bundle ≡ Ok name
     → file ≡ path_in below bundle (codes "_annot.json") → session' ≡ session
     → Told told (λ c. annot_in file c ≡ Ok annot)
-    → Reads told (λ c. bundle_wanted path session c bundle) (Ok (edits.AddBundle (key_of session' name) annot))
+    → Reads told (λ c. bundle_wanted path session c bundle) (Ok (bundle_added (key_of session' name) annot))
 bundle_read told path session bundle below file name session' annot is_below is_name is_file is_session h = record {
   given = λ c known. (
       let named_at : List ℕ → Type 0 = λ p. named (refusals.File p file_faults.BadName) bundle ≡ Ok name in
@@ -44,10 +43,10 @@ bundle_read told path session bundle below file name session' annot is_below is_
       let place : file ≡ path_in (bundle_path path bundle) bundle (codes "_annot.json") =
       is_file ∙ ap (λ p. path_in p bundle (codes "_annot.json")) is_below in
       ap (λ r. r >>= λ b. annot_in (path_in (bundle_path path bundle) bundle (codes "_annot.json")) c >>= λ a.
-      Ok (edits.AddBundle (key_of session b) a)) (subst named_at is_below is_name)
-      ∙ ap (λ r. r >>= λ a. Ok (edits.AddBundle (key_of session name) a)) (subst annot_at place (h c known))
-      ∙ ap (λ s. Ok (edits.AddBundle (key_of s name) annot)) (sym is_session));
-  no_disk = no_err (edits.AddBundle (key_of session' name) annot) faults.Disk;
+      Ok (bundle_added (key_of session b) a)) (subst named_at is_below is_name)
+      ∙ ap (λ r. r >>= λ a. Ok (bundle_added (key_of session name) a)) (subst annot_at place (h c known))
+      ∙ ap (λ s. Ok (bundle_added (key_of s name) annot)) (sym is_session));
+  no_disk = no_err (bundle_added (key_of session' name) annot) faults.Disk;
 }
 
 gives_stop : {A B : Type 0} (wanted : Result A Refused) (next : A → Result B Refused) (e : CommandFault)
@@ -71,12 +70,12 @@ bundle_stops told path session bundle below file name e is_below is_name is_file
       let place : path_in (bundle_path path bundle) bundle (codes "_annot.json") ≡ file =
       sym (is_file ∙ ap (λ p. path_in p bundle (codes "_annot.json")) is_below) in
       let wanted : bundle_wanted path session c bundle
-      ≡ (annot_in file c >>= λ a. Ok (edits.AddBundle (key_of session name) a)) =
+      ≡ (annot_in file c >>= λ a. Ok (bundle_added (key_of session name) a)) =
       ap (λ r. r >>= λ b. annot_in (path_in (bundle_path path bundle) bundle (codes "_annot.json")) c >>= λ a.
-      Ok (edits.AddBundle (key_of session b) a)) (subst named_at is_below is_name)
-      ∙ ap (λ p. annot_in p c >>= λ a. Ok (edits.AddBundle (key_of session name) a)) place in
-      let P : Result Edit Refused → Type 0 = λ w. Gives w (Err e) in
-      subst P (sym wanted) (gives_stop (annot_in file c) (λ a. Ok (edits.AddBundle (key_of session name) a)) e (h.given c known)));
+      Ok (bundle_added (key_of session b) a)) (subst named_at is_below is_name)
+      ∙ ap (λ p. annot_in p c >>= λ a. Ok (bundle_added (key_of session name) a)) place in
+      let P : Result Act Refused → Type 0 = λ w. Gives w (Err e) in
+      subst P (sym wanted) (gives_stop (annot_in file c) (λ a. Ok (bundle_added (key_of session name) a)) e (h.given c known)));
   no_disk = λ is. h.no_disk (disk_again e is);
 }
 

@@ -3,6 +3,8 @@ use Rattle.std.specs.Prelude.{◌≡◌, ℕ, ◌≤◌, List, Option, Some, Res
 use Rattle.emu_names.specs.Count.{Rose}
 use Rattle.emu_io.specs.declared.tree.Stored.{Stored}
 use Rattle.session_core.specs.declared.line.Refusal.TheVariants as requests
+use Rattle.session_core.specs.declared.line.Command.TheVariants as commands
+use Rattle.session_core.specs.Answers.{rule_refusal}
 use Rattle.live_book.specs.declared.fault.EditFault.{EditFault}
 use Rattle.live_book.specs.declared.fault.EditFault.TheVariants as edit_faults
 use Rattle.book_opening.specs.declared.fault.OpenFault.{OpenFault}
@@ -34,7 +36,7 @@ pub record Reads {A : Type 0} (told : Option (List Stored)) (wanted : List Store
 -- a refusal of an edit, as that of a command
 abbrev pub edit_fault : EditFault → CommandFault
 edit_fault (edit_faults.HistoryFull n) = faults.Refused (refusals.Request requests.HistoryFull)
-edit_fault (edit_faults.Broken rule n) = faults.Refused (refusals.Request (requests.Rule rule))
+edit_fault (edit_faults.Broken breach n) = faults.Refused (refusals.Request (rule_refusal commands.AddBundle breach))
 edit_fault (edit_faults.StoreFull n) = faults.Refused (refusals.Request requests.StoreFull)
 edit_fault edit_faults.Disk = faults.Disk
 edit_fault edit_faults.Memory = faults.Memory

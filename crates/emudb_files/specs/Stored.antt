@@ -5,9 +5,8 @@ use Rattle.emu_io.specs.declared.tree.Stored.{Stored}
 use Rattle.emu_names.specs.declared.names.BundleKey.{BundleKey}
 use Rattle.level_items.specs.declared.annot.Annot.{Annot}
 use Rattle.db_config.specs.declared.parts.ConfigParts.{ConfigParts}
-use Rattle.edit_rules.specs.declared.edit.Edit.{Edit}
-use Rattle.edit_rules.specs.declared.edit.Edit.TheVariants as edits
-use Rattle.edit_rules.specs.declared.edit.Entry.{Entry}
+use Rattle.edit_rules.specs.declared.acts.Act.{Act}
+use Rattle.edit_rules.specs.declared.acts.Entry.{Entry}
 use Rattle.edit_journal.specs.declared.journal.Journal.{Journal}
 use Rattle.live_book.specs.declared.fault.EditFault.{EditFault}
 use Rattle.book_opening.specs.declared.fault.OpenFault.{OpenFault}
@@ -19,33 +18,33 @@ use Rattle.store_texts.specs.declared.faults.Refused.{Refused}
 use Rattle.store_texts.specs.declared.faults.CommandFault.{CommandFault}
 use Rattle.store_texts.specs.declared.faults.CommandFault.TheVariants as faults
 use Rattle.emudb_files.specs.Answers.{Told, Reads, edit_fault, edit_answer, open_fault}
-use Rattle.emudb_files.specs.Wanted.{config_wanted, bundles_wanted}
+use Rattle.emudb_files.specs.Wanted.{bundle_added, config_wanted, bundles_wanted}
 
--- the entry of an edit of the program: session 0 and line 0
-abbrev pub own_entry : Edit → Entry
-own_entry edit = entry_of (record { 0 = 0 }) 0 edit
+-- the entry of an act of the program: session 0 and line 0
+abbrev pub own_entry : Act → Entry
+own_entry act = entry_of (record { 0 = 0 }) 0 act
 
--- an edit adds a bundle
-abbrev pub AddsBundle : Edit → Type 0
-AddsBundle edit = (key : BundleKey) × (annot : Annot) × (edit ≡ edits.AddBundle key annot)
+-- an act adds a bundle
+abbrev pub AddsBundle : Act → Type 0
+AddsBundle act = (key : BundleKey) × (annot : Annot) × (act ≡ bundle_added key annot)
 
--- each of these edits adds a bundle
-abbrev pub AddBundles : List Edit → Type 0
+-- each of these acts adds a bundle
+abbrev pub AddBundles : List Act → Type 0
 AddBundles [] = Unit {0}
-AddBundles (edit ∷ edits) = AddsBundle edit × AddBundles edits
+AddBundles (act ∷ acts) = AddsBundle act × AddBundles acts
 
 -- an edit of the program was committed, and the answer is that of the commit
 pub record IsAdded {D : Type 0} (may_leave : D → List ℕ → Type 0) (moment : D → ℕ)
-    (left_since : D → ℕ → List ℕ → Type 0) (count : D → ℕ) (old : BookParts D) (edit : Edit)
+    (left_since : D → ℕ → List ℕ → Type 0) (count : D → ℕ) (old : BookParts D) (act : Act)
     (result : Result ℕ CommandFault) (new : BookParts D) : Type 0 where
   pub answer : Result ℕ EditFault
-  pub commits : Commits may_leave moment left_since count old (own_entry edit) answer new
+  pub commits : Commits may_leave moment left_since count old (own_entry act) answer new
   pub answered : result ≡ edit_answer answer
 
 -- ---- `import`
 
 -- it was refused before the edit, and the book is as before
-pub record IsUnread {D : Type 0} (told : Option (List Stored)) (wanted : List Stored → Result Edit Refused)
+pub record IsUnread {D : Type 0} (told : Option (List Stored)) (wanted : List Stored → Result Act Refused)
     (old : BookParts D) (result : Result ℕ CommandFault) (new : BookParts D) : Type 0 where
   pub same : new ≡ old
   pub fault : CommandFault
@@ -55,16 +54,16 @@ pub record IsUnread {D : Type 0} (told : Option (List Stored)) (wanted : List St
 -- the edit that is wanted, which adds a bundle, was committed
 pub record IsCommitted {D : Type 0} (may_leave : D → List ℕ → Type 0) (moment : D → ℕ)
     (left_since : D → ℕ → List ℕ → Type 0) (count : D → ℕ) (told : Option (List Stored))
-    (wanted : List Stored → Result Edit Refused) (old : BookParts D) (result : Result ℕ CommandFault)
+    (wanted : List Stored → Result Act Refused) (old : BookParts D) (result : Result ℕ CommandFault)
     (new : BookParts D) : Type 0 where
-  pub edit : Edit
-  pub is_wanted : Told told (λ content. wanted content ≡ Ok edit)
-  pub adds : AddsBundle edit
-  pub added : IsAdded may_leave moment left_since count old edit result new
+  pub act : Act
+  pub is_wanted : Told told (λ content. wanted content ≡ Ok act)
+  pub adds : AddsBundle act
+  pub added : IsAdded may_leave moment left_since count old act result new
 
 -- what an `import` of a wanted edit does to a book
 abbrev pub Imports : {D : Type 0} → (D → List ℕ → Type 0) → (D → ℕ) → (D → ℕ → List ℕ → Type 0) → (D → ℕ)
-    → Option (List Stored) → (List Stored → Result Edit Refused) → BookParts D → Result ℕ CommandFault → BookParts D
+    → Option (List Stored) → (List Stored → Result Act Refused) → BookParts D → Result ℕ CommandFault → BookParts D
     → Type 0
 Imports may_leave moment left_since count told wanted old result new =
     IsUnread told wanted old result new
@@ -73,27 +72,27 @@ Imports may_leave moment left_since count told wanted old result new =
 -- ---- `load`
 
 -- the refusal at which a run ended: what a file or a folder wanted, or why its edit was not accepted after a history
-abbrev pub IsRefusedAt : ConfigParts → List Entry → List (Result Edit Refused) → Refused → Type 0
+abbrev pub IsRefusedAt : ConfigParts → List Entry → List (Result Act Refused) → Refused → Type 0
 IsRefusedAt config history [] refused = ⊥
 IsRefusedAt config history (Err wanted ∷ _) refused = wanted ≡ refused
-IsRefusedAt config history (Ok edit ∷ _) refused =
-    (fault : EditFault) × IsAnswer true config history (own_entry edit) (Err fault)
+IsRefusedAt config history (Ok act ∷ _) refused =
+    (fault : EditFault) × IsAnswer true config history (own_entry act) (Err fault)
     × (edit_fault fault ≡ faults.Refused refused)
 
 -- Why a run ended early after a history, at what it took next, if anything, and what is in doubt then: after a fault of
 -- the disk perhaps the entry that was accepted next, and else nothing
-abbrev pub IsStop : ConfigParts → List Entry → List (Result Edit Refused) → Option Entry → CommandFault → Type 0
+abbrev pub IsStop : ConfigParts → List Entry → List (Result Act Refused) → Option Entry → CommandFault → Type 0
 IsStop config history next lost (faults.Refused refused) = (lost ≡ None) × IsRefusedAt config history next refused
 IsStop config history next lost faults.Read = (lost ≡ None) × (next ≡ [])
 IsStop config history next lost faults.Disk =
-    (edit : Edit) × (next ≡ Ok edit ∷ []) × IsWelcome true config history (own_entry edit)
-    × ((lost ≡ None) ⊎ (lost ≡ Some (own_entry edit)))
+    (act : Act) × (next ≡ Ok act ∷ []) × IsWelcome true config history (own_entry act)
+    × ((lost ≡ None) ⊎ (lost ≡ Some (own_entry act)))
 IsStop config history next lost faults.Memory = (lost ≡ None) × (next ≡ [])
 
 -- How a run ended that accepted these edits, in order, each as an entry of the program: at the end of what is wanted, with
 -- the number of entries; or before, at what was taken next. All that was accepted or taken is a front of what is wanted
-abbrev pub IsEnd : Option (List Stored) → (List Stored → List (Result Edit Refused)) → ConfigParts → List Edit
-    → List (Result Edit Refused) → Option Entry → Result ℕ CommandFault → Type 0
+abbrev pub IsEnd : Option (List Stored) → (List Stored → List (Result Act Refused)) → ConfigParts → List Act
+    → List (Result Act Refused) → Option Entry → Result ℕ CommandFault → Type 0
 IsEnd told wanted config done next lost (Ok n) =
     (n ≡ length done) × (next ≡ []) × (lost ≡ None) × Told told (λ content. wanted content ≡ map Ok done)
 IsEnd told wanted config done next lost (Err fault) =
@@ -109,12 +108,12 @@ pub record IsPart (config : ConfigParts) (history : List Entry) (c : List ℕ) :
   pub stands : Stands config (take count history) c
 
 -- or for all of it and the edit that was taken next, where the disk failed at that
-abbrev pub IsOneMore : ConfigParts → List Entry → List (Result Edit Refused) → CommandFault → List ℕ → Type 0
-IsOneMore config history (Ok edit ∷ []) faults.Disk c = Stands config (history ++ own_entry edit ∷ []) c
+abbrev pub IsOneMore : ConfigParts → List Entry → List (Result Act Refused) → CommandFault → List ℕ → Type 0
+IsOneMore config history (Ok act ∷ []) faults.Disk c = Stands config (history ++ own_entry act ∷ []) c
 IsOneMore config history next fault c = ⊥
 
 -- what an image may be, by how the run ended; before the configuration was stored it is bare
-abbrev pub DuringLoad : ConfigParts → List Entry → List (Result Edit Refused) → Result ℕ CommandFault → List ℕ → Type 0
+abbrev pub DuringLoad : ConfigParts → List Entry → List (Result Act Refused) → Result ℕ CommandFault → List ℕ → Type 0
 DuringLoad config history next (Ok n) c = IsBare c ⊎ IsPart config history c
 DuringLoad config history next (Err fault) c =
     IsBare c ⊎ (IsPart config history c ⊎ IsOneMore config history next fault c)
@@ -146,10 +145,10 @@ pub record IsNotStored {D : Type 0} (may_leave : D → List ℕ → Type 0) (mom
 -- keeps all of that
 pub record IsFilled {D : Type 0} (may_leave : D → List ℕ → Type 0) (moment : D → ℕ)
     (left_since : D → ℕ → List ℕ → Type 0) (told : Option (List Stored))
-    (wanted : List Stored → List (Result Edit Refused)) (config : ConfigParts) (old : Option (Journal D))
+    (wanted : List Stored → List (Result Act Refused)) (config : ConfigParts) (old : Option (Journal D))
     (result : Result ℕ CommandFault) (new : Journal D) : Type 0 where
-  pub done : List Edit
-  pub next : List (Result Edit Refused)
+  pub done : List Act
+  pub next : List (Result Act Refused)
   pub lost : Option Entry
   pub add : AddBundles done
   pub keeps : Keeps may_leave config (map own_entry done) lost new
@@ -158,7 +157,7 @@ pub record IsFilled {D : Type 0} (may_leave : D → List ℕ → Type 0) (moment
 
 -- a configuration was not stored, or it was stored and bundles were added
 abbrev pub IsMade : {D : Type 0} → (D → List ℕ → Type 0) → (D → ℕ) → (D → ℕ → List ℕ → Type 0) → (D → ℕ)
-    → Option (List Stored) → (List Stored → List (Result Edit Refused)) → ConfigParts → Journal D → Result ℕ CommandFault
+    → Option (List Stored) → (List Stored → List (Result Act Refused)) → ConfigParts → Journal D → Result ℕ CommandFault
     → Journal D → Type 0
 IsMade may_leave moment left_since count told wanted config old result new =
     IsNotStored may_leave moment left_since count config old result new

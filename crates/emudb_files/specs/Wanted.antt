@@ -14,8 +14,9 @@ use Rattle.annot_json.specs.Read.{annot_of}
 use Rattle.textgrid.specs.declared.fault.GridFault.{GridFault}
 use Rattle.textgrid.specs.Grids.{grid_of}
 use Rattle.textgrid.specs.Levels as grids
-use Rattle.edit_rules.specs.declared.edit.Edit.{Edit}
-use Rattle.edit_rules.specs.declared.edit.Edit.TheVariants as edits
+use Rattle.edit_rules.specs.declared.acts.Act.{Act}
+use Rattle.edit_rules.specs.declared.acts.Act.TheVariants as acts
+use Rattle.bundle_edits.specs.declared.edit.Edit.TheVariants as edits
 use Rattle.store_texts.specs.declared.faults.FileFault.TheVariants as file_faults
 use Rattle.store_texts.specs.declared.faults.Refused.{Refused}
 use Rattle.store_texts.specs.declared.faults.Refused.TheVariants as refusals
@@ -53,6 +54,10 @@ key_of session bundle = record { session = session; bundle = bundle }
 abbrev pub grid_annot : ℕ → List ℕ → Result Annot GridFault
 grid_annot rate bytes = grid_of bytes >>= grids.annot_of rate
 
+-- the act that adds a bundle
+abbrev pub bundle_added : BundleKey → Annot → Act
+bundle_added key annot = acts.Edits (edits.AddBundle key annot ∷ [])
+
 -- ---- `import`
 
 -- the annotation of the TextGrid in the file at a path, or the refusal of the file, or that of what it holds
@@ -62,12 +67,12 @@ grid_in rate path content =
 
 -- The edit that adds the TextGrid of a file under two names, or the refusal: first that of the names, then that of the
 -- file
-abbrev pub import_wanted : List ℕ → List ℕ → ℕ → List ℕ → List Stored → Result Edit Refused
+abbrev pub import_wanted : List ℕ → List ℕ → ℕ → List ℕ → List Stored → Result Act Refused
 import_wanted session bundle rate path content =
     named refusals.BadName session >>= λ s.
     named refusals.BadName bundle >>= λ b.
     grid_in rate path content >>= λ annot.
-    Ok (edits.AddBundle (key_of s b) annot)
+    Ok (bundle_added (key_of s b) annot)
 
 -- ---- `load`
 
@@ -93,14 +98,14 @@ bundle_path path bundle = path_in path bundle (codes "_bndl")
 
 -- The edit that adds a bundle, or the refusal: first that of its name, with its folder, and then that of its file. The
 -- path is that of the session's folder
-abbrev pub bundle_wanted : List ℕ → List ℕ → List Stored → List ℕ → Result Edit Refused
+abbrev pub bundle_wanted : List ℕ → List ℕ → List Stored → List ℕ → Result Act Refused
 bundle_wanted path session content bundle =
     named (refusals.File (bundle_path path bundle) file_faults.BadName) bundle >>= λ b.
     annot_in (path_in (bundle_path path bundle) bundle (codes "_annot.json")) content >>= λ annot.
-    Ok (edits.AddBundle (key_of session b) annot)
+    Ok (bundle_added (key_of session b) annot)
 
 -- what is asked for behind a reading, or its refusal alone
-abbrev pub behind : {A : Type 0} → Result A Refused → (A → List (Result Edit Refused)) → List (Result Edit Refused)
+abbrev pub behind : {A : Type 0} → Result A Refused → (A → List (Result Act Refused)) → List (Result Act Refused)
 behind (Ok x) wanted = wanted x
 behind (Err refused) wanted = Err refused ∷ []
 
@@ -117,19 +122,19 @@ session_in path session content =
     Ok (record { path = session_path path session; name = name; bundles = bundles })
 
 -- what the bundles of a session ask for, in order
-abbrev pub bundles_of : List Stored → Session → List (Result Edit Refused)
+abbrev pub bundles_of : List Stored → Session → List (Result Act Refused)
 bundles_of content session = map (bundle_wanted session.path session.name content) session.bundles
 
 -- what a session asks for: each of its bundles, or its refusal
-abbrev pub session_wanted : List ℕ → List Stored → List ℕ → List (Result Edit Refused)
+abbrev pub session_wanted : List ℕ → List Stored → List ℕ → List (Result Act Refused)
 session_wanted path content session = behind (session_in path session content) (bundles_of content)
 
 -- What the folder of a database asks for: the edits that add its bundles, the sessions in the order of their names, and
 -- the refusals in the places where they come
-abbrev pub database_wanted : List ℕ → List Stored → List (Result Edit Refused)
+abbrev pub database_wanted : List ℕ → List Stored → List (Result Act Refused)
 database_wanted path content =
     behind (names_in path (codes "_ses") content) (flat_map (session_wanted path content))
 
 -- what a database asks for behind its configuration
-abbrev pub bundles_wanted : List ℕ → List Stored → List (Result Edit Refused)
+abbrev pub bundles_wanted : List ℕ → List Stored → List (Result Act Refused)
 bundles_wanted name content = database_wanted (database_path name) content

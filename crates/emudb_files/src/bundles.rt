@@ -9,10 +9,10 @@ ghost use Rattle.emudb_files.specs.Inner.Running.{Goes, IsKept};
 ghost use Rattle.emudb_files.specs.Stored.{AddsBundle};
 ghost use Rattle.emudb_files.specs.Wanted.{bundle_wanted, named};
 
-use crate::faults::{add, refuse};
+use crate::faults::{add, bundle_added, refuse};
 use crate::files::annot_in;
 use crate::paths::path_in;
-use edit_rules::Edit;
+use edit_rules::Act;
 use emu_disk::Disk;
 use emu_io::{FileName, Folder};
 use emu_names::{BundleKey, Name, NameFault};
@@ -32,14 +32,14 @@ pub(crate) fn name_in(alloc: Global, path: &str, name: &str) -> Result<Name, Com
     }
 }
 
-/// The edit that adds the bundle of a name in the folder of a session.
-fn bundle_edit<F: Folder>(
+/// The act that adds the bundle of a name in the folder of a session.
+fn bundle_act<F: Folder>(
     alloc: Global,
     folder: &mut F,
     path: &str,
     session: &Name,
     bundle: &str,
-) -> Result<Edit, CommandFault>
+) -> Result<Act, CommandFault>
     ensures reads { Reads (F.content folder.old)
         (λ content. bundle_wanted path.now session.now content bundle.now) result }
     ensures adds { IfOk result AddsBundle }
@@ -57,7 +57,8 @@ fn bundle_edit<F: Folder>(
                 session,
                 bundle: name,
             };
-            Ok(Edit::AddBundle { key, annot })
+            let act = bundle_added(alloc, key, annot)?;
+            Ok(act)
         }
         Err(fault) => Err(fault),
     }
@@ -83,8 +84,8 @@ fn add_bundle<R: Wait, F: Folder, D: Disk>(
         (faults_in D.faults book.new.journal) result }
     ensures same { F.content folder.new ≡ F.content folder.old }
 {
-    match bundle_edit(alloc, folder, path, session, bundle) {
-        Ok(edit) => add(rt, alloc, book, &edit),
+    match bundle_act(alloc, folder, path, session, bundle) {
+        Ok(act) => add(rt, alloc, book, &act),
         Err(fault) => Err(fault),
     }
 }

@@ -1,16 +1,18 @@
-//! Faults of the parts as those of a command, and one edit of the program.
-ghost use Rattle.std.specs.Prelude.{◌≡◌};
+//! Faults of the parts as those of a command, and one act of the program.
+ghost use Rattle.std.specs.Prelude.{◌≡◌, IfOk};
 ghost use Rattle.emudb_files.specs.Answers.{edit_fault, open_fault};
 ghost use Rattle.emudb_files.specs.Inner.Answers.{IsRefusalOf, IsFolderFault};
 ghost use Rattle.emudb_files.specs.Stored.{IsAdded};
+ghost use Rattle.emudb_files.specs.Wanted.{bundle_added};
 
 use book_opening::OpenFault;
-use edit_rules::Edit;
+use edit_rules::{Act, Edit, Edits};
 use emu_disk::Disk;
 use emu_io::FolderFault;
-use emu_names::{SessionNo, Text};
+use emu_names::{BundleKey, Memory, SessionNo, Text};
+use level_items::Annot;
 use live_book::{Book, EditFault};
-use session_core::Refusal;
+use session_core::{Command, Refusal, refuse_rule};
 use std::alloc::Global;
 use std::sync::Wait;
 use store_texts::{CommandFault, FileFault, Refused};
@@ -45,8 +47,9 @@ fn edit_fault(fault: EditFault) -> CommandFault
         EditFault::HistoryFull(_) => {
             CommandFault::Refused(Refused::Request(Refusal::HistoryFull))
         }
-        EditFault::Broken(rule, _) => {
-            CommandFault::Refused(Refused::Request(Refusal::Rule(rule)))
+        EditFault::Broken(breach, _) => {
+            let refusal = refuse_rule(Command::AddBundle, breach);
+            CommandFault::Refused(Refused::Request(refusal))
         }
         EditFault::StoreFull(_) => CommandFault::Refused(Refused::Request(Refusal::StoreFull)),
         EditFault::Disk => CommandFault::Disk,
@@ -66,16 +69,24 @@ pub(crate) fn open_fault(fault: OpenFault) -> CommandFault
     }
 }
 
-/// Commits an edit of the program, with session 0 and line 0.
+/// The act that adds a bundle. The only refusal is want of memory.
+pub(crate) fn bundle_added(alloc: Global, key: BundleKey, annot: Annot) -> Result<Act, Memory>
+    ensures { IfOk result (λ act. act ≡ bundle_added key annot) }
+{
+    let edits = Edits::one(alloc, Edit::AddBundle { key, annot })?;
+    Ok(Act::Edits(edits))
+}
+
+/// Commits an act of the program, with session 0 and line 0.
 pub(crate) fn add<D: Disk, R: Wait>(
     rt: &R,
     alloc: Global,
     book: &mut Book<D>,
-    edit: &Edit,
+    act: &Act,
 ) -> Result<u64, CommandFault>
-    ensures { IsAdded D.may_leave D.moment D.left_since D.faults book.old edit.now result book.new }
+    ensures { IsAdded D.may_leave D.moment D.left_since D.faults book.old act.now result book.new }
 {
-    match book.commit(rt, alloc, SessionNo(0), 0, edit) {
+    match book.commit(rt, alloc, SessionNo(0), 0, act) {
         Ok(n) => Ok(n),
         Err(fault) => Err(edit_fault(fault)),
     }

@@ -7,9 +7,9 @@ ghost use Rattle.emudb_files.specs.Inner.Answers.{Makes};
 ghost use Rattle.emudb_files.specs.Stored.{AddsBundle, Imports};
 ghost use Rattle.emudb_files.specs.Wanted.{import_wanted, named};
 
-use crate::faults::add;
+use crate::faults::{add, bundle_added};
 use crate::files::grid_in;
-use edit_rules::Edit;
+use edit_rules::Act;
 use emu_disk::Disk;
 use emu_io::Folder;
 use emu_names::{BundleKey, Name, NameFault};
@@ -29,15 +29,15 @@ fn name_of(alloc: Global, word: &str) -> Result<Name, CommandFault>
     }
 }
 
-/// The edit that adds the TextGrid of a file as a bundle.
-fn import_edit<F: Folder>(
+/// The act that adds the TextGrid of a file as a bundle.
+fn import_act<F: Folder>(
     alloc: Global,
     folder: &mut F,
     session: &str,
     bundle: &str,
     rate: u32,
     file: &str,
-) -> Result<Edit, CommandFault>
+) -> Result<Act, CommandFault>
     requires least { 1 ≤ rate }
     requires most { rate ≤ TOP_RATE }
     ensures reads { Reads (F.content folder.old)
@@ -51,7 +51,8 @@ fn import_edit<F: Folder>(
     let bundle = name_of(alloc, bundle)?;
     let annot = grid_in(alloc, folder, rate, file)?;
     let key = BundleKey { session, bundle };
-    Ok(Edit::AddBundle { key, annot })
+    let act = bundle_added(alloc, key, annot)?;
+    Ok(act)
 }
 
 /// Adds the TextGrid of a file, read at `rate` samples a second, to a book, as the bundle of these two names, with
@@ -82,6 +83,6 @@ pub fn import<R: Wait, F: Folder, D: Disk>(
         (faults_in D.faults book.new.journal) result }
     ensures same { F.content folder.new ≡ F.content folder.old }
 {
-    let edit = import_edit(alloc, folder, session, bundle, rate, file)?;
-    add(rt, alloc, book, &edit)
+    let act = import_act(alloc, folder, session, bundle, rate, file)?;
+    add(rt, alloc, book, &act)
 }

@@ -1,8 +1,8 @@
 -- Rows of links that stay, where neither links nor ids change.
-use Rattle.std.proofs.Common.{◌≡◌, ℕ, ◌+◌, ◌<◌, ◌≤◌, ◌==◌, ◌&&◌, ◌++◌, ◌∷◌, true, false, List, [], length, map, get_or, take, sym, ap, ◌∙◌, subst, Some, Result, Ok, Err, IfOk, ⊎_elim}
+use Rattle.std.proofs.Common.{◌≡◌, ◌⊎◌, inl, inr, ℕ, ◌+◌, ◌<◌, ◌≤◌, ◌==◌, ◌&&◌, ◌++◌, ◌∷◌, Bool, true, false, true≢false, List, [], length, map, get_or, take, sym, ap, ◌∙◌, subst, Some, Result, Ok, Err, IfOk, ⊎_elim, arith}
 use Rattle.std.specs.List.{slice_get}
-use Rattle.std.proofs.lemmas.Bool.{and_parts, cases_Bool, eqb-true, eq-eqb}
-use Rattle.std.proofs.lemmas.List.{map-append, take_all, take_more, take_more_same}
+use Rattle.std.proofs.lemmas.Bool.{and_parts, cases_Bool, cases_lt, eqb-true}
+use Rattle.std.proofs.lemmas.List.{map-append, get_or_past, take_all, take_more, take_more_same}
 use Rattle.std.proofs.lemmas.Option.{slice_get_within, get_or_from_slice_get}
 use Rattle.emu_names.specs.declared.kinds.ItemId.{ItemId}
 use Rattle.level_items.specs.declared.items.Item.{Item}
@@ -12,7 +12,7 @@ use Rattle.link_graph.specs.declared.link.Link.{Link}
 use Rattle.bundle_state.specs.Bundle.{BundleParts}
 use Rattle.bundle_state.specs.Valid.{KeepsBundleRules}
 use Rattle.hier_closure.specs.Dominance.{ids_at}
-use Rattle.hier_closure.specs.Inner.Linked.{AreLinkedIn, HaveSameIdsBut, linked_of, linked_row}
+use Rattle.hier_closure.specs.Inner.Linked.{AreLinkedIn, HaveSameIdsBut, HaveSameIdsOn, linked_of, linked_row}
 use Rattle.hier_closure.specs.declared.linked.LinkedLevels.{LinkedLevels}
 
 -- ---- lists that are compared place by place
@@ -68,23 +68,51 @@ rows_stay old new upper lower ids links =
     ∙ ap (λ (lowers : List ℕ). map (linked_row new.links lowers) (ids_at old.levels upper)) (sym (ids lower))
     ∙ ap (map (linked_row new.links (ids_at new.levels lower))) (sym (ids upper))
 
-same_ids : (old new : List Level) (level : ℕ) → HaveSameIdsBut level old new → ids_at new level ≡ ids_at old level →
-    (k : ℕ) → ids_at new k ≡ ids_at old k
-same_ids old new level others here k =
-    ⊎_elim
-    (λ (h : (k == level) ≡ true). ap (ids_at new) (eqb-true k level h) ∙ here ∙ ap (ids_at old) (sym (eqb-true k level h)))
-    (λ (h : (k == level) ≡ false).
-    others k (λ (same : k ≡ level). let never : (k == level) ≡ true = eq-eqb k level same in cc))
-    (cases_Bool (k == level))
+-- of a level that is not marked nothing is asked
+pub alike_unmarked : (marked : List Bool) (old new : List Level) (level : ℕ) (bit : Bool) → slice_get marked level ≡ Some bit → bit ≡ false →
+    get_or marked level false ≡ true → ids_at new level ≡ ids_at old level
+alike_unmarked marked old new level bit at off is =
+    absurd (true≢false (sym is ∙ get_or_from_slice_get marked level bit false at ∙ off))
 
-pub linked_stay : (old new : BundleParts) (level : ℕ) (all : List LinkedLevels) → KeepsBundleRules new →
-    HaveSameIdsBut level old.levels new.levels → ids_at new.levels level ≡ ids_at old.levels level → new.links ≡ old.links →
+-- the marked levels so far, and one more
+pub alike_more : (marked : List Bool) (old new : List Level) (n : ℕ) → ((k : ℕ) → k < n → get_or marked k false ≡ true → ids_at new k ≡ ids_at old k) →
+    (get_or marked n false ≡ true → ids_at new n ≡ ids_at old n) → (k : ℕ) → k < n + 1 → get_or marked k false ≡ true → ids_at new k ≡ ids_at old k
+alike_more marked old new n so here k low is = by (cases_lt k n)
+  where
+    by : (k < n) ⊎ (n ≤ k) → ids_at new k ≡ ids_at old k
+    by (inl under) = so k under is
+    by (inr over) =
+        let same : k ≡ n = omega arith in
+        ap (ids_at new) same ∙ here (ap (λ (j : ℕ). get_or marked j false) (sym same) ∙ is) ∙ ap (ids_at old) (sym same)
+
+-- no level behind the last mark is marked
+pub alike_whole : (marked : List Bool) (old new : List Level) (n : ℕ) → length marked ≤ n → ((k : ℕ) → k < n → get_or marked k false ≡ true → ids_at new k ≡ ids_at old k) →
+    HaveSameIdsOn marked old new
+alike_whole marked old new n done so k is = by (cases_lt k n)
+  where
+    by : (k < n) ⊎ (n ≤ k) → ids_at new k ≡ ids_at old k
+    by (inl under) = so k under is
+    by (inr over) =
+        let past : length marked ≤ k = omega arith in
+        let none : get_or marked k false ≡ false = get_or_past marked k false past in
+        absurd (true≢false (sym is ∙ none))
+
+same_ids : (old new : List Level) (marked : List Bool) → HaveSameIdsBut marked old new → HaveSameIdsOn marked old new →
+    (k : ℕ) → ids_at new k ≡ ids_at old k
+same_ids old new marked others here k =
+    ⊎_elim
+    (λ (h : get_or marked k false ≡ true). here k h)
+    (λ (h : get_or marked k false ≡ false). others k h)
+    (cases_Bool (get_or marked k false))
+
+pub linked_stay : (old new : BundleParts) (marked : List Bool) (all : List LinkedLevels) → KeepsBundleRules new →
+    HaveSameIdsBut marked old.levels new.levels → HaveSameIdsOn marked old.levels new.levels → new.links ≡ old.links →
     AreLinkedIn old all → AreLinkedIn new all
-linked_stay old new level all rules others here links linked = record {
+linked_stay old new marked all rules others here links linked = record {
   rules = rules;
   each = λ k one within.
       linked.each k one within
-      ∙ rows_stay old new (get_or all k one).upper (get_or all k one).lower (same_ids old.levels new.levels level others here) links;
+      ∙ rows_stay old new (get_or all k one).upper (get_or all k one).lower (same_ids old.levels new.levels marked others here) links;
 }
 
 -- so is a copy of the rows

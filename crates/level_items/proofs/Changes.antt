@@ -59,7 +59,7 @@ parts_of_fit kind attributes item fits =
     let labels = and_parts (length item.labels == attributes) (list_all is_short item.labels) whole.1 in
     record { form = time.0; end = time.1; count = eqb-true _ _ labels.0; short = labels.1 }
 
-fit_of_parts : (kind : LevelKind) (attributes : ℕ) (item : Item) → fits_kind kind item.time ≡ true → ends_in_time item.time ≡ true → are_labels_for attributes item.labels ≡ true → fits_level kind attributes item ≡ true
+pub fit_of_parts : (kind : LevelKind) (attributes : ℕ) (item : Item) → fits_kind kind item.time ≡ true → ends_in_time item.time ≡ true → are_labels_for attributes item.labels ≡ true → fits_level kind attributes item ≡ true
 fit_of_parts kind attributes item form end labels = and_from _ _ (and_from _ _ form end) labels
 
 -- an item of a level fits it

@@ -1,7 +1,8 @@
 -- Where an item of an id stands.
-use Rattle.std.proofs.Common.{◌≡◌, ℕ, suc, Bool, true, false, ◌||◌, List, [], ◌∷◌, take, drop, nat_eq, refl, sym, ap, ◌∙◌, Some, None, arith}
+use Rattle.std.proofs.Common.{◌≡◌, ℕ, suc, ◌<◌, Bool, true, false, ◌||◌, List, [], ◌∷◌, take, drop, get_or, length, nat_eq, refl, sym, ap, ◌∙◌, Some, None, arith}
 use Rattle.std.specs.List.{list_any, slice_get, position}
-use Rattle.std.proofs.lemmas.Bool.{or_parts, eq-eqb}
+use Rattle.std.proofs.lemmas.Bool.{or_parts, eq-eqb, eqb-true}
+use Rattle.std.proofs.lemmas.Option.{slice_get_read}
 use Rattle.std.proofs.lemmas.Bool.Decides.{nat_tests}
 use Rattle.std.proofs.lemmas.List.Folds.{list_any-append}
 use Rattle.level_items.specs.declared.items.Item.{Item}
@@ -33,3 +34,9 @@ found items i x n different at same =
 
 pub absent : (items : List Item) (n : ℕ) → list_any (nat_eq n) (ids_of items) ≡ false → None ≡ position (has_id n) items
 absent items n none = sym (position_none (has_id n) items (any_has n items ∙ none))
+
+-- an item that was read at a place
+pub found_at : (items : List Item) (i n : ℕ) (x : Item) → are_different (ids_of items) ≡ true → i < length items → x ≡ get_or items i x → true ≡ nat_eq x.id.0 n →
+    Some i ≡ position (has_id n) items
+found_at items i n x different within here same =
+    found items i x n different (slice_get_read items (length items) i x refl within here) (eqb-true x.id.0 n (sym same))

@@ -4,3 +4,5 @@ pub mod Rules
 pub mod Found
 pub mod Changes
 pub mod Exact
+pub mod Wider
+pub mod Padded

@@ -1,6 +1,6 @@
 -- A level of a bundle, and the rule that it keeps (EMU-SDMS Manual, "The emuDB format": levels and
 -- items of an annotation; that gaps between segments are allowed is this project's choice).
-use Rattle.std.specs.Prelude.{ℕ, Bool, true, ◌&&◌, not, List, [], ◌∷◌, length, map, nat_eq, nat_le, ◌==◌, IsTrue, Option, Some, None, zero, suc, slice_set, insert, count_by, unwrap_or}
+use Rattle.std.specs.Prelude.{ℕ, ◌-◌, Bool, true, ◌&&◌, not, List, [], ◌∷◌, ◌++◌, length, map, replicate, nat_eq, nat_le, ◌==◌, IsTrue, Option, Some, None, zero, suc, slice_set, insert, count_by, unwrap_or}
 use Rattle.std.specs.List.{list_all, list_any, slice_get}
 use Rattle.std.specs.Option.{option_map_or}
 use Rattle.emu_names.specs.declared.limits.TheConstants.{LABEL_BYTES}
@@ -106,6 +106,20 @@ retimed time item = record { id = item.id; time = time; labels = item.labels }
 abbrev pub relabelled : ℕ → List ℕ → Item → Item
 relabelled attribute label item =
     record { id = item.id; time = item.time; labels = slice_set item.labels attribute label }
+
+-- the labels with empty ones behind, up to so many in all
+abbrev pub padded : ℕ → List (List ℕ) → List (List ℕ)
+padded count labels = labels ++ replicate (count - length labels) []
+
+-- the item on a level of so many attributes, with an empty label for each that it lacks
+abbrev pub widened_item : ℕ → Item → Item
+widened_item attributes item =
+    record { id = item.id; time = item.time; labels = padded attributes item.labels }
+
+-- the level with more attributes, for which its items have empty labels
+abbrev pub widened : ℕ → Level → Level
+widened attributes level =
+    level_of level.kind attributes (map (widened_item attributes) level.items)
 
 -- the item at this position changed, and all others as they are
 abbrev pub change_at : (Item → Item) → ℕ → List Item → List Item

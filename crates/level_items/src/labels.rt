@@ -1,5 +1,6 @@
 //! The labels of an item, which contracts see as a list of texts.
-ghost use Rattle.std.specs.Prelude.{◌≡◌, ◌<◌, ◌==◌, [], ◌∷◌, ◌++◌, length, IfOk, OnOk, OnErr, slice_get, slice_set, Some};
+ghost use Rattle.std.specs.Prelude.{◌≡◌, ◌<◌, ◌==◌, [], ◌∷◌, ◌++◌, length, replicate, IfOk, OnOk, OnErr, slice_get, slice_set, Some};
+ghost use Rattle.level_items.specs.Levels.{padded};
 ghost use Rattle.level_items.specs.Inner.Held.{held_labels};
 
 use emu_names::{Memory, PlainData, Series, Shared, Text};
@@ -117,6 +118,19 @@ impl Labels {
         Ok(Labels { alloc, held })
     }
 
+    /// These labels with empty ones behind, up to so many in all. The only refusal is want of memory.
+    #[tactic(auto, using(crate::proofs::Padded::copied_padded, crate::proofs::Padded::pushed_padded))]
+    pub(crate) fn padded(&self, alloc: Global, count: usize) -> Result<Labels, Memory>
+        ensures { IfOk result (λ made. made ≡ padded count self.now) }
+    {
+        if count <= self.len() {
+            return self.copy(alloc);
+        }
+        let mut made = copied(alloc, self.as_slice(), count)?;
+        push_empty(alloc, &mut made, count - self.len())?;
+        Ok(made)
+    }
+
     /// The same labels again, which shares them. The only refusal is want of memory.
     pub fn copy(&self, alloc: Global) -> Result<Labels, Memory>
         ensures { IfOk result (λ made. made ≡ self.now) }
@@ -143,6 +157,29 @@ impl Held {
             Held::Many(labels) => Ok(Held::Many(labels.copy(alloc)?)),
         }
     }
+}
+
+/// Copies of these labels, with room for so many. The only refusal is want of memory.
+fn copied(alloc: Global, labels: &[Text], count: usize) -> Result<Labels, Memory>
+    ensures { IfOk result (λ made. made ≡ labels.now) }
+{
+    let mut made = Labels::with_capacity(alloc, count)?;
+    for label in labels {
+        made.push(label.copy(alloc)?)?;
+    }
+    Ok(made)
+}
+
+/// Puts so many empty labels last. The only refusal is want of memory, after which some of them may stand
+/// there.
+#[tactic(auto, using(crate::proofs::Padded::empty_none, crate::proofs::Padded::empty_more))]
+fn push_empty(alloc: Global, labels: &mut Labels, count: usize) -> Result<(), Memory>
+    ensures { OnOk result (labels.new ≡ labels.old ++ replicate count []) }
+{
+    for _place in 0..count {
+        labels.push(Text::new(alloc, "")?)?;
+    }
+    Ok(())
 }
 
 /// The list of two labels. The only refusal is want of memory.

@@ -4,17 +4,18 @@
 //! looked up in that map. The place of a new segment or point is found by halving the list, since the
 //! items stand in the order of their first samples. An item is found by its mark: that of a segment or
 //! point is its first sample, by which the list is halved, and that of an item without time its place.
-//! Where an item without time is put in or taken out, those behind it are marked anew.
-ghost use Rattle.std.specs.Prelude.{◌≡◌, ◌<◌, [], length, nat_eq, insert, remove, position, slice_get, Some, IsTrue, ◌↔◌, IfOk, OnOk, OnErr};
-ghost use Rattle.level_items.specs.Levels.{Level, KeepsLevelRule, are_labels_for, change_at, is_short, level_of, new_place, relabelled, retimed, with_items};
+//! Where items without time are put in or taken out, those behind them are a little away from their marks,
+//! and are marked anew once in a while.
+ghost use Rattle.std.specs.Prelude.{◌≡◌, ◌<◌, ◌≤◌, [], length, nat_eq, insert, remove, position, slice_get, Some, IsTrue, ◌↔◌, IfOk, OnOk, OnErr};
+ghost use Rattle.level_items.specs.Levels.{Level, KeepsLevelRule, are_labels_for, change_at, is_short, level_of, new_place, relabelled, retimed, widened, with_items};
 ghost use Rattle.level_items.specs.Faults.{insert_fault, retime_fault};
 ghost use Rattle.emu_names.specs.Inner.Gives.{FindsFault};
 
 use crate::items::Item;
 use crate::marks::Marks;
 use crate::moves::{
-    copied, mark_behind, mark_of, marks_of, place_of_mark, position_near, put_in, retime_passes,
-    set_label_in, set_time_in,
+    copied, mark_of, marks_of, note_moved, place_of_mark, position_near, put_in, retime_passes,
+    set_label_in, set_time_in, widened,
 };
 use crate::places::place_for;
 use crate::times::Time;
@@ -36,6 +37,8 @@ pub struct LevelList {
     attributes: usize,
     items: Vec<Item>,
     marks: Arc<Marks>,
+    /// How far an item may be from its mark.
+    far: usize,
 }
 
 impl Model for LevelList {
@@ -63,6 +66,7 @@ impl LevelList {
             attributes,
             items: Vec::new(alloc),
             marks,
+            far: 0,
         })
     }
 
@@ -82,6 +86,7 @@ impl LevelList {
             attributes,
             items,
             marks,
+            far: 0,
         })
     }
 
@@ -91,6 +96,13 @@ impl LevelList {
         ensures rule { KeepsLevelRule self.now }
     {
         self.items.len()
+    }
+
+    /// How many attributes the level has.
+    pub fn attributes(&self) -> usize
+        ensures { result ≡ self.now.attributes }
+    {
+        self.attributes
     }
 
     /// Whether there is no item.
@@ -121,7 +133,7 @@ impl LevelList {
     {
         let mark = self.marks.as_ref().get(id)?;
         let guess = place_of_mark(self.kind, &self.items, mark);
-        position_near(&self.items, guess, id)
+        position_near(&self.items, guess, self.far, id)
     }
 
     /// Puts an item in, and answers its place. On an ITEM level this is `position`, or the end where none
@@ -144,7 +156,13 @@ impl LevelList {
         let marks = Arc::make_mut(&mut self.marks)?;
         marks.put(item.id, mark_of(place, item.time))?;
         put_in(&mut self.items, place, item);
-        mark_behind(marks, self.kind, &self.items, place);
+        self.far = note_moved(
+            marks,
+            self.kind,
+            &self.items,
+            place.saturating_add(1),
+            self.far,
+        );
         Ok(place)
     }
 
@@ -159,7 +177,7 @@ impl LevelList {
         let marks = Arc::make_mut(&mut self.marks)?;
         let item = self.items.remove(position);
         marks.take_away(item.id);
-        mark_behind(marks, self.kind, &self.items, position);
+        self.far = note_moved(marks, self.kind, &self.items, position, self.far);
         Ok(item)
     }
 
@@ -214,6 +232,24 @@ impl LevelList {
             attributes: self.attributes,
             items,
             marks,
+            far: self.far,
+        })
+    }
+
+    /// The same items on a level of so many attributes, at least as many as there are, with an empty label
+    /// for each new one. The only refusal is want of memory.
+    pub fn widened(&self, alloc: Global, attributes: usize) -> Result<LevelList, Memory>
+        requires { self.now.attributes ≤ attributes }
+        ensures { IfOk result (λ made. made ≡ widened attributes self.now) }
+    {
+        let items = widened(alloc, self.items.as_slice(), attributes)?;
+        let marks = self.marks.clone()?;
+        Ok(LevelList {
+            kind: self.kind,
+            attributes,
+            items,
+            marks,
+            far: self.far,
         })
     }
 }

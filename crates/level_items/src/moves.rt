@@ -1,6 +1,6 @@
 //! Work on the items of a level list, and the marks by which they are found.
-ghost use Rattle.std.specs.Prelude.{◌≡◌, ℕ, ◌+◌, ◌<◌, ◌≤◌, length, nat_eq, insert, position, slice_get, Some, vec_len, vec_capacity, IfOk, OnOk, OnErr, IsTrue};
-ghost use Rattle.level_items.specs.Levels.{change_at, relabelled, retimed, are_different, ids_of};
+ghost use Rattle.std.specs.Prelude.{◌≡◌, ℕ, ◌+◌, ◌<◌, ◌≤◌, length, nat_eq, insert, map, position, slice_get, Some, vec_len, vec_capacity, IfOk, IfSome, OnOk, OnErr, IsTrue};
+ghost use Rattle.level_items.specs.Levels.{change_at, relabelled, retimed, are_different, ids_of, widened_item};
 ghost use Rattle.level_items.specs.Faults.{retime_fault};
 ghost use Rattle.emu_names.specs.Inner.Gives.{FindsFault};
 ghost use Rattle.level_items.specs.Inner.Kept.{AreMarksOf};
@@ -14,6 +14,10 @@ use crate::times::Time;
 use emu_names::{Fault, ItemId, LevelKind, Memory, Text};
 use std::alloc::Global;
 use std::sync::Arc;
+
+/// How far an item without time may be from its mark: one place for each item that was put in or taken out
+/// before it.
+const FAR_FROM_MARK: usize = 256;
 
 /// The mark of an item that is put at this place: its first sample, or the place where it has no time.
 pub(crate) fn mark_of(place: usize, time: Time) -> u64 {
@@ -34,15 +38,31 @@ pub(crate) fn place_of_mark(kind: LevelKind, items: &[Item], mark: u64) -> usize
     }
 }
 
-/// The position of an item, for which `guess` is tried first.
-pub(crate) fn position_near(items: &[Item], guess: usize, id: ItemId) -> Option<usize>
+/// The position of an item, which is looked for in the `far` places on either side of `guess` first.
+pub(crate) fn position_near(items: &[Item], guess: usize, far: usize, id: ItemId) -> Option<usize>
     requires { IsTrue (are_different (ids_of items.now)) }
     ensures { result ≡ position (λ i. nat_eq i.id.0 id.0) items.now }
 {
-    match items.get(guess) {
-        Some(item) if item.id == id => Some(guess),
-        _ => items.iter().position(|item| item.id == id),
+    let last = guess.saturating_add(far);
+    match position_within(items, guess.saturating_sub(far), last, id) {
+        Some(place) => Some(place),
+        None => items.iter().position(|item| item.id == id),
     }
+}
+
+/// The position of an item, where it is one of these places.
+fn position_within(items: &[Item], first: usize, last: usize, id: ItemId) -> Option<usize>
+    requires { IsTrue (are_different (ids_of items.now)) }
+    ensures { IfSome result (λ at. Some at ≡ position (λ i. nat_eq i.id.0 id.0) items.now) }
+{
+    let mut place = first;
+    while place < items.len() && place <= last {
+        if items[place].id == id {
+            return Some(place);
+        }
+        place += 1;
+    }
+    None
 }
 
 /// The marks of these items, for copies to share. The only refusal is want of memory.
@@ -57,15 +77,34 @@ pub(crate) fn marks_of(alloc: Global, items: &[Item]) -> Result<Arc<Marks>, Memo
     Ok(Arc::new(alloc, marks)?)
 }
 
-/// Marks the items of an ITEM level from a place on by where they stand now. The marks of items with
-/// times do not depend on their places.
-pub(crate) fn mark_behind(marks: &mut Marks, kind: LevelKind, items: &[Item], place: usize)
+/// Notes that the items of a level moved from a place on, and answers how far an item may be from its mark
+/// then, which was `far` places before. Only the marks of items without time depend on their places, and
+/// they are renewed once in 256 times, so that a run of changes does not renew them at each.
+pub(crate) fn note_moved(
+    marks: &mut Marks,
+    kind: LevelKind,
+    items: &[Item],
+    place: usize,
+    far: usize,
+) -> usize
     ensures { (q : ℕ) → is_marked marks.new q ≡ is_marked marks.old q }
 {
-    if kind == LevelKind::Item {
-        for at in place..items.len() {
-            marks.renew(items[at].id, at as u64);
-        }
+    if kind != LevelKind::Item || place >= items.len() {
+        return far;
+    }
+    if far < FAR_FROM_MARK {
+        return far + 1;
+    }
+    renew_all(marks, items);
+    0
+}
+
+/// Marks the items of an ITEM level by where they stand now.
+fn renew_all(marks: &mut Marks, items: &[Item])
+    ensures { (q : ℕ) → is_marked marks.new q ≡ is_marked marks.old q }
+{
+    for at in 0..items.len() {
+        marks.renew(items[at].id, at as u64);
     }
 }
 
@@ -118,6 +157,22 @@ pub(crate) fn set_label_in(
     let item = &mut items[position];
     item.labels = item.labels.with(alloc, attribute, label)?;
     Ok(())
+}
+
+/// These items on a level of so many attributes, with empty labels for those that they lack. The only
+/// refusal is want of memory.
+pub(crate) fn widened(alloc: Global, items: &[Item], attributes: usize) -> Result<Vec<Item>, Memory>
+    ensures { IfOk result (λ made. made.items ≡ map (widened_item attributes) items.now) }
+{
+    let mut made = Vec::with_capacity(alloc, items.len())?;
+    for item in items {
+        made.push(Item {
+            id: item.id,
+            time: item.time,
+            labels: item.labels.padded(alloc, attributes)?,
+        })?;
+    }
+    Ok(made)
 }
 
 /// The same items again. The only refusal is want of memory.

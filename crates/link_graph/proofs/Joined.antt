@@ -45,10 +45,10 @@ last_at (b ∷ []) (suc n) link last = let no : ⊥ = omega arith in absurd no
 last_at (b ∷ c ∷ blocks) zero link last = let no : ⊥ = omega arith in absurd no
 last_at (b ∷ c ∷ blocks) (suc n) link last = ap (λ ls. b ++ ls) (last_at (c ∷ blocks) n link (omega arith)) ∙ sym (append_assoc b (joined (c ∷ blocks)) (link ∷ []))
 
-written : (old new : List (List Link)) (len : ℕ) → len ≡ length old → length new ≡ length old → take len (new ++ drop (length new) old) ≡ new
+pub written : (old new : List (List Link)) (len : ℕ) → len ≡ length old → length new ≡ length old → take len (new ++ drop (length new) old) ≡ new
 written old new len all same = ap (λ n. take n (new ++ drop (length new) old)) (all ∙ sym same) ∙ take-append_seam new (drop (length new) old)
 
-on_ok : {T E : Type 0} (r : Result T E) (P Q : Type 0) → (P → Q) → OnOk r P → OnOk r Q
+pub on_ok : {T E : Type 0} (r : Result T E) (P Q : Type 0) → (P → Q) → OnOk r P → OnOk r Q
 on_ok (Ok x) P Q f h = f h
 on_ok (Err e) P Q f h = h
 
@@ -64,7 +64,7 @@ put_written r items old new len count link all same counted some =
 
 -- ---- walks over the blocks
 
-front_is : (blocks : List (List Link)) (i : ℕ) (block : List Link) → i < length blocks → block ≡ get_or blocks i block → drop i blocks ≡ block ∷ drop (suc i) blocks
+pub front_is : (blocks : List (List Link)) (i : ℕ) (block : List Link) → i < length blocks → block ≡ get_or blocks i block → drop i blocks ≡ block ∷ drop (suc i) blocks
 front_is blocks i block within is = drop-cons blocks i block within ∙ ap (λ b. b ∷ drop (suc i) blocks) (sym is)
 
 pub count_more : (blocks : List (List Link)) (i : ℕ) (block : List Link) (total len : ℕ) → i < length blocks → block ≡ get_or blocks i block →

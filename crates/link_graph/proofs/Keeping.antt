@@ -18,7 +18,7 @@ pub none_kept : (links : List Link) (index : Index) → links ≡ [] → Indexes
 unfolding IsDistinct
 none_kept links index is h = rw is (record { apart = tt; limit = omega arith; indexed = h })
 
-joins_like : IsEquivalence (λ (a b : Link). joins a.from a.to b)
+pub joins_like : IsEquivalence (λ (a b : Link). joins a.from a.to b)
 joins_like = record {
   refl = λ x. grind (arith, nat_tests);
   symm = λ x y. grind (arith, nat_tests);

@@ -6,3 +6,6 @@ pub mod Steps
 pub mod Ties
 pub mod Joined
 pub mod Taking
+pub mod Inserted
+pub mod Counted
+pub mod Placed

@@ -1,8 +1,10 @@
 //! Some links that stand behind one another.
-ghost use Rattle.std.specs.Prelude.{◌≡◌, ◌<◌, ◌++◌, ◌∷◌, [], length, not, slice_get, Some, IfOk, OnOk, OnErr};
+ghost use Rattle.std.specs.Prelude.{◌≡◌, ◌<◌, ◌≤◌, ◌++◌, ◌∷◌, [], length, take, drop, insert, not, slice_get, Some, IfOk, OnOk, OnErr, if◌then◌else◌};
 ghost use Rattle.std.specs.List.{filter, list_any};
 ghost use Rattle.link_graph.specs.Link.{joins};
+ghost use Rattle.link_graph.specs.Inner.Ends.{has_end};
 
+use crate::ends::End;
 use crate::link::Link;
 use crate::taken::take_pair;
 use emu_names::{ItemId, Memory};
@@ -58,6 +60,42 @@ impl Block {
         Ok(())
     }
 
+    /// Puts a link at a place, before the link that stands there. The only refusal is want of memory, which
+    /// changes nothing.
+    pub(crate) fn insert(&mut self, place: usize, link: Link) -> Result<(), Memory>
+        requires { place ≤ length self.old }
+        ensures ok { OnOk result (self.new ≡ insert self.old place link) }
+        ensures err { OnErr result (self.new ≡ self.old) }
+    {
+        self.links.insert(place, link)?;
+        Ok(())
+    }
+
+    /// The links from a place on, as a block of their own. The only refusal is want of memory.
+    pub(crate) fn behind(&self, alloc: Global, place: usize) -> Result<Block, Memory>
+        requires { place ≤ length self.now }
+        ensures { IfOk result (λ made. made ≡ drop place self.now) }
+    {
+        let (_front, behind) = self.links.as_slice().split_at(place);
+        let links = Vec::from_slice(alloc, behind)?;
+        Ok(Block { links })
+    }
+
+    /// Lets all links but the first ones go.
+    pub(crate) fn truncate(&mut self, len: usize)
+        ensures { self.new ≡ take len self.old }
+    {
+        self.links.truncate(len);
+    }
+
+    /// How many of the first links lead from an item, or to it; all, where there are not so many.
+    pub(crate) fn count_before(&self, place: usize, end: End, id: ItemId) -> usize
+        ensures count { result ≡ length (filter (has_end end id.0) (take place self.now)) }
+        ensures few { result ≤ length self.now }
+    {
+        count_ends(self.links.as_slice(), place, end, id)
+    }
+
     /// Whether the link of a pair is here.
     pub(crate) fn has(&self, from: ItemId, to: ItemId) -> bool
         ensures { result ≡ list_any (joins from to) self.now }
@@ -79,6 +117,27 @@ impl Block {
         let links = Vec::from_slice(alloc, self.links.as_slice())?;
         Ok(Block { links })
     }
+}
+
+/// How many of the first of these links lead from an item, or to it.
+#[tactic(auto, using(crate::proofs::Counted::counted_more, crate::proofs::Counted::counted_all))]
+fn count_ends(links: &[Link], place: usize, end: End, id: ItemId) -> usize
+    ensures count { result ≡ length (filter (has_end end id.0) (take place links.now)) }
+    ensures few { result ≤ length links.now }
+{
+    let last = place.min(links.len());
+    let mut count = 0;
+    for at in 0..last {
+        count += one_if(end.is_at(links[at], id));
+    }
+    count
+}
+
+/// One where a test passes, else none.
+fn one_if(test: bool) -> usize
+    ensures { result ≡ (if test then 1 else 0) }
+{
+    if test { 1 } else { 0 }
 }
 
 /// Whether the link of a pair is among some links.

@@ -1,11 +1,13 @@
 //! A list of links in blocks, from which a link is taken out without moving all that follow.
-ghost use Rattle.std.specs.Prelude.{◌≡◌, ◌<◌, ◌≤◌, ◌++◌, ◌∷◌, ℕ, [], length, not, true, false, slice_get, slice_set, get_or, Some, IfOk, IfSome, IfNone, OnOk, OnErr};
+ghost use Rattle.std.specs.Prelude.{◌≡◌, ◌<◌, ◌≤◌, ◌+◌, ◌++◌, ◌∷◌, ℕ, [], length, take, insert, not, true, false, slice_get, slice_set, get_or, Some, IfOk, IfSome, IfNone, OnOk, OnErr};
 ghost use Rattle.std.specs.List.{filter, list_any};
-ghost use Rattle.link_graph.specs.Inner.Blocks.{joined};
+ghost use Rattle.link_graph.specs.Inner.Blocks.{joined, IsBlockPlace};
+ghost use Rattle.link_graph.specs.Inner.Ends.{has_end};
 ghost use Rattle.link_graph.specs.Link.{ArePairsApart, joins};
 ghost use Rattle.link_graph.specs.declared.link.Link.{Link as OneLink};
 
 use crate::block::Block;
+use crate::ends::End;
 use crate::link::Link;
 use emu_names::limits::BUNDLE_LINKS;
 use emu_names::{ItemId, Memory};
@@ -86,6 +88,29 @@ impl Blocks {
         put_last(self.alloc, &mut self.blocks, link)
     }
 
+    /// Puts a link at a place, before the link that stands there. The only refusal is want of memory, which
+    /// changes nothing.
+    pub(crate) fn insert(&mut self, place: usize, link: Link) -> Result<(), Memory>
+        requires within { place ≤ length self.old }
+        requires room { length self.old < BUNDLE_LINKS }
+        ensures ok { OnOk result (self.new ≡ insert self.old place link) }
+        ensures err { OnErr result (self.new ≡ self.old) }
+    {
+        put_at(self.alloc, &mut self.blocks, place, link)
+    }
+
+    /// The block that a link at a place stands in, or the number of blocks at the end.
+    pub(crate) fn block_of(&self, place: usize) -> usize {
+        block_at(self.blocks.as_slice(), place).block
+    }
+
+    /// How many of the first links lead from an item, or to it.
+    pub(crate) fn count_before(&self, place: usize, end: End, id: ItemId) -> usize
+        ensures { result ≡ length (filter (has_end end id.0) (take place self.now)) }
+    {
+        count_before(self.blocks.as_slice(), place, end, id)
+    }
+
     /// Takes the link of a pair out, which is looked for at this block first.
     pub(crate) fn take_pair(&mut self, guess: usize, from: ItemId, to: ItemId)
         requires { ArePairsApart self.old }
@@ -156,6 +181,117 @@ fn put_last(alloc: Global, blocks: &mut Vec<Block>, link: Link) -> Result<(), Me
     block.push(link)?;
     blocks.push(block)?;
     Ok(())
+}
+
+/// A place of all blocks.
+#[derive(Drop)]
+struct BlockPlace {
+    /// The block, or the number of blocks.
+    block: usize,
+    /// The place in the block.
+    place: usize,
+}
+
+/// The block that a link at a place of all stands in, and its place there.
+#[tactic(auto, using(crate::proofs::Placed::place_here, crate::proofs::Placed::place_behind, crate::proofs::Placed::place_last))]
+fn block_at(blocks: &[Block], place: usize) -> BlockPlace
+    ensures { IsBlockPlace blocks.now place result }
+{
+    let mut rest = place;
+    for block in 0..blocks.len() {
+        if rest <= blocks[block].len() {
+            return BlockPlace { block, place: rest };
+        }
+        rest -= blocks[block].len();
+    }
+    BlockPlace {
+        block: blocks.len(),
+        place: rest,
+    }
+}
+
+/// Puts a link at a place of a block.
+fn insert_at(blocks: &mut [Block], at: usize, place: usize, link: Link) -> Result<(), Memory>
+    requires block { at < length blocks.old }
+    requires place { place ≤ length (get_or blocks.old at []) }
+    ensures ok { OnOk result (blocks.new
+        ≡ slice_set blocks.old at (insert (get_or blocks.old at []) place link)) }
+    ensures err { OnErr result (blocks.new ≡ blocks.old) }
+{
+    blocks[at].insert(place, link)
+}
+
+/// Puts a link at a place of all blocks.
+#[tactic(auto, using(crate::proofs::Placed::last_inserted, crate::proofs::Placed::block_put, crate::proofs::Placed::found_block, crate::proofs::Placed::found_place))]
+fn put_at(alloc: Global, blocks: &mut Vec<Block>, place: usize, link: Link) -> Result<(), Memory>
+    requires { place ≤ length (joined blocks.old.items) }
+    ensures ok { OnOk result (joined blocks.new.items ≡ insert (joined blocks.old.items) place link) }
+    ensures err { OnErr result (joined blocks.new.items ≡ joined blocks.old.items) }
+{
+    let found = block_at(blocks.as_slice(), place);
+    if found.block == blocks.len() {
+        return put_last(alloc, blocks, link);
+    }
+    put_in(alloc, blocks, found.block, found.place, link)
+}
+
+/// Puts a link at a place of a block, which is cut in two where it is long then.
+#[tactic(auto, using(crate::proofs::Placed::inserted_written))]
+fn put_in(
+    alloc: Global,
+    blocks: &mut Vec<Block>,
+    at: usize,
+    place: usize,
+    link: Link,
+) -> Result<(), Memory>
+    requires block { at < length blocks.old.items }
+    requires place { place ≤ length (get_or blocks.old.items at []) }
+    ensures ok { OnOk result (joined blocks.new.items
+        ≡ insert (joined blocks.old.items) (length (joined (take at blocks.old.items)) + place) link) }
+    ensures err { OnErr result (joined blocks.new.items ≡ joined blocks.old.items) }
+{
+    insert_at(blocks, at, place, link)?;
+    cut_long(alloc, blocks, at);
+    Ok(())
+}
+
+/// Cuts a block in two where it is too long. Where memory is wanting it stays long.
+#[tactic(auto, using(crate::proofs::Placed::cut_written))]
+fn cut_long(alloc: Global, blocks: &mut Vec<Block>, at: usize)
+    requires { at < length blocks.old.items }
+    ensures { joined blocks.new.items ≡ joined blocks.old.items }
+{
+    if blocks[at].len() <= BLOCK_LINKS {
+        return;
+    }
+    if let Ok(behind) = blocks[at].behind(alloc, BLOCK_LINKS / 2) {
+        if blocks.insert(at + 1, behind).is_ok() {
+            truncate_at(blocks, at, BLOCK_LINKS / 2);
+        }
+    }
+}
+
+/// Lets all links of a block but the first ones go.
+fn truncate_at(blocks: &mut [Block], at: usize, len: usize)
+    requires { at < length blocks.old }
+    ensures { blocks.new ≡ slice_set blocks.old at (take len (get_or blocks.old at [])) }
+{
+    blocks[at].truncate(len);
+}
+
+/// How many of the first links of all blocks lead from an item, or to it.
+#[tactic(auto, using(crate::proofs::Counted::block_counted, crate::proofs::Counted::filter_few))]
+fn count_before(blocks: &[Block], place: usize, end: End, id: ItemId) -> usize
+    requires { length (joined blocks.now) ≤ BUNDLE_LINKS }
+    ensures { result ≡ length (filter (has_end end id.0) (take place (joined blocks.now))) }
+{
+    let mut total = 0;
+    let mut rest = place;
+    for block in blocks {
+        total += block.count_before(rest, end, id);
+        rest = rest.saturating_sub(block.len());
+    }
+    total
 }
 
 /// The block with the link of a pair, for which `guess` is tried first.

@@ -1,5 +1,5 @@
 //! The links of each item, by the item's id, each list in the order in which it grew.
-ghost use Rattle.std.specs.Prelude.{◌≡◌, ◌==◌, ◌++◌, ◌∷◌, ℕ, [], IfOk, OnOk, OnErr, not, if◌then◌else◌};
+ghost use Rattle.std.specs.Prelude.{◌≡◌, ◌==◌, ◌++◌, ◌∷◌, ℕ, [], insert, IfOk, OnOk, OnErr, not, if◌then◌else◌};
 ghost use Rattle.std.specs.List.{filter};
 ghost use Rattle.link_graph.specs.Inner.Index.{links_at, links_of};
 ghost use Rattle.link_graph.specs.Link.{joins, names_item};
@@ -57,6 +57,16 @@ impl ByItem {
     {
         let links = self.lists.entry(at.0)?.or_insert(ItemLinks::Empty);
         links.push(self.alloc, link)
+    }
+
+    /// Puts a link at a place of those of an item. The only refusal is want of memory, which changes nothing.
+    pub(crate) fn insert(&mut self, at: ItemId, place: usize, link: Link) -> Result<(), Memory>
+        ensures ok { OnOk result ((id : ℕ) → links_at self.new id
+            ≡ (if at.0 == id then insert (links_at self.old id) place link else links_at self.old id)) }
+        ensures err { OnErr result ((id : ℕ) → links_at self.new id ≡ links_at self.old id) }
+    {
+        let links = self.lists.entry(at.0)?.or_insert(ItemLinks::Empty);
+        links.insert(self.alloc, place, link)
     }
 
     /// Takes the links at an item out that lead from `from` to `to`.

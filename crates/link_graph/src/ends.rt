@@ -1,6 +1,7 @@
 //! The items at the other ends of an item's links.
 ghost use Rattle.std.specs.Prelude.{◌≡◌, map};
 ghost use Rattle.std.specs.Iterator.{YieldsFirst, item_count};
+ghost use Rattle.link_graph.specs.Inner.Ends.{has_end};
 
 use crate::link::Link;
 use emu_names::ItemId;
@@ -11,6 +12,18 @@ use std::marker::Model;
 pub(crate) enum End {
     From,
     To,
+}
+
+impl End {
+    /// Whether a link has this item at this end.
+    pub(crate) fn is_at(self, link: Link, id: ItemId) -> bool
+        ensures { result ≡ has_end self id.0 link }
+    {
+        match self {
+            End::From => link.from == id,
+            End::To => link.to == id,
+        }
+    }
 }
 
 /// The ids of the items at the other ends of an item's links, in the order in which the links were

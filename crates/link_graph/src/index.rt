@@ -1,5 +1,5 @@
 //! What a list of links is asked for, found without a walk over the list.
-ghost use Rattle.std.specs.Prelude.{◌≡◌, ◌==◌, ◌&&◌, ◌++◌, ◌∷◌, ℕ, List, [], IfOk, OnOk, OnErr, not, false, length};
+ghost use Rattle.std.specs.Prelude.{◌≡◌, ◌==◌, ◌&&◌, ◌++◌, ◌∷◌, ℕ, List, [], insert, IfOk, OnOk, OnErr, not, false, length};
 ghost use Rattle.std.specs.List.{filter, list_any};
 ghost use Rattle.link_graph.specs.declared.link.Link.{Link};
 ghost use Rattle.link_graph.specs.Index.{is_pair};
@@ -8,6 +8,7 @@ ghost use Rattle.link_graph.specs.Link.{joins, names_item};
 
 use crate::blocks::Blocks;
 use crate::by_item::ByItem;
+use crate::ends::End;
 use crate::link::Link;
 use crate::pairs::Pairs;
 use emu_names::{ItemId, Memory};
@@ -58,6 +59,30 @@ impl Index {
             return Err(Memory);
         }
         if self.up.push(link.to, link).is_err() {
+            self.pairs.remove(link.from, link.to);
+            self.down.remove(link.from, link.from, link.to);
+            return Err(Memory);
+        }
+        Ok(())
+    }
+
+    /// Adds a link that will be put at a place, whose pair of ids is not there. The only refusal is want of
+    /// memory, after which the index is that of the same list.
+    pub(crate) fn add_at(&mut self, links: &Blocks, place: usize, link: Link) -> Result<(), Memory>
+        requires indexed { Indexes self.old links.now }
+        requires apart { list_any (joins link.from link.to) links.now ≡ false }
+        ensures ok { OnOk result (Indexes self.new (insert links.now place link)) }
+        ensures err { OnErr result (Indexes self.new links.now) }
+    {
+        let down = links.count_before(place, End::From, link.from);
+        let up = links.count_before(place, End::To, link.to);
+        self.pairs
+            .insert(link.from, link.to, links.block_of(place))?;
+        if self.down.insert(link.from, down, link).is_err() {
+            self.pairs.remove(link.from, link.to);
+            return Err(Memory);
+        }
+        if self.up.insert(link.to, up, link).is_err() {
             self.pairs.remove(link.from, link.to);
             self.down.remove(link.from, link.from, link.to);
             return Err(Memory);

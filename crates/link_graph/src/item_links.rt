@@ -1,5 +1,5 @@
 //! The links of one item.
-ghost use Rattle.std.specs.Prelude.{◌≡◌, ◌++◌, ◌∷◌, [], IfOk, OnOk, OnErr, not};
+ghost use Rattle.std.specs.Prelude.{◌≡◌, ◌++◌, ◌∷◌, [], insert, IfOk, OnOk, OnErr, not};
 ghost use Rattle.std.specs.List.{filter};
 ghost use Rattle.link_graph.specs.Inner.Index.{links_of};
 ghost use Rattle.link_graph.specs.Link.{joins, names_item};
@@ -43,6 +43,21 @@ impl ItemLinks {
             ItemLinks::Empty => *self = ItemLinks::One(link),
             ItemLinks::One(first) => *self = ItemLinks::Many(both(alloc, *first, link)?),
             ItemLinks::Many(links) => links.push(link)?,
+        }
+        Ok(())
+    }
+
+    /// Puts a link at a place, before the link that stands there; last, where there are not so many. The only
+    /// refusal is want of memory, which changes nothing.
+    #[tactic(auto, using(crate::proofs::Inserted::insert_none))]
+    pub(crate) fn insert(&mut self, alloc: Global, place: usize, link: Link) -> Result<(), Memory>
+        ensures ok { OnOk result (links_of self.new ≡ insert (links_of self.old) place link) }
+        ensures err { OnErr result (links_of self.new ≡ links_of self.old) }
+    {
+        match self {
+            ItemLinks::Empty => *self = ItemLinks::One(link),
+            ItemLinks::One(other) => *self = ItemLinks::Many(in_order(alloc, *other, place, link)?),
+            ItemLinks::Many(links) => insert_near(links, place, link)?,
         }
         Ok(())
     }
@@ -101,4 +116,27 @@ fn both(alloc: Global, first: Link, second: Link) -> Result<Box<Vec<Link>>, Memo
 {
     let links = Vec::from_slice(alloc, &[first, second])?;
     Ok(Box::new(alloc, links)?)
+}
+
+/// A list of a link and another one, which stands at a place. The only refusal is want of memory.
+#[tactic(auto, using(crate::proofs::Inserted::insert_behind))]
+fn in_order(alloc: Global, link: Link, place: usize, other: Link) -> Result<Box<Vec<Link>>, Memory>
+    ensures { IfOk result (λ made. made.value.items ≡ insert (link ∷ []) place other) }
+{
+    if place == 0 {
+        return both(alloc, other, link);
+    }
+    both(alloc, link, other)
+}
+
+/// Puts a link at a place, or last where there are not so many links. The only refusal is want of memory,
+/// which changes nothing.
+#[tactic(auto, using(crate::proofs::Inserted::insert_least))]
+fn insert_near(links: &mut Vec<Link>, place: usize, link: Link) -> Result<(), Memory>
+    ensures ok { OnOk result (links.new.items ≡ insert links.old.items place link) }
+    ensures err { OnErr result (links.new.items ≡ links.old.items) }
+{
+    let at = place.min(links.len());
+    links.insert(at, link)?;
+    Ok(())
 }

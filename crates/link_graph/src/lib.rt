@@ -15,7 +15,8 @@ mod taken;
 
 pub use ends::Ends;
 pub use laws::{
-    added_links_keep_kinds, kept_links_keep_kinds, links_that_fit_are_added, no_links_keep_kinds,
+    added_links_keep_kinds, inserted_links_keep_kinds, kept_links_keep_kinds,
+    links_that_fit_are_added, no_links_keep_kinds,
 };
 pub use link::Link;
 pub use links::Links;

@@ -1,5 +1,5 @@
 //! The links of a bundle: a list in the order of adding, in which no pair of ids stands twice.
-ghost use Rattle.std.specs.Prelude.{◌≡◌, ◌<◌, ◌≤◌, ◌↔◌, ◌==◌, ◌++◌, ◌∷◌, [], length, slice_get, Some, None, not, true, false, IfOk, OnOk, OnErr, IsOk, IsErrOf, ◌+◌, vec_len, vec_capacity};
+ghost use Rattle.std.specs.Prelude.{◌≡◌, ◌<◌, ◌≤◌, ◌↔◌, ◌==◌, ◌++◌, ◌∷◌, [], insert, length, slice_get, Some, None, not, true, false, IfOk, OnOk, OnErr, IsOk, IsErrOf, ◌+◌, vec_len, vec_capacity};
 ghost use Rattle.std.specs.List.{filter, find, list_any};
 ghost use Rattle.emu_names.specs.declared.rules.Broken.{Broken as Rule};
 ghost use Rattle.link_graph.specs.Link.{ArePairsApart, joins, names_item, children_of, parent_fault, child_fault, add_fault, link_of};
@@ -111,6 +111,36 @@ impl Links {
         }
     }
 
+    /// Puts a link at a place, before the link that stands there. The refusals are those of `add`, and after
+    /// one nothing has changed.
+    pub fn add_at(
+        &mut self,
+        place: usize,
+        definition: u32,
+        kind: LinkKind,
+        from: ItemId,
+        to: ItemId,
+    ) -> Result<(), Fault>
+        requires { place ≤ length self.old }
+        ensures ok { OnOk result (self.new ≡ insert self.old place (link_of definition from to)) }
+        ensures fits { OnOk result (add_fault kind definition from to self.old ≡ None) }
+        ensures broken { (rule : Rule) → result ≡ Err (Fault.Broken rule)
+            → add_fault kind definition from to self.old ≡ Some rule }
+        ensures err { OnErr result (self.new ≡ self.old) }
+    {
+        match self.fault(definition, kind, from, to) {
+            Some(rule) => Err(Fault::Broken(rule)),
+            None => Ok(self.put_at(
+                place,
+                Link {
+                    definition,
+                    from,
+                    to,
+                },
+            )?),
+        }
+    }
+
     /// Takes the link of a pair out; the links behind it move up. `NoLink` comes exactly where the
     /// pair is not there.
     pub fn remove(&mut self, from: ItemId, to: ItemId) -> Result<(), Fault>
@@ -146,8 +176,8 @@ impl Links {
         Ok(Links { links, index })
     }
 
-    /// The first rule that a new link breaks.
-    fn fault(&self, definition: u32, kind: LinkKind, from: ItemId, to: ItemId) -> Option<Broken>
+    /// The first rule that a new link breaks, in the order of `add`.
+    pub fn fault(&self, definition: u32, kind: LinkKind, from: ItemId, to: ItemId) -> Option<Broken>
         ensures { result ≡ add_fault kind definition from to self.now }
     {
         if self.index.pairs.has(from, to) {
@@ -192,6 +222,25 @@ impl Links {
     {
         self.index.add(&self.links, link)?;
         match self.links.push(link) {
+            Ok(()) => Ok(()),
+            Err(fault) => {
+                self.index.remove(link.from, link.to);
+                Err(fault)
+            }
+        }
+    }
+
+    /// Puts a link at a place, whose pair of ids is not there. The only refusal is want of memory, which
+    /// changes nothing.
+    fn put_at(&mut self, place: usize, link: Link) -> Result<(), Memory>
+        requires within { place ≤ length self.old }
+        requires apart { list_any (joins link.from link.to) self.old ≡ false }
+        requires room { length self.old < BUNDLE_LINKS }
+        ensures ok { OnOk result (self.new ≡ insert self.old place link) }
+        ensures err { OnErr result (self.new ≡ self.old) }
+    {
+        self.index.add_at(&self.links, place, link)?;
+        match self.links.insert(place, link) {
             Ok(()) => Ok(()),
             Err(fault) => {
                 self.index.remove(link.from, link.to);

@@ -2,7 +2,7 @@
 use Rattle.std.proofs.Common.{◌≡◌, ◌⊎◌, inl, inr, ⊎_elim, ℕ, ◌≤◌, List, [], ◌∷◌, ◌++◌, length, Option, None, Result, Ok, Err, IsErrOf, true, refl, sym, ◌∙◌, ap, subst, arith, length-append}
 use Rattle.emu_names.specs.Count.{Rose}
 use Rattle.db_config.specs.declared.parts.ConfigParts.{ConfigParts}
-use Rattle.edit_rules.specs.declared.edit.Entry.{Entry}
+use Rattle.edit_rules.specs.declared.acts.Entry.{Entry}
 use Rattle.edit_journal.specs.declared.journal.Journal.{Journal}
 use Rattle.version_gate.specs.Lists.{entry}
 use Rattle.version_tree.specs.Version.{VersionParts}
@@ -20,7 +20,7 @@ none_of fault = Err fault
 
 reaches_as : (fault : EditFault) → Reaches (none_of fault) → Reaches {T = ℕ} (Err fault)
 reaches_as (edit_faults.HistoryFull n) is = is
-reaches_as (edit_faults.Broken rule n) is = is
+reaches_as (edit_faults.Broken breach n) is = is
 reaches_as (edit_faults.StoreFull n) is = is
 reaches_as edit_faults.Disk is = is
 reaches_as edit_faults.Memory is = is

@@ -5,13 +5,12 @@ use Rattle.std.specs.List.{slice_get}
 use Rattle.std.proofs.lemmas.List.{take-append-le, drop-append-le}
 use Rattle.std.proofs.lemmas.Option.{slice_get-get_or}
 use Rattle.std.proofs.Math.Seq.{get_or-append_seam, take-append_seam}
-use Rattle.emu_names.specs.declared.rules.Fault.{Fault}
-use Rattle.emu_names.specs.declared.rules.Fault.TheVariants as faults
 use Rattle.db_config.specs.declared.parts.ConfigParts.{ConfigParts}
-use Rattle.db_config.specs.Valid.{is_valid}
-use Rattle.edit_rules.specs.declared.edit.Entry.{Entry}
+use Rattle.edit_rules.specs.declared.acts.ChangeFault.{ChangeFault}
+use Rattle.edit_rules.specs.declared.acts.ChangeFault.TheVariants as faults
+use Rattle.edit_rules.specs.declared.acts.Entry.{Entry}
 use Rattle.edit_rules.specs.Effects.{effect}
-use Rattle.edit_rules.specs.Inner.Effects.{IsFirstFault}
+use Rattle.edit_rules.specs.Inner.Effects.{IsFirstBreach}
 use Rattle.emu_disk.proofs.Moments.{weaker}
 use Rattle.edit_journal.specs.declared.journal.Journal.{Journal}
 use Rattle.edit_journal.specs.Held.{disk_of}
@@ -25,9 +24,10 @@ use Rattle.live_book.specs.declared.fault.EditFault.TheVariants as edit_faults
 use Rattle.live_book.specs.declared.published.Published.{Published}
 use Rattle.live_book.specs.Published.{IsStateAfter, IsShown, AreShown}
 use Rattle.live_book.specs.Kept.{BookParts, KeepsIn, IsAsBefore, CrashLeaves}
-use Rattle.live_book.specs.Inner.Kept.{DuringStore, Holding, IsBookOf}
+use Rattle.live_book.specs.Inner.Kept.{DuringStore, HasConfigSince, Holding, IsBookOf, since_behind}
 use Rattle.live_book.specs.Commits.{has_journal, HasRoom, BreaksNone, IsTooMuch, IsWelcome, IsAnswer, LeavesKept, DuringCommit, Commits}
 use Rattle.live_book.specs.Inner.Prepared.{MayFollowIn, HasRoomFor, HoldsSome, IsReady, refusal_of}
+use Rattle.live_book.proofs.Configs.{settled_behind}
 use Rattle.live_book.proofs.States.{edited_as}
 use Rattle.live_book.proofs.Storing.{quiet}
 use Rattle.live_book.proofs.Showing.{shown-push}
@@ -35,20 +35,20 @@ use Rattle.live_book.proofs.Showing.{shown-push}
 -- Before the disk is called.
 
 module _ (config : ConfigParts) (history : List Entry) (next : Entry) (version : VersionParts) (state : IsStateAfter config history version) where
-  pub breaks_none : (new : VersionParts) → effect (state_of version) next.edit ≡ Ok (state_of new) → BreaksNone config history next.edit
+  pub breaks_none : (new : VersionParts) → effect (state_of version) next.act ≡ Ok (state_of new) → BreaksNone config history next.act
   breaks_none new is = (state_of new, edited_as config history next version state (Ok (state_of new)) is)
 
   -- a refusal by a rule
-  pub refused : (stored : Bool) (fault : Fault) (n : ℕ) → n ≡ length history → HasRoom history → IsFirstFault fault (effect (state_of version) next.edit) → IsAnswer stored config history next (Err (refusal_of fault n))
-  refused stored (faults.Broken rule) n is room broken = (is, room, edited_as config history next version state (Err rule) broken)
+  pub refused : (stored : Bool) (fault : ChangeFault) (n : ℕ) → n ≡ length history → HasRoom history → IsFirstBreach fault (effect (state_of version) next.act) → IsAnswer stored config history next (Err (refusal_of fault n))
+  refused stored (faults.Broken breach) n is room broken = (is, room, edited_as config history next version state (Err breach) broken)
   refused stored faults.Memory n is room broken = tt
 
-pub no_disk : (fault : Fault) (n : ℕ) → IsErrOf {T = ℕ} (Err (refusal_of fault n)) edit_faults.Disk → ⊥
-no_disk (faults.Broken rule) n is = absurd cc
+pub no_disk : (fault : ChangeFault) (n : ℕ) → IsErrOf {T = ℕ} (Err (refusal_of fault n)) edit_faults.Disk → ⊥
+no_disk (faults.Broken breach) n is = absurd cc
 no_disk faults.Memory n is = absurd cc
 
 -- the store is full
-pub store_full : (stored : Bool) (config : ConfigParts) (history : List Entry) (next : Entry) (n : ℕ) → n ≡ length history → HasRoom history → BreaksNone config history next.edit → IsTooMuch stored config history next
+pub store_full : (stored : Bool) (config : ConfigParts) (history : List Entry) (next : Entry) (n : ℕ) → n ≡ length history → HasRoom history → BreaksNone config history next.act → IsTooMuch stored config history next
     → IsAnswer stored config history next (Err (edit_faults.StoreFull n))
 store_full stored config history next n is room none much = (is, room, none, much)
 
@@ -109,7 +109,7 @@ follows_in config history (Some journal) ready room is = record {
 pub put_right : (stored : Bool) (config : ConfigParts) (history : List Entry) (next : Entry) (fault : EditFault) → IsErrOf {T = Unit {0}} (Err fault) edit_faults.Disk ⊎ IsErrOf {T = Unit {0}} (Err fault) edit_faults.Memory
     → (IsErrOf {T = Unit {0}} (Err fault) edit_faults.Disk → stored ≡ true) → IsWelcome stored config history next → IsAnswer stored config history next (Err fault)
 put_right stored config history next (edit_faults.HistoryFull n) which only welcome = absurd (⊎_elim (λ d. cc) (λ m. cc) which)
-put_right stored config history next (edit_faults.Broken rule n) which only welcome = absurd (⊎_elim (λ d. cc) (λ m. cc) which)
+put_right stored config history next (edit_faults.Broken breach n) which only welcome = absurd (⊎_elim (λ d. cc) (λ m. cc) which)
 put_right stored config history next (edit_faults.StoreFull n) which only welcome = absurd (⊎_elim (λ d. cc) (λ m. cc) which)
 put_right stored config history next edit_faults.Disk which only welcome = (only refl, welcome)
 put_right stored config history next edit_faults.Memory which only welcome = tt
@@ -118,7 +118,7 @@ module _ {D : Type 0} (may_leave : D → List ℕ → Type 0) where
   pub put_kept : (config : ConfigParts) (history : List Entry) (lost : Option Entry) (next : Entry) (old new : Option (Journal D)) (fault : EditFault) → IsErrOf {T = Unit {0}} (Err fault) edit_faults.Disk ⊎ IsErrOf {T = Unit {0}} (Err fault) edit_faults.Memory
       → (IsErrOf {T = Unit {0}} (Err fault) edit_faults.Memory → new ≡ old) → KeepsIn may_leave config history lost old → IsAsBefore may_leave config history lost next new → LeavesKept may_leave config history lost next (Err fault) new
   put_kept config history lost next old new (edit_faults.HistoryFull n) which still keeps before = absurd (⊎_elim (λ d. cc) (λ m. cc) which)
-  put_kept config history lost next old new (edit_faults.Broken rule n) which still keeps before = absurd (⊎_elim (λ d. cc) (λ m. cc) which)
+  put_kept config history lost next old new (edit_faults.Broken breach n) which still keeps before = absurd (⊎_elim (λ d. cc) (λ m. cc) which)
   put_kept config history lost next old new (edit_faults.StoreFull n) which still keeps before = absurd (⊎_elim (λ d. cc) (λ m. cc) which)
   put_kept config history lost next old new edit_faults.Disk which still keeps before = before
   put_kept config history lost next old new edit_faults.Memory which still keeps before = subst (KeepsIn may_leave config history lost) (sym (still refl)) keeps
@@ -126,18 +126,19 @@ module _ {D : Type 0} (may_leave : D → List ℕ → Type 0) where
   -- where the disk is not called, all is as before
   pub quiet_kept : (config : ConfigParts) (history : List Entry) (lost : Option Entry) (next : Entry) (journal : Option (Journal D)) (fault : EditFault) → (IsErrOf {T = ℕ} (Err fault) edit_faults.Disk → ⊥) → KeepsIn may_leave config history lost journal → LeavesKept may_leave config history lost next (Err fault) journal
   quiet_kept config history lost next journal (edit_faults.HistoryFull n) not keeps = keeps
-  quiet_kept config history lost next journal (edit_faults.Broken rule n) not keeps = keeps
+  quiet_kept config history lost next journal (edit_faults.Broken breach n) not keeps = keeps
   quiet_kept config history lost next journal (edit_faults.StoreFull n) not keeps = keeps
   quiet_kept config history lost next journal edit_faults.Disk not keeps = absurd (not refl)
   quiet_kept config history lost next journal edit_faults.Memory not keeps = keeps
 
-  module _ (current : Published) (entries : List Entry) (opened : ℕ) (board : Board Published) (old new : Option (Journal D)) (book : IsBookOf may_leave current entries opened board old) where
+  module _ (own : ConfigParts) (current : Published) (entries : List Entry) (opened since : ℕ) (board : Board Published) (old new : Option (Journal D)) (book : IsBookOf may_leave own current entries opened since board old) where
     -- the book behind a refusal
-    pub book_err : (entries' : List Entry) → entries' ≡ entries → Holding may_leave current.version.config entries new → IsBookOf may_leave current entries' opened board new
-    book_err entries' same held = subst (λ (h : List Entry). IsBookOf may_leave current h opened board new) (sym same) (record {
+    pub book_err : (entries' : List Entry) → entries' ≡ entries → Holding may_leave own entries new → IsBookOf may_leave own current entries' opened since board new
+    book_err entries' same held = subst (λ (h : List Entry). IsBookOf may_leave own current h opened since board new) (sym same) (record {
       valid = book.valid;
       few = book.few;
       opened_some = book.opened_some;
+      settled = book.settled;
       number = book.number;
       state = book.state;
       shown = book.shown;
@@ -146,37 +147,37 @@ module _ {D : Type 0} (may_leave : D → List ℕ → Type 0) where
     })
 
     -- and behind an accepted entry
-    pub book_ok : (ready : Ready) (next : Published) (entries' : List Entry) (board' : Board Published) → IsReady old current.version.config entries ready → HasRoom entries → next ≡ arc_value ready.next
-        → entries' ≡ entries ++ ready.entry ∷ [] → board'.number ≡ length entries' → board'.list ≡ board.list ++ entry (length entries') (arc_value ready.next) ∷ []
-        → KeepsIn may_leave current.version.config (entries ++ ready.entry ∷ []) None new → IsBookOf may_leave next entries' opened board' new
-    book_ok ready next entries' board' is room same pushed number list keeps =
-        let c : ConfigParts = current.version.config in
+    pub book_ok : (ready : Ready) (next : Published) (entries' : List Entry) (since' : ℕ) (board' : Board Published) → IsReady old own entries ready → HasRoom entries → next ≡ arc_value ready.next
+        → entries' ≡ entries ++ ready.entry ∷ [] → since' ≡ since_behind ready.entry.act since (length entries) → board'.number ≡ length entries' → board'.list ≡ board.list ++ entry (length entries') (arc_value ready.next) ∷ []
+        → KeepsIn may_leave own (entries ++ ready.entry ∷ []) None new → IsBookOf may_leave own next entries' opened since' board' new
+    book_ok ready next entries' since' board' is room same pushed from number list keeps =
         let more : List Entry = entries ++ ready.entry ∷ [] in
         let v : Published = arc_value ready.next in
         let long : length more ≡ length entries + 1 = length-append entries (ready.entry ∷ []) in
-        let own : v.version.config ≡ c = is.config in
         let low = book.opened_some in
         let front : take opened more ≡ take opened entries = take-append-le opened entries (ready.entry ∷ []) low in
         let back : drop opened more ≡ drop opened entries ++ ready.entry ∷ [] = drop-append-le opened entries (ready.entry ∷ []) low in
-        let shown : IsShown c more (Some ready.entry) (entry (length more) v) = record { number = refl; version = is.version; last = is.last } in
-        let whole : AreShown c (take opened entries) (drop opened entries ++ ready.entry ∷ []) (board.list ++ entry (length more) v ∷ []) =
-        shown-push c (take opened entries) (drop opened entries) ready.entry board.list (entry (length more) v) book.shown
-        (subst (λ (h : List Entry). IsShown c (h ++ ready.entry ∷ []) (Some ready.entry) (entry (length more) v)) (sym (take-append-drop opened entries)) shown) in
-        let all : AreShown c (take opened more) (drop opened more) (board.list ++ entry (length more) v ∷ []) =
-        subst (λ (h : List Entry). AreShown c h (drop opened more) (board.list ++ entry (length more) v ∷ [])) (sym front)
-        (subst (λ (h : List Entry). AreShown c (take opened entries) h (board.list ++ entry (length more) v ∷ [])) (sym back) whole) in
+        let shown : IsShown own more (Some ready.entry) (entry (length more) v) = record { number = refl; version = is.version; last = is.last } in
+        let whole : AreShown own (take opened entries) (drop opened entries ++ ready.entry ∷ []) (board.list ++ entry (length more) v ∷ []) =
+        shown-push own (take opened entries) (drop opened entries) ready.entry board.list (entry (length more) v) book.shown
+        (subst (λ (h : List Entry). IsShown own (h ++ ready.entry ∷ []) (Some ready.entry) (entry (length more) v)) (sym (take-append-drop opened entries)) shown) in
+        let all : AreShown own (take opened more) (drop opened more) (board.list ++ entry (length more) v ∷ []) =
+        subst (λ (h : List Entry). AreShown own h (drop opened more) (board.list ++ entry (length more) v ∷ [])) (sym front)
+        (subst (λ (h : List Entry). AreShown own (take opened entries) h (board.list ++ entry (length more) v ∷ [])) (sym back) whole) in
         let listed : board'.list ≡ board.list ++ entry (length more) v ∷ [] = list ∙ ap (λ (h : List Entry). board.list ++ entry (length h) v ∷ []) pushed in
-        subst (λ (p : Published). IsBookOf may_leave p entries' opened board' new) (sym same)
-        (subst (λ (h : List Entry). IsBookOf may_leave v h opened board' new) (sym pushed) (record {
-          valid = subst (λ (k : ConfigParts). IsTrue (is_valid k)) (sym own) book.valid;
+        let settled : HasConfigSince own more (since_behind ready.entry.act since (length entries)) v.version.config =
+        settled_behind own entries ready.entry since current.version v.version book.state is.version book.settled in
+        subst (λ (p : Published). IsBookOf may_leave own p entries' opened since' board' new) (sym same)
+        (subst (λ (h : List Entry). IsBookOf may_leave own v h opened since' board' new) (sym pushed) (record {
+          valid = book.valid;
           few = omega (arith, long, room);
           opened_some = omega (arith, long, low);
+          settled = subst (λ (n : ℕ). HasConfigSince own more n v.version.config) (sym from) settled;
           number = number ∙ ap length pushed;
-          state = subst (λ (k : ConfigParts). IsStateAfter k more v.version) (sym own) is.version;
-          shown = subst (λ (k : ConfigParts). AreShown k (take opened more) (drop opened more) board'.list) (sym own)
-              (subst (λ (l : List (Numbered Published)). AreShown c (take opened more) (drop opened more) l) (sym listed) all);
+          state = is.version;
+          shown = subst (λ (l : List (Numbered Published)). AreShown own (take opened more) (drop opened more) l) (sym listed) all;
           last = (board.list, listed);
-          held = (None, subst (λ (k : ConfigParts). KeepsIn may_leave k more None new) (sym own) keeps);
+          held = (None, keeps);
         }))
 
   -- A refusal before the disk is called.

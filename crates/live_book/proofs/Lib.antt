@@ -1,6 +1,6 @@
 pub mod States
 mod Codes
-mod Configs
+pub mod Configs
 mod Ahead
 pub mod Storing
 mod Showing

@@ -4,7 +4,7 @@ use Rattle.std.proofs.lemmas.List.{append-nil}
 use mathlib.Core.List.{IsPrefix}
 use Rattle.emu_names.specs.Count.{RoseBy}
 use Rattle.db_config.specs.declared.parts.ConfigParts.{ConfigParts}
-use Rattle.edit_rules.specs.declared.edit.Entry.{Entry}
+use Rattle.edit_rules.specs.declared.acts.Entry.{Entry}
 use Rattle.edit_journal.specs.declared.journal.Journal.{Journal}
 use Rattle.version_gate.specs.declared.entry.Entry.{Entry as Numbered}
 use Rattle.version_gate.specs.Lists.{Numbered as IsNumbered}
@@ -73,7 +73,7 @@ module _ {D : Type 0} (may_leave : D → List ℕ → Type 0) (faults : D → �
       → Commits may_leave moment left_since faults one next result other → old ≡ faults_in faults one.journal → new ≡ faults_in faults other.journal → RoseBy refused before old → RoseBy (refused_behind refused result) before new
   rose_behind refused before old new moment left_since one next (Ok n) other c is to rose = let later = c.later in omega (arith, later, is, to, rose)
   rose_behind refused before old new moment left_since one next (Err (edit_faults.HistoryFull n)) other c is to rose = let later = c.later in omega (arith, later, is, to, rose)
-  rose_behind refused before old new moment left_since one next (Err (edit_faults.Broken rule n)) other c is to rose = let later = c.later in omega (arith, later, is, to, rose)
+  rose_behind refused before old new moment left_since one next (Err (edit_faults.Broken breach n)) other c is to rose = let later = c.later in omega (arith, later, is, to, rose)
   rose_behind refused before old new moment left_since one next (Err (edit_faults.StoreFull n)) other c is to rose = let later = c.later in omega (arith, later, is, to, rose)
   rose_behind refused before old new moment left_since one next (Err edit_faults.Disk) other c is to rose = let once = c.disk refl in omega (arith, once, is, to, rose)
   rose_behind refused before old new moment left_since one next (Err edit_faults.Memory) other c is to rose = let later = c.later in omega (arith, later, is, to, rose)
@@ -82,7 +82,7 @@ module _ {D : Type 0} (may_leave : D → List ℕ → Type 0) (faults : D → �
       → LeavesKept may_leave config history None next result journal → KeepsIn may_leave config (history_behind history next result) None journal
   doubt_behind config history next (Ok n) journal refused is leaves = leaves
   doubt_behind config history next (Err (edit_faults.HistoryFull n)) journal refused is leaves = leaves
-  doubt_behind config history next (Err (edit_faults.Broken rule n)) journal refused is leaves = leaves
+  doubt_behind config history next (Err (edit_faults.Broken breach n)) journal refused is leaves = leaves
   doubt_behind config history next (Err (edit_faults.StoreFull n)) journal refused is leaves = leaves
   doubt_behind config history next (Err edit_faults.Disk) journal refused is leaves = absurd (omega (arith, is))
   doubt_behind config history next (Err edit_faults.Memory) journal refused is leaves = leaves
@@ -90,7 +90,7 @@ module _ {D : Type 0} (may_leave : D → List ℕ → Type 0) (faults : D → �
   none_refused : (refused : ℕ) (result : Result ℕ EditFault) → refused_behind refused result ≡ 0 → refused ≡ 0
   none_refused refused (Ok n) is = is
   none_refused refused (Err (edit_faults.HistoryFull n)) is = is
-  none_refused refused (Err (edit_faults.Broken rule n)) is = is
+  none_refused refused (Err (edit_faults.Broken breach n)) is = is
   none_refused refused (Err (edit_faults.StoreFull n)) is = is
   none_refused refused (Err edit_faults.Disk) is = absurd (omega (arith, is))
   none_refused refused (Err edit_faults.Memory) is = is

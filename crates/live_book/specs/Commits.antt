@@ -3,8 +3,8 @@ use Rattle.std.specs.Prelude.{◌≡◌, ◌⊎◌, ℕ, suc, ◌<◌, ◌≤◌
 use Rattle.emu_names.specs.Count.{Rose}
 use Rattle.emu_names.specs.declared.limits.TheConstants.{HISTORY_EDITS}
 use Rattle.db_config.specs.declared.parts.ConfigParts.{ConfigParts}
-use Rattle.edit_rules.specs.declared.edit.Edit.{Edit}
-use Rattle.edit_rules.specs.declared.edit.Entry.{Entry}
+use Rattle.edit_rules.specs.declared.acts.Act.{Act}
+use Rattle.edit_rules.specs.declared.acts.Entry.{Entry}
 use Rattle.edit_rules.specs.Effects.{edited}
 use Rattle.edit_rules.specs.Database.{DatabaseParts}
 use Rattle.edit_journal.specs.declared.journal.Journal.{Journal}
@@ -15,7 +15,7 @@ use Rattle.version_gate.specs.declared.entry.Entry.{Entry as Numbered}
 use Rattle.version_gate.specs.Lists.{entry}
 use Rattle.live_book.specs.declared.published.Published.{Published}
 use Rattle.live_book.specs.Kept.{BookParts, KeepsIn, IsAsBefore, StandsOrLost, CrashLeaves, faults_in}
-pub use Rattle.version_tree.specs.Drafts.{entry_of}
+pub use Rattle.version_steps.specs.Drafts.{entry_of}
 
 -- there is a journal
 abbrev pub has_journal : {D : Type 0} → Option (Journal D) → Bool
@@ -26,9 +26,9 @@ has_journal (Some journal) = true
 abbrev pub HasRoom : List Entry → Type 0
 HasRoom history = length history < HISTORY_EDITS
 
--- an edit breaks no rule after a history
-abbrev pub BreaksNone : ConfigParts → List Entry → Edit → Type 0
-BreaksNone config history edit = (database : DatabaseParts) × (edited config history edit ≡ Ok database)
+-- an act breaks no rule after a history
+abbrev pub BreaksNone : ConfigParts → List Entry → Act → Type 0
+BreaksNone config history act = (database : DatabaseParts) × (edited config history act ≡ Ok database)
 
 -- there is a store, and the entry would bring it past its limit
 abbrev pub IsTooMuch : Bool → ConfigParts → List Entry → Entry → Type 0
@@ -39,21 +39,21 @@ IsTooMuch stored config history next = (stored ≡ true) × PassesLimit config h
 pub record IsWelcome (stored : Bool) (config : ConfigParts) (history : List Entry) (next : Entry)
     : Type 0 where
   pub room : HasRoom history
-  pub breaks_none : BreaksNone config history next.edit
+  pub breaks_none : BreaksNone config history next.act
   pub fits : IsTooMuch stored config history next → ⊥
 
 -- When a commit gives each of its answers. The number is how many entries stand after it. The refusals come
--- in this order: the history is full; the first rule that is broken; the store is full; the disk failed.
+-- in this order: the history is full; the first edit that breaks a rule, and the rule; the store is full; the disk failed.
 -- Want of memory may come in place of each.
 abbrev pub IsAnswer : Bool → ConfigParts → List Entry → Entry → Result ℕ EditFault → Type 0
 IsAnswer stored config history next (Ok n) =
     (n ≡ suc (length history)) × IsWelcome stored config history next
 IsAnswer stored config history next (Err (HistoryFull n)) =
     (n ≡ length history) × (length history ≡ HISTORY_EDITS)
-IsAnswer stored config history next (Err (Broken rule n)) =
-    (n ≡ length history) × HasRoom history × (edited config history next.edit ≡ Err rule)
+IsAnswer stored config history next (Err (Broken breach n)) =
+    (n ≡ length history) × HasRoom history × (edited config history next.act ≡ Err breach)
 IsAnswer stored config history next (Err (StoreFull n)) =
-    (n ≡ length history) × HasRoom history × BreaksNone config history next.edit
+    (n ≡ length history) × HasRoom history × BreaksNone config history next.act
     × IsTooMuch stored config history next
 IsAnswer stored config history next (Err Disk) = (stored ≡ true) × IsWelcome stored config history next
 IsAnswer stored config history next (Err Memory) = Unit {0}

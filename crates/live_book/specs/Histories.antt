@@ -1,9 +1,9 @@
 -- Histories, and the stores that stand for them.
 use Rattle.std.specs.Prelude.{◌≡◌, ◌⊎◌, ℕ, ◌+◌, ◌≤◌, ◌<◌, ◌^◌, min, List, [], ◌∷◌, ◌++◌, length, map, Option, Ok, Err}
 use Rattle.emu_names.specs.declared.limits.TheConstants.{HISTORY_EDITS}
-use Rattle.emu_names.specs.declared.rules.Broken.{Broken}
 use Rattle.db_config.specs.declared.parts.ConfigParts.{ConfigParts}
-use Rattle.edit_rules.specs.declared.edit.Entry.{Entry}
+use Rattle.edit_rules.specs.declared.acts.Breach.{Breach}
+use Rattle.edit_rules.specs.declared.acts.Entry.{Entry}
 use Rattle.edit_rules.specs.Effects.{IsLegal, edited}
 use Rattle.edit_code.specs.Codes.{entry_code, head_code, IsEntryCode, IsHeadCode}
 use Rattle.edit_journal.specs.declared.body.Body.{Body}
@@ -78,14 +78,14 @@ IsNoEntry text = (entry : Entry) → IsEntryCode text entry → ⊥
 abbrev pub IsNoHead : List ℕ → Type 0
 IsNoHead text = (config : ConfigParts) → IsHeadCode text config → ⊥
 
--- these bytes are the code of an entry whose edit breaks a rule after a history
+-- these bytes are the code of an entry whose act breaks a rule after a history
 pub record IsBrokenEntry (config : ConfigParts) (history : List Entry) (text : List ℕ) : Type 0 where
   pub entry : Entry
   pub code : IsEntryCode text entry
-  pub rule : Broken
-  pub broken : edited config history entry.edit ≡ Err rule
+  pub breach : Breach
+  pub broken : edited config history entry.act ≡ Err breach
 
--- these bytes cannot be the next entry after a history: they are no code, their edit breaks a rule, or it
+-- these bytes cannot be the next entry after a history: they are no code, their act breaks a rule, or it
 -- would be entry 100,001
 abbrev pub IsNoNext : ConfigParts → List Entry → List ℕ → Type 0
 IsNoNext config history text =
@@ -115,7 +115,7 @@ pub record IsWrongAt (c : List ℕ) (at : ℕ) : Type 0 where
   pub is_wrong : IsWrongBehind (texts_of front) wrong.bytes
 
 -- The bytes of a store are damaged at a place: there the list of bodies breaks; else it is the gate of the
--- first body that is no code, whose edit breaks a rule, or that would be entry 100,001
+-- first body that is no code, whose act breaks a rule, or that would be entry 100,001
 abbrev pub IsDamagedAt : List ℕ → ℕ → Type 0
 IsDamagedAt c at = (bodies c ≡ Err at) ⊎ IsWrongAt c at
 

@@ -7,24 +7,24 @@ ghost use Rattle.live_book.specs.Histories.{IsHistory};
 ghost use Rattle.live_book.specs.Published.{IsStateAfter, AreShown};
 ghost use Rattle.live_book.specs.Inner.Kept.{IsBook, book_of, Holding};
 ghost use Rattle.live_book.specs.Commits.{entry_of, Commits};
-ghost use Rattle.version_tree.specs.Inner.Drafts.{IsAddedBy};
+ghost use Rattle.live_book.specs.Inner.Drafts.{IsDraftIn};
 
-use crate::commit::commit_in;
+use crate::commit::{commit_in, own_entry, serving};
 use crate::fault::EditFault;
 use crate::parts::Parts;
 use crate::published::Published;
 use edit_journal::Journal;
-use edit_rules::{Edit, Entries};
+use edit_rules::{Act, Entries};
 use emu_disk::Disk;
 use emu_names::{Memory, SessionNo};
 use std::alloc::Global;
 use std::marker::Model;
 use std::sync::{Arc, Wait};
 use version_gate::{Note, Pass};
-use version_tree::Draft;
+use version_steps::Draft;
 
-/// A book: a configuration, a history of at most 100,000 entries, the version after all of them, the
-/// gate that publishes each version, and, if there is one, the journal that holds the codes of the
+/// A book: the configuration of its opening, a history of at most 100,000 entries, the version after all of them,
+/// the gate that publishes each version, and, if there is one, the journal that holds the codes of that
 /// configuration and of the entries. It is no `Drop`: end it by [`Book::into_journal`].
 pub struct Book<D: Disk> {
     parts: Parts<D>,
@@ -50,13 +50,13 @@ impl<D: Disk> Book<D> {
         Book { parts }
     }
 
-    /// Accepts an edit of a line of a session, or says why not. `Ok` gives the number of entries then: the
+    /// Accepts an act of a line of a session, or says why not. `Ok` gives the number of entries then: the
     /// entry is the last of them, stands in the journal, and is published.
     ///
     /// The refusals come in this order, each with the number of entries that stand: `HistoryFull` at 100,000
-    /// entries; `Broken` with the rule that the edit breaks first after them; `StoreFull` where there is a
-    /// journal and the store would pass 268,435,456 bytes; `Disk` where the disk failed in this call. Want of
-    /// memory may come in place of each, and before the disk is called. After a refusal the history, the
+    /// entries; `Broken` with the first edit of the act that breaks a rule after them, and the rule; `StoreFull` where
+    /// there is a journal and the store would pass 268,435,456 bytes; `Disk` where the disk failed in this call. Want
+    /// of memory may come in place of each, and before the disk is called. After a refusal the history, the
     /// journal's bodies and what is published are as before. It may wait for passes that read.
     #[tactic(auto, using(crate::proofs::Configs::commits_as))]
     pub fn commit<R: Wait>(
@@ -65,29 +65,35 @@ impl<D: Disk> Book<D> {
         alloc: Global,
         session: SessionNo,
         line: u32,
-        edit: &Edit,
+        act: &Act,
     ) -> Result<u64, EditFault>
         ensures { Commits D.may_leave D.moment D.left_since D.faults self.old
-            (entry_of session line edit.now) result self.new }
+            (entry_of session line act.now) result self.new }
     {
-        let config = self.parts.current.version.config();
-        match Draft::new(alloc, config, session, line, edit) {
+        match own_entry(alloc, session, line, act) {
             Err(Memory) => Err(EditFault::Memory),
-            Ok(draft) => commit_in(rt, alloc, &mut self.parts, draft),
+            Ok(entry) => commit_in(rt, alloc, &mut self.parts, entry, None),
         }
     }
 
-    /// Accepts the edit of a draft, or says why not, as [`Book::commit`] does.
+    /// Accepts the act of a draft, or says why not, as [`Book::commit`] does. What was made ahead is taken where the
+    /// configuration under which it was made is still in force, and is made anew else.
     pub(crate) fn commit_draft<R: Wait>(
         &mut self,
         rt: &R,
         alloc: Global,
         draft: Draft,
     ) -> Result<u64, EditFault>
-        requires { IsAddedBy self.old.config draft.entry.edit draft.added }
+        requires { IsDraftIn self.old draft.entry draft }
         ensures { Commits D.may_leave D.moment D.left_since D.faults self.old draft.entry result self.new }
     {
-        commit_in(rt, alloc, &mut self.parts, draft)
+        let Draft {
+            entry,
+            number,
+            added,
+        } = draft;
+        let added = serving(&self.parts, number, added);
+        commit_in(rt, alloc, &mut self.parts, entry, added)
     }
 
     /// All entries, in order.
@@ -111,7 +117,6 @@ impl<D: Disk> Book<D> {
     pub fn in_force(&self) -> Result<Arc<Published>, Memory>
         ensures state { IfOk result (λ shown.
             IsStateAfter self.now.config self.now.history (arc_value shown).version) }
-        ensures config { IfOk result (λ shown. (arc_value shown).version.config ≡ self.now.config) }
         ensures last { IfOk result (λ shown.
             EndsIn self.now.list (entry (length self.now.history) (arc_value shown))) }
     {
@@ -162,9 +167,11 @@ impl<D: Disk> Book<D> {
     {
         let Book { parts } = self;
         let Parts {
+            opening: _opening,
             current: _current,
             entries: _entries,
             opened: _,
+            since: _,
             publisher,
             journal,
         } = parts;

@@ -1,19 +1,20 @@
 //! One commit: what it makes before it calls the disk, the entry in the store, and the new version.
-ghost use Rattle.std.specs.Prelude.{◌≡◌, ◌⊎◌, ◌+◌, ◌≤◌, ◌++◌, [], ◌∷◌, ℕ, suc, true, List, None, Some, Ok, Err, length, IfOk, IfErr, OnOk, OnErr, IsErrOf};
+ghost use Rattle.std.specs.Prelude.{◌≡◌, ◌⊎◌, ◌+◌, ◌≤◌, ◌<◌, ◌++◌, [], ◌∷◌, ℕ, suc, true, List, None, Some, Ok, Err, length, IfOk, IfErr, OnOk, OnErr, IsErrOf};
 ghost use Rattle.std.specs.Arc.{arc_value};
 ghost use Rattle.emu_names.specs.Count.{Rose};
 ghost use Rattle.emu_names.specs.declared.limits.TheConstants.{HISTORY_EDITS};
 ghost use Rattle.db_config.specs.declared.parts.ConfigParts.{ConfigParts};
-ghost use Rattle.edit_rules.specs.declared.edit.Entry.{Entry};
+ghost use Rattle.edit_rules.specs.declared.acts.Entry.{Entry};
 ghost use Rattle.edit_code.specs.Codes.{entry_code};
 ghost use Rattle.edit_journal.specs.Store.{limit};
 ghost use Rattle.live_book.specs.Histories.{IsCoded, entry_size};
 ghost use Rattle.version_gate.specs.Lists.{entry};
 ghost use Rattle.live_book.specs.Published.{IsStateAfter};
 ghost use Rattle.live_book.specs.Kept.{KeepsIn, IsAsBefore, CrashLeaves, faults_in};
-ghost use Rattle.live_book.specs.Inner.Kept.{IsBook, book_of, config_in};
-ghost use Rattle.live_book.specs.Commits.{has_journal, IsAnswer, IsWelcome, DuringCommit, Commits};
-ghost use Rattle.version_tree.specs.Inner.Drafts.{IsAddedBy};
+ghost use Rattle.live_book.specs.Inner.Kept.{IsBook, book_of, config_in, present_in, since_behind};
+ghost use Rattle.live_book.specs.Commits.{entry_of, has_journal, IsAnswer, IsWelcome, DuringCommit, Commits};
+ghost use Rattle.version_steps.specs.Inner.Drafts.{MayServe};
+ghost use Rattle.live_book.specs.Inner.Drafts.{serving};
 ghost use Rattle.live_book.specs.Inner.Prepared.{IsFrameOf, IsReady, IsTest, HasRoomFor, HoldsSome, ForStoreIn, refusal_of, entries_behind};
 
 use crate::fault::EditFault;
@@ -23,13 +24,14 @@ use crate::store::{append_in, is_too_much};
 use bundle_index::Indexed;
 use edit_code::{entry_len, write_entry};
 use edit_journal::{Frame, Journal};
-use edit_rules::{Entries, Entry};
+use edit_rules::{Act, ChangeFault, Entries, Entry};
 use emu_disk::{Disk, Failed};
 use emu_names::limits::HISTORY_EDITS;
-use emu_names::{Fault, Memory};
+use emu_names::{Fault, Memory, SessionNo};
 use std::alloc::Global;
 use std::sync::{Arc, Wait};
-use version_tree::{Draft, Version, next_drafted};
+use version_steps::next_drafted;
+use version_tree::Version;
 
 /// What a commit has ready before it calls the disk.
 #[derive(Drop)]
@@ -44,13 +46,53 @@ pub(crate) struct Ready {
     pub(crate) kept: Arc<Published>,
 }
 
-/// The refusal of an edit after so many entries.
-fn refusal(fault: Fault, number: u64) -> EditFault
+/// The entry of an act of a line of a session. The only refusal is want of memory.
+pub(crate) fn own_entry(
+    alloc: Global,
+    session: SessionNo,
+    line: u32,
+    act: &Act,
+) -> Result<Entry, Memory>
+    ensures { IfOk result (λ entry. entry ≡ entry_of session line act.now) }
+{
+    let act = act.copy(alloc)?;
+    Ok(Entry { session, line, act })
+}
+
+/// What was made ahead over the version of a number, unless the configuration in force may be another one.
+pub(crate) fn serving<D: Disk>(
+    parts: &Parts<D>,
+    number: u64,
+    added: Option<Result<Indexed, Fault>>,
+) -> Option<Result<Indexed, Fault>>
+    ensures { result ≡ serving parts.now.since number added }
+{
+    if parts.since as u64 <= number {
+        added
+    } else {
+        drop(added);
+        None
+    }
+}
+
+/// After how many entries the configuration behind an act has been in force, where so many stood before it.
+fn since_behind(act: &Act, since: usize, count: usize) -> usize
+    requires { count < HISTORY_EDITS }
+    ensures { result ≡ since_behind act.now since count }
+{
+    match act {
+        Act::Edits(_) => since,
+        Act::Config(_) => count + 1,
+    }
+}
+
+/// The refusal of an act after so many entries.
+fn refusal(fault: ChangeFault, number: u64) -> EditFault
     ensures { result ≡ refusal_of fault number }
 {
     match fault {
-        Fault::Broken(rule) => EditFault::Broken(rule, number),
-        Fault::Memory => EditFault::Memory,
+        ChangeFault::Broken(breach) => EditFault::Broken(breach, number),
+        ChangeFault::Memory => EditFault::Memory,
     }
 }
 
@@ -112,10 +154,9 @@ fn tested<D: Disk>(
     added: Option<Result<Indexed, Fault>>,
 ) -> Result<Version, EditFault>
     requires book { IsBook D.may_leave parts.now }
-    requires added { IsAddedBy (config_in parts.now) entry.now.edit added }
+    requires added { MayServe (present_in parts.now) entry.now.act added }
     ensures welcome { OnOk result (
         IsWelcome (has_journal parts.now.journal) (config_in parts.now) parts.now.entries entry.now) }
-    ensures config { IfOk result (λ version. version.config ≡ config_in parts.now) }
     ensures state { IfOk result (λ version.
         IsStateAfter (config_in parts.now) (parts.now.entries ++ entry.now ∷ []) version) }
     ensures refused { IfErr result (λ fault. IsAnswer (has_journal parts.now.journal)
@@ -127,7 +168,7 @@ fn tested<D: Disk>(
         drop(added);
         return Err(EditFault::HistoryFull(count as u64));
     }
-    match next_drafted(alloc, &parts.current.version, &entry.edit, added) {
+    match next_drafted(alloc, &parts.current.version, &entry.act, added) {
         Err(fault) => Err(refusal(fault, count as u64)),
         Ok(version) => {
             if is_too_much(&parts.journal, entry) {
@@ -169,7 +210,7 @@ fn make_ready<D: Disk>(
     requires room { HasRoomFor D.may_leave (has_journal journal.now) entry journal.now }
     ensures entry { IfOk result (λ ready. ready.entry ≡ entry) }
     ensures ready { IfOk result (λ ready. (config : ConfigParts) (history : List Entry)
-        → version.config ≡ config → IsStateAfter config (history ++ entry ∷ []) version
+        → IsStateAfter config (history ++ entry ∷ []) version
         → IsReady journal.now config history ready) }
 {
     match made_for(alloc, journal, version, &entry) {
@@ -186,10 +227,18 @@ fn make_ready<D: Disk>(
     }
 }
 
-/// Publishes the next version, and keeps it.
-fn show<D: Disk, R: Wait>(rt: &R, parts: &mut Parts<D>, next: Arc<Published>, kept: Arc<Published>)
+/// Publishes the next version, and keeps it, with the number of entries since which its configuration is in force.
+fn show<D: Disk, R: Wait>(
+    rt: &R,
+    parts: &mut Parts<D>,
+    next: Arc<Published>,
+    kept: Arc<Published>,
+    since: usize,
+)
     requires number { suc parts.old.publisher.number ≡ length parts.old.entries }
+    ensures opening { parts.new.opening ≡ parts.old.opening }
     ensures current { parts.new.current ≡ kept }
+    ensures since { parts.new.since ≡ since }
     ensures entries { parts.new.entries ≡ parts.old.entries }
     ensures opened { parts.new.opened ≡ parts.old.opened }
     ensures journal { parts.new.journal ≡ parts.old.journal }
@@ -202,6 +251,7 @@ fn show<D: Disk, R: Wait>(rt: &R, parts: &mut Parts<D>, next: Arc<Published>, ke
     let _staged = parts.publisher.stage(number, next);
     parts.publisher.publish(rt);
     parts.current = kept;
+    parts.since = since;
 }
 
 /// Puts an entry behind the history and into the store, or into neither.
@@ -258,29 +308,31 @@ fn put<D: Disk, R: Wait>(rt: &R, parts: &mut Parts<D>, ready: Ready) -> Result<u
         next,
         kept,
     } = ready;
+    let count = parts.entries.len();
+    let since = since_behind(&entry.act, parts.since, count);
     match enter(&mut parts.entries, &mut parts.journal, entry, frame) {
         Err(fault) => Err(fault),
         Ok(()) => {
-            show(rt, parts, next, kept);
+            show(rt, parts, next, kept, since);
             Ok(parts.entries.len() as u64)
         }
     }
 }
 
-/// Accepts the entry of a draft, or says why not.
+/// Accepts an entry, or says why not, with what was made ahead for it, if anything was.
 pub(crate) fn commit_in<D: Disk, R: Wait>(
     rt: &R,
     alloc: Global,
     parts: &mut Parts<D>,
-    draft: Draft,
+    entry: Entry,
+    added: Option<Result<Indexed, Fault>>,
 ) -> Result<u64, EditFault>
     requires book { IsBook D.may_leave parts.old }
-    requires draft { IsAddedBy (config_in parts.old) draft.entry.edit draft.added }
+    requires added { MayServe (present_in parts.old) entry.act added }
     ensures book { IsBook D.may_leave parts.new }
-    ensures commits { Commits D.may_leave D.moment D.left_since D.faults (book_of parts.old) draft.entry
+    ensures commits { Commits D.may_leave D.moment D.left_since D.faults (book_of parts.old) entry
         result (book_of parts.new) }
 {
-    let Draft { entry, added } = draft;
     match tested(alloc, parts, &entry, added) {
         Err(fault) => {
             drop(entry);

@@ -3,19 +3,19 @@ ghost use Rattle.std.specs.Prelude.{◌≡◌};
 ghost use Rattle.live_book.specs.declared.fault.EditFault.TheVariants as Fault;
 
 use edit_journal::Memory;
-use emu_names::Broken;
+use edit_rules::Breach;
 use std::alloc::{AllocError, AllocFailed};
 use thiserror::Error;
 
-/// Why an edit was not accepted. The number says how many entries stand in the book.
+/// Why an act was not accepted. The number says how many entries stand in the book.
 #[derive(Debug, Drop, PartialEq, Eq, Error)]
 pub enum EditFault {
     /// The history has 100,000 entries.
     #[error("the history is full")]
     HistoryFull(u64),
-    /// The rule that the edit breaks first after these entries.
+    /// The first edit of the act that breaks a rule after these entries, and the rule.
     #[error("a rule is broken")]
-    Broken(Broken, u64),
+    Broken(Breach, u64),
     /// With the entry the store would pass its limit of 268,435,456 bytes.
     #[error("the store is full")]
     StoreFull(u64),

@@ -3,7 +3,7 @@ ghost use Rattle.std.specs.Prelude.{◌≡◌, ◌<◌, ◌≤◌, ℕ, IfSome, 
 ghost use mathlib.Core.List.{IsPrefix};
 ghost use Rattle.live_book.specs.Commits.{Commits, entry_of};
 ghost use Rattle.live_book.specs.Inner.Drafts.{IsDraftAt};
-ghost use Rattle.version_tree.specs.Inner.Drafts.{IsDraftOf};
+ghost use Rattle.version_steps.specs.Inner.Drafts.{IsDraftOf};
 ghost use Rattle.live_book.specs.Kept.{KeepsIn};
 ghost use Rattle.live_book.specs.Inner.Kept.{Holding};
 ghost use Rattle.live_book.specs.Live.{HasGrown, Opened, opening_of};
@@ -14,7 +14,7 @@ ghost use Rattle.version_gate.specs.Lists.{Numbered as IsNumbered};
 use crate::book::Book;
 use crate::fault::EditFault;
 use crate::published::Published;
-use edit_rules::Edit;
+use edit_rules::Act;
 use emu_disk::Disk;
 use emu_names::{Memory, SessionNo};
 use std::alloc::Global;
@@ -22,7 +22,7 @@ use std::marker::{Brand, Model};
 use std::sync::ledger::{self, Blank, Ledger};
 use std::sync::{Mutex, MutexGuard, Wait};
 use version_gate::Pass;
-use version_tree::Draft;
+use version_steps::Draft;
 
 /// Which opening it is: the book as it is at the moment at which threads begin to edit it. It is also the ledger of
 /// the edits that are accepted. Its members are plain values, which contracts alone see.
@@ -126,37 +126,37 @@ fn count<K: Opening, N: Ledger>(
     }
 }
 
-/// The draft of an edit under the configuration of a version, unless memory is wanting.
+/// The draft of an act over a version, unless memory is wanting.
 fn draft_over(
     alloc: Global,
     shown: &Published,
     session: SessionNo,
     line: u32,
-    edit: &Edit,
+    act: &Act,
 ) -> Option<Draft>
-    ensures { IfSome result (IsDraftOf shown.now.version.config (entry_of session line edit.now)) }
+    ensures { IfSome result (IsDraftOf shown.now.version (entry_of session line act.now)) }
 {
-    match Draft::new(alloc, shown.version.config(), session, line, edit) {
+    match Draft::new(alloc, &shown.version, session, line, act) {
         Ok(draft) => Some(draft),
         Err(Memory) => None,
     }
 }
 
-/// The draft of an edit under the configuration of a version that the pass looks at. There is none where the pass
-/// sees no version at this moment, or memory is wanting.
+/// The draft of an act over a version that the pass looks at. There is none where the pass sees no version at this
+/// moment, or memory is wanting.
 fn draft_ahead(
     alloc: Global,
     pass: &mut Pass<Published>,
     session: SessionNo,
     line: u32,
-    edit: &Edit,
+    act: &Act,
 ) -> Option<Draft>
     ensures gate { pass.new.gate ≡ pass.old.gate }
     ensures own { IsPrefix pass.old.list pass.new.list }
-    ensures draft { IfSome result (IsDraftAt pass.new.list (entry_of session line edit.now)) }
+    ensures draft { IfSome result (IsDraftAt pass.new.list (entry_of session line act.now)) }
 {
     match pass.look() {
-        Ok(seen) => draft_over(alloc, &seen.version, session, line, edit),
+        Ok(seen) => draft_over(alloc, &seen.version, session, line, act),
         Err(_fault) => None,
     }
 }
@@ -177,7 +177,7 @@ fn learn_all<D: Disk>(book: &mut Book<D>, pass: &mut Pass<Published>)
     pass.learn(book.tell());
 }
 
-/// Commits an edit, of its draft where there is one, and first lets a pass that knows no more than the book learn what
+/// Commits an act, of its draft where there is one, and first lets a pass that knows no more than the book learn what
 /// is published.
 fn commit_drafted<D: Disk, R: Wait>(
     rt: &R,
@@ -187,13 +187,13 @@ fn commit_drafted<D: Disk, R: Wait>(
     draft: Option<Draft>,
     session: SessionNo,
     line: u32,
-    edit: &Edit,
+    act: &Act,
 ) -> Result<u64, EditFault>
     requires gate { pass.old.gate ≡ book.old.gate }
     requires seen { (k : ℕ) → IsNumbered k pass.old.list → k ≤ length book.old.history }
-    requires draft { IfSome draft (IsDraftAt pass.old.list (entry_of session line edit.now)) }
+    requires draft { IfSome draft (IsDraftAt pass.old.list (entry_of session line act.now)) }
     ensures commits { Commits D.may_leave D.moment D.left_since D.faults book.old
-        (entry_of session line edit.now) result book.new }
+        (entry_of session line act.now) result book.new }
     ensures gate { pass.new.gate ≡ pass.old.gate }
     ensures own { IsPrefix pass.old.list pass.new.list }
     ensures whole { pass.new.list ≡ book.old.list }
@@ -202,12 +202,12 @@ fn commit_drafted<D: Disk, R: Wait>(
     learn_all(book, pass);
     match draft {
         Some(draft) => book.commit_draft(rt, alloc, draft),
-        None => book.commit(rt, alloc, session, line, edit),
+        None => book.commit(rt, alloc, session, line, act),
     }
 }
 
 impl<K: Opening, N: Ledger, D: Disk> Locked<K, N, D> {
-    /// Commits an edit, of its draft where there is one, and lets the pass learn what is then published.
+    /// Commits an act, of its draft where there is one, and lets the pass learn what is then published.
     fn edit<R: Wait>(
         &mut self,
         rt: &R,
@@ -217,17 +217,17 @@ impl<K: Opening, N: Ledger, D: Disk> Locked<K, N, D> {
         draft: Option<Draft>,
         session: SessionNo,
         line: u32,
-        edit: &Edit,
+        act: &Act,
     ) -> Result<u64, EditFault>
         requires gate { pass.old.gate ≡ K.opened.gate }
         requires part { 0 < share.old.parts }
-        requires draft { IfSome draft (IsDraftAt pass.old.list (entry_of session line edit.now)) }
+        requires draft { IfSome draft (IsDraftAt pass.old.list (entry_of session line act.now)) }
         requires seen { (k : ℕ) → IsNumbered k pass.old.list → k ≤ length self.old.history }
         ensures gate { pass.new.gate ≡ pass.old.gate }
-        ensures edits { EditsLive K.opened (entry_of session line edit.now) pass.old.list pass.new.list result }
+        ensures edits { EditsLive K.opened (entry_of session line act.now) pass.old.list pass.new.list result }
         ensures counted { share.new ≡ count_behind share.old result }
     {
-        let result = commit_drafted(rt, alloc, &mut self.book, pass, draft, session, line, edit);
+        let result = commit_drafted(rt, alloc, &mut self.book, pass, draft, session, line, act);
         let _seen = pass.seen();
         count(&mut self.accepted, &mut self.refused, share, &result);
         pass.learn(self.book.tell());
@@ -263,9 +263,10 @@ impl<K: Opening, N: Ledger, D: Disk> Live<K, N, D> {
         }
     }
 
-    /// Accepts an edit of a line of a session, or says why not, as [`Book::commit`] does, when the lock is free. The
+    /// Accepts an act of a line of a session, or says why not, as [`Book::commit`] does, when the lock is free. The
     /// answer is right for the entries that stood at that moment. The pass is one of the book's gate, and has then seen
-    /// the number in the answer or more. What depends on the configuration alone is made before it waits for the lock.
+    /// the number in the answer or more. What depends on the configuration alone is made before it
+    /// waits for the lock, and made anew under it where another configuration has come into force.
     /// Where the pass has seen more than the book has, it lets go and tries again: it keeps its promise if it returns.
     pub fn edit<R: Wait>(
         &self,
@@ -275,20 +276,20 @@ impl<K: Opening, N: Ledger, D: Disk> Live<K, N, D> {
         share: &mut Share<K, N>,
         session: SessionNo,
         line: u32,
-        edit: &Edit,
+        act: &Act,
     ) -> Result<u64, EditFault>
         requires gate { pass.old.gate ≡ K.opened.gate }
         requires part { 0 < share.old.parts }
         ensures gate { pass.new.gate ≡ pass.old.gate }
-        ensures edits { EditsLive K.opened (entry_of session line edit.now) pass.old.list pass.new.list result }
+        ensures edits { EditsLive K.opened (entry_of session line act.now) pass.old.list pass.new.list result }
         ensures counted { share.new ≡ count_behind share.old result }
     {
-        let draft = draft_ahead(alloc, pass, session, line, edit);
+        let draft = draft_ahead(alloc, pass, session, line, act);
         let _seen = pass.seen();
-        self.edit_drafted(rt, alloc, pass, share, draft, session, line, edit)
+        self.edit_drafted(rt, alloc, pass, share, draft, session, line, act)
     }
 
-    /// The same, of the edit's draft where there is one, which is kept for the next try.
+    /// The same, of the act's draft where there is one, which is kept for the next try.
     fn edit_drafted<R: Wait>(
         &self,
         rt: &R,
@@ -298,19 +299,19 @@ impl<K: Opening, N: Ledger, D: Disk> Live<K, N, D> {
         draft: Option<Draft>,
         session: SessionNo,
         line: u32,
-        edit: &Edit,
+        act: &Act,
     ) -> Result<u64, EditFault>
         requires gate { pass.old.gate ≡ K.opened.gate }
         requires part { 0 < share.old.parts }
-        requires draft { IfSome draft (IsDraftAt pass.old.list (entry_of session line edit.now)) }
+        requires draft { IfSome draft (IsDraftAt pass.old.list (entry_of session line act.now)) }
         ensures gate { pass.new.gate ≡ pass.old.gate }
-        ensures edits { EditsLive K.opened (entry_of session line edit.now) pass.old.list pass.new.list result }
+        ensures edits { EditsLive K.opened (entry_of session line act.now) pass.old.list pass.new.list result }
         ensures counted { share.new ≡ count_behind share.old result }
     {
         for _ in rt.forever() {
             let mut guard = self.lock.lock(rt);
             if pass.seen() <= guard.book.number() {
-                let result = guard.edit(rt, alloc, pass, share, draft, session, line, edit);
+                let result = guard.edit(rt, alloc, pass, share, draft, session, line, act);
                 MutexGuard::unlock(guard);
                 return result;
             }

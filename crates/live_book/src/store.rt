@@ -2,7 +2,7 @@
 ghost use Rattle.std.specs.Prelude.{◌≡◌, ◌≤◌, ◌++◌, [], ◌∷◌, List, Option, None, Some, true, false, Err, IfSome, OnOk, OnErr, IsErrOf};
 ghost use Rattle.emu_names.specs.Count.{HasCause};
 ghost use Rattle.db_config.specs.declared.parts.ConfigParts.{ConfigParts};
-ghost use Rattle.edit_rules.specs.declared.edit.Entry.{Entry};
+ghost use Rattle.edit_rules.specs.declared.acts.Entry.{Entry};
 ghost use Rattle.edit_code.specs.Codes.{entry_code};
 ghost use Rattle.edit_journal.specs.Held.{count_in, LeavesIn};
 ghost use Rattle.live_book.specs.Kept.{MayFollow, Keeps, KeepsIn, IsAsBefore, CrashLeaves, faults_in};

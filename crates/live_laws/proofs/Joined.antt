@@ -1,7 +1,7 @@
 -- Lanes that have ended make a legal run.
 use Rattle.std.proofs.Common.{◌≡◌, ℕ, ◌<◌, Bool, List, [], ◌++◌, length, None, refl, sym, ◌∙◌, subst}
 use Rattle.db_config.specs.declared.parts.ConfigParts.{ConfigParts}
-use Rattle.edit_rules.specs.declared.edit.Entry.{Entry}
+use Rattle.edit_rules.specs.declared.acts.Entry.{Entry}
 use Rattle.edit_rules.specs.Effects.{IsLegal}
 use Rattle.emu_names.specs.Count.{RoseBy}
 use Rattle.session_core.specs.declared.line.Line.{Line}

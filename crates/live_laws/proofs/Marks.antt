@@ -4,8 +4,8 @@ use Rattle.std.proofs.lemmas.Bool.{cases_lt}
 use Rattle.std.proofs.lemmas.List.{length_push}
 use Rattle.std.proofs.lemmas.Option.{same_Some, slice_get_within}
 use Rattle.db_config.specs.declared.parts.ConfigParts.{ConfigParts}
-use Rattle.edit_rules.specs.declared.edit.Edit.{Edit}
-use Rattle.edit_rules.specs.declared.edit.Entry.{Entry}
+use Rattle.edit_rules.specs.declared.acts.Act.{Act}
+use Rattle.edit_rules.specs.declared.acts.Entry.{Entry}
 use Rattle.session_core.specs.declared.line.Answer.{Answer}
 use Rattle.session_core.specs.declared.line.Answer.TheVariants.{Done, Segments, Refused}
 use Rattle.session_core.specs.declared.line.Line.{Line}
@@ -36,14 +36,14 @@ pub record IsOfLine (l : Line) (x : NumberedEntry) : Type 0 where
   pub session : x.entry.session.0 ≡ l.session.0
   pub line : x.entry.line ≡ l.line
 
-entry_is_of : (l : Line) (edit : Edit) (n : ℕ) → IsOfLine l (record { n = n; entry = entry_of l edit })
-entry_is_of l edit n = record { session = refl; line = refl }
+entry_is_of : (l : Line) (act : Act) (n : ℕ) → IsOfLine l (record { n = n; entry = entry_of l act })
+entry_is_of l act n = record { session = refl; line = refl }
 
 of_line : (l : Line) (r : Request) (n : Option ℕ) (answer : Answer) → Each (IsOfLine l) (accepting l r n answer)
-of_line l (requests.Edit (Ok edit)) (Some n) (Done command) = (entry_is_of l edit n, tt)
-of_line l (requests.Edit (Ok edit)) (Some n) (Segments rows) = tt
-of_line l (requests.Edit (Ok edit)) (Some n) (Refused refusal) = tt
-of_line l (requests.Edit (Ok edit)) None answer = tt
+of_line l (requests.Edit (Ok act)) (Some n) (Done command) = (entry_is_of l act n, tt)
+of_line l (requests.Edit (Ok act)) (Some n) (Segments rows) = tt
+of_line l (requests.Edit (Ok act)) (Some n) (Refused refusal) = tt
+of_line l (requests.Edit (Ok act)) None answer = tt
 of_line l (requests.Edit (Err fault)) n answer = tt
 of_line l (requests.Query ask) n answer = tt
 of_line l (requests.Look ask) n answer = tt
@@ -51,10 +51,10 @@ of_line l requests.Finish n answer = tt
 of_line l (requests.After earlier) n answer = tt
 
 few : (l : Line) (r : Request) (n : Option ℕ) (answer : Answer) → length (accepting l r n answer) ≤ 1
-few l (requests.Edit (Ok edit)) (Some n) (Done command) = omega arith
-few l (requests.Edit (Ok edit)) (Some n) (Segments rows) = omega arith
-few l (requests.Edit (Ok edit)) (Some n) (Refused refusal) = omega arith
-few l (requests.Edit (Ok edit)) None answer = omega arith
+few l (requests.Edit (Ok act)) (Some n) (Done command) = omega arith
+few l (requests.Edit (Ok act)) (Some n) (Segments rows) = omega arith
+few l (requests.Edit (Ok act)) (Some n) (Refused refusal) = omega arith
+few l (requests.Edit (Ok act)) None answer = omega arith
 few l (requests.Edit (Err fault)) n answer = omega arith
 few l (requests.Query ask) n answer = omega arith
 few l (requests.Look ask) n answer = omega arith
@@ -63,9 +63,9 @@ few l (requests.After earlier) n answer = omega arith
 
 module _ (c : ConfigParts) (H : List Entry) (l : Line) where
   told_at : (store : Bool) (r : Request) (n : ℕ) (answer : Answer) → IsRightAt c H store l r n answer → Each (IsTold H) (accepting l r (Some n) answer)
-  told_at store (requests.Edit (Ok edit)) n (Done command) right = (record { before = right.before; number = right.number; entry = right.entry }, tt)
-  told_at store (requests.Edit (Ok edit)) n (Segments rows) right = tt
-  told_at store (requests.Edit (Ok edit)) n (Refused refusal) right = tt
+  told_at store (requests.Edit (Ok act)) n (Done command) right = (record { before = right.before; number = right.number; entry = right.entry }, tt)
+  told_at store (requests.Edit (Ok act)) n (Segments rows) right = tt
+  told_at store (requests.Edit (Ok act)) n (Refused refusal) right = tt
   told_at store (requests.Edit (Err fault)) n answer right = tt
   told_at store (requests.Query ask) n answer right = tt
   told_at store (requests.Look ask) n answer right = tt
@@ -73,7 +73,7 @@ module _ (c : ConfigParts) (H : List Entry) (l : Line) where
   told_at store (requests.After earlier) n answer right = tt
 
   untold : (r : Request) (answer : Answer) → Each (IsTold H) (accepting l r None answer)
-  untold (requests.Edit (Ok edit)) answer = tt
+  untold (requests.Edit (Ok act)) answer = tt
   untold (requests.Edit (Err fault)) answer = tt
   untold (requests.Query ask) answer = tt
   untold (requests.Look ask) answer = tt

@@ -5,8 +5,8 @@ use mathlib.Core.List.{IsPrefix}
 use Rattle.emu_names.specs.declared.limits.TheConstants.{HISTORY_EDITS}
 use Rattle.db_config.specs.declared.parts.ConfigParts.{ConfigParts}
 use Rattle.textgrid.specs.declared.fault.GridFault.{GridFault}
-use Rattle.edit_rules.specs.declared.edit.Edit.{Edit}
-use Rattle.edit_rules.specs.declared.edit.Entry.{Entry}
+use Rattle.edit_rules.specs.declared.acts.Act.{Act}
+use Rattle.edit_rules.specs.declared.acts.Entry.{Entry}
 use Rattle.edit_rules.specs.Database.{DatabaseParts}
 use Rattle.edit_rules.specs.Effects.{edited}
 use Rattle.session_core.specs.declared.line.Answer.{Answer}
@@ -34,7 +34,7 @@ with_request l r = record { line = l.line; session = l.session; command = l.comm
 -- Replies without a number.
 
 fresh_none : (m : ℕ) (l : Line) (r : Request) (answer : Answer) → Each (IsPast m) (accepting l r None answer)
-fresh_none m l (requests.Edit (Ok edit)) answer = tt
+fresh_none m l (requests.Edit (Ok act)) answer = tt
 fresh_none m l (requests.Edit (Err fault)) answer = tt
 fresh_none m l (requests.Query ask) answer = tt
 fresh_none m l (requests.Look ask) answer = tt
@@ -152,33 +152,33 @@ module _ (c : ConfigParts) (m : ℕ) (store : Bool) (old H : List Entry) (looks 
   -- Edits.
 
   -- an edit was accepted behind so many entries
-  pub accepted_step : (edit : Edit) (before : ℕ) (database : DatabaseParts) (heard : Option ℕ) → l.request ≡ requests.Edit (Ok edit)
-      → length old ≤ before → before < length H → before < HISTORY_EDITS → edited c (take before H) edit ≡ Ok database → slice_get H before ≡ Some (entry_of l edit)
+  pub accepted_step : (act : Act) (before : ℕ) (database : DatabaseParts) (heard : Option ℕ) → l.request ≡ requests.Edit (Ok act)
+      → length old ≤ before → before < length H → before < HISTORY_EDITS → edited c (take before H) act ≡ Ok database → slice_get H before ≡ Some (entry_of l act)
       → IsStep c m store old H looks looks l (step_of l (Some (before + 1)) (Done l.command) (length H) heard)
-  accepted_step edit before database heard is least most room right entry =
+  accepted_step act before database heard is least most room right entry =
       let low : m ≤ before + 1 = omega (arith, from) in
       let top : before + 1 ≤ length H = omega arith in
       let past : m < before + 1 = omega (arith, from) in
       let keeps : length old ≤ before + 1 = omega arith in
-      stays (Some (before + 1)) (Done l.command) heard (requests.Edit (Ok edit)) is
+      stays (Some (before + 1)) (Done l.command) heard (requests.Edit (Ok act)) is
       (low, top, record { own = refl; before = before; number = refl; room = room; database = database; right = right; entry = entry })
       (past, tt) keeps tt refl tt
 
   -- an edit was refused, over the state after n entries
-  pub refused_step : (edit : Edit) (n : ℕ) (refusal : Refusal) (heard : Option ℕ) → l.request ≡ requests.Edit (Ok edit)
-      → length old ≤ n → n ≤ length H → IsRightRefusal c H store l edit n refusal
+  pub refused_step : (act : Act) (n : ℕ) (refusal : Refusal) (heard : Option ℕ) → l.request ≡ requests.Edit (Ok act)
+      → length old ≤ n → n ≤ length H → IsRightRefusal c H store l act n refusal
       → IsStep c m store old H looks looks l (step_of l (Some n) (Refused refusal) (length H) heard)
-  refused_step edit n refusal heard is least most right =
+  refused_step act n refusal heard is least most right =
       let low : m ≤ n = omega (arith, from) in
-      let there : IsRightRefusal c H store (with_request l (requests.Edit (Ok edit))) edit n refusal =
-      subst (λ (k : Request). IsRightRefusal c H store (with_request l k) edit n refusal) is right in
-      stays (Some n) (Refused refusal) heard (requests.Edit (Ok edit)) is (low, most, there) tt least tt refl tt
+      let there : IsRightRefusal c H store (with_request l (requests.Edit (Ok act))) act n refusal =
+      subst (λ (k : Request). IsRightRefusal c H store (with_request l k) act n refusal) is right in
+      stays (Some n) (Refused refusal) heard (requests.Edit (Ok act)) is (low, most, there) tt least tt refl tt
 
   -- the disk failed
-  pub disk_step : (edit : Edit) (heard : Option ℕ) → l.request ≡ requests.Edit (Ok edit) → store ≡ true
+  pub disk_step : (act : Act) (heard : Option ℕ) → l.request ≡ requests.Edit (Ok act) → store ≡ true
       → IsStep c m store old H looks looks l (step_of l None (Refused refusals.Disk) (length H) heard)
-  disk_step edit heard is stored =
-      stays None (Refused refusals.Disk) heard (requests.Edit (Ok edit)) is stored tt tt tt refl tt
+  disk_step act heard is stored =
+      stays None (Refused refusals.Disk) heard (requests.Edit (Ok act)) is stored tt tt tt refl tt
 
   -- Looks.
 

@@ -4,7 +4,7 @@ use mathlib.Core.List.{IsPrefix}
 use Rattle.emu_names.specs.declared.limits.TheConstants.{HISTORY_EDITS}
 use Rattle.emu_names.specs.Count.{RoseBy}
 use Rattle.db_config.specs.declared.parts.ConfigParts.{ConfigParts}
-use Rattle.edit_rules.specs.declared.edit.Entry.{Entry}
+use Rattle.edit_rules.specs.declared.acts.Entry.{Entry}
 use Rattle.edit_rules.specs.Effects.{IsLegal}
 use Rattle.session_core.specs.declared.line.Line.{Line}
 use Rattle.session_core.specs.InOrder.{ComeInOrder}

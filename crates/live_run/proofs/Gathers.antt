@@ -1,6 +1,6 @@
 -- What is known when the lanes of a run have ended and their book is settled.
 use Rattle.std.proofs.Common.{◌≡◌, ℕ, ◌-◌, ◌≤◌, List, length, take, drop, sym, ap, subst, arith}
-use Rattle.edit_rules.specs.declared.edit.Entry.{Entry}
+use Rattle.edit_rules.specs.declared.acts.Entry.{Entry}
 use Rattle.session_core.specs.declared.line.Line.{Line}
 use Rattle.live_book.specs.Kept.{BookParts}
 use Rattle.live_book.specs.Live.{HasGrown, Opened, Shows}

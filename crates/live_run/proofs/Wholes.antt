@@ -3,7 +3,7 @@ use Rattle.std.proofs.Common.{◌≡◌, ℕ, zero, suc, ◌+◌, ◌<◌, ◌�
 use Rattle.std.proofs.lemmas.List.{map-append}
 use Rattle.std.proofs.lemmas.List.Sums.{sum_by-append}
 use Rattle.db_config.specs.declared.parts.ConfigParts.{ConfigParts}
-use Rattle.edit_rules.specs.declared.edit.Entry.{Entry}
+use Rattle.edit_rules.specs.declared.acts.Entry.{Entry}
 use Rattle.session_core.specs.declared.line.Answer.{Answer}
 use Rattle.session_core.specs.declared.line.Answer.TheVariants.{Done, Refused, Segments}
 use Rattle.session_core.specs.declared.line.Line.{Line}
@@ -82,10 +82,10 @@ all_refused (steps ∷ ran) =
 
 -- a line has one acceptance at most
 accepting_few : (l : Line) (r : Request) (n : Option ℕ) (answer : Answer) → length (accepting l r n answer) ≤ 1
-accepting_few l (requests.Edit (Ok edit)) (Some n) (Done command) = omega arith
-accepting_few l (requests.Edit (Ok edit)) (Some n) (Segments rows) = omega arith
-accepting_few l (requests.Edit (Ok edit)) (Some n) (Refused refusal) = omega arith
-accepting_few l (requests.Edit (Ok edit)) None answer = omega arith
+accepting_few l (requests.Edit (Ok act)) (Some n) (Done command) = omega arith
+accepting_few l (requests.Edit (Ok act)) (Some n) (Segments rows) = omega arith
+accepting_few l (requests.Edit (Ok act)) (Some n) (Refused refusal) = omega arith
+accepting_few l (requests.Edit (Ok act)) None answer = omega arith
 accepting_few l (requests.Edit (Err fault)) n answer = omega arith
 accepting_few l (requests.Query ask) n answer = omega arith
 accepting_few l (requests.Look ask) n answer = omega arith

@@ -2,7 +2,7 @@
 use Rattle.std.proofs.Common.{◌≡◌, ℕ, suc, ◌+◌, Bool, true, false, List, [], ◌++◌, length, Option, Some, None, Result, Ok, Err, cond, refl, ap, ◌∙◌, arith}
 use Rattle.textgrid.specs.declared.fault.GridFault.{GridFault}
 use Rattle.edit_rules.specs.Database.{DatabaseParts}
-use Rattle.edit_rules.specs.declared.edit.Edit.{Edit}
+use Rattle.edit_rules.specs.declared.acts.Act.{Act}
 use Rattle.eql_resolve.specs.declared.faults.AskFault.{AskFault}
 use Rattle.eql_resolve.specs.declared.faults.PrepareFault.{PrepareFault}
 use Rattle.eql_resolve.specs.Asked.{AskedParts}
@@ -23,7 +23,7 @@ use Rattle.session_core.specs.declared.line.Reply.{Reply}
 use Rattle.session_core.specs.declared.line.Request.{Request}
 use Rattle.session_core.specs.declared.line.Request.TheVariants as requests
 use Rattle.session_core.specs.declared.slots.Held.{Held}
-use Rattle.session_core.specs.Answers.{answer_over, asked_answer, grid_answer, grid_number, listed_answer, memory, prepare_answer, prepared_answer, reached_answer, reply_to, resolved_answer}
+use Rattle.session_core.specs.Answers.{answer_over, asked_answer, grid_answer, grid_number, listed_answer, memory, prepare_answer, prepared_answer, reached_answer, reply_to, resolved_answer, rule_refusal}
 use Rattle.session_core.specs.Inner.Kept.{held_answer, look_answer, look_closed}
 use Rattle.session_core.specs.Legal.{accepting, is_disk}
 use Rattle.session_core.specs.Queries.{is_memory_of, lacks_memory}
@@ -57,7 +57,7 @@ no_edit l n answer r is none =
     ap (λ (q : Request). length (accepting l q n answer ++ [])) is ∙ ap (λ xs. length (xs ++ [])) none
 
 accepting_none : (l : Line) (r : Request) (answer : Answer) → accepting l r None answer ≡ []
-accepting_none l (requests.Edit (Ok edit)) answer = refl
+accepting_none l (requests.Edit (Ok act)) answer = refl
 accepting_none l (requests.Edit (Err fault)) answer = refl
 accepting_none l (requests.Query ask) answer = refl
 accepting_none l (requests.Look ask) answer = refl
@@ -144,21 +144,21 @@ module _ (count : Count) (l : Line) where
   closed_count looks (Some held) is = answered_count looks held (lacks_memory held.ask) is
 
   -- an edit
-  accepts_one : (edit : Edit) (n : ℕ) → l.request ≡ requests.Edit (Ok edit) → accepts_at (turn_of l (reply_to l (Some n) (Done l.command))) ≡ 1
-  accepts_one edit n is = ap (λ (q : Request). length (accepting l q (Some n) (Done l.command) ++ [])) is
+  accepts_one : (act : Act) (n : ℕ) → l.request ≡ requests.Edit (Ok act) → accepts_at (turn_of l (reply_to l (Some n) (Done l.command))) ≡ 1
+  accepts_one act n is = ap (λ (q : Request). length (accepting l q (Some n) (Done l.command) ++ [])) is
 
-  pub edit_count : (edit : Edit) (made : Result ℕ EditFault) → l.request ≡ requests.Edit (Ok edit) → count_behind count made ≡ counted_by count (turn_of l (commit_reply l made))
-  edit_count edit (Ok n) is =
+  pub edit_count : (act : Act) (made : Result ℕ EditFault) → l.request ≡ requests.Edit (Ok act) → count_behind count made ≡ counted_by count (turn_of l (commit_reply l made))
+  edit_count act (Ok n) is =
       let t : Turn = turn_of l (commit_reply l (Ok n)) in
-      let one : accepts_at t ≡ 1 = accepts_one edit n is in
+      let one : accepts_at t ≡ 1 = accepts_one act n is in
       let none : disk_at t ≡ 0 = no_disk l (Some n) (Done l.command) refl in
       same_count count.parts (suc count.accepted) (count.accepted + accepts_at t) count.refused (count.refused + disk_at t) (omega (arith, one)) (omega (arith, none))
-  edit_count edit (Err (faults.HistoryFull n)) is = quiet (Some n) (Refused refusals.HistoryFull) (requests.Edit (Ok edit)) is refl refl
-  edit_count edit (Err (faults.Broken rule n)) is = quiet (Some n) (Refused (refusals.Rule rule)) (requests.Edit (Ok edit)) is refl refl
-  edit_count edit (Err (faults.StoreFull n)) is = quiet (Some n) (Refused refusals.StoreFull) (requests.Edit (Ok edit)) is refl refl
-  edit_count edit (Err faults.Disk) is =
+  edit_count act (Err (faults.HistoryFull n)) is = quiet (Some n) (Refused refusals.HistoryFull) (requests.Edit (Ok act)) is refl refl
+  edit_count act (Err (faults.Broken breach n)) is = quiet (Some n) (Refused (rule_refusal l.command breach)) (requests.Edit (Ok act)) is refl refl
+  edit_count act (Err (faults.StoreFull n)) is = quiet (Some n) (Refused refusals.StoreFull) (requests.Edit (Ok act)) is refl refl
+  edit_count act (Err faults.Disk) is =
       let t : Turn = turn_of l (commit_reply l (Err faults.Disk)) in
       let none : accepts_at t ≡ 0 = no_edit l None (Refused refusals.Disk) l.request refl (accepting_none l l.request (Refused refusals.Disk)) in
       let one : disk_at t ≡ 1 = disk_at_is t in
       same_count count.parts count.accepted (count.accepted + accepts_at t) (suc count.refused) (count.refused + disk_at t) (omega (arith, none)) (omega (arith, one))
-  edit_count edit (Err faults.Memory) is = memory_count
+  edit_count act (Err faults.Memory) is = memory_count

@@ -10,7 +10,7 @@ use Rattle.std.proofs.Crossing.{crosses, Arc-send, Vec-send}
 use Rattle.std.proofs.option.Option.TheSendSync as option
 use Rattle.std.proofs.sync.OnceToken.TheSendSync as token
 use Rattle.eql_resolve.proofs.Threads.{prepared_sync}
-use Rattle.edit_rules.proofs.edit.Edit.TheSendSync as edit
+use Rattle.edit_rules.proofs.acts.Act.TheSendSync as act
 use Rattle.textgrid.proofs.fault.GridFault.TheSendSync as fault
 use Rattle.requery.proofs.target.Requery.TheSendSync as requery
 use Rattle.version_gate.proofs.pass.Pass.TheSendSync as pass
@@ -41,7 +41,7 @@ ask_field_sync = struct_sync (struct_shape ask.the_type) (
 request_choice : IsSync (Enum (shape request.the_type))
 request_choice =
     enum_sync (shape request.the_type) (
-      (search (edit.the_sync, fault.the_sync, crosses, sendable) depth 30, tt),
+      (search (act.the_sync, fault.the_sync, crosses, sendable) depth 30, tt),
       (
         (search (ask_field_sync, crosses, sendable) depth 20, tt),
         ((search (ask_field_sync, crosses, sendable) depth 20, tt), (tt, ((search (crosses, sendable) depth 20, tt), tt))),

@@ -5,8 +5,8 @@ use Rattle.std.proofs.lemmas.List.{take_all}
 use mathlib.Core.List.{IsPrefix}
 use Rattle.emu_names.specs.declared.limits.TheConstants.{HISTORY_EDITS}
 use Rattle.edit_rules.specs.Effects.{edited}
-use Rattle.edit_rules.specs.declared.edit.Edit.{Edit}
-use Rattle.edit_rules.specs.declared.edit.Entry.{Entry}
+use Rattle.edit_rules.specs.declared.acts.Act.{Act}
+use Rattle.edit_rules.specs.declared.acts.Entry.{Entry}
 use Rattle.version_gate.specs.declared.entry.Entry.{Entry as Numbered}
 use Rattle.session_core.specs.declared.line.Answer.TheVariants.{Done, Refused}
 use Rattle.session_core.specs.declared.line.Line.{Line}
@@ -15,7 +15,7 @@ use Rattle.session_core.specs.declared.line.Refusal.TheVariants as refusals
 use Rattle.session_core.specs.declared.line.Reply.{Reply}
 use Rattle.session_core.specs.declared.line.Request.TheVariants as requests
 use Rattle.session_core.specs.declared.slots.Held.{Held}
-use Rattle.session_core.specs.Answers.{entry_of, reply_to}
+use Rattle.session_core.specs.Answers.{entry_of, reply_to, rule_refusal}
 use Rattle.session_core.specs.Inner.Kept.{opened_in}
 use Rattle.session_core.specs.Legal.{IsRightRefusal}
 use Rattle.session_core.specs.Steps.{session_places}
@@ -55,62 +55,67 @@ last_entry [] e = refl
 last_entry (x ∷ H) e = last_entry H e
 
 module _ (o : Opened) (old new : List (Numbered Published)) (looks : List (Option Held)) (l : Line) (learnt : IsPrefix old new)
-    (place : l.session.0 < session_places) (edit : Edit) (is : l.request ≡ requests.Edit (Ok edit)) where
+    (place : l.session.0 < session_places) (act : Act) (is : l.request ≡ requests.Edit (Ok act)) where
   module _ (H : List Entry) (before history : List Entry) (sees : SeesMore o old new looks before history) (least : length before ≤ length H) where
     abbrev Step : List Entry → Reply → Type 0
     Step later reply = IsStep o.config (length o.entries) o.stored before later (opened_in looks) (opened_in looks) l
         (answered_step l reply (length later) None)
 
     -- a refusal over these entries
-    refused : (n : ℕ) (refusal : Refusal) → n ≡ length H → history ≡ H → IsRightRefusal o.config H o.stored l edit n refusal → Step history (reply_to l (Some n) (Refused refusal))
+    refused : (n : ℕ) (refusal : Refusal) → n ≡ length H → history ≡ H → IsRightRefusal o.config H o.stored l act n refusal → Step history (reply_to l (Some n) (Refused refusal))
     refused n refusal all same right =
         refused_step o.config (length o.entries) o.stored before history (opened_in looks) l (from o old new looks l learnt place before history sees) (on o old new looks l learnt place before history sees) place (sees.looks_in l.session.0)
-        edit n refusal None is
+        act n refusal None is
         (let low : length before ≤ n = omega (arith, all, least) in low)
         (let lens : length history ≡ length H = ap length same in omega (arith, all, lens))
-        (subst (λ (h : List Entry). IsRightRefusal o.config h o.stored l edit n refusal) (sym same) right)
+        (subst (λ (h : List Entry). IsRightRefusal o.config h o.stored l act n refusal) (sym same) right)
 
     whole : (n : ℕ) → n ≡ length H → take n H ≡ H
     whole n all = take_all n H (omega (arith, all))
 
-    step : (made : Result ℕ EditFault) → IsAnswer o.stored o.config H (entry_of l edit) made → history ≡ history_behind H (entry_of l edit) made → Step history (commit_reply l made)
+    step : (made : Result ℕ EditFault) → IsAnswer o.stored o.config H (entry_of l act) made → history ≡ history_behind H (entry_of l act) made → Step history (commit_reply l made)
     step (Ok n) right same =
-        let lens : length history ≡ length H + 1 = ap length same ∙ length-append H (entry_of l edit ∷ []) in
+        let lens : length history ≡ length H + 1 = ap length same ∙ length-append H (entry_of l act ∷ []) in
         let number : length H + 1 ≡ n = omega (arith, right.0) in
-        let made : edited o.config (take (length H) history) edit ≡ Ok right.1.breaks_none.0 =
-        ap (λ (h : List Entry). edited o.config (take (length H) h) edit) same
-        ∙ ap (λ (h : List Entry). edited o.config h edit) (take-append_seam H (entry_of l edit ∷ []))
+        let made : edited o.config (take (length H) history) act ≡ Ok right.1.breaks_none.0 =
+        ap (λ (h : List Entry). edited o.config (take (length H) h) act) same
+        ∙ ap (λ (h : List Entry). edited o.config h act) (take-append_seam H (entry_of l act ∷ []))
         ∙ right.1.breaks_none.1 in
-        let there : slice_get history (length H) ≡ Some (entry_of l edit) =
-        ap (λ (h : List Entry). slice_get h (length H)) same ∙ last_entry H (entry_of l edit) in
+        let there : slice_get history (length H) ≡ Some (entry_of l act) =
+        ap (λ (h : List Entry). slice_get h (length H)) same ∙ last_entry H (entry_of l act) in
         subst (λ (k : ℕ). Step history (reply_to l (Some k) (Done l.command))) number
         (accepted_step o.config (length o.entries) o.stored before history (opened_in looks) l (from o old new looks l learnt place before history sees) (on o old new looks l learnt place before history sees) place (sees.looks_in l.session.0)
-        edit (length H) right.1.breaks_none.0 None is least (omega (arith, lens)) right.1.room made there)
+        act (length H) right.1.breaks_none.0 None is least (omega (arith, lens)) right.1.room made there)
     step (Err (faults.HistoryFull n)) right same = refused n refusals.HistoryFull right.0 same (right.0 ∙ right.1)
-    step (Err (faults.Broken rule n)) right same =
+    step (Err (faults.Broken breach n)) right same =
         let room : n < HISTORY_EDITS = omega (arith, right.0, right.1) in
-        refused n (refusals.Rule rule) right.0 same (room, ap (λ (h : List Entry). edited o.config h edit) (whole n right.0) ∙ right.2)
+        refused n (rule_refusal l.command breach) right.0 same (record {
+          room = room;
+          at = breach.place;
+          broken = ap (λ (h : List Entry). edited o.config h act) (whole n right.0) ∙ right.2;
+          shown = refl;
+        })
     step (Err (faults.StoreFull n)) right same =
         let room : n < HISTORY_EDITS = omega (arith, right.0, right.1) in
         refused n refusals.StoreFull right.0 same (record {
           room = room;
           stored = right.3.0;
           database = right.2.0;
-          right = ap (λ (h : List Entry). edited o.config h edit) (whole n right.0) ∙ right.2.1;
-          passes = ap (λ (h : List Entry). passes_store o.config h (entry_of l edit)) (whole n right.0) ∙ passes_so o.config H (entry_of l edit) right.3.1;
+          right = ap (λ (h : List Entry). edited o.config h act) (whole n right.0) ∙ right.2.1;
+          passes = ap (λ (h : List Entry). passes_store o.config h (entry_of l act)) (whole n right.0) ∙ passes_so o.config H (entry_of l act) right.3.1;
         })
     step (Err faults.Disk) right same =
         disk_step o.config (length o.entries) o.stored before history (opened_in looks) l (from o old new looks l learnt place before history sees) (on o old new looks l learnt place before history sees) place (sees.looks_in l.session.0)
-        edit None is right.0
+        act None is right.0
     step (Err faults.Memory) right same =
         want_of_memory_step o.config (length o.entries) o.stored before history (opened_in looks) l (from o old new looks l learnt place before history sees) (on o old new looks l learnt place before history sees) place (sees.looks_in l.session.0)
         None
 
   -- an edit
-  pub edit_replies : (count count_now : Count) (reply : Reply) → IsEdited o old new count count_now l edit reply → RepliesTo o old new count count_now looks looks l reply None
+  pub edit_replies : (count count_now : Count) (reply : Reply) → IsEdited o old new count count_now l act reply → RepliesTo o old new count count_now looks looks l reply None
   edit_replies count count_now reply e = record {
     learnt = learnt;
-    counted = e.counted ∙ edit_count count l edit e.made is ∙ ap (λ (r : Reply). counted_by count (turn_of l r)) (sym e.told);
+    counted = e.counted ∙ edit_count count l act e.made is ∙ ap (λ (r : Reply). counted_by count (turn_of l r)) (sym e.told);
     places = refl;
     step = subst (λ (r : Reply). Steps o old new looks l learnt place looks r None) (sym e.told) told;
   }
@@ -118,10 +123,10 @@ module _ (o : Opened) (old new : List (Numbered Published)) (looks : List (Optio
       told : Steps o old new looks l learnt place looks (commit_reply l e.made) None
       told before history sees =
           let H : List Entry = e.edits.history in
-          let one : IsPrefix history (history_behind H (entry_of l edit) e.made) = goes_on o history (history_behind H (entry_of l edit) e.made) new new sees.shown_now e.edits.shown ([], append-nil new) in
-          let two : IsPrefix (history_behind H (entry_of l edit) e.made) history = goes_on o (history_behind H (entry_of l edit) e.made) history new new e.edits.shown sees.shown_now ([], append-nil new) in
+          let one : IsPrefix history (history_behind H (entry_of l act) e.made) = goes_on o history (history_behind H (entry_of l act) e.made) new new sees.shown_now e.edits.shown ([], append-nil new) in
+          let two : IsPrefix (history_behind H (entry_of l act) e.made) history = goes_on o (history_behind H (entry_of l act) e.made) history new new e.edits.shown sees.shown_now ([], append-nil new) in
           let seen : e.seen ≡ length before = number_is o before old e.seen sees.shown_before e.numbered in
           let most : e.seen ≤ length H = e.edits.seen e.seen e.numbered in (
-            step H before history sees (omega (arith, seen, most)) e.made e.edits.right (begins_same history (history_behind H (entry_of l edit) e.made) one two),
+            step H before history sees (omega (arith, seen, most)) e.made e.edits.right (begins_same history (history_behind H (entry_of l act) e.made) one two),
             held_now o old new looks l learnt place before history sees,
           )

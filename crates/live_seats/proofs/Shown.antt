@@ -1,7 +1,7 @@
 -- What the list of a pass shows.
 use Rattle.std.proofs.Common.{◌≡◌, ℕ, ◌≤◌, List, length}
 use mathlib.Core.List.{IsPrefix}
-use Rattle.edit_rules.specs.declared.edit.Entry.{Entry}
+use Rattle.edit_rules.specs.declared.acts.Entry.{Entry}
 use Rattle.version_gate.specs.declared.entry.Entry.{Entry as Numbered}
 use Rattle.version_gate.specs.Lists.{EndsIn, Numbered as IsNumbered, entry}
 use Rattle.version_gate.proofs.Numbers.{numbered_once}

@@ -19,7 +19,7 @@ use crate::answered::Answered;
 use crate::around::Around;
 use crate::looks::Look;
 use crate::notes::{Row, Told, hear, tell};
-use edit_rules::Edit;
+use edit_rules::Act;
 use emu_disk::Disk;
 use emu_io::{Gate, Moment};
 use emu_names::Memory;
@@ -79,15 +79,15 @@ fn answer_edit<R: Wait, K: Opening + Row, N: Ledger, D: Disk, G: Gate>(
     pass: &mut Pass<Published>,
     share: &mut Share<K, N>,
     line: &Line,
-    edit: &Edit,
+    act: &Act,
 ) -> Reply
     requires gate { pass.old.gate ≡ K.opened.gate }
     requires part { 0 < share.old.parts }
     ensures gate { pass.new.gate ≡ pass.old.gate }
-    ensures edited { IsEdited K.opened pass.old.list pass.new.list share.old share.new line.now edit.now result }
+    ensures edited { IsEdited K.opened pass.old.list pass.new.list share.old share.new line.now act.now result }
 {
     let _seen = pass.seen();
-    let made = around.live.edit(rt, around.alloc, pass, share, line.session, line.line, edit);
+    let made = around.live.edit(rt, around.alloc, pass, share, line.session, line.line, act);
     commit_reply(head(line), made)
 }
 
@@ -237,7 +237,7 @@ fn take_edit<R: Wait, K: Opening + Row, N: Ledger, D: Disk, G: Gate>(
     pass: &mut Pass<Published>,
     share: &mut Share<K, N>,
     line: &Line,
-    given: &Result<Edit, GridFault>,
+    given: &Result<Act, GridFault>,
 ) -> Reply
     requires gate { pass.old.gate ≡ K.opened.gate }
     requires part { 0 < share.old.parts }
@@ -248,7 +248,7 @@ fn take_edit<R: Wait, K: Opening + Row, N: Ledger, D: Disk, G: Gate>(
         looks looks line.now result None }
 {
     match given {
-        Ok(edit) => answer_edit(rt, around, pass, share, line, edit),
+        Ok(act) => answer_edit(rt, around, pass, share, line, act),
         Err(fault) => or_memory(head(line), answer_grid(rt, pass, line, *fault)),
     }
 }

@@ -10,17 +10,18 @@ use Rattle.json_view.specs.Seen.{Seen, seen}
 use Rattle.json_view.specs.Paths.{root_path}
 use Rattle.json_view.specs.Parts.{shape, member_of, whole_at, whole_in, at_most}
 use Rattle.json_view.specs.Steps.{◌>>=◌}
-use Rattle.emu_names.specs.declared.limits.TheConstants.{TOP_ID, TOP_WHOLE}
+use Rattle.emu_names.specs.declared.limits.TheConstants.{TOP_ID}
 use Rattle.emu_names.specs.declared.kinds.SessionNo.{SessionNo}
 use Rattle.emu_names.specs.declared.names.BundleKey.{BundleKey}
 use Rattle.level_items.specs.declared.annot.Annot.{Annot}
 use Rattle.config_json.specs.declared.faults.ConfigFault.{ConfigFault}
 use Rattle.config_json.specs.Forms.{or_shape, text_member}
 use Rattle.emu_names.specs.Texts.{same_text}
-use Rattle.config_json.specs.Read.{config_of}
+use Rattle.config_json.specs.Read.{attribute_in, config_of, level_in, link_in}
 use Rattle.annot_json.specs.Forms.{whole_member}
-use Rattle.annot_json.specs.Read.{annot_of, labels_in}
-use Rattle.edit_rules.specs.declared.edit.Edit.TheVariants as edits
+use Rattle.annot_json.specs.Read.{annot_of}
+use Rattle.bundle_edits.specs.declared.edit.Edit.{Edit}
+use Rattle.bundle_edits.specs.declared.edit.Edit.TheVariants as edits
 use Rattle.textgrid.specs.declared.fault.GridFault.{GridFault}
 use Rattle.session_core.specs.declared.line.Ask.{Ask}
 use Rattle.session_core.specs.declared.line.Command.{Command}
@@ -35,14 +36,17 @@ use Rattle.script_lines.specs.declared.faults.LineFault.TheVariants as faults
 use Rattle.script_lines.specs.declared.faults.ReadLine.{ReadLine}
 use Rattle.script_lines.specs.declared.faults.ReadLine.TheVariants as reads
 use Rattle.script_lines.specs.Faults.{form, config_form}
-use Rattle.script_lines.specs.Forms.{session_at, session_in, if_session, key_at, id_at, position_at, rate_at, time_at}
-use Rattle.script_lines.specs.Edits.{asks, grid_edit, grid_annot, bundle_request, textgrid_request, drop_request, item_request, remove_request, label_request, segment_request, boundary_request, point_request, split_request, merge_request, link_request, unlink_request}
+use Rattle.script_lines.specs.Forms.{session_at, session_in, if_session, key_at, rate_at}
+use Rattle.script_lines.specs.Acts.{edit_of, one_request, listed_edits, edits_request, level_request, attribute_request, definition_request}
+use Rattle.script_lines.specs.CommandWords.{command_named, if_command}
+use Rattle.script_lines.specs.Edits.{alone, asks, grid_act, grid_annot, bundle_request, textgrid_request, drop_request, times_request}
 use Rattle.script_lines.specs.Values.{is_blank, json_of, word_of_line}
 use Rattle.script_lines.specs.Requeries.{requery_at}
 use Rattle.script_lines.specs.Questions.{Question, question_at, question_command, time_name_at}
 use Rattle.eql_resolve.specs.Made.{Made}
-use Rattle.script_lines.specs.Lines.{request_of, blank_line, json_line, value_line, told_line, asking_line, question_request, placed_line, config_line, line_in, if_command, command_named, members_of, after_request, if_earlier}
+use Rattle.script_lines.specs.Lines.{request_of, blank_line, json_line, value_line, told_line, asking_line, question_request, placed_line, config_line, line_in, members_of, after_request, if_earlier}
 use Rattle.script_lines.specs.Known.{Known, NamesOneOf}
+use Rattle.script_lines.proofs.Listed.{all_listed, edit_made}
 use Rattle.script_lines.proofs.Taken.{taken}
 use Rattle.script_lines.proofs.ValidConfigs.{config_valid}
 
@@ -149,9 +153,9 @@ bundle_made earlier s =
     goes_on commands.AddBundle earlier (key_at s) _ (λ key.
     goes_on commands.AddBundle earlier (member_of (codes "annot") wanted.Object s) _ (λ member.
     goes_on commands.AddBundle earlier (annot_of member) _ (λ annot.
-    ends commands.AddBundle earlier (asks (edits.AddBundle key annot)) (record { command = refl; names = tt }))))
+    ends commands.AddBundle earlier (asks (alone (edits.AddBundle key annot))) (record { command = refl; names = tt }))))
 
-grid_made : (earlier : List ℕ) (key : BundleKey) (annot : Result Annot GridFault) → IsRequestOf commands.AddTextgrid earlier (requests.Edit (grid_edit key annot))
+grid_made : (earlier : List ℕ) (key : BundleKey) (annot : Result Annot GridFault) → IsRequestOf commands.AddTextgrid earlier (requests.Edit (grid_act key annot))
 grid_made earlier key (Ok annot) = record { command = refl; names = tt }
 grid_made earlier key (Err fault) = record { command = refl; names = tt }
 
@@ -161,97 +165,90 @@ textgrid_made earlier s =
     goes_on commands.AddTextgrid earlier (key_at s) _ (λ key.
     goes_on commands.AddTextgrid earlier (rate_at s) _ (λ rate.
     goes_on commands.AddTextgrid earlier (text_member (codes "text") s) _ (λ text.
-    ends commands.AddTextgrid earlier (requests.Edit (grid_edit key (grid_annot rate text))) (grid_made earlier key (grid_annot rate text)))))
+    ends commands.AddTextgrid earlier (requests.Edit (grid_act key (grid_annot rate text))) (grid_made earlier key (grid_annot rate text)))))
 
 drop_made : (earlier : List ℕ) (s : Seen) → Makes commands.DropBundle earlier (drop_request s)
 unfolding drop_request
 drop_made earlier s =
     goes_on commands.DropBundle earlier (key_at s) _ (λ key.
-    ends commands.DropBundle earlier (asks (edits.DropBundle key)) (record { command = refl; names = tt }))
+    ends commands.DropBundle earlier (asks (alone (edits.DropBundle key))) (record { command = refl; names = tt }))
 
-item_made : (earlier : List ℕ) (s : Seen) → Makes commands.AddItem earlier (item_request s)
-unfolding item_request
-item_made earlier s =
-    goes_on commands.AddItem earlier (key_at s) _ (λ key.
-    goes_on commands.AddItem earlier (text_member (codes "level") s) _ (λ level.
-    goes_on commands.AddItem earlier (position_at s) _ (λ position.
-    goes_on commands.AddItem earlier (id_at (codes "id") s) _ (λ id.
-    goes_on commands.AddItem earlier (time_at s) _ (λ time.
-    goes_on commands.AddItem earlier (labels_in s) _ (λ labels.
-    ends commands.AddItem earlier (asks (edits.AddItem key level position (record { id = id; time = time; labels = labels }))) (record { command = refl; names = tt })))))))
+times_made : (earlier : List ℕ) (s : Seen) → Makes commands.LinkTimes earlier (times_request s)
+unfolding times_request
+times_made earlier s =
+    goes_on commands.LinkTimes earlier (key_at s) _ (λ key.
+    goes_on commands.LinkTimes earlier (text_member (codes "upper") s) _ (λ upper.
+    goes_on commands.LinkTimes earlier (text_member (codes "lower") s) _ (λ lower.
+    ends commands.LinkTimes earlier (asks (alone (edits.LinkTimes key upper lower))) (record { command = refl; names = tt }))))
 
-remove_made : (earlier : List ℕ) (s : Seen) → Makes commands.RemoveItem earlier (remove_request s)
-unfolding remove_request
-remove_made earlier s =
-    goes_on commands.RemoveItem earlier (key_at s) _ (λ key.
-    goes_on commands.RemoveItem earlier (id_at (codes "id") s) _ (λ id.
-    ends commands.RemoveItem earlier (asks (edits.RemoveItem key id)) (record { command = refl; names = tt })))
+-- One edit alone, and lists.
 
-label_made : (earlier : List ℕ) (s : Seen) → Makes commands.SetLabel earlier (label_request s)
-unfolding label_request
-label_made earlier s =
-    goes_on commands.SetLabel earlier (key_at s) _ (λ key.
-    goes_on commands.SetLabel earlier (id_at (codes "id") s) _ (λ id.
-    goes_on commands.SetLabel earlier (text_member (codes "attribute") s) _ (λ attribute.
-    goes_on commands.SetLabel earlier (text_member (codes "value") s) _ (λ label.
-    ends commands.SetLabel earlier (asks (edits.SetLabel key id attribute label)) (record { command = refl; names = tt })))))
+one_does : (command : Command) (key : BundleKey) (s : Seen) (e : Edit) → edit_of command key s ≡ Ok e
+    → is_command_of command (asks (alone e)) ≡ true
+one_does commands.AddItem key s e h = (edit_made commands.AddItem key s e h).does
+one_does commands.RemoveItem key s e h = (edit_made commands.RemoveItem key s e h).does
+one_does commands.SetLabel key s e h = (edit_made commands.SetLabel key s e h).does
+one_does commands.SetSegment key s e h = (edit_made commands.SetSegment key s e h).does
+one_does commands.MoveBoundary key s e h = (edit_made commands.MoveBoundary key s e h).does
+one_does commands.SetPoint key s e h = (edit_made commands.SetPoint key s e h).does
+one_does commands.Split key s e h = (edit_made commands.Split key s e h).does
+one_does commands.Merge key s e h = (edit_made commands.Merge key s e h).does
+one_does commands.AddLink key s e h = (edit_made commands.AddLink key s e h).does
+one_does commands.RemoveLink key s e h = (edit_made commands.RemoveLink key s e h).does
+one_does commands.Config key s e h = absurd (cc)
+one_does commands.AddBundle key s e h = absurd (cc)
+one_does commands.AddTextgrid key s e h = absurd (cc)
+one_does commands.DropBundle key s e h = absurd (cc)
+one_does commands.LinkTimes key s e h = absurd (cc)
+one_does commands.Edits key s e h = absurd (cc)
+one_does commands.AddLevel key s e h = absurd (cc)
+one_does commands.AddAttribute key s e h = absurd (cc)
+one_does commands.AddLinkDefinition key s e h = absurd (cc)
+one_does commands.Query key s e h = absurd (cc)
+one_does commands.Look key s e h = absurd (cc)
+one_does commands.Finish key s e h = absurd (cc)
+one_does commands.After key s e h = absurd (cc)
 
-segment_made : (earlier : List ℕ) (s : Seen) → Makes commands.SetSegment earlier (segment_request s)
-unfolding segment_request
-segment_made earlier s =
-    goes_on commands.SetSegment earlier (key_at s) _ (λ key.
-    goes_on commands.SetSegment earlier (id_at (codes "id") s) _ (λ id.
-    goes_on commands.SetSegment earlier (whole_member (codes "sampleStart") TOP_WHOLE s) _ (λ start.
-    goes_on commands.SetSegment earlier (whole_member (codes "sampleDur") TOP_WHOLE s) _ (λ dur.
-    ends commands.SetSegment earlier (asks (edits.SetSegment key id start dur)) (record { command = refl; names = tt })))))
+one_made : (command : Command) (earlier : List ℕ) (s : Seen) (r : Request) → one_request command s ≡ Ok r → IsRequestOf command earlier r
+unfolding one_request
+one_made command earlier s r h =
+    let key : _ = taken (form (key_at s)) _ r h in
+    let edit : _ = taken (edit_of command key.value s) _ r key.rest_is in
+    subst (λ q. IsRequestOf command earlier q) (line_ok_is edit.rest_is)
+    (record { command = one_does command key.value s edit.value edit.first_is; names = tt })
 
-boundary_made : (earlier : List ℕ) (s : Seen) → Makes commands.MoveBoundary earlier (boundary_request s)
-unfolding boundary_request
-boundary_made earlier s =
-    goes_on commands.MoveBoundary earlier (key_at s) _ (λ key.
-    goes_on commands.MoveBoundary earlier (id_at (codes "id") s) _ (λ id.
-    goes_on commands.MoveBoundary earlier (whole_member (codes "sampleStart") TOP_WHOLE s) _ (λ start.
-    ends commands.MoveBoundary earlier (asks (edits.MoveBoundary key id start)) (record { command = refl; names = tt }))))
+edits_made : (earlier : List ℕ) (s : Seen) (r : Request) → edits_request s ≡ Ok r → IsRequestOf commands.Edits earlier r
+unfolding edits_request
+edits_made earlier s r h =
+    let key : _ = taken (form (key_at s)) _ r h in
+    let member : _ = taken (form (member_of (codes "edits") wanted.FilledList s)) _ r key.rest_is in
+    let list : _ = taken (listed_edits key.value member.value) _ r member.rest_is in
+    subst (λ q. IsRequestOf commands.Edits earlier q) (line_ok_is list.rest_is)
+    (record { command = all_listed key.value member.value list.value list.first_is; names = tt })
 
-point_made : (earlier : List ℕ) (s : Seen) → Makes commands.SetPoint earlier (point_request s)
-unfolding point_request
-point_made earlier s =
-    goes_on commands.SetPoint earlier (key_at s) _ (λ key.
-    goes_on commands.SetPoint earlier (id_at (codes "id") s) _ (λ id.
-    goes_on commands.SetPoint earlier (whole_member (codes "samplePoint") TOP_WHOLE s) _ (λ at.
-    ends commands.SetPoint earlier (asks (edits.SetPoint key id at)) (record { command = refl; names = tt }))))
+-- Additions to the configuration.
 
-split_made : (earlier : List ℕ) (s : Seen) → Makes commands.Split earlier (split_request s)
-unfolding split_request
-split_made earlier s =
-    goes_on commands.Split earlier (key_at s) _ (λ key.
-    goes_on commands.Split earlier (id_at (codes "id") s) _ (λ id.
-    goes_on commands.Split earlier (id_at (codes "newId") s) _ (λ new_id.
-    goes_on commands.Split earlier (whole_member (codes "sampleStart") TOP_WHOLE s) _ (λ start.
-    ends commands.Split earlier (asks (edits.Split key id new_id start)) (record { command = refl; names = tt })))))
+level_made : (earlier : List ℕ) (s : Seen) (r : Request) → level_request s ≡ Ok r → IsRequestOf commands.AddLevel earlier r
+unfolding level_request
+level_made earlier s r h =
+    let member : _ = taken (form (member_of (codes "level") wanted.Object s)) _ r h in
+    let level : _ = taken (config_form (level_in member.value)) _ r member.rest_is in
+    subst (λ q. IsRequestOf commands.AddLevel earlier q) (line_ok_is level.rest_is) (record { command = refl; names = tt })
 
-merge_made : (earlier : List ℕ) (s : Seen) → Makes commands.Merge earlier (merge_request s)
-unfolding merge_request
-merge_made earlier s =
-    goes_on commands.Merge earlier (key_at s) _ (λ key.
-    goes_on commands.Merge earlier (id_at (codes "id") s) _ (λ id.
-    ends commands.Merge earlier (asks (edits.Merge key id)) (record { command = refl; names = tt })))
+attribute_made : (earlier : List ℕ) (s : Seen) (r : Request) → attribute_request s ≡ Ok r → IsRequestOf commands.AddAttribute earlier r
+unfolding attribute_request
+attribute_made earlier s r h =
+    let level : _ = taken (form (text_member (codes "level") s)) _ r h in
+    let member : _ = taken (form (member_of (codes "attribute") wanted.Object s)) _ r level.rest_is in
+    let attribute : _ = taken (config_form (attribute_in member.value)) _ r member.rest_is in
+    subst (λ q. IsRequestOf commands.AddAttribute earlier q) (line_ok_is attribute.rest_is) (record { command = refl; names = tt })
 
-link_made : (earlier : List ℕ) (s : Seen) → Makes commands.AddLink earlier (link_request s)
-unfolding link_request
-link_made earlier s =
-    goes_on commands.AddLink earlier (key_at s) _ (λ key.
-    goes_on commands.AddLink earlier (id_at (codes "fromID") s) _ (λ from.
-    goes_on commands.AddLink earlier (id_at (codes "toID") s) _ (λ to.
-    ends commands.AddLink earlier (asks (edits.AddLink key from to)) (record { command = refl; names = tt }))))
-
-unlink_made : (earlier : List ℕ) (s : Seen) → Makes commands.RemoveLink earlier (unlink_request s)
-unfolding unlink_request
-unlink_made earlier s =
-    goes_on commands.RemoveLink earlier (key_at s) _ (λ key.
-    goes_on commands.RemoveLink earlier (id_at (codes "fromID") s) _ (λ from.
-    goes_on commands.RemoveLink earlier (id_at (codes "toID") s) _ (λ to.
-    ends commands.RemoveLink earlier (asks (edits.RemoveLink key from to)) (record { command = refl; names = tt }))))
+definition_made : (earlier : List ℕ) (s : Seen) (r : Request) → definition_request s ≡ Ok r → IsRequestOf commands.AddLinkDefinition earlier r
+unfolding definition_request
+definition_made earlier s r h =
+    let member : _ = taken (form (member_of (codes "definition") wanted.Object s)) _ r h in
+    let link : _ = taken (config_form (link_in member.value)) _ r member.rest_is in
+    subst (λ q. IsRequestOf commands.AddLinkDefinition earlier q) (line_ok_is link.rest_is) (record { command = refl; names = tt })
 
 earlier_made : (earlier : List ℕ) (line : ℕ) (b : Bool) (r : Request) → list_any (nat_eq line) earlier ≡ b → cond b (Ok (requests.After line)) (Err faults.BadAfter) ≡ ok_line r → IsRequestOf commands.After earlier r
 earlier_made earlier line true r any h = let same : requests.After line ≡ r = line_ok_is h in subst (λ q. IsRequestOf commands.After earlier q) same (record { command = refl; names = any })
@@ -269,16 +266,21 @@ members_made : (command : Command) (earlier : List ℕ) (s : Seen) (r : Request)
 members_made commands.AddBundle earlier s r h = bundle_made earlier s r (form_ok (bundle_request s) r h)
 members_made commands.AddTextgrid earlier s r h = textgrid_made earlier s r (form_ok (textgrid_request s) r h)
 members_made commands.DropBundle earlier s r h = drop_made earlier s r (form_ok (drop_request s) r h)
-members_made commands.AddItem earlier s r h = item_made earlier s r (form_ok (item_request s) r h)
-members_made commands.RemoveItem earlier s r h = remove_made earlier s r (form_ok (remove_request s) r h)
-members_made commands.SetLabel earlier s r h = label_made earlier s r (form_ok (label_request s) r h)
-members_made commands.SetSegment earlier s r h = segment_made earlier s r (form_ok (segment_request s) r h)
-members_made commands.MoveBoundary earlier s r h = boundary_made earlier s r (form_ok (boundary_request s) r h)
-members_made commands.SetPoint earlier s r h = point_made earlier s r (form_ok (point_request s) r h)
-members_made commands.Split earlier s r h = split_made earlier s r (form_ok (split_request s) r h)
-members_made commands.Merge earlier s r h = merge_made earlier s r (form_ok (merge_request s) r h)
-members_made commands.AddLink earlier s r h = link_made earlier s r (form_ok (link_request s) r h)
-members_made commands.RemoveLink earlier s r h = unlink_made earlier s r (form_ok (unlink_request s) r h)
+members_made commands.AddItem earlier s r h = one_made commands.AddItem earlier s r h
+members_made commands.RemoveItem earlier s r h = one_made commands.RemoveItem earlier s r h
+members_made commands.SetLabel earlier s r h = one_made commands.SetLabel earlier s r h
+members_made commands.SetSegment earlier s r h = one_made commands.SetSegment earlier s r h
+members_made commands.MoveBoundary earlier s r h = one_made commands.MoveBoundary earlier s r h
+members_made commands.SetPoint earlier s r h = one_made commands.SetPoint earlier s r h
+members_made commands.Split earlier s r h = one_made commands.Split earlier s r h
+members_made commands.Merge earlier s r h = one_made commands.Merge earlier s r h
+members_made commands.AddLink earlier s r h = one_made commands.AddLink earlier s r h
+members_made commands.RemoveLink earlier s r h = one_made commands.RemoveLink earlier s r h
+members_made commands.LinkTimes earlier s r h = times_made earlier s r (form_ok (times_request s) r h)
+members_made commands.Edits earlier s r h = edits_made earlier s r h
+members_made commands.AddLevel earlier s r h = level_made earlier s r h
+members_made commands.AddAttribute earlier s r h = attribute_made earlier s r h
+members_made commands.AddLinkDefinition earlier s r h = definition_made earlier s r h
 members_made commands.Query earlier s r h = absurd (cc)
 members_made commands.Look earlier s r h = absurd (cc)
 members_made commands.Finish earlier s r h = let same : requests.Finish ≡ r = line_ok_is h in subst (λ q. IsRequestOf commands.Finish earlier q) same (record { command = refl; names = tt })

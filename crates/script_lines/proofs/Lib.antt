@@ -6,5 +6,6 @@ pub mod Printed
 pub mod Pushed
 pub mod Pieced
 pub mod ValidConfigs
+pub mod Listed
 pub mod KnownLines
 pub mod Making

@@ -1,5 +1,5 @@
 -- What the values of refusals and of last lines are: they have no float.
-use Rattle.std.proofs.Common.{◌≡◌, ℕ, List, false, refl, ap, ◌∙◌}
+use Rattle.std.proofs.Common.{◌≡◌, ℕ, List, Option, None, Some, false, refl, ap, ◌∙◌}
 use Rattle.serde_json.specs.Data.{Data}
 use Rattle.serde_json.specs.Written.{compact_text, has_float}
 use Rattle.emu_names.specs.declared.rules.Broken.{Broken}
@@ -23,9 +23,11 @@ use Rattle.script_lines.specs.LastLines.{last_data, last_text}
 
 -- no value has a float
 
-rule_plain : (b : Broken) → has_float (rule_data b) ≡ false
-rule_plain rules.BundleTaken = refl
-rule_plain _ = refl
+rule_plain : (place : Option ℕ) (b : Broken) → has_float (rule_data place b) ≡ false
+rule_plain None rules.BundleTaken = refl
+rule_plain None _ = refl
+rule_plain (Some place) rules.BundleTaken = refl
+rule_plain (Some place) _ = refl
 
 grid_plain : (f : GridFault) → has_float (grid_fault_data f) ≡ false
 grid_plain (grid_faults.BadText at) = refl
@@ -44,7 +46,7 @@ ask_plain asks.MixedLevels = refl
 ask_plain _ = refl
 
 refusal_plain : (r : Refusal) → has_float (refusal_data r) ≡ false
-refusal_plain (refusals.Rule b) = rule_plain b
+refusal_plain (refusals.Rule b place) = rule_plain place b
 refusal_plain (refusals.Grid f) = grid_plain f
 refusal_plain (refusals.Prepare f) = prepare_plain f
 refusal_plain (refusals.Resolve f) = ask_plain f

@@ -1,6 +1,8 @@
 pub mod Faults
 pub mod Forms
+pub mod CommandWords
 pub mod Edits
+pub mod Acts
 pub mod Values
 pub mod Requeries
 pub mod Questions

@@ -23,37 +23,14 @@ use Rattle.script_lines.specs.declared.faults.ReadLine.{ReadLine}
 use Rattle.script_lines.specs.declared.faults.ReadLine.TheVariants as reads
 use Rattle.script_lines.specs.Faults.{form, config_form}
 use Rattle.script_lines.specs.Forms.{session_at}
-use Rattle.script_lines.specs.Edits.{bundle_request, textgrid_request, drop_request, item_request, remove_request, label_request, segment_request, boundary_request, point_request, split_request, merge_request, link_request, unlink_request}
+use Rattle.script_lines.specs.Acts.{one_request, edits_request, level_request, attribute_request, definition_request}
+use Rattle.script_lines.specs.CommandWords.{command_named, if_command}
+use Rattle.script_lines.specs.Edits.{bundle_request, textgrid_request, drop_request, times_request}
 use Rattle.script_lines.specs.Values.{is_blank, json_of, word_of_line}
 use Rattle.script_lines.specs.Questions.{Question, question_at, question_command}
 use Rattle.eql_resolve.specs.Made.{Made}
 
--- The commands and their members.
-
--- the command of a word, but for the configuration's and those of questions
-abbrev pub command_named : List ℕ → Option Command
-command_named word =
-    if same_text word (codes "add_bundle") then Some commands.AddBundle
-    else if same_text word (codes "add_textgrid") then Some commands.AddTextgrid
-    else if same_text word (codes "drop_bundle") then Some commands.DropBundle
-    else if same_text word (codes "add_item") then Some commands.AddItem
-    else if same_text word (codes "remove_item") then Some commands.RemoveItem
-    else if same_text word (codes "set_label") then Some commands.SetLabel
-    else if same_text word (codes "set_segment") then Some commands.SetSegment
-    else if same_text word (codes "move_boundary") then Some commands.MoveBoundary
-    else if same_text word (codes "set_point") then Some commands.SetPoint
-    else if same_text word (codes "split") then Some commands.Split
-    else if same_text word (codes "merge") then Some commands.Merge
-    else if same_text word (codes "add_link") then Some commands.AddLink
-    else if same_text word (codes "remove_link") then Some commands.RemoveLink
-    else if same_text word (codes "finish") then Some commands.Finish
-    else if same_text word (codes "after") then Some commands.After
-    else None
-
--- a word that is no command's is at fault
-abbrev pub if_command : Option Command → Result Command LineFault
-if_command None = Err faults.NoSuchCommand
-if_command (Some command) = Ok command
+-- The members of commands.
 
 -- `after`: the number of an earlier request line
 abbrev pub if_earlier : List ℕ → ℕ → Result Request LineFault
@@ -68,16 +45,21 @@ abbrev pub members_of : Command → List ℕ → Seen → Result Request LineFau
 members_of commands.AddBundle earlier s = form (bundle_request s)
 members_of commands.AddTextgrid earlier s = form (textgrid_request s)
 members_of commands.DropBundle earlier s = form (drop_request s)
-members_of commands.AddItem earlier s = form (item_request s)
-members_of commands.RemoveItem earlier s = form (remove_request s)
-members_of commands.SetLabel earlier s = form (label_request s)
-members_of commands.SetSegment earlier s = form (segment_request s)
-members_of commands.MoveBoundary earlier s = form (boundary_request s)
-members_of commands.SetPoint earlier s = form (point_request s)
-members_of commands.Split earlier s = form (split_request s)
-members_of commands.Merge earlier s = form (merge_request s)
-members_of commands.AddLink earlier s = form (link_request s)
-members_of commands.RemoveLink earlier s = form (unlink_request s)
+members_of commands.AddItem earlier s = one_request commands.AddItem s
+members_of commands.RemoveItem earlier s = one_request commands.RemoveItem s
+members_of commands.SetLabel earlier s = one_request commands.SetLabel s
+members_of commands.SetSegment earlier s = one_request commands.SetSegment s
+members_of commands.MoveBoundary earlier s = one_request commands.MoveBoundary s
+members_of commands.SetPoint earlier s = one_request commands.SetPoint s
+members_of commands.Split earlier s = one_request commands.Split s
+members_of commands.Merge earlier s = one_request commands.Merge s
+members_of commands.AddLink earlier s = one_request commands.AddLink s
+members_of commands.RemoveLink earlier s = one_request commands.RemoveLink s
+members_of commands.LinkTimes earlier s = form (times_request s)
+members_of commands.Edits earlier s = edits_request s
+members_of commands.AddLevel earlier s = level_request s
+members_of commands.AddAttribute earlier s = attribute_request s
+members_of commands.AddLinkDefinition earlier s = definition_request s
 members_of commands.Query earlier s = Err faults.NoSuchCommand
 members_of commands.Look earlier s = Err faults.NoSuchCommand
 members_of commands.Finish earlier s = Ok requests.Finish

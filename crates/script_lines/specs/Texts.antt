@@ -55,62 +55,81 @@ command_word commands.Split = codes "split"
 command_word commands.Merge = codes "merge"
 command_word commands.AddLink = codes "add_link"
 command_word commands.RemoveLink = codes "remove_link"
+command_word commands.LinkTimes = codes "link_times"
+command_word commands.Edits = codes "edits"
+command_word commands.AddLevel = codes "add_level"
+command_word commands.AddAttribute = codes "add_attribute"
+command_word commands.AddLinkDefinition = codes "add_link_definition"
 command_word commands.Query = codes "query"
 command_word commands.Look = codes "look"
 command_word commands.Finish = codes "finish"
 command_word commands.After = codes "after"
 
--- a refusal: its rule, and the id, the name or the counted thing of the rule
+-- a refusal: its rule, and the id, the name or the counted thing of the rule; where an edit of a list breaks it, also
+-- the place of the edit, which is counted from 1
+
+-- the place of an edit, where it is told, before these members
+abbrev pub placed_members : Option ℕ → Members → Members
+placed_members None rest = rest
+placed_members (Some place) rest = member (codes "place") (whole place) rest
 
 -- a refusal with its rule alone
-abbrev pub plain_rule : List ℕ → Data
-plain_rule word = object (member (codes "rule") (string word) no_members)
+abbrev pub plain_rule : Option ℕ → List ℕ → Data
+plain_rule place word = object (placed_members place (member (codes "rule") (string word) no_members))
 
 -- a refusal that names an item
-abbrev pub rule_with_id : ItemId → List ℕ → Data
-rule_with_id id word = object (member (codes "id") (whole id.0) (member (codes "rule") (string word) no_members))
+abbrev pub rule_with_id : Option ℕ → ItemId → List ℕ → Data
+rule_with_id place id word = object
+    (member (codes "id") (whole id.0)
+    (placed_members place
+    (member (codes "rule") (string word) no_members)))
 
 -- a refusal that names a level, an attribute or another name
-abbrev pub rule_with_name : List ℕ → List ℕ → Data
-rule_with_name name word = object (member (codes "name") (string name) (member (codes "rule") (string word) no_members))
+abbrev pub rule_with_name : Option ℕ → List ℕ → List ℕ → Data
+rule_with_name place name word = object
+    (member (codes "name") (string name)
+    (placed_members place
+    (member (codes "rule") (string word) no_members)))
 
 -- a refusal that names what there are too many of
-abbrev pub rule_with_what : What → List ℕ → Data
-rule_with_what what word =
-    object (member (codes "rule") (string word) (member (codes "what") (string (counted_of what)) no_members))
+abbrev pub rule_with_what : Option ℕ → What → List ℕ → Data
+rule_with_what place what word = object
+    (placed_members place
+    (member (codes "rule") (string word)
+    (member (codes "what") (string (counted_of what)) no_members)))
 
--- a rule that an edit breaks
-abbrev pub rule_data : Broken → Data
-rule_data rules.BundleTaken = plain_rule (word_of rules.BundleTaken)
-rule_data rules.NoBundle = plain_rule (word_of rules.NoBundle)
-rule_data (rules.TooMany what) = rule_with_what what (word_of (rules.TooMany what))
-rule_data rules.RateOut = plain_rule (word_of rules.RateOut)
-rule_data (rules.NoLevel name) = rule_with_name name (word_of (rules.NoLevel name))
-rule_data (rules.TwoLevels name) = rule_with_name name (word_of (rules.TwoLevels name))
-rule_data (rules.LevelKind name) = rule_with_name name (word_of (rules.LevelKind name))
-rule_data (rules.NoAttribute name) = rule_with_name name (word_of (rules.NoAttribute name))
-rule_data (rules.TwoLabels name) = rule_with_name name (word_of (rules.TwoLabels name))
-rule_data rules.LabelTooLong = plain_rule (word_of rules.LabelTooLong)
-rule_data rules.IllegalLabel = plain_rule (word_of rules.IllegalLabel)
-rule_data (rules.IdTaken id) = rule_with_id id (word_of (rules.IdTaken id))
-rule_data (rules.NoItem id) = rule_with_id id (word_of (rules.NoItem id))
-rule_data rules.PositionOut = plain_rule (word_of rules.PositionOut)
-rule_data rules.TimeKind = plain_rule (word_of rules.TimeKind)
-rule_data rules.TimeOut = plain_rule (word_of rules.TimeOut)
-rule_data (rules.Overlap id) = rule_with_id id (word_of (rules.Overlap id))
-rule_data (rules.NotRising id) = rule_with_id id (word_of (rules.NotRising id))
-rule_data (rules.NoNeighbour id) = rule_with_id id (word_of (rules.NoNeighbour id))
-rule_data rules.CutOut = plain_rule (word_of rules.CutOut)
-rule_data rules.NoLinkDefinition = plain_rule (word_of rules.NoLinkDefinition)
-rule_data rules.LinkExists = plain_rule (word_of rules.LinkExists)
-rule_data rules.NoLink = plain_rule (word_of rules.NoLink)
-rule_data (rules.OneParent id) = rule_with_id id (word_of (rules.OneParent id))
-rule_data (rules.OneChild id) = rule_with_id id (word_of (rules.OneChild id))
-rule_data (rules.DoubleName name) = rule_with_name name (word_of (rules.DoubleName name))
-rule_data (rules.UnknownLevel name) = rule_with_name name (word_of (rules.UnknownLevel name))
-rule_data rules.DoubleLink = plain_rule (word_of rules.DoubleLink)
-rule_data rules.LevelCycle = plain_rule (word_of rules.LevelCycle)
-rule_data rules.NothingToLink = plain_rule (word_of rules.NothingToLink)
+-- a rule that an edit breaks, with the edit's place where it is told
+abbrev pub rule_data : Option ℕ → Broken → Data
+rule_data place rules.BundleTaken = plain_rule place (word_of rules.BundleTaken)
+rule_data place rules.NoBundle = plain_rule place (word_of rules.NoBundle)
+rule_data place (rules.TooMany what) = rule_with_what place what (word_of (rules.TooMany what))
+rule_data place rules.RateOut = plain_rule place (word_of rules.RateOut)
+rule_data place (rules.NoLevel name) = rule_with_name place name (word_of (rules.NoLevel name))
+rule_data place (rules.TwoLevels name) = rule_with_name place name (word_of (rules.TwoLevels name))
+rule_data place (rules.LevelKind name) = rule_with_name place name (word_of (rules.LevelKind name))
+rule_data place (rules.NoAttribute name) = rule_with_name place name (word_of (rules.NoAttribute name))
+rule_data place (rules.TwoLabels name) = rule_with_name place name (word_of (rules.TwoLabels name))
+rule_data place rules.LabelTooLong = plain_rule place (word_of rules.LabelTooLong)
+rule_data place rules.IllegalLabel = plain_rule place (word_of rules.IllegalLabel)
+rule_data place (rules.IdTaken id) = rule_with_id place id (word_of (rules.IdTaken id))
+rule_data place (rules.NoItem id) = rule_with_id place id (word_of (rules.NoItem id))
+rule_data place rules.PositionOut = plain_rule place (word_of rules.PositionOut)
+rule_data place rules.TimeKind = plain_rule place (word_of rules.TimeKind)
+rule_data place rules.TimeOut = plain_rule place (word_of rules.TimeOut)
+rule_data place (rules.Overlap id) = rule_with_id place id (word_of (rules.Overlap id))
+rule_data place (rules.NotRising id) = rule_with_id place id (word_of (rules.NotRising id))
+rule_data place (rules.NoNeighbour id) = rule_with_id place id (word_of (rules.NoNeighbour id))
+rule_data place rules.CutOut = plain_rule place (word_of rules.CutOut)
+rule_data place rules.NoLinkDefinition = plain_rule place (word_of rules.NoLinkDefinition)
+rule_data place rules.LinkExists = plain_rule place (word_of rules.LinkExists)
+rule_data place rules.NoLink = plain_rule place (word_of rules.NoLink)
+rule_data place (rules.OneParent id) = rule_with_id place id (word_of (rules.OneParent id))
+rule_data place (rules.OneChild id) = rule_with_id place id (word_of (rules.OneChild id))
+rule_data place (rules.DoubleName name) = rule_with_name place name (word_of (rules.DoubleName name))
+rule_data place (rules.UnknownLevel name) = rule_with_name place name (word_of (rules.UnknownLevel name))
+rule_data place rules.DoubleLink = plain_rule place (word_of rules.DoubleLink)
+rule_data place rules.LevelCycle = plain_rule place (word_of rules.LevelCycle)
+rule_data place rules.NothingToLink = plain_rule place (word_of rules.NothingToLink)
 
 -- a refusal that names a place of a text, or the number of a pattern
 abbrev pub rule_at : ℕ → List ℕ → Data
@@ -141,46 +160,46 @@ grid_fault_data (grid_faults.Expected at what) = expected_at at what
 grid_fault_data (grid_faults.NegativeTime tier entry) = rule_in_tier tier entry (codes "NegativeTime")
 grid_fault_data (grid_faults.TimeTooLarge tier entry) = rule_in_tier tier entry (codes "TimeTooLarge")
 grid_fault_data (grid_faults.EmptyInterval tier entry) = rule_in_tier tier entry (codes "EmptyInterval")
-grid_fault_data grid_faults.Memory = plain_rule (codes "Memory")
+grid_fault_data grid_faults.Memory = plain_rule None (codes "Memory")
 
 -- the fault of a query's text: its place counts the bytes of the text from 0
 abbrev pub query_fault_data : QueryFault → Data
-query_fault_data queries.TextTooLong = plain_rule (codes "TextTooLong")
+query_fault_data queries.TextTooLong = plain_rule None (codes "TextTooLong")
 query_fault_data (queries.Syntax at) = rule_at at (codes "Syntax")
 query_fault_data (queries.TooDeep at) = rule_at at (codes "TooDeep")
 query_fault_data (queries.TwoMarks at) = rule_at at (codes "TwoMarks")
-query_fault_data queries.Memory = plain_rule (codes "Memory")
+query_fault_data queries.Memory = plain_rule None (codes "Memory")
 
 -- the fault of a query's text or of one of its patterns, which are counted from 0
 abbrev pub prepare_fault_data : PrepareFault → Data
 prepare_fault_data (prepares.Query fault) = query_fault_data fault
 prepare_fault_data (prepares.BadPattern k) = rule_at k (codes "BadPattern")
 prepare_fault_data (prepares.PatternTooLarge k) = rule_at k (codes "PatternTooLarge")
-prepare_fault_data prepares.Memory = plain_rule (codes "Memory")
+prepare_fault_data prepares.Memory = plain_rule None (codes "Memory")
 
 -- the fault of a query under a configuration
 abbrev pub ask_fault_data : AskFault → Data
-ask_fault_data (asks.UnknownName name) = rule_with_name name (codes "UnknownName")
-ask_fault_data asks.MixedLevels = plain_rule (codes "MixedLevels")
-ask_fault_data asks.SequenceLevels = plain_rule (codes "SequenceLevels")
-ask_fault_data asks.NoPath = plain_rule (codes "NoPath")
-ask_fault_data asks.AmbiguousTime = plain_rule (codes "AmbiguousTime")
-ask_fault_data asks.BadTimeLevel = plain_rule (codes "BadTimeLevel")
-ask_fault_data asks.Memory = plain_rule (codes "Memory")
+ask_fault_data (asks.UnknownName name) = rule_with_name None name (codes "UnknownName")
+ask_fault_data asks.MixedLevels = plain_rule None (codes "MixedLevels")
+ask_fault_data asks.SequenceLevels = plain_rule None (codes "SequenceLevels")
+ask_fault_data asks.NoPath = plain_rule None (codes "NoPath")
+ask_fault_data asks.AmbiguousTime = plain_rule None (codes "AmbiguousTime")
+ask_fault_data asks.BadTimeLevel = plain_rule None (codes "BadTimeLevel")
+ask_fault_data asks.Memory = plain_rule None (codes "Memory")
 
 -- a refusal
 abbrev pub refusal_data : Refusal → Data
-refusal_data (refusals.Rule rule) = rule_data rule
+refusal_data (refusals.Rule rule place) = rule_data place rule
 refusal_data (refusals.Grid fault) = grid_fault_data fault
 refusal_data (refusals.Prepare fault) = prepare_fault_data fault
 refusal_data (refusals.Resolve fault) = ask_fault_data fault
-refusal_data refusals.TooManyTuples = plain_rule (codes "TooManyTuples")
-refusal_data refusals.NoLook = plain_rule (codes "NoLook")
-refusal_data refusals.LookOpen = plain_rule (codes "LookOpen")
-refusal_data refusals.HistoryFull = plain_rule (codes "HistoryFull")
-refusal_data refusals.StoreFull = plain_rule (codes "StoreFull")
-refusal_data refusals.Disk = plain_rule (codes "Disk")
-refusal_data refusals.Memory = plain_rule (codes "Memory")
+refusal_data refusals.TooManyTuples = plain_rule None (codes "TooManyTuples")
+refusal_data refusals.NoLook = plain_rule None (codes "NoLook")
+refusal_data refusals.LookOpen = plain_rule None (codes "LookOpen")
+refusal_data refusals.HistoryFull = plain_rule None (codes "HistoryFull")
+refusal_data refusals.StoreFull = plain_rule None (codes "StoreFull")
+refusal_data refusals.Disk = plain_rule None (codes "Disk")
+refusal_data refusals.Memory = plain_rule None (codes "Memory")
 
 -- a reply: its line, the number of edits where it has one, and the answer
 

@@ -1,21 +1,32 @@
-//! The requests for edits of bundles and of links.
-ghost use Rattle.std.specs.Prelude.{◌≡◌};
+//! The requests for edits that stand alone, and the edits of links.
+ghost use Rattle.std.specs.Prelude.{◌≡◌, Ok};
 ghost use Rattle.json_view.specs.Inner.Gives.{Gives};
 ghost use Rattle.json_view.specs.Inner.Seen.{seen_at};
-ghost use Rattle.script_lines.specs.Edits.{asks, bundle_request, drop_request, link_request, unlink_request};
+ghost use Rattle.script_lines.specs.Edits.{alone, asks, bundle_request, drop_request, link_edit, times_request, unlink_edit};
 
-use crate::forms::{id_at, key_at};
+use crate::forms::{id_at, key_at, text_member};
 use annot_json::read_annot;
-use edit_rules::Edit;
+use edit_rules::{Act, Edit, Edits};
+use emu_names::BundleKey;
 use json_view::{View, ViewFault, Wanted};
 use session_core::Request;
 use std::alloc::Global;
 
-/// The request for an edit.
-pub(crate) fn asks(edit: Edit) -> Request
-    ensures { result ≡ asks edit }
+/// The request for an act.
+pub(crate) fn asks(act: Act) -> Request
+    ensures { result ≡ asks act }
 {
-    Request::Edit(Ok(edit))
+    Request::Edit(Ok(act))
+}
+
+/// The request for an edit alone.
+pub(crate) fn asks_alone(alloc: Global, edit: Edit) -> Result<Request, ViewFault>
+    ensures { Gives (λ r. r) result (Ok (asks (alone edit))) }
+{
+    match Edits::one(alloc, edit) {
+        Ok(edits) => Ok(asks(Act::Edits(edits))),
+        Err(_) => Err(ViewFault::Memory),
+    }
 }
 
 /// `add_bundle`: the names of the session and the bundle, and an annotation.
@@ -26,7 +37,7 @@ pub(crate) fn bundle_request(alloc: Global, view: &View) -> Result<Request, View
     let key = key_at(alloc, view)?;
     let member = view.member("annot", Wanted::Object)?;
     let annot = read_annot(alloc, &member)?;
-    Ok(asks(Edit::AddBundle { key, annot }))
+    asks_alone(alloc, Edit::AddBundle { key, annot })
 }
 
 /// `drop_bundle`: the names of the session and the bundle.
@@ -35,27 +46,36 @@ pub(crate) fn drop_request(alloc: Global, view: &View) -> Result<Request, ViewFa
     ensures { Gives (λ r. r) result (drop_request (seen_at view.now)) }
 {
     let key = key_at(alloc, view)?;
-    Ok(asks(Edit::DropBundle { key }))
+    asks_alone(alloc, Edit::DropBundle { key })
 }
 
-/// `add_link`: the bundle, and the ids of the upper and of the lower item.
-#[tactic(auto, unfolding(crate::specs::Edits::link_request))]
-pub(crate) fn link_request(alloc: Global, view: &View) -> Result<Request, ViewFault>
-    ensures { Gives (λ r. r) result (link_request (seen_at view.now)) }
+/// `link_times`: the bundle, and the names of the level of the segments and of that of the items.
+#[tactic(auto, unfolding(crate::specs::Edits::times_request))]
+pub(crate) fn times_request(alloc: Global, view: &View) -> Result<Request, ViewFault>
+    ensures { Gives (λ r. r) result (times_request (seen_at view.now)) }
 {
     let key = key_at(alloc, view)?;
-    let from = id_at(view, "fromID")?;
-    let to = id_at(view, "toID")?;
-    Ok(asks(Edit::AddLink { key, from, to }))
+    let upper = text_member(alloc, view, "upper")?;
+    let lower = text_member(alloc, view, "lower")?;
+    asks_alone(alloc, Edit::LinkTimes { key, upper, lower })
 }
 
-/// `remove_link`: the bundle, and the ids of the upper and of the lower item.
-#[tactic(auto, unfolding(crate::specs::Edits::unlink_request))]
-pub(crate) fn unlink_request(alloc: Global, view: &View) -> Result<Request, ViewFault>
-    ensures { Gives (λ r. r) result (unlink_request (seen_at view.now)) }
+/// `add_link`: the ids of the upper and of the lower item.
+#[tactic(auto, unfolding(crate::specs::Edits::link_edit))]
+pub(crate) fn link_edit(key: BundleKey, view: &View) -> Result<Edit, ViewFault>
+    ensures { Gives (λ e. e) result (link_edit key (seen_at view.now)) }
 {
-    let key = key_at(alloc, view)?;
     let from = id_at(view, "fromID")?;
     let to = id_at(view, "toID")?;
-    Ok(asks(Edit::RemoveLink { key, from, to }))
+    Ok(Edit::AddLink { key, from, to })
+}
+
+/// `remove_link`: the ids of the upper and of the lower item.
+#[tactic(auto, unfolding(crate::specs::Edits::unlink_edit))]
+pub(crate) fn unlink_edit(key: BundleKey, view: &View) -> Result<Edit, ViewFault>
+    ensures { Gives (λ e. e) result (unlink_edit key (seen_at view.now)) }
+{
+    let from = id_at(view, "fromID")?;
+    let to = id_at(view, "toID")?;
+    Ok(Edit::RemoveLink { key, from, to })
 }

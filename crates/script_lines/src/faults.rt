@@ -23,12 +23,12 @@ pub enum LineFault {
     NotJson,
     /// A part of it is missing or has another form.
     Shape(Shape),
-    /// No command has this name.
+    /// No command has this name, or in a list of edits none whose edits may stand there.
     NoSuchCommand,
     /// A configuration stands where none may stand, or something else where it should.
     ConfigPlace,
-    /// The configuration passes a limit or breaks a rule of configurations. A part of it that has another
-    /// form is a `Shape` of the line, as everywhere.
+    /// The configuration passes a limit or breaks a rule of configurations, or what is to be added to it passes a
+    /// limit. A part of it that has another form is a `Shape` of the line, as everywhere.
     Config(ConfigFault),
     /// An `after` names no earlier request.
     BadAfter,

@@ -6,6 +6,7 @@ ghost use Rattle.emu_names.specs.declared.limits.TheConstants.{TOP_RATE as MOST}
 ghost use Rattle.config_json.specs.Forms.{name_at, text_member};
 ghost use Rattle.annot_json.specs.Forms.{whole_member};
 ghost use Rattle.script_lines.specs.Forms.{session_at, key_at, id_at, position_at, rate_in, rate_at};
+ghost use Rattle.script_lines.specs.Values.{word_of_line};
 
 use emu_names::limits::{SESSIONS, TOP_ID, TOP_RATE};
 use emu_names::{BundleKey, ItemId, Name, NameFault, Series, SessionNo, Text};
@@ -131,4 +132,13 @@ pub(crate) fn session_at(view: &View) -> Result<SessionNo, ViewFault>
         return Err(view.refuse_member("s", Wanted::Session));
     }
     Ok(SessionNo(number as u32))
+}
+
+/// What a line, or an edit of a list, does: an object whose `do` is a text.
+#[tactic(auto, unfolding(crate::specs::Values::word_of_line, config_json::specs::Forms::text_member, json_view::specs::Parts::object_of, json_view::specs::Parts::optional_of))]
+pub(crate) fn word_of_line<'a>(view: &View<'a>) -> Result<&'a str, ViewFault>
+    ensures { Gives (λ t. t.now) result (word_of_line (seen_at view.now)) }
+{
+    view.object()?;
+    view.text_member("do")
 }

@@ -5,8 +5,9 @@ ghost use Rattle.json_view.specs.Inner.Seen.{seen_at};
 ghost use Rattle.emu_names.specs.declared.limits.TheConstants.{TOP_RATE};
 ghost use Rattle.session_core.specs.declared.line.Request.TheVariants as requests;
 ghost use Rattle.textgrid.specs.Inner.Told.{TellsFault};
-ghost use Rattle.script_lines.specs.Edits.{grid_annot, grid_edit, textgrid_request};
+ghost use Rattle.script_lines.specs.Edits.{grid_act, grid_annot, textgrid_request};
 
+use crate::edits::asks_alone;
 use crate::forms::{key_at, rate_at};
 use edit_rules::Edit;
 use emu_names::BundleKey;
@@ -38,10 +39,10 @@ fn grid_request(alloc: Global, key: BundleKey, rate: u32, text: &str) -> Result<
     requires least { 1 ≤ rate }
     requires most { rate ≤ TOP_RATE }
     ensures { Gives (λ r. r) result
-        (Ok (requests.Edit (grid_edit key (grid_annot rate text.now)))) }
+        (Ok (requests.Edit (grid_act key (grid_annot rate text.now)))) }
 {
     match grid_annot(alloc, rate, text) {
-        Ok(annot) => Ok(Request::Edit(Ok(Edit::AddBundle { key, annot }))),
+        Ok(annot) => asks_alone(alloc, Edit::AddBundle { key, annot }),
         Err(GridFault::Memory) => Err(ViewFault::Memory),
         Err(fault) => Ok(Request::Edit(Err(fault))),
     }

@@ -1,6 +1,8 @@
 //! The lines of a script: the request that a line of JSON stands for, and the text of its reply.
 #![tactic(auto)]
 
+mod additions;
+mod commands;
 mod edits;
 mod faults;
 mod forms;
@@ -10,6 +12,7 @@ mod labels;
 mod last_lines;
 mod law;
 mod line_set;
+mod lists;
 mod place;
 mod print;
 mod questions;

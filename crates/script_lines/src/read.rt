@@ -1,7 +1,6 @@
 //! One line of a script.
 ghost use Rattle.std.specs.Prelude.{◌≡◌, ◌≢◌, Bool, IfOk, IfErr, None, Some};
 ghost use Rattle.serde_json.specs.View.{view};
-ghost use Rattle.json_view.specs.Inner.Gives.{Gives};
 ghost use Rattle.json_view.specs.Paths.{root_path};
 ghost use Rattle.json_view.specs.Seen.{seen};
 ghost use Rattle.json_view.specs.Inner.Seen.{seen_at};
@@ -11,14 +10,15 @@ ghost use Rattle.script_lines.specs.Made.{eql_told, eql_in};
 ghost use Rattle.script_lines.specs.Lines.{json_line, line_in, config_line, placed_line, value_line};
 ghost use Rattle.script_lines.specs.Inner.Lines.{ReadsMade, IsReadAs};
 
+use crate::commands::command_named;
 use crate::faults::{LineFault, ReadLine};
-use crate::forms::session_at;
+use crate::forms::{session_at, word_of_line};
 use crate::line_set::LineSet;
 use crate::place::Place;
 use crate::questions::{asking_line, question_command};
-use crate::requests::{command_named, members_of};
+use crate::requests::members_of;
 use config_json::read_config;
-use json_view::{View, ViewFault, Wanted};
+use json_view::{View, Wanted};
 use label_match::PatternMaker;
 use serde_json::Value;
 use session_core::Line;
@@ -103,15 +103,6 @@ fn placed_line(
         (false, false) => line_in(alloc, place, word, view),
         _ => Err(LineFault::ConfigPlace),
     }
-}
-
-// What a line does: an object whose `do` is a text.
-#[tactic(auto, unfolding(crate::specs::Values::word_of_line, config_json::specs::Forms::text_member, json_view::specs::Parts::object_of, json_view::specs::Parts::optional_of))]
-fn word_of_line<'a>(view: &View<'a>) -> Result<&'a str, ViewFault>
-    ensures { Gives (λ t. t.now) result (word_of_line (seen_at view.now)) }
-{
-    view.object()?;
-    view.text_member("do")
 }
 
 // The request of a JSON value; the query of a question is prepared.

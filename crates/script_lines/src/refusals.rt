@@ -11,55 +11,69 @@ use session_core::Refusal;
 use std::alloc::Global;
 use textgrid::{GridFault, GridWhat};
 
-/// A refusal that says its rule alone.
-fn plain_value(alloc: Global, word: &str) -> Result<Value, Memory>
-    ensures { IfOk result (λ v. view v ≡ plain_rule word.now) }
+/// A refusal that says its rule alone, and the place of the edit where it is told.
+fn plain_value(alloc: Global, place: Option<u32>, word: &str) -> Result<Value, Memory>
+    ensures { IfOk result (λ v. view v ≡ plain_rule place word.now) }
 {
-    Ok(json!(in alloc; {"rule": word})?)
+    match place {
+        None => Ok(json!(in alloc; {"rule": word})?),
+        Some(place) => Ok(json!(in alloc; {"place": place, "rule": word})?),
+    }
 }
 
 /// A refusal that says an id.
-fn id_value(alloc: Global, id: ItemId, word: &str) -> Result<Value, Memory>
-    ensures { IfOk result (λ v. view v ≡ rule_with_id id word.now) }
+fn id_value(alloc: Global, place: Option<u32>, id: ItemId, word: &str) -> Result<Value, Memory>
+    ensures { IfOk result (λ v. view v ≡ rule_with_id place id word.now) }
 {
-    Ok(json!(in alloc; {"id": id.0, "rule": word})?)
+    match place {
+        None => Ok(json!(in alloc; {"id": id.0, "rule": word})?),
+        Some(place) => Ok(json!(in alloc; {"id": id.0, "place": place, "rule": word})?),
+    }
 }
 
 /// A refusal that says a name.
-fn name_value(alloc: Global, name: &Text, word: &str) -> Result<Value, Memory>
-    ensures { IfOk result (λ v. view v ≡ rule_with_name name.now word.now) }
+fn name_value(alloc: Global, place: Option<u32>, name: &Text, word: &str) -> Result<Value, Memory>
+    ensures { IfOk result (λ v. view v ≡ rule_with_name place name.now word.now) }
 {
-    Ok(json!(in alloc; {"name": name.as_str(), "rule": word})?)
+    match place {
+        None => Ok(json!(in alloc; {"name": name.as_str(), "rule": word})?),
+        Some(place) => {
+            Ok(json!(in alloc; {"name": name.as_str(), "place": place, "rule": word})?)
+        }
+    }
 }
 
 /// A refusal that says what there are too many of.
-fn what_value(alloc: Global, what: What, word: &str) -> Result<Value, Memory>
-    ensures { IfOk result (λ v. view v ≡ rule_with_what what word.now) }
+fn what_value(alloc: Global, place: Option<u32>, what: What, word: &str) -> Result<Value, Memory>
+    ensures { IfOk result (λ v. view v ≡ rule_with_what place what word.now) }
 {
-    Ok(json!(in alloc; {"rule": word, "what": what.word()})?)
+    match place {
+        None => Ok(json!(in alloc; {"rule": word, "what": what.word()})?),
+        Some(place) => { Ok(json!(in alloc; {"place": place, "rule": word, "what": what.word()})?) }
+    }
 }
 
-/// A broken rule.
-fn rule_value(alloc: Global, broken: &Broken) -> Result<Value, Memory>
-    ensures { IfOk result (λ v. view v ≡ rule_data broken.now) }
+/// A broken rule, and the place of the edit that breaks it where it is told.
+fn rule_value(alloc: Global, place: Option<u32>, broken: &Broken) -> Result<Value, Memory>
+    ensures { IfOk result (λ v. view v ≡ rule_data place broken.now) }
 {
     let word = broken.word();
     match broken {
-        Broken::TooMany(what) => what_value(alloc, *what, word),
+        Broken::TooMany(what) => what_value(alloc, place, *what, word),
         Broken::NoLevel(name)
         | Broken::TwoLevels(name)
         | Broken::LevelKind(name)
         | Broken::NoAttribute(name)
         | Broken::TwoLabels(name)
         | Broken::DoubleName(name)
-        | Broken::UnknownLevel(name) => name_value(alloc, name, word),
+        | Broken::UnknownLevel(name) => name_value(alloc, place, name, word),
         Broken::IdTaken(id)
         | Broken::NoItem(id)
         | Broken::Overlap(id)
         | Broken::NotRising(id)
         | Broken::NoNeighbour(id)
         | Broken::OneParent(id)
-        | Broken::OneChild(id) => id_value(alloc, *id, word),
+        | Broken::OneChild(id) => id_value(alloc, place, *id, word),
         Broken::BundleTaken
         | Broken::NoBundle
         | Broken::RateOut
@@ -74,7 +88,7 @@ fn rule_value(alloc: Global, broken: &Broken) -> Result<Value, Memory>
         | Broken::NoLink
         | Broken::DoubleLink
         | Broken::LevelCycle
-        | Broken::NothingToLink => plain_value(alloc, word),
+        | Broken::NothingToLink => plain_value(alloc, place, word),
     }
 }
 
@@ -117,7 +131,7 @@ fn grid_fault_value(alloc: Global, fault: GridFault) -> Result<Value, Memory>
         GridFault::EmptyInterval { tier, entry } => {
             entry_value(alloc, tier, entry, "EmptyInterval")
         }
-        GridFault::Memory => plain_value(alloc, "Memory"),
+        GridFault::Memory => plain_value(alloc, None, "Memory"),
     }
 }
 
@@ -126,11 +140,11 @@ fn query_fault_value(alloc: Global, fault: QueryFault) -> Result<Value, Memory>
     ensures { IfOk result (λ v. view v ≡ query_fault_data fault) }
 {
     match fault {
-        QueryFault::TextTooLong => plain_value(alloc, "TextTooLong"),
+        QueryFault::TextTooLong => plain_value(alloc, None, "TextTooLong"),
         QueryFault::Syntax(at) => place_value(alloc, at as u64, "Syntax"),
         QueryFault::TooDeep(at) => place_value(alloc, at as u64, "TooDeep"),
         QueryFault::TwoMarks(at) => place_value(alloc, at as u64, "TwoMarks"),
-        QueryFault::Memory => plain_value(alloc, "Memory"),
+        QueryFault::Memory => plain_value(alloc, None, "Memory"),
     }
 }
 
@@ -142,7 +156,7 @@ fn prepare_fault_value(alloc: Global, fault: PrepareFault) -> Result<Value, Memo
         PrepareFault::Query(fault) => query_fault_value(alloc, fault),
         PrepareFault::BadPattern(k) => place_value(alloc, k as u64, "BadPattern"),
         PrepareFault::PatternTooLarge(k) => place_value(alloc, k as u64, "PatternTooLarge"),
-        PrepareFault::Memory => plain_value(alloc, "Memory"),
+        PrepareFault::Memory => plain_value(alloc, None, "Memory"),
     }
 }
 
@@ -151,13 +165,13 @@ fn ask_fault_value(alloc: Global, fault: &AskFault) -> Result<Value, Memory>
     ensures { IfOk result (λ v. view v ≡ ask_fault_data fault.now) }
 {
     match fault {
-        AskFault::UnknownName(name) => name_value(alloc, name, "UnknownName"),
-        AskFault::MixedLevels => plain_value(alloc, "MixedLevels"),
-        AskFault::SequenceLevels => plain_value(alloc, "SequenceLevels"),
-        AskFault::NoPath => plain_value(alloc, "NoPath"),
-        AskFault::AmbiguousTime => plain_value(alloc, "AmbiguousTime"),
-        AskFault::BadTimeLevel => plain_value(alloc, "BadTimeLevel"),
-        AskFault::Memory => plain_value(alloc, "Memory"),
+        AskFault::UnknownName(name) => name_value(alloc, None, name, "UnknownName"),
+        AskFault::MixedLevels => plain_value(alloc, None, "MixedLevels"),
+        AskFault::SequenceLevels => plain_value(alloc, None, "SequenceLevels"),
+        AskFault::NoPath => plain_value(alloc, None, "NoPath"),
+        AskFault::AmbiguousTime => plain_value(alloc, None, "AmbiguousTime"),
+        AskFault::BadTimeLevel => plain_value(alloc, None, "BadTimeLevel"),
+        AskFault::Memory => plain_value(alloc, None, "Memory"),
     }
 }
 
@@ -166,16 +180,16 @@ pub(crate) fn refusal_value(alloc: Global, refusal: &Refusal) -> Result<Value, M
     ensures { IfOk result (λ v. view v ≡ refusal_data refusal.now) }
 {
     match refusal {
-        Refusal::Rule(broken) => rule_value(alloc, broken),
+        Refusal::Rule { rule, place } => rule_value(alloc, *place, rule),
         Refusal::Grid(fault) => grid_fault_value(alloc, *fault),
         Refusal::Prepare(fault) => prepare_fault_value(alloc, *fault),
         Refusal::Resolve(fault) => ask_fault_value(alloc, fault),
-        Refusal::TooManyTuples => plain_value(alloc, "TooManyTuples"),
-        Refusal::NoLook => plain_value(alloc, "NoLook"),
-        Refusal::LookOpen => plain_value(alloc, "LookOpen"),
-        Refusal::HistoryFull => plain_value(alloc, "HistoryFull"),
-        Refusal::StoreFull => plain_value(alloc, "StoreFull"),
-        Refusal::Disk => plain_value(alloc, "Disk"),
-        Refusal::Memory => plain_value(alloc, "Memory"),
+        Refusal::TooManyTuples => plain_value(alloc, None, "TooManyTuples"),
+        Refusal::NoLook => plain_value(alloc, None, "NoLook"),
+        Refusal::LookOpen => plain_value(alloc, None, "LookOpen"),
+        Refusal::HistoryFull => plain_value(alloc, None, "HistoryFull"),
+        Refusal::StoreFull => plain_value(alloc, None, "StoreFull"),
+        Refusal::Disk => plain_value(alloc, None, "Disk"),
+        Refusal::Memory => plain_value(alloc, None, "Memory"),
     }
 }

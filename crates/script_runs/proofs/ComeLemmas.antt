@@ -28,7 +28,7 @@ any_number line (l ∷ ls) = rw (same_number line l.line, any_number line ls) re
 
 pub names_earlier : (ls : List Line) (r : Request) → NamesOneOf (numbers_of ls) r → NamesEarlier ls r
 names_earlier ls (requests.After line) h = sym (any_number line ls) ∙ h
-names_earlier ls (requests.Edit edit) h = tt
+names_earlier ls (requests.Edit act) h = tt
 names_earlier ls (requests.Query ask) h = tt
 names_earlier ls (requests.Look ask) h = tt
 names_earlier ls requests.Finish h = tt

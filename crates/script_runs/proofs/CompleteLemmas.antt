@@ -3,7 +3,7 @@ use Rattle.std.proofs.Common.{◌≡◌, ◌⊎◌, inl, inr, ℕ, ◌<◌, ◌-
 use Rattle.emu_names.specs.Count.{Rose}
 use Rattle.emu_io.specs.Fronts.{Tells}
 use Rattle.db_config.specs.declared.parts.ConfigParts.{ConfigParts}
-use Rattle.edit_rules.specs.declared.edit.Entry.{Entry}
+use Rattle.edit_rules.specs.declared.acts.Entry.{Entry}
 use Rattle.edit_journal.specs.declared.body.Body.{Body}
 use Rattle.live_book.specs.Histories.{OfRead, IsBare, Stands, IsDamagedAt}
 use Rattle.program_output.specs.declared.status.Status.{Status}

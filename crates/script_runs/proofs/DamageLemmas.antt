@@ -2,16 +2,16 @@
 use Rattle.std.proofs.Common.{◌≡◌, inl, inr, ℕ, ◌+◌, ◌≤◌, List, [], ◌∷◌, ◌++◌, length, map, Result, Ok, Err, refl, sym, ◌∙◌, ap, subst, arith, length-append, append_assoc}
 use Rattle.std.proofs.Math.Seq.{take-append_seam}
 use Rattle.emu_names.specs.declared.limits.TheConstants.{HISTORY_EDITS}
-use Rattle.emu_names.specs.declared.rules.Broken.{Broken}
+use Rattle.edit_rules.specs.declared.acts.Breach.{Breach}
 use Rattle.db_config.specs.declared.parts.ConfigParts.{ConfigParts}
-use Rattle.edit_rules.specs.declared.edit.Entry.{Entry}
+use Rattle.edit_rules.specs.declared.acts.Entry.{Entry}
 use Rattle.edit_rules.specs.Database.{DatabaseParts}
 use Rattle.edit_rules.specs.Effects.{IsLegal, edited}
 use Rattle.edit_rules.proofs.Replay.{prefixes_are_legal, replay_goes_on}
 use Rattle.byte_forms.specs.Forms.{Form, IsCode, IsForm}
 use Rattle.edit_code.specs.Codes.{entry_code, IsEntryCode, IsHeadCode}
 use Rattle.edit_code.proofs.EditLaws.{entry_law}
-use Rattle.edit_code.proofs.HeadLaws.{head_law}
+use Rattle.value_codes.proofs.HeadLaws.{head_law}
 use Rattle.edit_journal.specs.declared.body.Body.{Body}
 use Rattle.edit_journal.specs.Store.{bodies, placed, body_at}
 use Rattle.edit_journal.specs.Held.{texts_of}
@@ -95,27 +95,27 @@ next_of (e ∷ history) (k ∷ front) (t ∷ texts) text rest coded h codes =
     record { entry = n.entry; more = n.more; split = ap (λ x. x ∷ history) same ∙ ap (λ xs. k ∷ xs) n.split; code = n.code }
 
 -- it breaks no rule
-abbrev ok_database : DatabaseParts → Result DatabaseParts Broken
+abbrev ok_database : DatabaseParts → Result DatabaseParts Breach
 ok_database d = Ok d
 
-no_rule : (d : DatabaseParts) (rule : Broken) → ok_database d ≡ Err rule → ⊥
-no_rule d rule h = cc
+no_rule : (d : DatabaseParts) (breach : Breach) → ok_database d ≡ Err breach → ⊥
+no_rule d breach h = cc
 
 front_legal : (config : ConfigParts) (front : List Entry) (e : Entry) (more : List Entry) → IsLegal config (front ++ e ∷ more) → IsLegal config (front ++ e ∷ [])
 front_legal config front e more legal =
     subst (λ h. IsLegal config h) (take-append_seam (front ++ e ∷ []) more)
     (prefixes_are_legal config ((front ++ e ∷ []) ++ more) (subst (λ h. IsLegal config h) (sym (append_assoc front (e ∷ []) more)) legal) (length (front ++ e ∷ [])))
 
-next_right : (config : ConfigParts) (front : List Entry) (e : Entry) (more : List Entry) (rule : Broken) → IsLegal config (front ++ e ∷ more) → edited config front e.edit ≡ Err rule → ⊥
-next_right config front e more rule legal broken =
+next_right : (config : ConfigParts) (front : List Entry) (e : Entry) (more : List Entry) (breach : Breach) → IsLegal config (front ++ e ∷ more) → edited config front e.act ≡ Err breach → ⊥
+next_right config front e more breach legal broken =
     let l = front_legal config front e more legal in
-    no_rule l.0 rule (sym l.1 ∙ replay_goes_on config front e ∙ broken)
+    no_rule l.0 breach (sym l.1 ∙ replay_goes_on config front e ∙ broken)
 
 next_fits : (config : ConfigParts) (history front : List Entry) (text : List ℕ) → IsLegal config history → length history ≤ HISTORY_EDITS → Next history front text → IsNoNext config front text → ⊥
 next_fits config history front text legal few n (inl none) = none n.entry n.code
 next_fits config history front text legal few n (inr (inl b)) =
-    next_right config front n.entry n.more b.rule (subst (λ h. IsLegal config h) n.split legal)
-    (ap (λ (e : Entry). edited config front e.edit) (one_entry text n.entry b.entry n.code b.code) ∙ b.broken)
+    next_right config front n.entry n.more b.breach (subst (λ h. IsLegal config h) n.split legal)
+    (ap (λ (e : Entry). edited config front e.act) (one_entry text n.entry b.entry n.code b.code) ∙ b.broken)
 next_fits config history front text legal few n (inr (inr full)) =
     let long : length history ≡ length front + length (n.entry ∷ n.more) = ap length n.split ∙ length-append front (n.entry ∷ n.more) in
     omega (arith, long, few, full)

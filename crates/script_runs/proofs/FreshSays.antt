@@ -6,7 +6,7 @@ use Rattle.emu_io.specs.declared.faults.ReadFault.{ReadFault}
 use Rattle.emu_io.specs.declared.faults.ReadFault.TheVariants as read_faults
 use Rattle.emu_io.specs.Inner.Fronts.{TakesFront, IsFrontOf}
 use Rattle.db_config.specs.declared.parts.ConfigParts.{ConfigParts}
-use Rattle.edit_rules.specs.declared.edit.Entry.{Entry}
+use Rattle.edit_rules.specs.declared.acts.Entry.{Entry}
 use Rattle.session_core.specs.InOrder.{Outage}
 use Rattle.emu_disk.specs.declared.disk.Disk as disks
 use Rattle.edit_journal.specs.declared.journal.Journal.{Journal}

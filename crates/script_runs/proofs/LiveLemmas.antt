@@ -9,7 +9,7 @@ use Rattle.emu_names.specs.declared.shortage.Memory.{Memory}
 use Rattle.emu_io.specs.Fronts.{WritesFront}
 use Rattle.emu_io.specs.Inner.Fronts.{TakesFront, IsFrontOf}
 use Rattle.db_config.specs.declared.parts.ConfigParts.{ConfigParts}
-use Rattle.edit_rules.specs.declared.edit.Entry.{Entry}
+use Rattle.edit_rules.specs.declared.acts.Entry.{Entry}
 use Rattle.edit_rules.proofs.Replay.{states_keep_rules}
 use Rattle.edit_journal.specs.declared.journal.Journal.{Journal}
 use Rattle.session_core.specs.declared.line.Line.{Line}

@@ -3,8 +3,8 @@ use Rattle.std.proofs.Common.{◌≡◌, ◌⊎◌, inl, inr, ℕ, ◌+◌, ◌�
 use Rattle.std.proofs.lemmas.List.{take-append-le}
 use Rattle.std.proofs.Math.Seq.{take-length, take-append_seam}
 use Rattle.db_config.specs.declared.parts.ConfigParts.{ConfigParts}
-use Rattle.edit_rules.specs.declared.edit.Edit.{Edit}
-use Rattle.edit_rules.specs.declared.edit.Entry.{Entry}
+use Rattle.edit_rules.specs.declared.acts.Act.{Act}
+use Rattle.edit_rules.specs.declared.acts.Entry.{Entry}
 use Rattle.session_core.specs.declared.line.Line.{Line}
 use Rattle.session_core.specs.declared.line.Reply.{Reply}
 use Rattle.session_core.specs.declared.line.Request.{Request}
@@ -82,12 +82,12 @@ module _ {D : Type 0} (disk : disks.Ghosts D) (old new : BookParts D) (l : Line)
   goes_not : new ≡ old → Goes disk old new l reply lost
   goes_not same = record { more = []; grew = ap (λ b. b.history) same ∙ sym (append-nil old.history); crash = inl (ap (λ b. b.journal) same) }
 
-  module _ (edit : Edit) (is : l.request ≡ requests.Edit (Ok edit)) (keeps : KeepsIn disk.may_leave old.config old.history lost old.journal) where
+  module _ (act : Act) (is : l.request ≡ requests.Edit (Ok act)) (keeps : KeepsIn disk.may_leave old.config old.history lost old.journal) where
     abbrev next : Entry
-    next = entry_of l edit
+    next = entry_of l act
 
     refused_here : reply ≡ commit_reply l (Err faults.Disk) → IsDiskRefused l reply next
-    refused_here told = record { edit = edit; asks = is; entry = refl; refused = ap (λ r. r.answer) told }
+    refused_here told = record { act = act; asks = is; entry = refl; refused = ap (λ r. r.answer) told }
 
     accepted : (n : ℕ) (c : List ℕ) → DuringCommit (Ok n) old.config old.history lost next c → DuringLine old.config old.history (next ∷ []) l reply lost c
     accepted n c (inl h) = inl h
@@ -118,12 +118,12 @@ module _ {D : Type 0} (disk : disks.Ghosts D) (old new : BookParts D) (l : Line)
       crash = inr (crash_weaker disk.moment disk.left_since old.journal new.journal (DuringCommit {T = ℕ} (Err faults.Disk) old.config old.history lost next) (DuringLine old.config old.history [] l reply lost) (refused told) (did.any_moment lost keeps));
     }
     goes_edit (Err (faults.HistoryFull n)) told did = unreached (Err (faults.HistoryFull n)) did did.history (λ c h. not_reached (StandsOrLost old.config old.history lost c) (Stands old.config (old.history ++ next ∷ []) c) h)
-    goes_edit (Err (faults.Broken rule n)) told did = unreached (Err (faults.Broken rule n)) did did.history (λ c h. not_reached (StandsOrLost old.config old.history lost c) (Stands old.config (old.history ++ next ∷ []) c) h)
+    goes_edit (Err (faults.Broken breach n)) told did = unreached (Err (faults.Broken breach n)) did did.history (λ c h. not_reached (StandsOrLost old.config old.history lost c) (Stands old.config (old.history ++ next ∷ []) c) h)
     goes_edit (Err (faults.StoreFull n)) told did = unreached (Err (faults.StoreFull n)) did did.history (λ c h. not_reached (StandsOrLost old.config old.history lost c) (Stands old.config (old.history ++ next ∷ []) c) h)
     goes_edit (Err faults.Memory) told did = unreached (Err faults.Memory) did did.history (λ c h. not_reached (StandsOrLost old.config old.history lost c) (Stands old.config (old.history ++ next ∷ []) c) h)
 
   pub goes : KeepsIn disk.may_leave old.config old.history lost old.journal → (request : Request) → l.request ≡ request → ChangesBook disk.may_leave disk.moment disk.left_since disk.faults old l request reply new → Goes disk old new l reply lost
-  goes keeps (requests.Edit (Ok edit)) is change = goes_edit edit is keeps change.made change.told change.commits
+  goes keeps (requests.Edit (Ok act)) is change = goes_edit act is keeps change.made change.told change.commits
   goes keeps (requests.Edit (Err fault)) is change = goes_not change
   goes keeps (requests.Query ask) is change = goes_not change
   goes keeps (requests.Look ask) is change = goes_not change

@@ -9,7 +9,7 @@ use Rattle.db_config.specs.Valid.{is_valid}
 use Rattle.session_core.specs.Steps.{start}
 use Rattle.edit_rules.specs.Database.{empty_database}
 use Rattle.edit_rules.specs.Effects.{IsLegal}
-use Rattle.edit_rules.specs.declared.edit.Entry.{Entry}
+use Rattle.edit_rules.specs.declared.acts.Entry.{Entry}
 use Rattle.emu_names.specs.declared.limits.TheConstants.{HISTORY_EDITS}
 use Rattle.emu_names.specs.Count.{RoseBy}
 use Rattle.db_config.specs.Made.{is_made}

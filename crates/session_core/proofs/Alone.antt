@@ -1,7 +1,7 @@
 -- A legal run of one session: its turns are its lines with its replies, so that wrong replies show.
 use Rattle.std.proofs.Common.{◌≡◌, ℕ, ◌+◌, ◌≤◌, Bool, true, List, [], ◌∷◌, length, None, refl, sym, ◌∙◌, ap, subst, arith, eq-eqb}
 use Rattle.db_config.specs.declared.parts.ConfigParts.{ConfigParts}
-use Rattle.edit_rules.specs.declared.edit.Entry.{Entry}
+use Rattle.edit_rules.specs.declared.acts.Entry.{Entry}
 use Rattle.eql_resolve.specs.Resolve.{asked}
 use Rattle.eql_model.specs.declared.row.Row.{Row}
 use Rattle.session_core.specs.declared.line.Answer.{Answer}

@@ -5,11 +5,11 @@ use Rattle.std.proofs.lemmas.List.{append-nil, length_push}
 use Rattle.std.proofs.Math.Seq.{take-length, take-append_seam}
 use Rattle.emu_names.specs.declared.kinds.SessionNo.{SessionNo}
 use Rattle.emu_names.specs.declared.limits.TheConstants.{HISTORY_EDITS}
-use Rattle.emu_names.specs.declared.rules.Broken.{Broken}
+use Rattle.edit_rules.specs.declared.acts.Breach.{Breach}
 use Rattle.textgrid.specs.declared.fault.GridFault.{GridFault}
 use Rattle.edit_rules.specs.Database.{DatabaseParts}
-use Rattle.edit_rules.specs.declared.edit.Edit.{Edit}
-use Rattle.edit_rules.specs.declared.edit.Entry.{Entry}
+use Rattle.edit_rules.specs.declared.acts.Act.{Act}
+use Rattle.edit_rules.specs.declared.acts.Entry.{Entry}
 use Rattle.session_core.specs.declared.event.Event.{Event}
 use Rattle.session_core.specs.declared.event.Event.TheVariants as events
 use Rattle.session_core.specs.declared.line.Ask.{Ask}
@@ -24,7 +24,7 @@ use Rattle.session_core.specs.declared.line.Line.{Line}
 use Rattle.session_core.specs.declared.line.Reply.{Reply}
 use Rattle.edit_rules.specs.Effects.{IsLegal, edited, database_after}
 use Rattle.edit_rules.proofs.Replay.{replay_goes_on}
-use Rattle.session_core.specs.Answers.{answer_at, memory, is_want_of_memory, grid_number, grid_answer, reply_to, entry_of}
+use Rattle.session_core.specs.Answers.{answer_at, memory, is_want_of_memory, grid_number, grid_answer, reply_to, entry_of, rule_refusal}
 use Rattle.session_core.specs.Queries.{lacks_memory}
 use Rattle.session_core.specs.Steps.{Opened, State, slot, put_slot, session_places, is_full, opened_at, edit_step, look_step, finish_step, look_answered, query_step, way_answered, query_fails, Asker, by_look, by_query, by_none, asker_of, finish_by, finish_fails_by}
 use Rattle.session_core.specs.Worlds.{Turn, Trouble, untroubled, no_memory, store_full, disk_failed, is_disk_failed, Occurrence, World, outcome_of, query_line, finish_line, brought_by, brought, query_answered, answered_by, answered, turns_of, happens, Each, IsBehind, IsNext, is_answered, RequestFits, EditFits, LookFits, IsUnderWay, FinishFits, Fits, passes_store, IsOverStore, TroubleFits, OccurrenceFits}
@@ -168,7 +168,7 @@ module _ (opening : List Entry) (store : Bool) (faults : ℕ) (w : World) (g : G
   -- Want of memory.
 
   mark_none : (l : Line) (r : Request) (answer : Answer) → accepting l r None answer ≡ []
-  mark_none l (requests.Edit (Ok edit)) answer = refl
+  mark_none l (requests.Edit (Ok act)) answer = refl
   mark_none l (requests.Edit (Err fault)) answer = refl
   mark_none l (requests.Query ask) answer = refl
   mark_none l (requests.Look ask) answer = refl
@@ -214,9 +214,9 @@ module _ (opening : List Entry) (store : Bool) (faults : ℕ) (w : World) (g : G
 
   -- An edit.
 
-  module _ (line : ℕ) (s : SessionNo) (command : Command) (edit : Edit) (next : IsNext w line s.0) where
+  module _ (line : ℕ) (s : SessionNo) (command : Command) (act : Act) (next : IsNext w line s.0) where
     abbrev edit_line : Line
-    edit_line = line_of line s command (requests.Edit (Ok edit))
+    edit_line = line_of line s command (requests.Edit (Ok act))
 
     edit_full : nat_le HISTORY_EDITS (length w.state.entries) ≡ true
         → Good opening store faults (world_of w.state.config w.state.entries w.state.looks w.state.queries (w.lines ++ edit_line ∷ []) (w.turns ++ turn_of edit_line (Some (length w.state.entries)) (Refused refusals.HistoryFull) ∷ []))
@@ -227,23 +227,31 @@ module _ (opening : List Entry) (store : Bool) (faults : ℕ) (w : World) (g : G
         same edit_line (Some (length w.state.entries)) (Refused refusals.HistoryFull) next refl (opening_below, omega arith, all) tt refl
         (λ low high. high) (λ low above. opening_below) (λ low high. omega arith) tt refl
 
-    edit_refused : (rule : Broken) → nat_le HISTORY_EDITS (length w.state.entries) ≡ false → edited w.state.config w.state.entries edit ≡ Err rule
-        → Good opening store faults (world_of w.state.config w.state.entries w.state.looks w.state.queries (w.lines ++ edit_line ∷ []) (w.turns ++ turn_of edit_line (Some (length w.state.entries)) (Refused (refusals.Rule rule)) ∷ []))
-    edit_refused rule room broken =
-        same edit_line (Some (length w.state.entries)) (Refused (refusals.Rule rule)) next refl
-        (opening_below, omega arith, (leb-false HISTORY_EDITS (length w.state.entries) room, ap (λ (xs : List Entry). edited w.state.config xs edit) (take-length w.state.entries) ∙ broken)) tt refl
+    edit_refused : (breach : Breach) → nat_le HISTORY_EDITS (length w.state.entries) ≡ false → edited w.state.config w.state.entries act ≡ Err breach
+        → Good opening store faults (world_of w.state.config w.state.entries w.state.looks w.state.queries (w.lines ++ edit_line ∷ []) (w.turns ++ turn_of edit_line (Some (length w.state.entries)) (Refused (rule_refusal command breach)) ∷ []))
+    edit_refused breach room broken =
+        same edit_line (Some (length w.state.entries)) (Refused (rule_refusal command breach)) next refl (
+          opening_below,
+          omega arith,
+          record {
+            room = leb-false HISTORY_EDITS (length w.state.entries) room;
+            at = breach.place;
+            broken = ap (λ (xs : List Entry). edited w.state.config xs act) (take-length w.state.entries) ∙ broken;
+            shown = refl;
+          },
+        ) tt refl
         (λ low high. high) (λ low above. opening_below) (λ low high. omega arith) tt refl
 
-    edit_done : (database : DatabaseParts) → nat_le HISTORY_EDITS (length w.state.entries) ≡ false → edited w.state.config w.state.entries edit ≡ Ok database
-        → Good opening store faults (world_of w.state.config (w.state.entries ++ entry_of edit_line edit ∷ []) w.state.looks w.state.queries (w.lines ++ edit_line ∷ []) (w.turns ++ turn_of edit_line (Some (length w.state.entries + 1)) (Done command) ∷ []))
+    edit_done : (database : DatabaseParts) → nat_le HISTORY_EDITS (length w.state.entries) ≡ false → edited w.state.config w.state.entries act ≡ Ok database
+        → Good opening store faults (world_of w.state.config (w.state.entries ++ entry_of edit_line act ∷ []) w.state.looks w.state.queries (w.lines ++ edit_line ∷ []) (w.turns ++ turn_of edit_line (Some (length w.state.entries + 1)) (Done command) ∷ []))
     edit_done database room made =
         let below : length w.state.entries < HISTORY_EDITS = leb-false HISTORY_EDITS (length w.state.entries) room in
-        let count : length (w.state.entries ++ entry_of edit_line edit ∷ []) ≡ length w.state.entries + 1 = length_push w.state.entries (entry_of edit_line edit) in
+        let count : length (w.state.entries ++ entry_of edit_line act ∷ []) ≡ length w.state.entries + 1 = length_push w.state.entries (entry_of edit_line act) in
         let opened : length opening ≤ length w.state.entries = opening_below in
-        once faults edit_line (w.state.entries ++ entry_of edit_line edit ∷ []) w.state.looks (Some (length w.state.entries + 1)) (Done command) (entry_of edit_line edit ∷ []) next (record {
+        once faults edit_line (w.state.entries ++ entry_of edit_line act ∷ []) w.state.looks (Some (length w.state.entries + 1)) (Done command) (entry_of edit_line act ∷ []) next (record {
           grown = refl;
           most = omega arith;
-          legal = (database, replay_goes_on w.state.config w.state.entries (entry_of edit_line edit) ∙ made);
+          legal = (database, replay_goes_on w.state.config w.state.entries (entry_of edit_line act) ∙ made);
           mark = refl;
           right = (
             omega arith,
@@ -254,8 +262,8 @@ module _ (opening : List Entry) (store : Bool) (faults : ℕ) (w : World) (g : G
               number = refl;
               room = below;
               database = database;
-              right = ap (λ (xs : List Entry). edited w.state.config xs edit) (take-append_seam w.state.entries (entry_of edit_line edit ∷ [])) ∙ made;
-              entry = slice_get_last w.state.entries (entry_of edit_line edit);
+              right = ap (λ (xs : List Entry). edited w.state.config xs act) (take-append_seam w.state.entries (entry_of edit_line act ∷ [])) ∙ made;
+              entry = slice_get_last w.state.entries (entry_of edit_line act);
             },
           );
           still = tt;
@@ -267,13 +275,13 @@ module _ (opening : List Entry) (store : Bool) (faults : ℕ) (w : World) (g : G
           to = λ low high. omega arith;
           fits = tt;
           opens = refl;
-          look_in = in_more (length opening) w.state.entries (entry_of edit_line edit ∷ []) (slot w.state.looks s.0) (g.seats s.0).look_in;
+          look_in = in_more (length opening) w.state.entries (entry_of edit_line act ∷ []) (slot w.state.looks s.0) (g.seats s.0).look_in;
         })
 
-    edit_good : (full : Bool) (made : Result DatabaseParts Broken) → is_full w.state.entries ≡ full → edited w.state.config w.state.entries edit ≡ made
-        → Good opening store faults (told w (edit_line ∷ []) (edit_line ∷ []) (edit_step w.state edit_line edit full made))
+    edit_good : (full : Bool) (made : Result DatabaseParts Breach) → is_full w.state.entries ≡ full → edited w.state.config w.state.entries act ≡ made
+        → Good opening store faults (told w (edit_line ∷ []) (edit_line ∷ []) (edit_step w.state edit_line act full made))
     edit_good true made full_is made_is = edit_full full_is
-    edit_good false (Err rule) full_is made_is = edit_refused rule full_is made_is
+    edit_good false (Err breach) full_is made_is = edit_refused breach full_is made_is
     edit_good false (Ok database) full_is made_is = edit_done database full_is made_is
 
   -- a line whose TextGrid has a fault
@@ -495,12 +503,12 @@ module _ (opening : List Entry) (store : Bool) (faults : ℕ) (w : World) (g : G
 
   -- What keeps an edit from its step.
 
-  module _ (line : ℕ) (s : SessionNo) (command : Command) (edit : Edit) (next : IsNext w line s.0) where
+  module _ (line : ℕ) (s : SessionNo) (command : Command) (act : Act) (next : IsNext w line s.0) where
     abbrev kept_line : Line
-    kept_line = line_of line s command (requests.Edit (Ok edit))
+    kept_line = line_of line s command (requests.Edit (Ok act))
 
     -- the store has no room
-    over_good : IsOverStore store w.state kept_line edit
+    over_good : IsOverStore store w.state kept_line act
         → Good opening store faults (world_of w.state.config w.state.entries w.state.looks w.state.queries (w.lines ++ kept_line ∷ []) (w.turns ++ turn_of kept_line (Some (length w.state.entries)) (Refused refusals.StoreFull) ∷ []))
     over_good over =
         let whole : take (length w.state.entries) w.state.entries ≡ w.state.entries = take-length w.state.entries in
@@ -511,8 +519,8 @@ module _ (opening : List Entry) (store : Bool) (faults : ℕ) (w : World) (g : G
             room = leb-false HISTORY_EDITS (length w.state.entries) over.room;
             stored = over.stored;
             database = over.database;
-            right = ap (λ (xs : List Entry). edited w.state.config xs edit) whole ∙ over.made;
-            passes = ap (λ (xs : List Entry). passes_store w.state.config xs (entry_of kept_line edit)) whole ∙ over.passes;
+            right = ap (λ (xs : List Entry). edited w.state.config xs act) whole ∙ over.made;
+            passes = ap (λ (xs : List Entry). passes_store w.state.config xs (entry_of kept_line act)) whole ∙ over.passes;
           },
         ) tt refl
         (λ low high. high) (λ low above. opening_below) (λ low high. omega arith) tt refl
@@ -551,11 +559,11 @@ module _ (opening : List Entry) (store : Bool) (faults : ℕ) (w : World) (g : G
   edit_event_good : (line : ℕ) (s : SessionNo) (command : Command) (r : Request) (trouble : Trouble) → EditFits w (line_of line s command r)
       → TroubleFits store w.state (events.Edit (line_of line s command r)) trouble
       → Good opening store (faults_with trouble) (told w (line_of line s command r ∷ []) (line_of line s command r ∷ []) (outcome_of w.state (events.Edit (line_of line s command r)) trouble))
-  edit_event_good line s command (requests.Edit (Ok edit)) no_memory fits may = no_more (no_memory_good (line_of line s command (requests.Edit (Ok edit))) fits.next tt)
-  edit_event_good line s command (requests.Edit (Ok edit)) untroubled fits may =
-      no_more (edit_good line s command edit fits.next (is_full w.state.entries) (edited w.state.config w.state.entries edit) refl refl)
-  edit_event_good line s command (requests.Edit (Ok edit)) store_full fits may = no_more (over_good line s command edit fits.next may)
-  edit_event_good line s command (requests.Edit (Ok edit)) disk_failed fits may = disk_good line s command edit fits.next may
+  edit_event_good line s command (requests.Edit (Ok act)) no_memory fits may = no_more (no_memory_good (line_of line s command (requests.Edit (Ok act))) fits.next tt)
+  edit_event_good line s command (requests.Edit (Ok act)) untroubled fits may =
+      no_more (edit_good line s command act fits.next (is_full w.state.entries) (edited w.state.config w.state.entries act) refl refl)
+  edit_event_good line s command (requests.Edit (Ok act)) store_full fits may = no_more (over_good line s command act fits.next may)
+  edit_event_good line s command (requests.Edit (Ok act)) disk_failed fits may = disk_good line s command act fits.next may
   edit_event_good line s command (requests.Edit (Err fault)) no_memory fits may = no_more (no_memory_good (line_of line s command (requests.Edit (Err fault))) fits.next tt)
   edit_event_good line s command (requests.Edit (Err fault)) untroubled fits may =
       no_more (grid_good line s command fault fits.next (is_want_of_memory fault) refl)

@@ -4,15 +4,15 @@ use Rattle.std.proofs.Math.Seq.{take-append_seam}
 use Rattle.std.proofs.lemmas.List.{take-append-le, length-append, take_all}
 use Rattle.std.specs.Option.{option_map}
 use Rattle.emu_names.specs.declared.kinds.SessionNo.{SessionNo}
-use Rattle.emu_names.specs.declared.rules.Broken.{Broken}
+use Rattle.edit_rules.specs.declared.acts.Breach.{Breach}
 use Rattle.emu_names.specs.declared.shortage.Memory.{Memory}
 use Rattle.db_config.specs.declared.parts.ConfigParts.{ConfigParts}
 use Rattle.textgrid.specs.declared.fault.GridFault.{GridFault}
 use Rattle.edit_rules.specs.Database.{DatabaseParts}
-use Rattle.edit_rules.specs.declared.edit.Edit.{Edit}
-use Rattle.edit_rules.specs.declared.edit.Entry.{Entry}
+use Rattle.edit_rules.specs.declared.acts.Act.{Act}
+use Rattle.edit_rules.specs.declared.acts.Entry.{Entry}
 use Rattle.session_core.specs.declared.line.Answer.TheVariants.{Refused}
-use Rattle.session_core.specs.declared.line.Refusal.TheVariants as refusals
+use Rattle.session_core.specs.declared.line.Refusal.{Refusal}
 use Rattle.session_core.specs.declared.line.Ask.{Ask}
 use Rattle.session_core.specs.declared.line.Line.{Line}
 use Rattle.session_core.specs.declared.line.Reply.{Reply}
@@ -21,7 +21,8 @@ use Rattle.session_core.specs.declared.line.Request.TheVariants as requests
 use Rattle.session_core.specs.declared.slots.Held.{Held}
 use Rattle.session_core.specs.declared.moves.Head.{Head}
 use Rattle.edit_rules.specs.Effects.{after, effect, edited}
-use Rattle.edit_rules.proofs.Replay.{replay_goes_on, after_config}
+use Rattle.edit_rules.proofs.Replay.{replay_goes_on}
+use Rattle.session_core.specs.Answers.{rule_refusal}
 use Rattle.session_core.specs.Queries.{lacks_memory}
 use Rattle.session_core.specs.Steps.{State, slot, put_slot, is_full, session_places, start, edit_event, look_event, edit_step, look_step, finish_step, look_answered, query_step, way_answered, with_query, opened_at, query_fails}
 use Rattle.session_core.specs.Inner.Kept.{head_line, head_reply, opened_by, opened_in, state_of, IsMoment, IsHeld, AreHeld, IsKept, head_entry, held_at, edit_tried, edit_tried_step, given_tried, looked, look_closed, look_answer, query_closed, query_reply, query_dropped}
@@ -73,70 +74,60 @@ slots_empty c H = record {
 kept_start : (c : ConfigParts) (H : List Entry) (bs : DatabaseParts) → after c H ≡ Ok bs → IsKept c H bs (replicate session_places None) (replicate session_places None)
 kept_start c H bs e = record { present = e; of_looks = slots_empty c H; of_queries = slots_empty c H }
 
--- the configuration is the database's own
-kept_own : (c : ConfigParts) (H : List Entry) (bs : DatabaseParts) (ls qs : List (Option Held)) → IsKept c H bs ls qs → IsKept bs.config H bs ls qs
-kept_own c H bs ls qs k = subst (λ (d : ConfigParts). IsKept d H bs ls qs) (sym (after_config c H bs k.present)) k
+pub kept_begin : (c d : ConfigParts) (H : List Entry) (bs : DatabaseParts) (ls qs : List (Option Held)) → d ≡ c → after c H ≡ Ok bs
+    → ls ≡ replicate session_places None → qs ≡ replicate session_places None → IsKept d H bs ls qs
+kept_begin c d H bs ls qs same e no_looks no_queries =
+    rw (no_looks, no_queries) (kept_start d H bs (subst (λ (k : ConfigParts). after k H ≡ Ok bs) (sym same) e))
 
-pub kept_begin : (c : ConfigParts) (H : List Entry) (bs : DatabaseParts) (ls qs : List (Option Held)) → after c H ≡ Ok bs
-    → ls ≡ replicate session_places None → qs ≡ replicate session_places None → IsKept bs.config H bs ls qs
-kept_begin c H bs ls qs e no_looks no_queries = rw (no_looks, no_queries) (kept_own c H bs (replicate session_places None) (replicate session_places None) (kept_start c H bs e))
-
-pub begun : (c : ConfigParts) (H : List Entry) (bs : DatabaseParts) (ls qs : List (Option Held)) → after c H ≡ Ok bs
-    → ls ≡ replicate session_places None → qs ≡ replicate session_places None → state_of bs.config H ls qs ≡ start c H
-begun c H bs ls qs e no_looks no_queries = rw (no_looks, no_queries, after_config c H bs e) refl
+pub begun : (c d : ConfigParts) (H : List Entry) (ls qs : List (Option Held)) → d ≡ c
+    → ls ≡ replicate session_places None → qs ≡ replicate session_places None → state_of d H ls qs ≡ start c H
+begun c d H ls qs same no_looks no_queries = rw (same, no_looks, no_queries) refl
 
 -- An edit.
 
 abbrev pub head_of : Line → Head
 head_of l = record { line = l.line; session = l.session; command = l.command }
 
-kept_step : (c : ConfigParts) (head : Head) (edit : Edit) (H : List Entry) (bs : DatabaseParts) (ls qs : List (Option Held)) (full : Bool) (made : Result DatabaseParts Broken) → effect bs edit ≡ made → IsKept c H bs ls qs → IsKept c (edit_tried_step head edit H bs full made).1 (edit_tried_step head edit H bs full made).2 ls qs
-kept_step c head edit H bs ls qs true made e k = k
-kept_step c head edit H bs ls qs false (Err rule) e k = k
-kept_step c head edit H bs ls qs false (Ok next) e k = record {
-  present = replay_goes_on c H (head_entry head edit) ∙ rw k.present e;
-  of_looks = slots_longer c H (head_entry head edit ∷ []) ls k.of_looks;
-  of_queries = slots_longer c H (head_entry head edit ∷ []) qs k.of_queries;
+kept_step : (c : ConfigParts) (head : Head) (act : Act) (H : List Entry) (bs : DatabaseParts) (ls qs : List (Option Held)) (full : Bool) (made : Result DatabaseParts Breach) → effect bs act ≡ made → IsKept c H bs ls qs → IsKept c (edit_tried_step head act H bs full made).1 (edit_tried_step head act H bs full made).2 ls qs
+kept_step c head act H bs ls qs true made e k = k
+kept_step c head act H bs ls qs false (Err breach) e k = k
+kept_step c head act H bs ls qs false (Ok next) e k = record {
+  present = replay_goes_on c H (head_entry head act) ∙ rw k.present e;
+  of_looks = slots_longer c H (head_entry head act ∷ []) ls k.of_looks;
+  of_queries = slots_longer c H (head_entry head act ∷ []) qs k.of_queries;
 }
 
-kept_given : (c : ConfigParts) (head : Head) (given : Result Edit GridFault) (H : List Entry) (bs : DatabaseParts) (ls qs : List (Option Held)) → IsKept c H bs ls qs
+kept_given : (c : ConfigParts) (head : Head) (given : Result Act GridFault) (H : List Entry) (bs : DatabaseParts) (ls qs : List (Option Held)) → IsKept c H bs ls qs
     → IsKept c (given_tried head given H bs).1 (given_tried head given H bs).2 ls qs
-kept_given c head (Ok edit) H bs ls qs k = kept_step c head edit H bs ls qs (is_full H) (effect bs edit) refl k
+kept_given c head (Ok act) H bs ls qs k = kept_step c head act H bs ls qs (is_full H) (effect bs act) refl k
 kept_given c head (Err fault) H bs ls qs k = k
 
-kept_tried_at : (c : ConfigParts) (head : Head) (given : Result Edit GridFault) (H H2 : List Entry) (bs bs2 : DatabaseParts) (ls qs : List (Option Held)) (r : Reply) → (r, H2, bs2) ≡ given_tried head given H bs → IsKept c H bs ls qs → IsKept c H2 bs2 ls qs
-kept_tried_at c head given H H2 bs bs2 ls qs r e k =
+pub kept_changed : (c : ConfigParts) (head : Head) (given : Result Act GridFault) (H H2 : List Entry) (bs bs2 : DatabaseParts) (ls qs : List (Option Held)) (r : Reply) → (r, H2, bs2) ≡ given_tried head given H bs → IsKept c H bs ls qs → IsKept c H2 bs2 ls qs
+kept_changed c head given H H2 bs bs2 ls qs r e k =
     let P : Reply × List Entry × DatabaseParts → Type 0 = λ t. IsKept c t.1 t.2 ls qs in
     subst P (sym e) (kept_given c head given H bs ls qs k)
 
-pub kept_changed : (head : Head) (given : Result Edit GridFault) (H H2 : List Entry) (bs bs2 : DatabaseParts) (ls qs : List (Option Held)) (r : Reply) → (r, H2, bs2) ≡ given_tried head given H bs → IsKept bs.config H bs ls qs → IsKept bs2.config H2 bs2 ls qs
-kept_changed head given H H2 bs bs2 ls qs r e k =
-    kept_own bs.config H2 bs2 ls qs (kept_tried_at bs.config head given H H2 bs bs2 ls qs r e k)
+step_cases : (c : ConfigParts) (l : Line) (act : Act) (H : List Entry) (bs : DatabaseParts) (ls qs : List (Option Held)) (full : Bool) (made : Result DatabaseParts Breach) → edit_step (state_of c H ls qs) l act full made ≡ (Some (edit_tried_step (head_of l) act H bs full made).0, state_of c (edit_tried_step (head_of l) act H bs full made).1 ls qs)
+step_cases c l act H bs ls qs true made = refl
+step_cases c l act H bs ls qs false (Ok next) = refl
+step_cases c l act H bs ls qs false (Err breach) = refl
 
-step_cases : (c : ConfigParts) (l : Line) (edit : Edit) (H : List Entry) (bs : DatabaseParts) (ls qs : List (Option Held)) (full : Bool) (made : Result DatabaseParts Broken) → edit_step (state_of c H ls qs) l edit full made ≡ (Some (edit_tried_step (head_of l) edit H bs full made).0, state_of c (edit_tried_step (head_of l) edit H bs full made).1 ls qs)
-step_cases c l edit H bs ls qs true made = refl
-step_cases c l edit H bs ls qs false (Ok next) = refl
-step_cases c l edit H bs ls qs false (Err rule) = refl
+edit_cases : (c : ConfigParts) (l : Line) (act : Act) (H : List Entry) (bs : DatabaseParts) (ls qs : List (Option Held)) → after c H ≡ Ok bs
+    → edit_step (state_of c H ls qs) l act (is_full H) (edited c H act) ≡ (Some (edit_tried (head_of l) act H bs).0, state_of c (edit_tried (head_of l) act H bs).1 ls qs)
+edit_cases c l act H bs ls qs present = rw present (step_cases c l act H bs ls qs (is_full H) (effect bs act))
 
-edit_cases : (c : ConfigParts) (l : Line) (edit : Edit) (H : List Entry) (bs : DatabaseParts) (ls qs : List (Option Held)) → after c H ≡ Ok bs
-    → edit_step (state_of c H ls qs) l edit (is_full H) (edited c H edit) ≡ (Some (edit_tried (head_of l) edit H bs).0, state_of c (edit_tried (head_of l) edit H bs).1 ls qs)
-edit_cases c l edit H bs ls qs present = rw present (step_cases c l edit H bs ls qs (is_full H) (effect bs edit))
-
-given_cases : (c : ConfigParts) (l : Line) (given : Result Edit GridFault) (H : List Entry) (bs : DatabaseParts) (ls qs : List (Option Held)) → after c H ≡ Ok bs
+given_cases : (c : ConfigParts) (l : Line) (given : Result Act GridFault) (H : List Entry) (bs : DatabaseParts) (ls qs : List (Option Held)) → after c H ≡ Ok bs
     → edit_event (state_of c H ls qs) l (requests.Edit given) ≡ (Some (given_tried (head_of l) given H bs).0, state_of c (given_tried (head_of l) given H bs).1 ls qs)
-given_cases c l (Ok edit) H bs ls qs present = edit_cases c l edit H bs ls qs present
+given_cases c l (Ok act) H bs ls qs present = edit_cases c l act H bs ls qs present
 given_cases c l (Err fault) H bs ls qs present = refl
 
-pub given_told : (old : State) (l : Line) (given : Result Edit GridFault) (H H2 : List Entry) (bs bs2 : DatabaseParts) (ls qs : List (Option Held)) (r : Reply) → state_of bs.config H ls qs ≡ old → l.request ≡ requests.Edit given
-    → (r, H2, bs2) ≡ given_tried (head_of l) given H bs → IsKept bs.config H bs ls qs → edit_event old l l.request ≡ (Some r, state_of bs2.config H2 ls qs)
-given_told old l given H H2 bs bs2 ls qs r old_is f e k =
-    let told : Reply × List Entry × DatabaseParts → Option Reply × State = λ t. (Some t.0, state_of bs.config t.1 ls qs) in
-    let under : ConfigParts → Option Reply × State = λ c. (Some r, state_of c H2 ls qs) in
-    let next : IsKept bs.config H2 bs2 ls qs = kept_tried_at bs.config (head_of l) given H H2 bs bs2 ls qs r e k in
-    let from : State → Type 0 = λ st. edit_event st l l.request ≡ (Some r, state_of bs2.config H2 ls qs) in
-    let asks : Request → Type 0 = λ request. edit_event (state_of bs.config H ls qs) l request ≡ (Some r, state_of bs2.config H2 ls qs) in
-    subst from old_is
-    (subst asks (sym f) (given_cases bs.config l given H bs ls qs k.present ∙ ap told (sym e) ∙ ap under (sym (after_config bs.config H2 bs2 next.present))))
+pub given_told : (c : ConfigParts) (old : State) (l : Line) (given : Result Act GridFault) (H H2 : List Entry) (bs bs2 : DatabaseParts) (ls qs : List (Option Held)) (r : Reply) → state_of c H ls qs ≡ old → l.request ≡ requests.Edit given
+    → (r, H2, bs2) ≡ given_tried (head_of l) given H bs → IsKept c H bs ls qs → edit_event old l l.request ≡ (Some r, state_of c H2 ls qs)
+given_told c old l given H H2 bs bs2 ls qs r old_is f e k =
+    let told : Reply × List Entry × DatabaseParts → Option Reply × State = λ t. (Some t.0, state_of c t.1 ls qs) in
+    let from : State → Type 0 = λ st. edit_event st l l.request ≡ (Some r, state_of c H2 ls qs) in
+    let asks : Request → Type 0 = λ request. edit_event (state_of c H ls qs) l request ≡ (Some r, state_of c H2 ls qs) in
+    subst from old_is (subst asks (sym f) (given_cases c l given H bs ls qs k.present ∙ ap told (sym e)))
 
 some_same : (x y : Entry) → Some x ≡ Some y → x ≡ y
 some_same x y e = ap (λ (o : Option Entry). option_get o x) e
@@ -151,22 +142,22 @@ last_entry : (H : List Entry) (e found : Entry) → slice_get (H ++ e ∷ []) (l
 last_entry [] e found is = some_same found e (sym is)
 last_entry (x ∷ H) e found is = last_entry H e found is
 
-change_refused : (head : Head) (edit : Edit) (H : List Entry) (bs : DatabaseParts) (full : Bool) (made : Result DatabaseParts Broken) (rule : Broken)
-    → full ≡ false → made ≡ Err rule → edit_tried_step head edit H bs full made ≡ (head_reply head (Some (length H)) (Refused (refusals.Rule rule)), H, bs)
-change_refused head edit H bs full made rule room broken = rw (room, broken) refl
+change_refused : (head : Head) (act : Act) (H : List Entry) (bs : DatabaseParts) (full : Bool) (made : Result DatabaseParts Breach) (breach : Breach)
+    → full ≡ false → made ≡ Err breach → edit_tried_step head act H bs full made ≡ (head_reply head (Some (length H)) (Refused (rule_refusal head.command breach)), H, bs)
+change_refused head act H bs full made breach room broken = rw (room, broken) refl
 
-pub refused_change : (head : Head) (edit : Edit) (H H2 H3 : List Entry) (bs bs2 : DatabaseParts) (found : Entry) (rule : Broken) (reply : Reply) (n : ℕ) (full : Bool)
-    → full ≡ is_full H → full ≡ false → n ≡ length H → H2 ≡ H ++ head_entry head edit ∷ [] → slice_get H2 n ≡ Some found
-    → effect bs found.edit ≡ Err rule → bs2 ≡ bs → H3 ≡ take n H2 → reply ≡ head_reply head (Some n) (Refused (refusals.Rule rule))
-    → (reply, H3, bs2) ≡ edit_tried head edit H bs
-refused_change head edit H H2 H3 bs bs2 found rule reply n full counted room count pushed there broken same cut told =
-    let place : slice_get (H ++ head_entry head edit ∷ []) (length H) ≡ Some found =
-    subst (λ (k : ℕ). slice_get (H ++ head_entry head edit ∷ []) k ≡ Some found) count (subst (λ (xs : List Entry). slice_get xs n ≡ Some found) pushed there) in
-    let own : found ≡ head_entry head edit = last_entry H (head_entry head edit) found place in
-    let refused : effect bs edit ≡ Err rule = subst (λ (e : Entry). effect bs e.edit ≡ Err rule) own broken in
-    let back : take n H2 ≡ H = ap (λ (k : ℕ). take k H2) count ∙ ap (λ (xs : List Entry). take (length H) xs) pushed ∙ take-append_seam H (head_entry head edit ∷ []) in
-    let as_was : (reply, H3, bs2) ≡ (head_reply head (Some (length H)) (Refused (refusals.Rule rule)), H, bs) = rw (told, cut, back, same, count) refl in
-    as_was ∙ sym (change_refused head edit H bs (is_full H) (effect bs edit) rule (sym counted ∙ room) refused)
+pub refused_change : (head : Head) (act : Act) (H H2 H3 : List Entry) (bs bs2 : DatabaseParts) (found : Entry) (breach : Breach) (refusal : Refusal) (reply : Reply) (n : ℕ) (full : Bool)
+    → full ≡ is_full H → full ≡ false → n ≡ length H → H2 ≡ H ++ head_entry head act ∷ [] → slice_get H2 n ≡ Some found
+    → effect bs found.act ≡ Err breach → bs2 ≡ bs → H3 ≡ take n H2 → refusal ≡ rule_refusal head.command breach → reply ≡ head_reply head (Some n) (Refused refusal)
+    → (reply, H3, bs2) ≡ edit_tried head act H bs
+refused_change head act H H2 H3 bs bs2 found breach refusal reply n full counted room count pushed there broken same cut rule_is told =
+    let place : slice_get (H ++ head_entry head act ∷ []) (length H) ≡ Some found =
+    subst (λ (k : ℕ). slice_get (H ++ head_entry head act ∷ []) k ≡ Some found) count (subst (λ (xs : List Entry). slice_get xs n ≡ Some found) pushed there) in
+    let own : found ≡ head_entry head act = last_entry H (head_entry head act) found place in
+    let refused : effect bs act ≡ Err breach = subst (λ (e : Entry). effect bs e.act ≡ Err breach) own broken in
+    let back : take n H2 ≡ H = ap (λ (k : ℕ). take k H2) count ∙ ap (λ (xs : List Entry). take (length H) xs) pushed ∙ take-append_seam H (head_entry head act ∷ []) in
+    let as_was : (reply, H3, bs2) ≡ (head_reply head (Some (length H)) (Refused (rule_refusal head.command breach)), H, bs) = rw (told, rule_is, cut, back, same, count) refl in
+    as_was ∙ sym (change_refused head act H bs (is_full H) (effect bs act) breach (sym counted ∙ room) refused)
 
 -- A look.
 

@@ -12,6 +12,7 @@ pub mod Standing
 pub mod Ordered
 pub mod RowLists
 pub mod Keeping
+pub mod Ruled
 pub mod Turning
 pub mod ReadingSteps
 pub mod Readings

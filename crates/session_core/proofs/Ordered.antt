@@ -5,12 +5,12 @@ use Rattle.std.proofs.lemmas.List.{append-nil}
 use Rattle.std.proofs.lemmas.List.Sums.{sum_by-cons}
 use Rattle.std.specs.List.{list_any}
 use Rattle.emu_names.specs.declared.kinds.SessionNo.{SessionNo}
-use Rattle.emu_names.specs.declared.rules.Broken.{Broken}
+use Rattle.edit_rules.specs.declared.acts.Breach.{Breach}
 use Rattle.db_config.specs.declared.parts.ConfigParts.{ConfigParts}
 use Rattle.textgrid.specs.declared.fault.GridFault.{GridFault}
 use Rattle.edit_rules.specs.Database.{DatabaseParts}
-use Rattle.edit_rules.specs.declared.edit.Edit.{Edit}
-use Rattle.edit_rules.specs.declared.edit.Entry.{Entry}
+use Rattle.edit_rules.specs.declared.acts.Act.{Act}
+use Rattle.edit_rules.specs.declared.acts.Entry.{Entry}
 use Rattle.session_core.specs.declared.event.Event.{Event}
 use Rattle.session_core.specs.declared.event.Event.TheVariants as events
 use Rattle.session_core.specs.declared.line.Ask.{Ask}
@@ -55,7 +55,7 @@ query_moments l at_last = moment (events.Look l) untroubled ∷ moment (events.F
 query_moments l disk_fails = moment (events.Look l) untroubled ∷ moment (events.Finish l.line l.session commands.Query) untroubled ∷ []
 
 abbrev request_moments : Bool → State → Line → Request → Outage → List Occurrence
-request_moments store st l (requests.Edit (Ok edit)) outage = moment (events.Edit l) (trouble_at store st l edit outage) ∷ []
+request_moments store st l (requests.Edit (Ok act)) outage = moment (events.Edit l) (trouble_at store st l act outage) ∷ []
 request_moments store st l (requests.Edit (Err fault)) outage = moment (events.Edit l) (memory_at outage) ∷ []
 request_moments store st l (requests.Query ask) outage = query_moments l outage
 request_moments store st l (requests.Look ask) outage = moment (events.Look l) (memory_at outage) ∷ []
@@ -86,14 +86,14 @@ stored_sound : (passes : Bool) → is_disk_failed (stored_trouble passes false) 
 stored_sound true = refl
 stored_sound false = refl
 
-made_sound : (st : State) (l : Line) (edit : Edit) (full : Bool) (made : Result DatabaseParts Broken) → is_disk_failed (made_trouble st l edit false full made) ≡ false
-made_sound st l edit true made = refl
-made_sound st l edit false (Err rule) = refl
-made_sound st l edit false (Ok database) = stored_sound (passes_store st.config st.entries (entry_of l edit))
+made_sound : (st : State) (l : Line) (act : Act) (full : Bool) (made : Result DatabaseParts Breach) → is_disk_failed (made_trouble st l act false full made) ≡ false
+made_sound st l act true made = refl
+made_sound st l act false (Err breach) = refl
+made_sound st l act false (Ok database) = stored_sound (passes_store st.config st.entries (entry_of l act))
 
-edit_sound : (store : Bool) (st : State) (l : Line) (edit : Edit) → is_disk_failed (edit_trouble store st l edit false) ≡ false
-edit_sound false st l edit = refl
-edit_sound true st l edit = made_sound st l edit (is_full st.entries) (edited st.config st.entries edit)
+edit_sound : (store : Bool) (st : State) (l : Line) (act : Act) → is_disk_failed (edit_trouble store st l act false) ≡ false
+edit_sound false st l act = refl
+edit_sound true st l act = made_sound st l act (is_full st.entries) (edited st.config st.entries act)
 
 low_false : (b : Bool) (most : ℕ) → b ≡ false → cond b 1 0 ≤ most
 low_false b most is = subst (λ (x : Bool). cond x 1 0 ≤ most) (sym is) (omega arith)
@@ -106,12 +106,12 @@ bit_low false = omega arith
 abbrev failures_at : Bool → Outage → ℕ
 failures_at store outage = cond (store && is_disk_outage outage) 1 0
 
-edit_failures : (store : Bool) (st : State) (l : Line) (edit : Edit) (outage : Outage) → cond (is_disk_failed (trouble_at store st l edit outage)) 1 0 ≤ failures_at store outage
-edit_failures store st l edit fine = low_false (is_disk_failed (edit_trouble store st l edit false)) (failures_at store fine) (edit_sound store st l edit)
-edit_failures store st l edit at_first = omega arith
-edit_failures store st l edit at_last = omega arith
-edit_failures false st l edit disk_fails = omega arith
-edit_failures true st l edit disk_fails = bit_low (is_disk_failed (edit_trouble true st l edit true))
+edit_failures : (store : Bool) (st : State) (l : Line) (act : Act) (outage : Outage) → cond (is_disk_failed (trouble_at store st l act outage)) 1 0 ≤ failures_at store outage
+edit_failures store st l act fine = low_false (is_disk_failed (edit_trouble store st l act false)) (failures_at store fine) (edit_sound store st l act)
+edit_failures store st l act at_first = omega arith
+edit_failures store st l act at_last = omega arith
+edit_failures false st l act disk_fails = omega arith
+edit_failures true st l act disk_fails = bit_low (is_disk_failed (edit_trouble true st l act true))
 
 memory_failures : (most : ℕ) (outage : Outage) → cond (is_disk_failed (memory_at outage)) 1 0 ≤ most
 memory_failures most fine = omega arith
@@ -133,8 +133,8 @@ query_failures most l disk_fails = omega arith
 line_failures : (store : Bool) (st : State) (l : Line) (request : Request) (outage : Outage) → disk_failures (request_moments store st l request outage) ≤ failures_at store outage
 line_failures store st l (requests.Edit (Err fault)) outage =
     one_failures (moment (events.Edit l) (memory_at outage)) (failures_at store outage) (memory_failures (failures_at store outage) outage)
-line_failures store st l (requests.Edit (Ok edit)) outage =
-    one_failures (moment (events.Edit l) (trouble_at store st l edit outage)) (failures_at store outage) (edit_failures store st l edit outage)
+line_failures store st l (requests.Edit (Ok act)) outage =
+    one_failures (moment (events.Edit l) (trouble_at store st l act outage)) (failures_at store outage) (edit_failures store st l act outage)
 line_failures store st l (requests.Query ask) outage = query_failures (failures_at store outage) l outage
 line_failures store st l (requests.Look ask) outage =
     one_failures (moment (events.Look l) (memory_at outage)) (failures_at store outage) (memory_failures (failures_at store outage) outage)
@@ -205,15 +205,15 @@ one_turn_of : (l : Line) (reply : Option Reply) → IsSome reply → turns_of (l
 one_turn_of l None is = absurd is
 one_turn_of l (Some reply) is = refl
 
-edit_some : (st : State) (l : Line) (edit : Edit) (full : Bool) (made : Result DatabaseParts Broken) → IsSome (edit_step st l edit full made).0
-edit_some st l edit true made = tt
-edit_some st l edit false (Ok database) = tt
-edit_some st l edit false (Err rule) = tt
+edit_some : (st : State) (l : Line) (act : Act) (full : Bool) (made : Result DatabaseParts Breach) → IsSome (edit_step st l act full made).0
+edit_some st l act true made = tt
+edit_some st l act false (Ok database) = tt
+edit_some st l act false (Err breach) = tt
 
-edit_queries : (st : State) (l : Line) (edit : Edit) (full : Bool) (made : Result DatabaseParts Broken) → st.queries ≡ (edit_step st l edit full made).1.queries
-edit_queries st l edit true made = refl
-edit_queries st l edit false (Ok database) = refl
-edit_queries st l edit false (Err rule) = refl
+edit_queries : (st : State) (l : Line) (act : Act) (full : Bool) (made : Result DatabaseParts Breach) → st.queries ≡ (edit_step st l act full made).1.queries
+edit_queries st l act true made = refl
+edit_queries st l act false (Ok database) = refl
+edit_queries st l act false (Err breach) = refl
 
 look_some : (st : State) (l : Line) (ask : Ask) (held : Option Opened) → IsSome (look_step st l ask held).0
 look_some st l ask None = tt
@@ -330,22 +330,22 @@ module _ (store : Bool) (before : List Line) (w : World) (b : Between before w) 
 
   -- The five requests, in turn.
 
-  module _ (line : ℕ) (s : SessionNo) (command : Command) (edit : Edit) (comes : ComesNext before (line_of line s command (requests.Edit (Ok edit)))) where
+  module _ (line : ℕ) (s : SessionNo) (command : Command) (act : Act) (comes : ComesNext before (line_of line s command (requests.Edit (Ok act)))) where
     abbrev edit_line : Line
-    edit_line = line_of line s command (requests.Edit (Ok edit))
+    edit_line = line_of line s command (requests.Edit (Ok act))
 
     edit_may : Fits w (events.Edit edit_line)
     edit_may = record { next = next edit_line comes; kind = refl; command = comes.command }
 
     edit_answers_at : (trouble : Trouble) → TroubleFits store w.state (events.Edit edit_line) trouble
-        → Answers store w edit_line (moment (events.Edit edit_line) trouble ∷ []) (replied edit_line (edit_outcome w.state edit_line edit trouble))
+        → Answers store w edit_line (moment (events.Edit edit_line) trouble ∷ []) (replied edit_line (edit_outcome w.state edit_line act trouble))
     edit_answers_at untroubled may =
-        let kept : _ = edit_queries w.state edit_line edit (is_full w.state.entries) (edited w.state.config w.state.entries edit) in
+        let kept : _ = edit_queries w.state edit_line act (is_full w.state.entries) (edited w.state.config w.state.entries act) in
         record {
           fits = (record { event = edit_may; trouble = tt }, tt);
           state = refl;
           lines = refl;
-          turns = ap (λ (ts : List Turn). w.turns ++ ts) (one_turn_of edit_line _ (edit_some w.state edit_line edit (is_full w.state.entries) (edited w.state.config w.state.entries edit)));
+          turns = ap (λ (ts : List Turn). w.turns ++ ts) (one_turn_of edit_line _ (edit_some w.state edit_line act (is_full w.state.entries) (edited w.state.config w.state.entries act)));
           count = same_count _ kept;
           idle = same_idle _ kept;
         }
@@ -353,33 +353,33 @@ module _ (store : Bool) (before : List Line) (w : World) (b : Between before w) 
     edit_answers_at store_full may = record { fits = (record { event = edit_may; trouble = may }, tt); state = refl; lines = refl; turns = refl; count = b.count; idle = b.idle }
     edit_answers_at disk_failed may = record { fits = (record { event = edit_may; trouble = may }, tt); state = refl; lines = refl; turns = refl; count = b.count; idle = b.idle }
 
-    stored_fits : (database : DatabaseParts) (passes fails : Bool) → is_full w.state.entries ≡ false → edited w.state.config w.state.entries edit ≡ Ok database
-        → store ≡ true → passes_store w.state.config w.state.entries (entry_of edit_line edit) ≡ passes
+    stored_fits : (database : DatabaseParts) (passes fails : Bool) → is_full w.state.entries ≡ false → edited w.state.config w.state.entries act ≡ Ok database
+        → store ≡ true → passes_store w.state.config w.state.entries (entry_of edit_line act) ≡ passes
         → TroubleFits store w.state (events.Edit edit_line) (stored_trouble passes fails)
     stored_fits database true fails room made stored passes_is =
         record { stored = stored; room = room; database = database; made = made; passes = passes_is }
     stored_fits database false true room made stored passes_is = stored
     stored_fits database false false room made stored passes_is = tt
 
-    made_fits : (fails full : Bool) (made : Result DatabaseParts Broken) → is_full w.state.entries ≡ full → edited w.state.config w.state.entries edit ≡ made → store ≡ true
-        → TroubleFits store w.state (events.Edit edit_line) (made_trouble w.state edit_line edit fails full made)
+    made_fits : (fails full : Bool) (made : Result DatabaseParts Breach) → is_full w.state.entries ≡ full → edited w.state.config w.state.entries act ≡ made → store ≡ true
+        → TroubleFits store w.state (events.Edit edit_line) (made_trouble w.state edit_line act fails full made)
     made_fits fails true made full_is made_is stored = tt
-    made_fits fails false (Err rule) full_is made_is stored = tt
+    made_fits fails false (Err breach) full_is made_is stored = tt
     made_fits fails false (Ok database) full_is made_is stored =
-        stored_fits database (passes_store w.state.config w.state.entries (entry_of edit_line edit)) fails full_is made_is stored refl
+        stored_fits database (passes_store w.state.config w.state.entries (entry_of edit_line act)) fails full_is made_is stored refl
 
-    edit_fits : (there : Bool) (fails : Bool) → store ≡ there → TroubleFits store w.state (events.Edit edit_line) (edit_trouble there w.state edit_line edit fails)
+    edit_fits : (there : Bool) (fails : Bool) → store ≡ there → TroubleFits store w.state (events.Edit edit_line) (edit_trouble there w.state edit_line act fails)
     edit_fits false fails is = tt
-    edit_fits true fails is = made_fits fails (is_full w.state.entries) (edited w.state.config w.state.entries edit) refl refl is
+    edit_fits true fails is = made_fits fails (is_full w.state.entries) (edited w.state.config w.state.entries act) refl refl is
 
-    trouble_fits : (outage : Outage) → TroubleFits store w.state (events.Edit edit_line) (trouble_at store w.state edit_line edit outage)
+    trouble_fits : (outage : Outage) → TroubleFits store w.state (events.Edit edit_line) (trouble_at store w.state edit_line act outage)
     trouble_fits fine = edit_fits store false refl
     trouble_fits at_first = tt
     trouble_fits at_last = tt
     trouble_fits disk_fails = edit_fits store true refl
 
-    edit_answers : (outage : Outage) → Answers store w edit_line (request_moments store w.state edit_line (requests.Edit (Ok edit)) outage) (request_turn store w.state edit_line (requests.Edit (Ok edit)) outage)
-    edit_answers outage = edit_answers_at (trouble_at store w.state edit_line edit outage) (trouble_fits outage)
+    edit_answers : (outage : Outage) → Answers store w edit_line (request_moments store w.state edit_line (requests.Edit (Ok act)) outage) (request_turn store w.state edit_line (requests.Edit (Ok act)) outage)
+    edit_answers outage = edit_answers_at (trouble_at store w.state edit_line act outage) (trouble_fits outage)
 
   -- a line whose TextGrid has a fault
   module _ (line : ℕ) (s : SessionNo) (command : Command) (fault : GridFault) (comes : ComesNext before (line_of line s command (requests.Edit (Err fault)))) where
@@ -601,7 +601,7 @@ module _ (store : Bool) (before : List Line) (w : World) (b : Between before w) 
 
   request_answers : (line : ℕ) (s : SessionNo) (command : Command) (r : Request) (outage : Outage) → ComesNext before (line_of line s command r)
       → Answers store w (line_of line s command r) (request_moments store w.state (line_of line s command r) r outage) (request_turn store w.state (line_of line s command r) r outage)
-  request_answers line s command (requests.Edit (Ok edit)) outage comes = edit_answers line s command edit comes outage
+  request_answers line s command (requests.Edit (Ok act)) outage comes = edit_answers line s command act comes outage
   request_answers line s command (requests.Edit (Err fault)) outage comes = grid_answers line s command fault comes outage
   request_answers line s command (requests.Query ask) outage comes = of_query line s command ask outage (sym (query_is command ask comes.command)) comes
   request_answers line s command (requests.Look ask) outage comes = look_answers line s command ask outage comes

@@ -2,12 +2,12 @@
 use Rattle.std.proofs.Common.{◌≡◌, ◌≢◌, ⊎_elim, ℕ, ◌+◌, ◌<◌, ◌≤◌, Bool, true, false, List, [], ◌∷◌, ◌++◌, length, take, slice_get, Option, Some, None, Result, Ok, Err, option_map, refl, sym, ◌∙◌, ap, subst, arith, append_assoc, length-append}
 use Rattle.std.proofs.lemmas.Bool.{cases_eq, lt-leb, le-leb, false≢true}
 use Rattle.std.proofs.lemmas.List.{take_at}
-use Rattle.emu_names.specs.declared.rules.Broken.{Broken}
+use Rattle.edit_rules.specs.declared.acts.Breach.{Breach}
 use Rattle.db_config.specs.declared.parts.ConfigParts.{ConfigParts}
 use Rattle.textgrid.specs.declared.fault.GridFault.{GridFault}
 use Rattle.edit_rules.specs.Database.{DatabaseParts}
-use Rattle.edit_rules.specs.declared.edit.Edit.{Edit}
-use Rattle.edit_rules.specs.declared.edit.Entry.{Entry}
+use Rattle.edit_rules.specs.declared.acts.Act.{Act}
+use Rattle.edit_rules.specs.declared.acts.Entry.{Entry}
 use Rattle.session_core.specs.declared.line.Command.{Command}
 use Rattle.session_core.specs.declared.line.Ask.{Ask}
 use Rattle.session_core.specs.declared.line.Answer.{Answer}
@@ -33,7 +33,7 @@ use Rattle.session_core.proofs.Seats.{answer_same, look_of, IsIn, in_more}
 
 abbrev is_memory : Answer → Bool
 is_memory (Refused refusals.Memory) = true
-is_memory (Refused (refusals.Rule rule)) = false
+is_memory (Refused (refusals.Rule rule place)) = false
 is_memory (Refused (refusals.Grid fault)) = false
 is_memory (Refused (refusals.Prepare fault)) = false
 is_memory (Refused (refusals.Resolve fault)) = false
@@ -121,10 +121,10 @@ module _ (c : ConfigParts) (m : ℕ) (H : List Entry) (k : ℕ) (st : State) (r 
       let at : length st.entries ≡ n = r.count ∙ sym is in
       ap (λ (es : List Entry). take n es) r.prefix ∙ take_at st.entries r.more n at
 
-  edit_is : (n : ℕ) (edit : Edit) (made : Result DatabaseParts Broken) → n ≡ k → edited c (take n H) edit ≡ made → edited st.config st.entries edit ≡ made
-  edit_is n edit made is right =
-      ap (λ (d : ConfigParts). edited d st.entries edit) r.config
-      ∙ ap (λ (es : List Entry). edited c es edit) (sym (front n is))
+  edit_is : (n : ℕ) (act : Act) (made : Result DatabaseParts Breach) → n ≡ k → edited c (take n H) act ≡ made → edited st.config st.entries act ≡ made
+  edit_is n act made is right =
+      ap (λ (d : ConfigParts). edited d st.entries act) r.config
+      ∙ ap (λ (es : List Entry). edited c es act) (sym (front n is))
       ∙ right
 
   answer_is : (n : ℕ) (ask : Ask) (answer : Answer) → n ≤ length st.entries → answer ≡ answer_at c H n ask → answer_at st.config st.entries n ask ≡ answer
@@ -158,13 +158,13 @@ module _ (c : ConfigParts) (m : ℕ) (H : List Entry) (k : ℕ) (st : State) (r 
 
   -- The five requests, in turn.
 
-  abbrev edit_out : Edit → Bool → Result DatabaseParts Broken → Reply × State
-  edit_out edit full made = replied l (edit_step st l edit full made)
+  abbrev edit_out : Act → Bool → Result DatabaseParts Breach → Reply × State
+  edit_out act full made = replied l (edit_step st l act full made)
 
-  edit_made_is : (edit : Edit) (full : Bool) (made : Result DatabaseParts Broken) → is_full st.entries ≡ full → edited st.config st.entries edit ≡ made
-      → edit_out edit full made ≡ request_turn false st l (requests.Edit (Ok edit)) fine
-  edit_made_is edit full made full_is made_is =
-      sym (ap (λ (b : Bool). edit_out edit b (edited st.config st.entries edit)) full_is ∙ ap (λ (found : Result DatabaseParts Broken). edit_out edit full found) made_is)
+  edit_made_is : (act : Act) (full : Bool) (made : Result DatabaseParts Breach) → is_full st.entries ≡ full → edited st.config st.entries act ≡ made
+      → edit_out act full made ≡ request_turn false st l (requests.Edit (Ok act)) fine
+  edit_made_is act full made full_is made_is =
+      sym (ap (λ (b : Bool). edit_out act b (edited st.config st.entries act)) full_is ∙ ap (λ (found : Result DatabaseParts Breach). edit_out act full found) made_is)
 
   not_full : k < HISTORY_EDITS → is_full st.entries ≡ false
   not_full room =
@@ -179,81 +179,83 @@ module _ (c : ConfigParts) (m : ℕ) (H : List Entry) (k : ℕ) (st : State) (r 
   numbered_as : (answer : Answer) (n j : ℕ) (next : State) → n ≡ j → numbered_reply answer next n ≡ numbered_reply answer next j
   numbered_as answer n j next same = ap (numbered_reply answer next) same
 
-  accepted_follows : (edit : Edit) (n : ℕ) (command : Command) → IsAcceptance c H l edit n command → n ≡ k + 1
-      → Follows c H k st l (requests.Edit (Ok edit)) (Some n) (Done command) (request_turn false st l (requests.Edit (Ok edit)) fine)
-  accepted_follows edit n command right is =
+  accepted_follows : (act : Act) (n : ℕ) (command : Command) → IsAcceptance c H l act n command → n ≡ k + 1
+      → Follows c H k st l (requests.Edit (Ok act)) (Some n) (Done command) (request_turn false st l (requests.Edit (Ok act)) fine)
+  accepted_follows act n command right is =
       let before_is : right.before ≡ k = omega (arith, right.number, is) in
       let count : length st.entries ≡ k = r.count in
       let room : k < HISTORY_EDITS = subst (λ (j : ℕ). j < HISTORY_EDITS) before_is right.room in
-      let at : slice_get (st.entries ++ r.more) (length st.entries) ≡ Some (entry_of l edit) =
+      let at : slice_get (st.entries ++ r.more) (length st.entries) ≡ Some (entry_of l act) =
       ap (λ (es : List Entry). slice_get es (length st.entries)) (sym r.prefix) ∙ ap (λ (j : ℕ). slice_get H j) (count ∙ sym before_is) ∙ right.entry in
-      let next : _ = next_entry st.entries r.more (entry_of l edit) at in
+      let next : _ = next_entry st.entries r.more (entry_of l act) at in
       let n_is : n ≡ present st + 1 = omega (arith, is, count) in
-      moved (requests.Edit (Ok edit)) (Some n) (Done command) (reply_to l (Some n) (Done command), with_entry st (entry_of l edit)) _
-      (numbered_as (Done command) n (present st + 1) (with_entry st (entry_of l edit)) n_is
-      ∙ ap (λ (made : Command). (reply_to l (Some (present st + 1)) (Done made), with_entry st (entry_of l edit))) right.own
-      ∙ edit_made_is edit false (Ok right.database) (not_full room) (edit_is right.before edit (Ok right.database) before_is right.right))
+      moved (requests.Edit (Ok act)) (Some n) (Done command) (reply_to l (Some n) (Done command), with_entry st (entry_of l act)) _
+      (numbered_as (Done command) n (present st + 1) (with_entry st (entry_of l act)) n_is
+      ∙ ap (λ (made : Command). (reply_to l (Some (present st + 1)) (Done made), with_entry st (entry_of l act))) right.own
+      ∙ edit_made_is act false (Ok right.database) (not_full room) (edit_is right.before act (Ok right.database) before_is right.right))
       (record {
         reply = refl;
         there = record {
           config = r.config;
           more = next.0;
-          prefix = r.prefix ∙ ap (λ (es : List Entry). st.entries ++ es) next.1 ∙ sym (append_assoc st.entries (entry_of l edit ∷ []) next.0);
-          count = length-append st.entries (entry_of l edit ∷ []) ∙ ap (λ (j : ℕ). j + 1) count;
+          prefix = r.prefix ∙ ap (λ (es : List Entry). st.entries ++ es) next.1 ∙ sym (append_assoc st.entries (entry_of l act ∷ []) next.0);
+          count = length-append st.entries (entry_of l act ∷ []) ∙ ap (λ (j : ℕ). j + 1) count;
           looks_count = r.looks_count;
           queries_count = r.queries_count;
-          looks_in = λ s. in_more 0 st.entries (entry_of l edit ∷ []) (slot st.looks s) (r.looks_in s);
+          looks_in = λ s. in_more 0 st.entries (entry_of l act ∷ []) (slot st.looks s) (r.looks_in s);
         };
         own = refl;
         others = λ s ne. refl;
       })
 
-  refused_edit : (edit : Edit) (n : ℕ) (refusal : Refusal) → IsRightAt c H false l (requests.Edit (Ok edit)) n (Refused refusal) → n ≡ k
-      → Follows c H k st l (requests.Edit (Ok edit)) (Some n) (Refused refusal) (request_turn false st l (requests.Edit (Ok edit)) (outage_in (Refused refusal)))
-  refused_edit edit n (refusals.Rule rule) right is =
-      moved (requests.Edit (Ok edit)) (Some n) (Refused (refusals.Rule rule)) (reply_to l (Some n) (Refused (refusals.Rule rule)), st) _
-      (numbered_as (Refused (refusals.Rule rule)) n (present st) st (is ∙ sym r.count)
-      ∙ edit_made_is edit false (Err rule) (not_full (subst (λ (j : ℕ). j < HISTORY_EDITS) is right.0)) (edit_is n edit (Err rule) is right.1))
-      (stays (requests.Edit (Ok edit)) (Some n) (Refused (refusals.Rule rule)) refl refl)
-  refused_edit edit n refusals.HistoryFull right is =
+  refused_edit : (act : Act) (n : ℕ) (refusal : Refusal) → IsRightAt c H false l (requests.Edit (Ok act)) n (Refused refusal) → n ≡ k
+      → Follows c H k st l (requests.Edit (Ok act)) (Some n) (Refused refusal) (request_turn false st l (requests.Edit (Ok act)) (outage_in (Refused refusal)))
+  refused_edit act n (refusals.Rule rule place) right is =
+      let breach : Breach = record { place = right.at; rule = rule } in
+      moved (requests.Edit (Ok act)) (Some n) (Refused (refusals.Rule rule place)) (reply_to l (Some n) (Refused (refusals.Rule rule place)), st) _
+      (numbered_as (Refused (refusals.Rule rule place)) n (present st) st (is ∙ sym r.count)
+      ∙ ap (λ (p : Option ℕ). (reply_to l (Some (present st)) (Refused (refusals.Rule rule p)), st)) right.shown
+      ∙ edit_made_is act false (Err breach) (not_full (subst (λ (j : ℕ). j < HISTORY_EDITS) is right.room)) (edit_is n act (Err breach) is right.broken))
+      (stays (requests.Edit (Ok act)) (Some n) (Refused (refusals.Rule rule place)) refl refl)
+  refused_edit act n refusals.HistoryFull right is =
       let full : is_full st.entries ≡ true = le-leb HISTORY_EDITS (length st.entries) (omega (arith, right, is, r.count)) in
-      moved (requests.Edit (Ok edit)) (Some n) (Refused refusals.HistoryFull) (reply_to l (Some n) (Refused refusals.HistoryFull), st) _
+      moved (requests.Edit (Ok act)) (Some n) (Refused refusals.HistoryFull) (reply_to l (Some n) (Refused refusals.HistoryFull), st) _
       (numbered_as (Refused refusals.HistoryFull) n (present st) st (is ∙ sym r.count)
-      ∙ edit_made_is edit true (edited st.config st.entries edit) full refl)
-      (stays (requests.Edit (Ok edit)) (Some n) (Refused refusals.HistoryFull) refl refl)
-  refused_edit edit n refusals.StoreFull right is = absurd (false≢true right.stored)
-  refused_edit edit n (refusals.Grid fault) right is = absurd right
-  refused_edit edit n (refusals.Prepare fault) right is = absurd right
-  refused_edit edit n (refusals.Resolve fault) right is = absurd right
-  refused_edit edit n refusals.TooManyTuples right is = absurd right
-  refused_edit edit n refusals.NoLook right is = absurd right
-  refused_edit edit n refusals.LookOpen right is = absurd right
-  refused_edit edit n refusals.Disk right is = absurd right
-  refused_edit edit n refusals.Memory right is = absurd right
+      ∙ edit_made_is act true (edited st.config st.entries act) full refl)
+      (stays (requests.Edit (Ok act)) (Some n) (Refused refusals.HistoryFull) refl refl)
+  refused_edit act n refusals.StoreFull right is = absurd (false≢true right.stored)
+  refused_edit act n (refusals.Grid fault) right is = absurd right
+  refused_edit act n (refusals.Prepare fault) right is = absurd right
+  refused_edit act n (refusals.Resolve fault) right is = absurd right
+  refused_edit act n refusals.TooManyTuples right is = absurd right
+  refused_edit act n refusals.NoLook right is = absurd right
+  refused_edit act n refusals.LookOpen right is = absurd right
+  refused_edit act n refusals.Disk right is = absurd right
+  refused_edit act n refusals.Memory right is = absurd right
 
-  edit_alone : (edit : Edit) (answer : Answer) → IsRightUnnumbered false (requests.Edit (Ok edit)) answer
-      → Follows c H k st l (requests.Edit (Ok edit)) None answer (request_turn false st l (requests.Edit (Ok edit)) (outage_in answer))
-  edit_alone edit (Refused refusals.Memory) right = stays (requests.Edit (Ok edit)) None memory refl refl
-  edit_alone edit (Refused refusals.Disk) right = absurd (false≢true right)
-  edit_alone edit (Refused refusals.LookOpen) right = absurd right
-  edit_alone edit (Refused refusals.NoLook) right = absurd right
-  edit_alone edit (Refused (refusals.Rule rule)) right = absurd right
-  edit_alone edit (Refused (refusals.Grid fault)) right = absurd right
-  edit_alone edit (Refused (refusals.Prepare fault)) right = absurd right
-  edit_alone edit (Refused (refusals.Resolve fault)) right = absurd right
-  edit_alone edit (Refused refusals.TooManyTuples) right = absurd right
-  edit_alone edit (Refused refusals.HistoryFull) right = absurd right
-  edit_alone edit (Refused refusals.StoreFull) right = absurd right
-  edit_alone edit (Done command) right = absurd right
-  edit_alone edit (Segments rows) right = absurd right
+  edit_alone : (act : Act) (answer : Answer) → IsRightUnnumbered false (requests.Edit (Ok act)) answer
+      → Follows c H k st l (requests.Edit (Ok act)) None answer (request_turn false st l (requests.Edit (Ok act)) (outage_in answer))
+  edit_alone act (Refused refusals.Memory) right = stays (requests.Edit (Ok act)) None memory refl refl
+  edit_alone act (Refused refusals.Disk) right = absurd (false≢true right)
+  edit_alone act (Refused refusals.LookOpen) right = absurd right
+  edit_alone act (Refused refusals.NoLook) right = absurd right
+  edit_alone act (Refused (refusals.Rule rule place)) right = absurd right
+  edit_alone act (Refused (refusals.Grid fault)) right = absurd right
+  edit_alone act (Refused (refusals.Prepare fault)) right = absurd right
+  edit_alone act (Refused (refusals.Resolve fault)) right = absurd right
+  edit_alone act (Refused refusals.TooManyTuples) right = absurd right
+  edit_alone act (Refused refusals.HistoryFull) right = absurd right
+  edit_alone act (Refused refusals.StoreFull) right = absurd right
+  edit_alone act (Done command) right = absurd right
+  edit_alone act (Segments rows) right = absurd right
 
-  edit_follows : (edit : Edit) (n : Option ℕ) (answer : Answer) → IsRightFor c m H l (requests.Edit (Ok edit)) n answer
-      → IsStanding (k + length (accepting l (requests.Edit (Ok edit)) n answer)) (requests.Edit (Ok edit)) n
-      → Follows c H k st l (requests.Edit (Ok edit)) n answer (request_turn false st l (requests.Edit (Ok edit)) (outage_in answer))
-  edit_follows edit None answer right stand = edit_alone edit answer right
-  edit_follows edit (Some n) (Done command) right stand = accepted_follows edit n command right.2 stand
-  edit_follows edit (Some n) (Refused refusal) right stand = refused_edit edit n refusal right.2 (let is : n ≡ k + 0 = stand in omega arith)
-  edit_follows edit (Some n) (Segments rows) right stand = absurd right.2
+  edit_follows : (act : Act) (n : Option ℕ) (answer : Answer) → IsRightFor c m H l (requests.Edit (Ok act)) n answer
+      → IsStanding (k + length (accepting l (requests.Edit (Ok act)) n answer)) (requests.Edit (Ok act)) n
+      → Follows c H k st l (requests.Edit (Ok act)) n answer (request_turn false st l (requests.Edit (Ok act)) (outage_in answer))
+  edit_follows act None answer right stand = edit_alone act answer right
+  edit_follows act (Some n) (Done command) right stand = accepted_follows act n command right.2 stand
+  edit_follows act (Some n) (Refused refusal) right stand = refused_edit act n refusal right.2 (let is : n ≡ k + 0 = stand in omega arith)
+  edit_follows act (Some n) (Segments rows) right stand = absurd right.2
 
   -- a line whose TextGrid has a fault
   abbrev grid_out : GridFault → Bool → Reply × State
@@ -265,7 +267,7 @@ module _ (c : ConfigParts) (m : ℕ) (H : List Entry) (k : ℕ) (st : State) (r 
   grid_alone fault (Refused refusals.Disk) right = absurd right
   grid_alone fault (Refused refusals.LookOpen) right = absurd right
   grid_alone fault (Refused refusals.NoLook) right = absurd right
-  grid_alone fault (Refused (refusals.Rule rule)) right = absurd right
+  grid_alone fault (Refused (refusals.Rule rule place)) right = absurd right
   grid_alone fault (Refused (refusals.Grid other)) right = absurd right
   grid_alone fault (Refused (refusals.Prepare other)) right = absurd right
   grid_alone fault (Refused (refusals.Resolve other)) right = absurd right
@@ -331,7 +333,7 @@ module _ (c : ConfigParts) (m : ℕ) (H : List Entry) (k : ℕ) (st : State) (r 
   query_alone ask (Refused refusals.Disk) right = absurd right
   query_alone ask (Refused refusals.LookOpen) right = absurd right
   query_alone ask (Refused refusals.NoLook) right = absurd right
-  query_alone ask (Refused (refusals.Rule rule)) right = absurd right
+  query_alone ask (Refused (refusals.Rule rule place)) right = absurd right
   query_alone ask (Refused (refusals.Grid fault)) right = absurd right
   query_alone ask (Refused (refusals.Prepare fault)) right = absurd right
   query_alone ask (Refused (refusals.Resolve fault)) right = absurd right
@@ -389,7 +391,7 @@ module _ (c : ConfigParts) (m : ℕ) (H : List Entry) (k : ℕ) (st : State) (r 
       (stays (requests.Look ask) None (Refused refusals.LookOpen) refl refl)
   look_alone ask (Refused refusals.Disk) right fits = absurd right
   look_alone ask (Refused refusals.NoLook) right fits = absurd right
-  look_alone ask (Refused (refusals.Rule rule)) right fits = absurd right
+  look_alone ask (Refused (refusals.Rule rule place)) right fits = absurd right
   look_alone ask (Refused (refusals.Grid fault)) right fits = absurd right
   look_alone ask (Refused (refusals.Prepare fault)) right fits = absurd right
   look_alone ask (Refused (refusals.Resolve fault)) right fits = absurd right
@@ -444,7 +446,7 @@ module _ (c : ConfigParts) (m : ℕ) (H : List Entry) (k : ℕ) (st : State) (r 
       (stays requests.Finish None (Refused refusals.NoLook) refl refl)
   finish_alone (Refused refusals.LookOpen) right fits = absurd right
   finish_alone (Refused refusals.Disk) right fits = absurd right
-  finish_alone (Refused (refusals.Rule rule)) right fits = absurd right
+  finish_alone (Refused (refusals.Rule rule place)) right fits = absurd right
   finish_alone (Refused (refusals.Grid fault)) right fits = absurd right
   finish_alone (Refused (refusals.Prepare fault)) right fits = absurd right
   finish_alone (Refused (refusals.Resolve fault)) right fits = absurd right
@@ -466,7 +468,7 @@ module _ (c : ConfigParts) (m : ℕ) (H : List Entry) (k : ℕ) (st : State) (r 
   after_alone earlier (Refused refusals.Disk) right = absurd right
   after_alone earlier (Refused refusals.LookOpen) right = absurd right
   after_alone earlier (Refused refusals.NoLook) right = absurd right
-  after_alone earlier (Refused (refusals.Rule rule)) right = absurd right
+  after_alone earlier (Refused (refusals.Rule rule place)) right = absurd right
   after_alone earlier (Refused (refusals.Grid fault)) right = absurd right
   after_alone earlier (Refused (refusals.Prepare fault)) right = absurd right
   after_alone earlier (Refused (refusals.Resolve fault)) right = absurd right
@@ -491,7 +493,7 @@ module _ (c : ConfigParts) (m : ℕ) (H : List Entry) (k : ℕ) (st : State) (r 
   pub follows : (request : Request) (n : Option ℕ) (answer : Answer) → IsRightFor c m H l request n answer
       → IsStanding (k + length (accepting l request n answer)) request n → ReplyFits c H (seen_look (slot st.looks l.session.0)) request n answer
       → Follows c H k st l request n answer (request_turn false st l request (outage_in answer))
-  follows (requests.Edit (Ok edit)) n answer right stand fits = edit_follows edit n answer right stand
+  follows (requests.Edit (Ok act)) n answer right stand fits = edit_follows act n answer right stand
   follows (requests.Edit (Err fault)) n answer right stand fits = grid_follows fault n answer right stand
   follows (requests.Query ask) n answer right stand fits = query_follows ask n answer right stand
   follows (requests.Look ask) n answer right stand fits = look_follows ask n answer right stand fits

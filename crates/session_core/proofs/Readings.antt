@@ -3,7 +3,7 @@ use Rattle.std.proofs.Common.{◌≡◌, ◌≢◌, ⊎_elim, ℕ, suc, ◌+◌,
 use Rattle.std.proofs.lemmas.Bool.{cases_eq, ne_eqb, false≢true}
 use Rattle.std.proofs.lemmas.List.{append-nil}
 use Rattle.db_config.specs.declared.parts.ConfigParts.{ConfigParts}
-use Rattle.edit_rules.specs.declared.edit.Entry.{Entry}
+use Rattle.edit_rules.specs.declared.acts.Entry.{Entry}
 use Rattle.session_core.specs.declared.line.Answer.{Answer}
 use Rattle.session_core.specs.declared.line.Answer.TheVariants.{Done, Segments, Refused}
 use Rattle.session_core.specs.declared.line.Request.{Request}
@@ -104,12 +104,12 @@ each_joined P [] ys each more = more
 each_joined P (x ∷ xs) ys each more = (each.0, each_joined P xs ys each.1 more)
 
 accepting_to : (k high : ℕ) (l : Line) (request : Request) (n : Option ℕ) (answer : Answer) → IsStanding k request n → k ≤ high → Each (IsMarkTo high) (accepting l request n answer)
-accepting_to k high l (requests.Edit (Ok edit)) (Some n) (Done command) stand low =
+accepting_to k high l (requests.Edit (Ok act)) (Some n) (Done command) stand low =
     let is : n ≡ k = stand in
     (omega arith, tt)
-accepting_to k high l (requests.Edit (Ok edit)) (Some n) (Segments rows) stand low = tt
-accepting_to k high l (requests.Edit (Ok edit)) (Some n) (Refused refusal) stand low = tt
-accepting_to k high l (requests.Edit (Ok edit)) None answer stand low = tt
+accepting_to k high l (requests.Edit (Ok act)) (Some n) (Segments rows) stand low = tt
+accepting_to k high l (requests.Edit (Ok act)) (Some n) (Refused refusal) stand low = tt
+accepting_to k high l (requests.Edit (Ok act)) None answer stand low = tt
 accepting_to k high l (requests.Edit (Err fault)) n answer stand low = tt
 accepting_to k high l (requests.Query ask) n answer stand low = tt
 accepting_to k high l (requests.Look ask) n answer stand low = tt

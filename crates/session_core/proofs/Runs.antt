@@ -5,11 +5,11 @@ use Rattle.std.proofs.lemmas.List.{append-nil}
 use Rattle.std.proofs.lemmas.List.Elements.{filter-append}
 use Rattle.std.proofs.lemmas.List.Sums.{sum_by-cons}
 use Rattle.emu_names.specs.declared.kinds.SessionNo.{SessionNo}
-use Rattle.emu_names.specs.declared.rules.Broken.{Broken}
+use Rattle.edit_rules.specs.declared.acts.Breach.{Breach}
 use Rattle.db_config.specs.declared.parts.ConfigParts.{ConfigParts}
 use Rattle.edit_rules.specs.Database.{DatabaseParts}
-use Rattle.edit_rules.specs.declared.edit.Edit.{Edit}
-use Rattle.edit_rules.specs.declared.edit.Entry.{Entry}
+use Rattle.edit_rules.specs.declared.acts.Act.{Act}
+use Rattle.edit_rules.specs.declared.acts.Entry.{Entry}
 use Rattle.session_core.specs.declared.event.Event.{Event}
 use Rattle.session_core.specs.declared.event.Event.TheVariants as events
 use Rattle.session_core.specs.declared.line.Ask.{Ask}
@@ -76,13 +76,13 @@ run_good opening store faults w (m ∷ ms) g fits =
 
 -- The configuration stays.
 
-edit_config : (st : State) (l : Line) (edit : Edit) (full : Bool) (made : Result DatabaseParts Broken) → (edit_step st l edit full made).1.config ≡ st.config
-edit_config st l edit true made = refl
-edit_config st l edit false (Ok database) = refl
-edit_config st l edit false (Err rule) = refl
+edit_config : (st : State) (l : Line) (act : Act) (full : Bool) (made : Result DatabaseParts Breach) → (edit_step st l act full made).1.config ≡ st.config
+edit_config st l act true made = refl
+edit_config st l act false (Ok database) = refl
+edit_config st l act false (Err breach) = refl
 
 edit_event_config : (st : State) (l : Line) (r : Request) → (edit_event st l r).1.config ≡ st.config
-edit_event_config st l (requests.Edit (Ok edit)) = edit_config st l edit (is_full st.entries) (edited st.config st.entries edit)
+edit_event_config st l (requests.Edit (Ok act)) = edit_config st l act (is_full st.entries) (edited st.config st.entries act)
 edit_event_config st l (requests.Edit (Err fault)) = refl
 edit_event_config st l (requests.Query ask) = refl
 edit_event_config st l (requests.Look ask) = refl

@@ -5,8 +5,8 @@ use Rattle.std.proofs.lemmas.List.{append-nil, take-append-le}
 use Rattle.emu_names.specs.declared.kinds.SessionNo.{SessionNo}
 use Rattle.emu_names.specs.declared.limits.TheConstants.{HISTORY_EDITS}
 use Rattle.db_config.specs.declared.parts.ConfigParts.{ConfigParts}
-use Rattle.edit_rules.specs.declared.edit.Edit.{Edit}
-use Rattle.edit_rules.specs.declared.edit.Entry.{Entry}
+use Rattle.edit_rules.specs.declared.acts.Act.{Act}
+use Rattle.edit_rules.specs.declared.acts.Entry.{Entry}
 use Rattle.session_core.specs.declared.line.Ask.{Ask}
 use Rattle.session_core.specs.declared.line.Answer.{Answer}
 use Rattle.session_core.specs.declared.line.Answer.TheVariants.{Done, Segments, Refused}
@@ -27,8 +27,8 @@ use Rattle.session_core.proofs.Turns.{each_push, each_map, each_filter, turns_ow
 pub answer_same : (c : ConfigParts) (H new : List Entry) (n : ℕ) (ask : Ask) → n ≤ length H → answer_at c (H ++ new) n ask ≡ answer_at c H n ask
 answer_same c H new n ask high = ap (λ (xs : List Entry). answer_over (database_after c xs) ask) (take-append-le n H new high)
 
-edited_same : (c : ConfigParts) (H new : List Entry) (n : ℕ) (edit : Edit) → n ≤ length H → edited c (take n (H ++ new)) edit ≡ edited c (take n H) edit
-edited_same c H new n edit high = ap (λ (xs : List Entry). edited c xs edit) (take-append-le n H new high)
+edited_same : (c : ConfigParts) (H new : List Entry) (n : ℕ) (act : Act) → n ≤ length H → edited c (take n (H ++ new)) act ≡ edited c (take n H) act
+edited_same c H new n act high = ap (λ (xs : List Entry). edited c xs act) (take-append-le n H new high)
 
 pub slice_get_more : {A : Type 0} (xs ys : List A) (n : ℕ) → n < length xs → slice_get (xs ++ ys) n ≡ slice_get xs n
 slice_get_more [] ys n low = absurd (omega arith)
@@ -40,27 +40,32 @@ slice_get_last [] x = refl
 slice_get_last (y ∷ xs) x = slice_get_last xs x
 
 module _ (store : Bool) (c : ConfigParts) (m : ℕ) (H new : List Entry) where
-  refusal_more : (l : Line) (edit : Edit) (n : ℕ) (r : Refusal) → n ≤ length H → IsRightRefusal c H store l edit n r → IsRightRefusal c (H ++ new) store l edit n r
-  refusal_more l edit n (refusals.Rule rule) high right = (right.0, edited_same c H new n edit high ∙ right.1)
-  refusal_more l edit n refusals.HistoryFull high right = right
-  refusal_more l edit n refusals.StoreFull high right = record {
+  refusal_more : (l : Line) (act : Act) (n : ℕ) (r : Refusal) → n ≤ length H → IsRightRefusal c H store l act n r → IsRightRefusal c (H ++ new) store l act n r
+  refusal_more l act n (refusals.Rule rule place) high right = record {
+    room = right.room;
+    at = right.at;
+    broken = edited_same c H new n act high ∙ right.broken;
+    shown = right.shown;
+  }
+  refusal_more l act n refusals.HistoryFull high right = right
+  refusal_more l act n refusals.StoreFull high right = record {
     room = right.room;
     stored = right.stored;
     database = right.database;
-    right = edited_same c H new n edit high ∙ right.right;
-    passes = ap (λ (xs : List Entry). passes_store c xs (entry_of l edit)) (take-append-le n H new high) ∙ right.passes;
+    right = edited_same c H new n act high ∙ right.right;
+    passes = ap (λ (xs : List Entry). passes_store c xs (entry_of l act)) (take-append-le n H new high) ∙ right.passes;
   }
-  refusal_more l edit n (refusals.Grid fault) high right = right
-  refusal_more l edit n (refusals.Prepare fault) high right = right
-  refusal_more l edit n (refusals.Resolve fault) high right = right
-  refusal_more l edit n refusals.TooManyTuples high right = right
-  refusal_more l edit n refusals.NoLook high right = right
-  refusal_more l edit n refusals.LookOpen high right = right
-  refusal_more l edit n refusals.Disk high right = right
-  refusal_more l edit n refusals.Memory high right = right
+  refusal_more l act n (refusals.Grid fault) high right = right
+  refusal_more l act n (refusals.Prepare fault) high right = right
+  refusal_more l act n (refusals.Resolve fault) high right = right
+  refusal_more l act n refusals.TooManyTuples high right = right
+  refusal_more l act n refusals.NoLook high right = right
+  refusal_more l act n refusals.LookOpen high right = right
+  refusal_more l act n refusals.Disk high right = right
+  refusal_more l act n refusals.Memory high right = right
 
-  edit_more : (l : Line) (edit : Edit) (n : ℕ) (answer : Answer) → n ≤ length H → IsRightEdit c H store l edit n answer → IsRightEdit c (H ++ new) store l edit n answer
-  edit_more l edit n (Done command) high right =
+  edit_more : (l : Line) (act : Act) (n : ℕ) (answer : Answer) → n ≤ length H → IsRightEdit c H store l act n answer → IsRightEdit c (H ++ new) store l act n answer
+  edit_more l act n (Done command) high right =
       let n_is : n ≡ right.before + 1 = right.number in
       let low : right.before < length H = omega arith in
       let low_le : right.before ≤ length H = omega arith in
@@ -70,11 +75,11 @@ module _ (store : Bool) (c : ConfigParts) (m : ℕ) (H new : List Entry) where
         number = right.number;
         room = right.room;
         database = right.database;
-        right = edited_same c H new right.before edit low_le ∙ right.right;
+        right = edited_same c H new right.before act low_le ∙ right.right;
         entry = slice_get_more H new right.before low ∙ right.entry;
       }
-  edit_more l edit n (Refused refusal) high right = refusal_more l edit n refusal high right
-  edit_more l edit n (Segments rows) high right = right
+  edit_more l act n (Refused refusal) high right = refusal_more l act n refusal high right
+  edit_more l act n (Segments rows) high right = right
 
   query_more : (ask : Ask) (n : ℕ) (answer : Answer) → n ≤ length H → IsRightQuery c H ask n answer → IsRightQuery c (H ++ new) ask n answer
   query_more ask n answer high right = record {
@@ -83,7 +88,7 @@ module _ (store : Bool) (c : ConfigParts) (m : ℕ) (H new : List Entry) where
   }
 
   right_at_more : (l : Line) (r : Request) (n : ℕ) (answer : Answer) → n ≤ length H → IsRightAt c H store l r n answer → IsRightAt c (H ++ new) store l r n answer
-  right_at_more l (requests.Edit (Ok edit)) n answer high right = edit_more l edit n answer high right
+  right_at_more l (requests.Edit (Ok act)) n answer high right = edit_more l act n answer high right
   right_at_more l (requests.Edit (Err fault)) n answer high right = right
   right_at_more l (requests.Query ask) n answer high right = query_more ask n answer high right
   right_at_more l (requests.Look ask) n answer high right = right

@@ -1,10 +1,10 @@
 -- In turn, each number is that of the moment: the turns of a list of lines, and how many entries
 -- stand behind each of them.
 use Rattle.std.proofs.Common.{◌≡◌, ℕ, zero, suc, ◌+◌, Bool, true, false, List, [], ◌∷◌, length, Option, Some, None, Result, Ok, Err, refl, ap, subst, arith, length-append}
-use Rattle.emu_names.specs.declared.rules.Broken.{Broken}
+use Rattle.edit_rules.specs.declared.acts.Breach.{Breach}
 use Rattle.textgrid.specs.declared.fault.GridFault.{GridFault}
 use Rattle.edit_rules.specs.Database.{DatabaseParts}
-use Rattle.edit_rules.specs.declared.edit.Edit.{Edit}
+use Rattle.edit_rules.specs.declared.acts.Act.{Act}
 use Rattle.session_core.specs.declared.line.Ask.{Ask}
 use Rattle.session_core.specs.declared.line.Answer.TheVariants.{Refused}
 use Rattle.session_core.specs.declared.line.Refusal.{Refusal}
@@ -52,17 +52,17 @@ record Counts (st : State) (l : Line) (request : Request) (out : Reply × State)
 module _ (st : State) (l : Line) where
   -- want of memory, which has no number and leaves the state
   memory_counts : (request : Request) → Counts st l request (reply_to l None memory, st)
-  memory_counts (requests.Edit (Ok edit)) = record { stands = tt; count = omega arith }
+  memory_counts (requests.Edit (Ok act)) = record { stands = tt; count = omega arith }
   memory_counts (requests.Edit (Err fault)) = record { stands = tt; count = omega arith }
   memory_counts (requests.Query ask) = record { stands = tt; count = omega arith }
   memory_counts (requests.Look ask) = record { stands = tt; count = omega arith }
   memory_counts requests.Finish = record { stands = tt; count = omega arith }
   memory_counts (requests.After earlier) = record { stands = tt; count = omega arith }
 
-  edit_counts : (edit : Edit) (full : Bool) (made : Result DatabaseParts Broken) → Counts st l (requests.Edit (Ok edit)) (replied l (edit_step st l edit full made))
-  edit_counts edit true made = record { stands = omega arith; count = omega arith }
-  edit_counts edit false (Ok database) = record { stands = refl; count = length-append st.entries (entry_of l edit ∷ []) }
-  edit_counts edit false (Err rule) = record { stands = omega arith; count = omega arith }
+  edit_counts : (act : Act) (full : Bool) (made : Result DatabaseParts Breach) → Counts st l (requests.Edit (Ok act)) (replied l (edit_step st l act full made))
+  edit_counts act true made = record { stands = omega arith; count = omega arith }
+  edit_counts act false (Ok database) = record { stands = refl; count = length-append st.entries (entry_of l act ∷ []) }
+  edit_counts act false (Err breach) = record { stands = omega arith; count = omega arith }
 
   look_counts : (ask : Ask) (held : Option Opened) → Counts st l (requests.Look ask) (replied l (look_step st l ask held))
   look_counts ask None = record { stands = omega arith; count = omega arith }
@@ -103,14 +103,14 @@ module _ (st : State) (l : Line) where
   under_way ask = slot (put_slot st.queries l.session.0 (Some (opened_at st l ask))) l.session.0
 
   -- an edit that is answered without an entry
-  kept_counts : (edit : Edit) (n : ℕ) (refusal : Refusal) → n ≡ present st → Counts st l (requests.Edit (Ok edit)) (reply_to l (Some n) (Refused refusal), st)
-  kept_counts edit n refusal is = record { stands = omega arith; count = omega arith }
+  kept_counts : (act : Act) (n : ℕ) (refusal : Refusal) → n ≡ present st → Counts st l (requests.Edit (Ok act)) (reply_to l (Some n) (Refused refusal), st)
+  kept_counts act n refusal is = record { stands = omega arith; count = omega arith }
 
-  trouble_counts : (edit : Edit) (trouble : Trouble) → Counts st l (requests.Edit (Ok edit)) (replied l (edit_outcome st l edit trouble))
-  trouble_counts edit untroubled = edit_counts edit (is_full st.entries) (edited st.config st.entries edit)
-  trouble_counts edit no_memory = memory_counts (requests.Edit (Ok edit))
-  trouble_counts edit store_full = kept_counts edit (present st) refusals.StoreFull refl
-  trouble_counts edit disk_failed = record { stands = tt; count = omega arith }
+  trouble_counts : (act : Act) (trouble : Trouble) → Counts st l (requests.Edit (Ok act)) (replied l (edit_outcome st l act trouble))
+  trouble_counts act untroubled = edit_counts act (is_full st.entries) (edited st.config st.entries act)
+  trouble_counts act no_memory = memory_counts (requests.Edit (Ok act))
+  trouble_counts act store_full = kept_counts act (present st) refusals.StoreFull refl
+  trouble_counts act disk_failed = record { stands = tt; count = omega arith }
 
   -- a line whose TextGrid has a fault
   abbrev grid_out : GridFault → Bool → Reply × State
@@ -121,7 +121,7 @@ module _ (st : State) (l : Line) where
   grid_counts fault false = record { stands = omega arith; count = omega arith }
 
   request_counts : (store : Bool) (request : Request) (outage : Outage) → Counts st l request (request_turn store st l request outage)
-  request_counts store (requests.Edit (Ok edit)) outage = trouble_counts edit (trouble_at store st l edit outage)
+  request_counts store (requests.Edit (Ok act)) outage = trouble_counts act (trouble_at store st l act outage)
   request_counts store (requests.Edit (Err fault)) fine = grid_counts fault (is_want_of_memory fault)
   request_counts store (requests.Edit (Err fault)) at_first = memory_counts (requests.Edit (Err fault))
   request_counts store (requests.Edit (Err fault)) at_last = memory_counts (requests.Edit (Err fault))

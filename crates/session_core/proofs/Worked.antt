@@ -3,10 +3,11 @@ use Rattle.std.proofs.Common.{[], refl, arith}
 use Rattle.byte_forms.specs.Lists.{list_of, times}
 use Rattle.byte_forms.specs.Parts.{byte_in, imaged, just, led, option_of, pair, shaped, u32_form, u64_form}
 use Rattle.byte_forms.specs.Utf8.{text_form, utf8_form}
-use Rattle.edit_code.specs.Annots.{annot_form, id_form, item_form, key_form, label_form, level_form, level_kind_form, time_form}
+use Rattle.value_codes.specs.Annots.{annot_form, id_form, item_form, key_form, label_form, level_form, level_kind_form, session_form, time_form}
+use Rattle.value_codes.specs.Heads.{attribute_form, head_form, level_def_form, parts_form}
 use Rattle.edit_code.specs.Codes.{entry_code, head_code}
-use Rattle.edit_code.specs.Edits.{body_form, edit_form, entry_form, keyed_form, session_form}
-use Rattle.edit_code.specs.Heads.{attribute_form, head_form, level_def_form, parts_form}
+use Rattle.edit_code.specs.Edits.{body_form, edit_form, entry_form, keyed_form}
+use Rattle.edit_code.specs.Tags.{tag_form}
 use Rattle.edit_rules.specs.Database.{empty_database}
 use Rattle.eql_resolve.specs.Resolve.{asked}
 use Rattle.session_core.specs.Example.{example_config, example_events}
@@ -40,5 +41,5 @@ unfolding asked
 example_legal = core_run_legal example_config [] example_events (empty_database example_config, refl) (omega arith) example_fits
 
 pub example_sizes : ExampleSizes
-unfolding head_code head_form parts_form level_def_form attribute_form entry_code entry_form body_form session_form edit_form keyed_form key_form id_form annot_form level_form level_kind_form item_form time_form label_form text_form utf8_form list_of times option_of byte_in led pair shaped imaged just u32_form u64_form
+unfolding head_code head_form parts_form level_def_form attribute_form entry_code entry_form body_form session_form edit_form keyed_form tag_form key_form id_form annot_form level_form level_kind_form item_form time_form label_form text_form utf8_form list_of times option_of byte_in led pair shaped imaged just u32_form u64_form
 example_sizes = (refl, refl, refl)

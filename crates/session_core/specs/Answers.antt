@@ -3,8 +3,9 @@ use Rattle.std.specs.Prelude.{ℕ, Bool, true, false, List, Option, Some, None, 
 use Rattle.db_config.specs.declared.parts.ConfigParts.{ConfigParts}
 use Rattle.textgrid.specs.declared.fault.GridFault.{GridFault}
 use Rattle.textgrid.specs.declared.fault.GridFault.TheVariants as faults
-use Rattle.edit_rules.specs.declared.edit.Edit.{Edit}
-use Rattle.edit_rules.specs.declared.edit.Entry.{Entry}
+use Rattle.edit_rules.specs.declared.acts.Act.{Act}
+use Rattle.edit_rules.specs.declared.acts.Breach.{Breach}
+use Rattle.edit_rules.specs.declared.acts.Entry.{Entry}
 use Rattle.edit_rules.specs.Database.{DatabaseParts}
 use Rattle.edit_rules.specs.Effects.{database_after}
 use Rattle.eql_resolve.specs.declared.faults.AskFault.{AskFault}
@@ -21,6 +22,9 @@ use Rattle.requery.specs.Carried.{carried_list}
 use Rattle.session_core.specs.declared.line.Ask.{Ask}
 use Rattle.session_core.specs.declared.line.Answer.{Answer}
 use Rattle.session_core.specs.declared.line.Answer.TheVariants.{Segments, Refused}
+use Rattle.session_core.specs.declared.line.Command.{Command}
+use Rattle.session_core.specs.declared.line.Command.TheVariants as commands
+use Rattle.session_core.specs.declared.line.Refusal.{Refusal}
 use Rattle.session_core.specs.declared.line.Refusal.TheVariants as refusals
 use Rattle.session_core.specs.declared.line.Line.{Line}
 use Rattle.session_core.specs.declared.line.Reply.{Reply}
@@ -79,6 +83,17 @@ answer_over database ask = prepared_answer database ask.prepared ask.time ask.re
 abbrev pub answer_at : ConfigParts → List Entry → ℕ → Ask → Answer
 answer_at c history n ask = answer_over (database_after c (take n history)) ask
 
+-- The rule that an act breaks.
+
+-- the place of the edit that breaks a rule is told where the command is a list of edits, also a list of one
+abbrev pub place_shown : Command → ℕ → Option ℕ
+place_shown commands.Edits place = Some place
+place_shown command place = None
+
+-- the refusal of an act by the rule that it breaks
+abbrev pub rule_refusal : Command → Breach → Refusal
+rule_refusal command breach = refusals.Rule breach.rule (place_shown command breach.place)
+
 -- The fault of a TextGrid.
 
 -- whether the fault of a TextGrid is want of memory
@@ -106,6 +121,6 @@ abbrev pub grid_reply : Line → ℕ → GridFault → Reply
 grid_reply l n fault =
     reply_to l (grid_number n (is_want_of_memory fault)) (grid_answer fault (is_want_of_memory fault))
 
--- the entry that an accepted edit of a line puts into the history
-abbrev pub entry_of : Line → Edit → Entry
-entry_of l edit = record { session = l.session; line = l.line; edit = edit }
+-- the entry that an accepted act of a line puts into the history
+abbrev pub entry_of : Line → Act → Entry
+entry_of l act = record { session = l.session; line = l.line; act = act }

@@ -8,9 +8,10 @@ use Rattle.level_items.specs.declared.annot.AnnotItem.{AnnotItem}
 use Rattle.level_items.specs.declared.annot.Annot.{Annot}
 use Rattle.db_config.specs.declared.parts.LevelDef.{LevelDef}
 use Rattle.db_config.specs.declared.parts.ConfigParts.{ConfigParts}
-use Rattle.edit_rules.specs.declared.edit.Edit.{Edit}
-use Rattle.edit_rules.specs.declared.edit.Edit.TheVariants as edits
-use Rattle.edit_rules.specs.declared.edit.Entry.{Entry}
+use Rattle.edit_rules.specs.declared.acts.Act.{Act}
+use Rattle.edit_rules.specs.declared.acts.Act.TheVariants as acts
+use Rattle.bundle_edits.specs.declared.edit.Edit.TheVariants as edits
+use Rattle.edit_rules.specs.declared.acts.Entry.{Entry}
 use Rattle.eql_syntax.specs.declared.query.Op.TheVariants.{Is}
 use Rattle.eql_syntax.specs.declared.query.Term.TheVariants.{Test}
 use Rattle.eql_syntax.specs.Tree.{Conjunction}
@@ -67,8 +68,9 @@ example_annot = record {
 }
 
 -- that annotation as bundle b1 of session s1
-abbrev pub example_edit : Edit
-example_edit = edits.AddBundle (record { session = codes "s1"; bundle = codes "b1" }) example_annot
+abbrev pub example_act : Act
+example_act =
+    acts.Edits (edits.AddBundle (record { session = codes "s1"; bundle = codes "b1" }) example_annot ∷ [])
 
 -- the script's session 1
 abbrev pub first_session : SessionNo
@@ -80,7 +82,7 @@ add_line = record {
   line = 2;
   session = first_session;
   command = commands.AddBundle;
-  request = requests.Edit (Ok example_edit);
+  request = requests.Edit (Ok example_act);
 }
 
 -- `Phonetic == m`, with no patterns and no level of the times
@@ -115,7 +117,7 @@ example_events =
 
 -- the entry of the edit
 abbrev pub adding : Entry
-adding = record { session = first_session; line = 2; edit = example_edit }
+adding = record { session = first_session; line = 2; act = example_act }
 
 -- the one entry that they leave
 abbrev pub example_history : List Entry
@@ -159,5 +161,5 @@ abbrev pub removing : Entry
 removing = record {
   session = first_session;
   line = 3;
-  edit = edits.RemoveItem (record { session = codes "s1"; bundle = codes "b1" }) (record { 0 = 7 });
+  act = acts.Edits (edits.RemoveItem (record { session = codes "s1"; bundle = codes "b1" }) (record { 0 = 7 }) ∷ []);
 }

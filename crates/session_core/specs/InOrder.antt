@@ -2,9 +2,9 @@
 -- lines, the history before them and the places where memory ran out.
 use Rattle.std.specs.Prelude.{◌≡◌, ℕ, ◌<◌, Bool, true, false, ◌&&◌, List, [], ◌∷◌, ◌++◌, count_by, Option, Some, None, Result, Ok, Err, nat_eq}
 use Rattle.std.specs.List.{list_any}
-use Rattle.emu_names.specs.declared.rules.Broken.{Broken}
+use Rattle.edit_rules.specs.declared.acts.Breach.{Breach}
 use Rattle.edit_rules.specs.Database.{DatabaseParts}
-use Rattle.edit_rules.specs.declared.edit.Edit.{Edit}
+use Rattle.edit_rules.specs.declared.acts.Act.{Act}
 use Rattle.session_core.specs.declared.line.Ask.{Ask}
 use Rattle.session_core.specs.declared.line.Answer.TheVariants.{Refused}
 use Rattle.session_core.specs.declared.line.Refusal.TheVariants as refusals
@@ -61,40 +61,40 @@ stored_trouble true fails = store_full
 stored_trouble false true = disk_failed
 stored_trouble false false = untroubled
 
--- an edit that the history or a rule refuses meets neither the store nor the disk
-abbrev pub made_trouble : State → Line → Edit → Bool → Bool → Result DatabaseParts Broken → Trouble
-made_trouble st l edit fails true made = untroubled
-made_trouble st l edit fails false (Err rule) = untroubled
-made_trouble st l edit fails false (Ok database) =
-    stored_trouble (passes_store st.config st.entries (entry_of l edit)) fails
+-- an act that the history or a rule refuses meets neither the store nor the disk
+abbrev pub made_trouble : State → Line → Act → Bool → Bool → Result DatabaseParts Breach → Trouble
+made_trouble st l act fails true made = untroubled
+made_trouble st l act fails false (Err breach) = untroubled
+made_trouble st l act fails false (Ok database) =
+    stored_trouble (passes_store st.config st.entries (entry_of l act)) fails
 
 -- the first flag says whether there is a store, the other whether the disk fails
-abbrev pub edit_trouble : Bool → State → Line → Edit → Bool → Trouble
-edit_trouble false st l edit fails = untroubled
-edit_trouble true st l edit fails =
-    made_trouble st l edit fails (is_full st.entries) (edited st.config st.entries edit)
+abbrev pub edit_trouble : Bool → State → Line → Act → Bool → Trouble
+edit_trouble false st l act fails = untroubled
+edit_trouble true st l act fails =
+    made_trouble st l act fails (is_full st.entries) (edited st.config st.entries act)
 
--- what an outage does to the edit of a line
-abbrev pub trouble_at : Bool → State → Line → Edit → Outage → Trouble
-trouble_at store st l edit fine = edit_trouble store st l edit false
-trouble_at store st l edit at_first = no_memory
-trouble_at store st l edit at_last = no_memory
-trouble_at store st l edit disk_fails = edit_trouble store st l edit true
+-- what an outage does to the act of a line
+abbrev pub trouble_at : Bool → State → Line → Act → Outage → Trouble
+trouble_at store st l act fine = edit_trouble store st l act false
+trouble_at store st l act at_first = no_memory
+trouble_at store st l act at_last = no_memory
+trouble_at store st l act disk_fails = edit_trouble store st l act true
 
--- the edit of a line, or what keeps it from its step
-abbrev pub edit_outcome : State → Line → Edit → Trouble → Option Reply × State
-edit_outcome st l edit untroubled = edit_event st l (requests.Edit (Ok edit))
-edit_outcome st l edit no_memory = (Some (reply_to l None memory), st)
-edit_outcome st l edit store_full = (Some (reply_to l (Some (present st)) (Refused refusals.StoreFull)), st)
-edit_outcome st l edit disk_failed = (Some (reply_to l None (Refused refusals.Disk)), st)
+-- the act of a line, or what keeps it from its step
+abbrev pub edit_outcome : State → Line → Act → Trouble → Option Reply × State
+edit_outcome st l act untroubled = edit_event st l (requests.Edit (Ok act))
+edit_outcome st l act no_memory = (Some (reply_to l None memory), st)
+edit_outcome st l act store_full = (Some (reply_to l (Some (present st)) (Refused refusals.StoreFull)), st)
+edit_outcome st l act disk_failed = (Some (reply_to l None (Refused refusals.Disk)), st)
 
--- an edit, over all edits before it
-abbrev pub edit_turn : Bool → State → Line → Edit → Outage → Reply × State
-edit_turn store st l edit outage = replied l (edit_outcome st l edit (trouble_at store st l edit outage))
+-- an act, over all entries before it
+abbrev pub edit_turn : Bool → State → Line → Act → Outage → Reply × State
+edit_turn store st l act outage = replied l (edit_outcome st l act (trouble_at store st l act outage))
 
--- a request is answered over all edits before it; a `finish` over its look
+-- a request is answered over all entries before it; a `finish` over its look
 abbrev pub request_turn : Bool → State → Line → Request → Outage → Reply × State
-request_turn store st l (requests.Edit (Ok edit)) outage = edit_turn store st l edit outage
+request_turn store st l (requests.Edit (Ok act)) outage = edit_turn store st l act outage
 request_turn store st l (requests.Edit (Err fault)) outage =
     unless_outage st l outage (edit_event st l (requests.Edit (Err fault)))
 request_turn store st l (requests.Query ask) outage = query_turn st l ask outage

@@ -1,7 +1,7 @@
 -- Laws over the definitions: what runs have in common.
 use Rattle.std.specs.Prelude.{◌≡◌, ℕ, ◌≤◌, false, List, [], ◌∷◌, length, map, Bool}
 use Rattle.db_config.specs.declared.parts.ConfigParts.{ConfigParts}
-use Rattle.edit_rules.specs.declared.edit.Entry.{Entry}
+use Rattle.edit_rules.specs.declared.acts.Entry.{Entry}
 use Rattle.session_core.specs.declared.event.Event.{Event}
 use Rattle.eql_model.specs.declared.row.Row.{Row}
 use Rattle.edit_rules.specs.Effects.{IsLegal}

@@ -2,8 +2,9 @@
 use Rattle.std.specs.Prelude.{◌≡◌, ◌⊎◌, ℕ, ◌+◌, ◌<◌, ◌≤◌, max, Bool, true, false, ◌&&◌, List, [], ◌∷◌, ◌++◌, length, map, filter, count_by, take, Option, Some, None, Ok, Err, nat_eq, nat_le, if◌then◌else◌, slice_get}
 use Rattle.db_config.specs.declared.parts.ConfigParts.{ConfigParts}
 use Rattle.textgrid.specs.declared.fault.GridFault.{GridFault}
-use Rattle.edit_rules.specs.declared.edit.Edit.{Edit}
-use Rattle.edit_rules.specs.declared.edit.Entry.{Entry}
+use Rattle.emu_names.specs.declared.rules.Broken.{Broken}
+use Rattle.edit_rules.specs.declared.acts.Act.{Act}
+use Rattle.edit_rules.specs.declared.acts.Entry.{Entry}
 use Rattle.edit_rules.specs.Database.{DatabaseParts}
 use Rattle.session_core.specs.declared.line.Command.{Command}
 use Rattle.session_core.specs.declared.line.Ask.{Ask}
@@ -17,7 +18,7 @@ use Rattle.session_core.specs.declared.line.Line.{Line}
 use Rattle.session_core.specs.declared.line.Reply.{Reply}
 use Rattle.edit_rules.specs.Effects.{IsLegal, edited}
 use Rattle.session_core.specs.Queries.{lacks_memory}
-use Rattle.session_core.specs.Answers.{answer_at, memory, is_want_of_memory, entry_of}
+use Rattle.session_core.specs.Answers.{answer_at, memory, is_want_of_memory, entry_of, place_shown}
 use Rattle.session_core.specs.Worlds.{Turn, Each, passes_store}
 use Rattle.emu_names.specs.Count.{RoseBy}
 use Rattle.emu_names.specs.declared.limits.TheConstants.{HISTORY_EDITS}
@@ -55,7 +56,7 @@ abbrev pub replies_in : List Turn → List Reply
 replies_in turns = map (λ t. t.reply) turns
 
 -- 2. One history. Each new entry has exactly one accepting reply, with its number, session and
--- line, and is the edit of that line; each accepting reply has such an entry.
+-- line, and holds the act of that line; each accepting reply has such an entry.
 
 -- an entry and its number in the history, counted from 1
 pub record NumberedEntry : Type 0 where
@@ -64,10 +65,10 @@ pub record NumberedEntry : Type 0 where
 
 -- the entry that an accepting reply tells, with its number
 abbrev pub accepting : Line → Request → Option ℕ → Answer → List NumberedEntry
-accepting l (requests.Edit (Ok edit)) (Some n) (Done command) = record { n = n; entry = entry_of l edit } ∷ []
-accepting l (requests.Edit (Ok edit)) (Some n) (Segments rows) = []
-accepting l (requests.Edit (Ok edit)) (Some n) (Refused refusal) = []
-accepting l (requests.Edit (Ok edit)) None answer = []
+accepting l (requests.Edit (Ok act)) (Some n) (Done command) = record { n = n; entry = entry_of l act } ∷ []
+accepting l (requests.Edit (Ok act)) (Some n) (Segments rows) = []
+accepting l (requests.Edit (Ok act)) (Some n) (Refused refusal) = []
+accepting l (requests.Edit (Ok act)) None answer = []
 accepting l (requests.Edit (Err fault)) n answer = []
 accepting l (requests.Query ask) n answer = []
 accepting l (requests.Look ask) n answer = []
@@ -94,44 +95,52 @@ with_number n marks = filter (has_number n) marks
 
 -- 3. Each answer is right for the state that its number names.
 
--- an acceptance at n is right for the state after n - 1, and its edit is the n-th entry
-pub record IsAcceptance (c : ConfigParts) (H : List Entry) (l : Line) (edit : Edit) (n : ℕ)
+-- an acceptance at n is right for the state after n - 1, and its act is that of the n-th entry
+pub record IsAcceptance (c : ConfigParts) (H : List Entry) (l : Line) (act : Act) (n : ℕ)
     (command : Command) : Type 0 where
   pub own : command ≡ l.command
   pub before : ℕ
   pub number : n ≡ before + 1
   pub room : before < HISTORY_EDITS
   pub database : DatabaseParts
-  pub right : edited c (take before H) edit ≡ Ok database
-  pub entry : slice_get H before ≡ Some (entry_of l edit)
+  pub right : edited c (take before H) act ≡ Ok database
+  pub entry : slice_get H before ≡ Some (entry_of l act)
 
--- the store has no room for the entry, whose edit breaks no rule after n
-pub record IsStoreFull (c : ConfigParts) (H : List Entry) (store : Bool) (l : Line) (edit : Edit) (n : ℕ) : Type 0 where
+-- the store has no room for the entry, whose act breaks no rule after n
+pub record IsStoreFull (c : ConfigParts) (H : List Entry) (store : Bool) (l : Line) (act : Act) (n : ℕ) : Type 0 where
   pub room : n < HISTORY_EDITS
   pub stored : store ≡ true
   pub database : DatabaseParts
-  pub right : edited c (take n H) edit ≡ Ok database
-  pub passes : passes_store c (take n H) (entry_of l edit) ≡ true
+  pub right : edited c (take n H) act ≡ Ok database
+  pub passes : passes_store c (take n H) (entry_of l act) ≡ true
 
--- a refusal of an edit at n is right
-abbrev pub IsRightRefusal : ConfigParts → List Entry → Bool → Line → Edit → ℕ → Refusal → Type 0
-IsRightRefusal c H store l edit n (refusals.Rule rule) = (n < HISTORY_EDITS) × (edited c (take n H) edit ≡ Err rule)
-IsRightRefusal c H store l edit n refusals.HistoryFull = n ≡ HISTORY_EDITS
-IsRightRefusal c H store l edit n refusals.StoreFull = IsStoreFull c H store l edit n
-IsRightRefusal c H store l edit n (refusals.Grid fault) = ⊥
-IsRightRefusal c H store l edit n (refusals.Prepare fault) = ⊥
-IsRightRefusal c H store l edit n (refusals.Resolve fault) = ⊥
-IsRightRefusal c H store l edit n refusals.TooManyTuples = ⊥
-IsRightRefusal c H store l edit n refusals.NoLook = ⊥
-IsRightRefusal c H store l edit n refusals.LookOpen = ⊥
-IsRightRefusal c H store l edit n refusals.Disk = ⊥
-IsRightRefusal c H store l edit n refusals.Memory = ⊥
+-- a rule that is told at n, with its place where the line is a list of edits: the act breaks it first after n
+pub record IsRightRule (c : ConfigParts) (H : List Entry) (l : Line) (act : Act) (n : ℕ)
+    (rule : Broken) (place : Option ℕ) : Type 0 where
+  pub room : n < HISTORY_EDITS
+  pub at : ℕ
+  pub broken : edited c (take n H) act ≡ Err (record { place = at; rule = rule })
+  pub shown : place ≡ place_shown l.command at
+
+-- a refusal of an act at n is right
+abbrev pub IsRightRefusal : ConfigParts → List Entry → Bool → Line → Act → ℕ → Refusal → Type 0
+IsRightRefusal c H store l act n (refusals.Rule rule place) = IsRightRule c H l act n rule place
+IsRightRefusal c H store l act n refusals.HistoryFull = n ≡ HISTORY_EDITS
+IsRightRefusal c H store l act n refusals.StoreFull = IsStoreFull c H store l act n
+IsRightRefusal c H store l act n (refusals.Grid fault) = ⊥
+IsRightRefusal c H store l act n (refusals.Prepare fault) = ⊥
+IsRightRefusal c H store l act n (refusals.Resolve fault) = ⊥
+IsRightRefusal c H store l act n refusals.TooManyTuples = ⊥
+IsRightRefusal c H store l act n refusals.NoLook = ⊥
+IsRightRefusal c H store l act n refusals.LookOpen = ⊥
+IsRightRefusal c H store l act n refusals.Disk = ⊥
+IsRightRefusal c H store l act n refusals.Memory = ⊥
 
 -- an answer to an edit at n is right
-abbrev pub IsRightEdit : ConfigParts → List Entry → Bool → Line → Edit → ℕ → Answer → Type 0
-IsRightEdit c H store l edit n (Done command) = IsAcceptance c H l edit n command
-IsRightEdit c H store l edit n (Refused refusal) = IsRightRefusal c H store l edit n refusal
-IsRightEdit c H store l edit n (Segments rows) = ⊥
+abbrev pub IsRightEdit : ConfigParts → List Entry → Bool → Line → Act → ℕ → Answer → Type 0
+IsRightEdit c H store l act n (Done command) = IsAcceptance c H l act n command
+IsRightEdit c H store l act n (Refused refusal) = IsRightRefusal c H store l act n refusal
+IsRightEdit c H store l act n (Segments rows) = ⊥
 
 -- a line whose TextGrid has a fault is refused for it, whatever state its number names; want of memory is no
 -- fault that is told
@@ -146,7 +155,7 @@ pub record IsRightQuery (c : ConfigParts) (H : List Entry) (ask : Ask) (n : ℕ)
 
 -- an answer with a number, which names a state from the opening's to the last one
 abbrev pub IsRightAt : ConfigParts → List Entry → Bool → Line → Request → ℕ → Answer → Type 0
-IsRightAt c H store l (requests.Edit (Ok edit)) n answer = IsRightEdit c H store l edit n answer
+IsRightAt c H store l (requests.Edit (Ok act)) n answer = IsRightEdit c H store l act n answer
 IsRightAt c H store l (requests.Edit (Err fault)) n answer = IsRightGrid fault answer
 IsRightAt c H store l (requests.Query ask) n answer = IsRightQuery c H ask n answer
 IsRightAt c H store l (requests.Look ask) n answer = answer ≡ Done l.command
@@ -160,7 +169,7 @@ IsRightAt c H store l requests.Finish n answer = Unit {0}
 -- a failed disk may answer the request: an edit, where there is a store; a line whose TextGrid has a fault never
 -- reaches the disk
 abbrev pub IsDiskFor : Bool → Request → Type 0
-IsDiskFor store (requests.Edit (Ok edit)) = store ≡ true
+IsDiskFor store (requests.Edit (Ok act)) = store ≡ true
 IsDiskFor store (requests.Edit (Err fault)) = ⊥
 IsDiskFor store (requests.Query ask) = ⊥
 IsDiskFor store (requests.Look ask) = ⊥
@@ -189,7 +198,7 @@ IsRefusedUnnumbered store request refusals.Memory = Unit {0}
 IsRefusedUnnumbered store request refusals.Disk = IsDiskFor store request
 IsRefusedUnnumbered store request refusals.LookOpen = IsLook request
 IsRefusedUnnumbered store request refusals.NoLook = IsFinish request
-IsRefusedUnnumbered store request (refusals.Rule rule) = ⊥
+IsRefusedUnnumbered store request (refusals.Rule rule place) = ⊥
 IsRefusedUnnumbered store request (refusals.Grid fault) = ⊥
 IsRefusedUnnumbered store request (refusals.Prepare fault) = ⊥
 IsRefusedUnnumbered store request (refusals.Resolve fault) = ⊥

@@ -4,7 +4,7 @@ use Rattle.std.specs.Prelude.{◌≡◌, ℕ, ◌+◌, ◌≤◌, Bool, false, L
 use Rattle.emu_names.specs.declared.limits.TheConstants.{HISTORY_EDITS}
 use Rattle.emu_names.specs.Count.{RoseBy}
 use Rattle.db_config.specs.declared.parts.ConfigParts.{ConfigParts}
-use Rattle.edit_rules.specs.declared.edit.Entry.{Entry}
+use Rattle.edit_rules.specs.declared.acts.Entry.{Entry}
 use Rattle.session_core.specs.declared.line.Answer.{Answer}
 use Rattle.session_core.specs.declared.line.Answer.TheVariants.{Done, Segments, Refused}
 use Rattle.session_core.specs.declared.line.Refusal.{Refusal}
@@ -41,7 +41,7 @@ AreStanding n (t ∷ ts) = IsStanding (standing n t) t.line.request t.reply.n ×
 -- where memory ran out or the disk failed, as the replies tell it
 abbrev pub outage_at : Refusal → Outage
 outage_at refusals.Memory = at_first
-outage_at (refusals.Rule rule) = fine
+outage_at (refusals.Rule rule place) = fine
 outage_at (refusals.Grid fault) = fine
 outage_at (refusals.Prepare fault) = fine
 outage_at (refusals.Resolve fault) = fine

@@ -2,11 +2,11 @@
 use Rattle.std.specs.Prelude.{ℕ, zero, suc, ◌+◌, Bool, true, false, List, [], ◌∷◌, ◌++◌, length, replicate, Option, Some, None, Result, Ok, Err, nat_le}
 use Rattle.emu_names.specs.declared.kinds.SessionNo.{SessionNo}
 use Rattle.emu_names.specs.declared.limits.TheConstants.{HISTORY_EDITS, SESSIONS}
-use Rattle.emu_names.specs.declared.rules.Broken.{Broken}
+use Rattle.edit_rules.specs.declared.acts.Breach.{Breach}
 use Rattle.db_config.specs.declared.parts.ConfigParts.{ConfigParts}
 use Rattle.edit_rules.specs.Database.{DatabaseParts}
-use Rattle.edit_rules.specs.declared.edit.Edit.{Edit}
-use Rattle.edit_rules.specs.declared.edit.Entry.{Entry}
+use Rattle.edit_rules.specs.declared.acts.Act.{Act}
+use Rattle.edit_rules.specs.declared.acts.Entry.{Entry}
 use Rattle.session_core.specs.declared.event.Event.{Event}
 use Rattle.session_core.specs.declared.event.Event.TheVariants as events
 use Rattle.session_core.specs.declared.line.Command.{Command}
@@ -21,7 +21,7 @@ use Rattle.session_core.specs.declared.line.Line.{Line}
 use Rattle.session_core.specs.declared.line.Reply.{Reply}
 use Rattle.edit_rules.specs.Effects.{edited}
 use Rattle.session_core.specs.Queries.{lacks_memory}
-use Rattle.session_core.specs.Answers.{answer_at, memory, reply_to, grid_reply, entry_of}
+use Rattle.session_core.specs.Answers.{answer_at, memory, reply_to, grid_reply, entry_of, rule_refusal}
 
 -- a query that holds the state after the first n entries, and the line that it came from
 pub record Opened : Type 0 where
@@ -75,26 +75,27 @@ with_query st s v =
 abbrev pub with_entry : State → Entry → State
 with_entry st e = record { config = st.config; entries = st.entries ++ e ∷ []; looks = st.looks; queries = st.queries }
 
--- the number of edits that the present state is after
+-- the number of entries that the present state is after
 abbrev pub present : State → ℕ
 present st = length st.entries
 
--- An edit.
+-- An edit: an act, which is a list of edits or an addition to the configuration.
 
 -- whether a history has no room for one more entry
 abbrev pub is_full : List Entry → Bool
 is_full history = nat_le HISTORY_EDITS (length history)
 
--- an edit behind the limit of the history: it is accepted, or the rule that it breaks is told
-abbrev pub edit_made : State → Line → Edit → Result DatabaseParts Broken → Option Reply × State
-edit_made st l edit (Ok database) =
-    (Some (reply_to l (Some (present st + 1)) (Done l.command)), with_entry st (entry_of l edit))
-edit_made st l edit (Err rule) = (Some (reply_to l (Some (present st)) (Refused (refusals.Rule rule))), st)
+-- an act behind the limit of the history: it is accepted, or the rule that it breaks is told
+abbrev pub edit_made : State → Line → Act → Result DatabaseParts Breach → Option Reply × State
+edit_made st l act (Ok database) =
+    (Some (reply_to l (Some (present st + 1)) (Done l.command)), with_entry st (entry_of l act))
+edit_made st l act (Err breach) =
+    (Some (reply_to l (Some (present st)) (Refused (rule_refusal l.command breach))), st)
 
--- an edit: a full history comes before the rules
-abbrev pub edit_step : State → Line → Edit → Bool → Result DatabaseParts Broken → Option Reply × State
-edit_step st l edit true made = (Some (reply_to l (Some (present st)) (Refused refusals.HistoryFull)), st)
-edit_step st l edit false made = edit_made st l edit made
+-- an act: a full history comes before the rules
+abbrev pub edit_step : State → Line → Act → Bool → Result DatabaseParts Breach → Option Reply × State
+edit_step st l act true made = (Some (reply_to l (Some (present st)) (Refused refusals.HistoryFull)), st)
+edit_step st l act false made = edit_made st l act made
 
 -- A look.
 
@@ -118,7 +119,7 @@ look_event st l requests.Finish = (None, st)
 
 -- an Edit of a line: the fault of its TextGrid comes first, and changes nothing
 abbrev pub edit_event : State → Line → Request → Option Reply × State
-edit_event st l (requests.Edit (Ok edit)) = edit_step st l edit (is_full st.entries) (edited st.config st.entries edit)
+edit_event st l (requests.Edit (Ok act)) = edit_step st l act (is_full st.entries) (edited st.config st.entries act)
 edit_event st l (requests.Edit (Err fault)) = (Some (grid_reply l (present st) fault), st)
 edit_event st l (requests.Query ask) = (None, st)
 edit_event st l (requests.Look ask) = (None, st)

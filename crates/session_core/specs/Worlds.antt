@@ -4,7 +4,7 @@ use Rattle.std.specs.List.{list_any}
 use Rattle.emu_names.specs.declared.kinds.SessionNo.{SessionNo}
 use Rattle.emu_names.specs.declared.limits.TheConstants.{STORE_BYTES}
 use Rattle.db_config.specs.declared.parts.ConfigParts.{ConfigParts}
-use Rattle.edit_rules.specs.declared.edit.Entry.{Entry}
+use Rattle.edit_rules.specs.declared.acts.Entry.{Entry}
 use Rattle.session_core.specs.declared.event.Event.{Event}
 use Rattle.session_core.specs.declared.event.Event.TheVariants as events
 use Rattle.session_core.specs.declared.line.Command.TheVariants as commands
@@ -16,7 +16,7 @@ use Rattle.session_core.specs.declared.line.Refusal.{Refusal}
 use Rattle.session_core.specs.declared.line.Refusal.TheVariants as refusals
 use Rattle.session_core.specs.declared.line.Reply.{Reply}
 use Rattle.edit_rules.specs.Database.{DatabaseParts}
-use Rattle.edit_rules.specs.declared.edit.Edit.{Edit}
+use Rattle.edit_rules.specs.declared.acts.Act.{Act}
 use Rattle.edit_rules.specs.Effects.{edited}
 use Rattle.session_core.specs.Answers.{reply_to, entry_of}
 use Rattle.session_core.specs.Commands.{is_command_of}
@@ -214,17 +214,17 @@ Fits w (events.Finish line s command) = FinishFits w line s (asker_of command)
 abbrev pub passes_store : ConfigParts → List Entry → Entry → Bool
 passes_store c history entry = nat_lt STORE_BYTES (store_size c history + 6 + entry_size entry)
 
--- the edit of a line would be accepted, and there is a store that has no room for its entry
-pub record IsOverStore (store : Bool) (st : State) (l : Line) (edit : Edit) : Type 0 where
+-- the act of a line would be accepted, and there is a store that has no room for its entry
+pub record IsOverStore (store : Bool) (st : State) (l : Line) (act : Act) : Type 0 where
   pub stored : store ≡ true
   pub room : is_full st.entries ≡ false
   pub database : DatabaseParts
-  pub made : edited st.config st.entries edit ≡ Ok database
-  pub passes : passes_store st.config st.entries (entry_of l edit) ≡ true
+  pub made : edited st.config st.entries act ≡ Ok database
+  pub passes : passes_store st.config st.entries (entry_of l act) ≡ true
 
 -- the store refuses the request
 abbrev pub StoreRefusesRequest : Bool → State → Line → Request → Type 0
-StoreRefusesRequest store st l (requests.Edit (Ok edit)) = IsOverStore store st l edit
+StoreRefusesRequest store st l (requests.Edit (Ok act)) = IsOverStore store st l act
 StoreRefusesRequest store st l request = ⊥
 
 -- the store refuses the edit of an event
@@ -236,7 +236,7 @@ StoreRefuses store st (events.Finish line s command) = ⊥
 
 -- the disk may refuse an edit, where there is a store; a line whose TextGrid has a fault never reaches it
 abbrev pub DiskMayRefuseRequest : Bool → Request → Type 0
-DiskMayRefuseRequest store (requests.Edit (Ok edit)) = store ≡ true
+DiskMayRefuseRequest store (requests.Edit (Ok act)) = store ≡ true
 DiskMayRefuseRequest store request = ⊥
 
 -- the disk may refuse the edit of an event

@@ -17,6 +17,6 @@ pub use law::{
 };
 pub use line::{Answer, Ask, Command, Line, Lines, Refusal, Replies, Reply, Request};
 pub use machine::Core;
-pub use moves::{Head, memory_reply, refuse_grid};
+pub use moves::{Head, memory_reply, refuse_grid, refuse_rule};
 pub use queries::{answer, answer_listed, lacks_memory, refuse_text};
 pub use slots::Slots;

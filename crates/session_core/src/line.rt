@@ -1,5 +1,5 @@
 //! The lines of a script as the core takes them, and the replies that it gives.
-use edit_rules::Edit;
+use edit_rules::Act;
 use emu_names::{Broken, Series, SessionNo, Text};
 use eql_model::SegmentList;
 use eql_resolve::{AskFault, PrepareFault, Prepared};
@@ -37,6 +37,16 @@ pub enum Command {
     AddLink,
     /// `remove_link`: takes a link out.
     RemoveLink,
+    /// `link_times`: links the items of a level to the segments that hold them.
+    LinkTimes,
+    /// `edits`: makes several edits of one bundle, all or none.
+    Edits,
+    /// `add_level`: adds a level to the configuration.
+    AddLevel,
+    /// `add_attribute`: adds an attribute to a level of the configuration.
+    AddAttribute,
+    /// `add_link_definition`: adds a link definition to the configuration.
+    AddLinkDefinition,
     /// `query`: asks for a segment list.
     Query,
     /// `look`: keeps the present state for a query.
@@ -62,7 +72,7 @@ pub struct Ask {
 #[derive(Drop)]
 pub enum Request {
     /// A change, or the fault of the TextGrid that was to be added.
-    Edit(Result<Edit, GridFault>),
+    Edit(Result<Act, GridFault>),
     /// The answer to a query over the present state.
     Query(Ask),
     /// To keep the present state for this query.
@@ -92,8 +102,13 @@ pub type Lines = Series<Line>;
 /// Why a request was refused.
 #[derive(Drop)]
 pub enum Refusal {
-    /// The edit breaks this rule.
-    Rule(Broken),
+    /// An edit breaks a rule.
+    Rule {
+        /// The rule.
+        rule: Broken,
+        /// The place of the edit in the list of the line, counted from 1; none where the line has no list.
+        place: Option<u32>,
+    },
     /// The TextGrid that was to be added has this fault.
     Grid(GridFault),
     /// The text of the query, or one of its patterns, has this fault.

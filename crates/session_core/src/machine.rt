@@ -1,9 +1,9 @@
-//! The core: a database, the history that made it, and what each session holds, changed by one event at a time.
+//! The core: a configuration, the history behind it, the database that both make, and what each session holds, changed
+//! by one event at a time.
 ghost use Rattle.emu_names.specs.declared.limits.TheConstants.{HISTORY_EDITS};
-ghost use Rattle.emu_names.specs.declared.rules.Fault.{Fault};
 ghost use Rattle.edit_rules.specs.Effects.{after, IsLegal};
-ghost use Rattle.edit_rules.specs.Inner.Effects.{IsFirstFault};
-ghost use Rattle.session_core.specs.Inner.Kept.{head_line};
+ghost use Rattle.emu_names.specs.Inner.Gives.{IsFaultOf, broken_in};
+ghost use Rattle.session_core.specs.Inner.Kept.{head_line, ruled};
 ghost use Rattle.session_core.specs.Steps.{core_fails, core_step, edit_event, finish_step, look_event, option_list, query_fails, query_step, session_places, slot, start, steps};
 ghost use Rattle.session_core.specs.Inner.Steps.{place_of};
 ghost use Rattle.session_core.specs.Inner.Stops.{StopsAt};
@@ -19,14 +19,15 @@ use emu_names::{Fault, Memory, SessionNo};
 use std::alloc::Global;
 use std::marker::Model;
 
-/// The core of a database: its configuration, its history, and for each session its open look and
-/// its query under way.
+/// The core of a database: the configuration that it began with, its history, and for each session its open look
+/// and its query under way.
 ///
-/// It keeps the database after the history, and each look and each query under way shares the
-/// database of its moment, so that a look costs one owner more and not a copy.
+/// It keeps the database after the history, whose configuration may have more parts by then, and each look and each
+/// query under way shares the database of its moment, so that a look costs one owner more and not a copy.
 #[derive(Drop)]
 pub struct Core {
     alloc: Global,
+    config: Config,
     entries: Entries,
     database: Database,
     looks: Slots<Held>,
@@ -44,9 +45,9 @@ impl Model for Core {
 
     ghost use Rattle.session_core.specs.Inner.Kept.{IsKept, state_of};
 
-    ghost view = { λ a. state_of a.database.config a.entries a.looks a.queries };
+    ghost view = { λ a. state_of a.config a.entries a.looks a.queries };
 
-    ghost invariant = { λ a. IsKept a.database.config a.entries a.database a.looks a.queries };
+    ghost invariant = { λ a. IsKept a.config a.entries a.database a.looks a.queries };
 }
 
 impl Core {
@@ -56,13 +57,15 @@ impl Core {
         requires { length history ≤ HISTORY_EDITS }
         ensures begun { IfOk result (λ core. core ≡ start config history) }
         ensures legal { IfOk result (λ core. IsLegal config history) }
-        ensures broken { IfErr result (λ fault. IsFirstFault fault (after config history)) }
+        ensures broken { IfErr result (λ fault. IsFaultOf (broken_in fault) (ruled (after config history))) }
     {
+        let opening = config.copy(alloc)?;
         let database = replay(alloc, config, &history)?;
         let looks = Slots::new(alloc)?;
         let queries = Slots::new(alloc)?;
         Ok(Core {
             alloc,
+            config: opening,
             entries: history,
             database,
             looks,
@@ -70,11 +73,11 @@ impl Core {
         })
     }
 
-    /// The configuration.
+    /// The configuration that the history begins with.
     pub fn config(&self) -> &Config
         ensures { result.now ≡ self.now.config }
     {
-        self.database.config()
+        &self.config
     }
 
     /// The history, in which no entry breaks a rule.

@@ -1,8 +1,8 @@
 //! What one event does to the parts of the core, each part on its own.
 ghost use Rattle.edit_rules.specs.Effects.{after};
 ghost use Rattle.emu_names.specs.Inner.Gives.{GivesOrBroken};
-ghost use Rattle.session_core.specs.Inner.Kept.{edit_tried, given_tried, grid_told, head_reply, held_answer, held_at, look_closed, looked, query_closed, query_dropped, query_reply};
-ghost use Rattle.session_core.specs.Answers.{memory};
+ghost use Rattle.session_core.specs.Inner.Kept.{edit_tried, given_tried, grid_told, head_reply, held_answer, held_at, look_closed, looked, query_closed, query_dropped, query_reply, ruled};
+ghost use Rattle.session_core.specs.Answers.{memory, place_shown, rule_refusal};
 ghost use Rattle.session_core.specs.Queries.{lacks_memory};
 ghost use Rattle.session_core.specs.Steps.{is_full as is_full_list, put_slot, reply_of, slot};
 ghost use Rattle.std.specs.Prelude.{◌≡◌, ◌<◌, None, Ok, Some, IfOk, OnErr, OnOk, length};
@@ -11,7 +11,7 @@ use crate::line::{Answer, Ask, Command, Refusal, Reply};
 use crate::queries::{answer, lacks_memory};
 use crate::slots::{Held, Slots};
 use db_config::Config;
-use edit_rules::{Database, Edit, Entries, Entry, apply};
+use edit_rules::{Act, Breach, ChangeFault, Database, Entries, Entry, apply};
 use emu_names::limits::HISTORY_EDITS;
 use emu_names::{Fault, Memory, SessionNo};
 use std::alloc::Global;
@@ -43,14 +43,41 @@ impl Head {
 }
 
 /// The database after a history, or the rule that it breaks first, or want of memory.
+#[tactic(auto, using(crate::proofs::Ruled::ruled_made, crate::proofs::Ruled::ruled_broken))]
 pub fn replay(alloc: Global, config: Config, history: &Entries) -> Result<Database, Fault>
-    ensures { GivesOrBroken result (after config history.now) }
+    ensures { GivesOrBroken result (ruled (after config history.now)) }
 {
     let mut database = Database::new(alloc, config)?;
     for entry in history.as_slice() {
-        apply(alloc, &mut database, &entry.edit)?;
+        match apply(alloc, &mut database, &entry.act) {
+            Ok(()) => {}
+            Err(ChangeFault::Broken(breach)) => return Err(Fault::Broken(breach.rule)),
+            Err(ChangeFault::Memory) => return Err(Fault::Memory),
+        }
     }
     Ok(database)
+}
+
+/// The place of the edit that breaks a rule, where it is told: the command is a list of edits.
+fn place_shown(command: Command, place: u32) -> Option<u32>
+    ensures { result ≡ place_shown command place }
+{
+    match command {
+        Command::Edits => Some(place),
+        _ => None,
+    }
+}
+
+/// The refusal of an act by the rule that it breaks. The place of the edit is told where the command is a list of
+/// edits, also a list of one.
+pub fn refuse_rule(command: Command, breach: Breach) -> Refusal
+    ensures { result ≡ rule_refusal command breach }
+{
+    let place = place_shown(command, breach.place);
+    Refusal::Rule {
+        rule: breach.rule,
+        place,
+    }
 }
 
 /// Whether a history has no room for one entry more.
@@ -60,38 +87,39 @@ fn is_full(entries: &Entries) -> bool
     HISTORY_EDITS <= entries.len()
 }
 
-/// Tries an edit: the reply to it. It is put last in the history first, and taken out again where it
+/// Tries an act: the reply to it. It is put last in the history first, and taken out again where it
 /// is refused, or where memory runs out, which changes nothing.
 fn try_edit(
     alloc: Global,
     entries: &mut Entries,
     database: &mut Database,
     head: Head,
-    edit: Edit,
+    act: Act,
 ) -> Result<Reply, Memory>
     ensures ok { IfOk result (λ reply. (reply, entries.new, database.new) ≡
-        edit_tried head edit entries.old database.old) }
+        edit_tried head act entries.old database.old) }
     ensures history { OnErr result (entries.new ≡ entries.old) }
     ensures present { OnErr result (database.new ≡ database.old) }
 {
     let before = entries.len();
     let n = before as u64;
     if is_full(entries) {
-        drop(edit);
+        drop(act);
         return Ok(head.reply(Some(n), Answer::Refused(Refusal::HistoryFull)));
     }
     entries.push(Entry {
         session: head.session,
         line: head.line,
-        edit,
+        act,
     })?;
-    match apply(alloc, database, &entries.get(before).edit) {
+    match apply(alloc, database, &entries.get(before).act) {
         Ok(()) => Ok(head.reply(Some(n + 1), Answer::Done(head.command))),
-        Err(Fault::Broken(rule)) => {
+        Err(ChangeFault::Broken(breach)) => {
             entries.truncate(before);
-            Ok(head.reply(Some(n), Answer::Refused(Refusal::Rule(rule))))
+            let refusal = refuse_rule(head.command, breach);
+            Ok(head.reply(Some(n), Answer::Refused(refusal)))
         }
-        Err(Fault::Memory) => {
+        Err(ChangeFault::Memory) => {
             entries.truncate(before);
             Err(Memory)
         }
@@ -108,13 +136,13 @@ pub fn refuse_grid(head: Head, n: u64, fault: GridFault) -> Reply
     }
 }
 
-/// Tries the edit of a line, unless its TextGrid has a fault: the reply. Want of memory changes nothing.
+/// Tries the act of a line, unless its TextGrid has a fault: the reply. Want of memory changes nothing.
 pub fn try_given(
     alloc: Global,
     entries: &mut Entries,
     database: &mut Database,
     head: Head,
-    given: Result<Edit, GridFault>,
+    given: Result<Act, GridFault>,
 ) -> Result<Reply, Memory>
     ensures ok { IfOk result (λ reply. (reply, entries.new, database.new) ≡
         given_tried head given entries.old database.old) }
@@ -122,7 +150,7 @@ pub fn try_given(
     ensures present { OnErr result (database.new ≡ database.old) }
 {
     match given {
-        Ok(edit) => try_edit(alloc, entries, database, head, edit),
+        Ok(act) => try_edit(alloc, entries, database, head, act),
         Err(fault) => {
             let n = entries.len() as u64;
             Ok(refuse_grid(head, n, fault))

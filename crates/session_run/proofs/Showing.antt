@@ -1,7 +1,7 @@
 -- The last version of a book's published list is that after all entries.
 use Rattle.std.proofs.Common.{◌≡◌, ℕ, List, [], ◌∷◌, ◌++◌, length, take, drop, Option, Some, IfSome, sym, ap, ◌∙◌, subst, append_assoc, append-nil, take-append-drop}
 use Rattle.db_config.specs.declared.parts.ConfigParts.{ConfigParts}
-use Rattle.edit_rules.specs.declared.edit.Entry.{Entry}
+use Rattle.edit_rules.specs.declared.acts.Entry.{Entry}
 use Rattle.version_gate.specs.declared.entry.Entry.{Entry as Numbered}
 use mathlib.Core.List.{IsPrefix}
 use Rattle.version_gate.specs.Lists.{EndsIn, entry}

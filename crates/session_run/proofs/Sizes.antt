@@ -4,7 +4,7 @@ use Rattle.std.proofs.lemmas.Bool.Decides.{nat_tests}
 use Rattle.std.proofs.lemmas.List.Sums.{sum_by-cons}
 use Rattle.emu_names.specs.declared.limits.TheConstants.{STORE_BYTES}
 use Rattle.db_config.specs.declared.parts.ConfigParts.{ConfigParts}
-use Rattle.edit_rules.specs.declared.edit.Entry.{Entry}
+use Rattle.edit_rules.specs.declared.acts.Entry.{Entry}
 use Rattle.edit_code.specs.Codes.{entry_code, head_code}
 use Rattle.edit_journal.specs.Store.{frame, frames}
 use Rattle.edit_journal.proofs.Walk.{length_frame, length-start}

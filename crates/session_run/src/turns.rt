@@ -9,12 +9,12 @@ ghost use Rattle.session_run.specs.Inner.Taken.{EditsBook, IsAnsweredAt, IsLooke
 
 use crate::looks::Look;
 use crate::shown::look_at;
-use edit_rules::Edit;
+use edit_rules::Act;
 use emu_disk::Disk;
 use emu_names::Memory;
 use live_book::{Book, EditFault, Published};
 use session_core::{
-    Answer, Ask, Head, Line, Refusal, Reply, Request, Slots, memory_reply, refuse_grid,
+    Answer, Ask, Head, Line, Refusal, Reply, Request, Slots, memory_reply, refuse_grid, refuse_rule,
 };
 use std::alloc::Global;
 use std::sync::Wait;
@@ -32,7 +32,7 @@ pub fn or_memory(head: Head, made: Result<Reply, Memory>) -> Reply
     }
 }
 
-/// The reply to a line whose edit was committed with this answer.
+/// The reply to a line whose act was committed with this answer.
 pub fn commit_reply(head: Head, made: Result<u64, EditFault>) -> Reply
     ensures { (request : Request) → result ≡ commit_reply (line_of head request) made }
 {
@@ -41,8 +41,8 @@ pub fn commit_reply(head: Head, made: Result<u64, EditFault>) -> Reply
         Err(EditFault::HistoryFull(n)) => {
             head.reply(Some(n), Answer::Refused(Refusal::HistoryFull))
         }
-        Err(EditFault::Broken(rule, n)) => {
-            head.reply(Some(n), Answer::Refused(Refusal::Rule(rule)))
+        Err(EditFault::Broken(breach, n)) => {
+            head.reply(Some(n), Answer::Refused(refuse_rule(head.command, breach)))
         }
         Err(EditFault::StoreFull(n)) => head.reply(Some(n), Answer::Refused(Refusal::StoreFull)),
         Err(EditFault::Disk) => head.reply(None, Answer::Refused(Refusal::Disk)),
@@ -50,19 +50,19 @@ pub fn commit_reply(head: Head, made: Result<u64, EditFault>) -> Reply
     }
 }
 
-/// Commits the edit of a line, unless its TextGrid has a fault: the reply.
+/// Commits the act of a line, unless its TextGrid has a fault: the reply.
 fn try_edit<D: Disk, R: Wait>(
     rt: &R,
     alloc: Global,
     book: &mut Book<D>,
     head: Head,
-    given: Result<Edit, GridFault>,
+    given: Result<Act, GridFault>,
 ) -> Reply
     ensures { EditsBook D.may_leave D.moment D.left_since D.faults book.old head given result book.new }
 {
     match given {
-        Ok(edit) => {
-            let made = book.commit(rt, alloc, head.session, head.line, &edit);
+        Ok(act) => {
+            let made = book.commit(rt, alloc, head.session, head.line, &act);
             commit_reply(head, made)
         }
         Err(fault) => refuse_grid(head, book.number(), fault),

@@ -2,3 +2,4 @@ mod Ordered
 mod Printed
 mod Pieces
 mod Asks
+mod ActNames

@@ -2,7 +2,7 @@
 use Rattle.std.proofs.Common.{◌≡◌, ℕ, List, Option, None, Some, false, refl, ap, ◌∙◌}
 use Rattle.serde_json.specs.Data.{Data, Members}
 use Rattle.serde_json.specs.Written.{has_float, members_have_float}
-use Rattle.edit_rules.specs.declared.edit.Entry.{Entry}
+use Rattle.edit_rules.specs.declared.acts.Entry.{Entry}
 use Rattle.store_texts.specs.declared.note.Note.{Note}
 use Rattle.store_texts.specs.Texts.{line_text, with_whole, with_text, note_data, damaged_data, damaged_text, done_data, done_text, from_data, from_text, mark_data, mark_text, entry_data}
 

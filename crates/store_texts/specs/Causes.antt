@@ -96,9 +96,9 @@ ask_note asks.AmbiguousTime = plain (codes "AmbiguousTime")
 ask_note asks.BadTimeLevel = plain (codes "BadTimeLevel")
 ask_note asks.Memory = plain (codes "Memory")
 
--- the refusal of a query or of an edit
+-- the refusal of a query or of an edit; a command of the program makes no list of edits, so no place is told
 abbrev pub request_note : Refusal → Note
-request_note (refusals.Rule rule) = rule_note rule
+request_note (refusals.Rule rule place) = rule_note rule
 request_note (refusals.Grid fault) = grid_note fault
 request_note (refusals.Prepare fault) = prepare_note fault
 request_note (refusals.Resolve fault) = ask_note fault

@@ -108,12 +108,12 @@ fn ask_note(alloc: Global, fault: &AskFault) -> Result<Note, Memory>
     }
 }
 
-/// The refusal of a query or of an edit.
+/// The refusal of a query or of an edit. A command of the program makes no list of edits, so no place is told.
 fn request_note(alloc: Global, refusal: &Refusal) -> Result<Note, Memory>
     ensures { IfOk result (λ note. note ≡ request_note refusal.now) }
 {
     match refusal {
-        Refusal::Rule(broken) => rule_note(alloc, broken),
+        Refusal::Rule { rule, .. } => rule_note(alloc, rule),
         Refusal::Grid(fault) => grid_note(alloc, *fault),
         Refusal::Prepare(fault) => prepare_note(alloc, *fault),
         Refusal::Resolve(fault) => ask_note(alloc, fault),

@@ -12,6 +12,7 @@ mod note;
 mod print;
 mod segments;
 mod values;
+mod words;
 
 pub use ask::ask_text;
 pub use config::config_text;

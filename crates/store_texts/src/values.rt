@@ -2,10 +2,11 @@
 ghost use Rattle.std.specs.Prelude.{◌≡◌, IfOk, OnOk};
 ghost use Rattle.serde_json.specs.View.{view, members_view};
 ghost use Rattle.store_texts.specs.Inner.Put.{put_whole, put_text, put_back, put_middle, put_front};
-ghost use Rattle.store_texts.specs.Texts.{note_data, damaged_data, done_data, edit_word, entry_data, from_data, mark_data};
+ghost use Rattle.store_texts.specs.Texts.{note_data, damaged_data, done_data, entry_data, from_data, mark_data};
 
 use crate::note::Note;
-use edit_rules::{Edit, Entry};
+use crate::words::act_word;
+use edit_rules::Entry;
 use emu_names::{Memory, SessionNo, Text};
 use serde_json::{Map, Value, json};
 use std::alloc::Global;
@@ -128,33 +129,13 @@ pub(crate) fn mark_value(
     Ok(json!(in alloc; {"at": at, "line": line, "s": session.0})?)
 }
 
-/// The name of an edit's command.
-fn edit_word(edit: &Edit) -> &'static str
-    ensures { result.now ≡ edit_word edit.now }
-{
-    match edit {
-        Edit::AddBundle { .. } => "add_bundle",
-        Edit::DropBundle { .. } => "drop_bundle",
-        Edit::AddItem { .. } => "add_item",
-        Edit::RemoveItem { .. } => "remove_item",
-        Edit::SetLabel { .. } => "set_label",
-        Edit::SetSegment { .. } => "set_segment",
-        Edit::MoveBoundary { .. } => "move_boundary",
-        Edit::SetPoint { .. } => "set_point",
-        Edit::Split { .. } => "split",
-        Edit::Merge { .. } => "merge",
-        Edit::AddLink { .. } => "add_link",
-        Edit::RemoveLink { .. } => "remove_link",
-    }
-}
-
 /// The object of an entry at its place.
 pub(crate) fn entry_value(alloc: Global, at: u64, entry: &Entry) -> Result<Value, Memory>
     ensures { IfOk result (λ v. view v ≡ entry_data at entry.now) }
 {
     Ok(json!(in alloc; {
         "at": at,
-        "do": edit_word(&entry.edit),
+        "do": act_word(&entry.act),
         "line": entry.line,
         "s": entry.session.0
     })?)

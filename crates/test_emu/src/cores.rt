@@ -5,7 +5,7 @@ ghost use Rattle.session_core.specs.Inner.Steps.{place_of};
 
 use crate::made::{config, key, words};
 use db_config::Config;
-use edit_rules::{Edit, Entries, Entry};
+use edit_rules::{Act, Edit, Edits, Entries, Entry};
 use emu_names::{Broken, Fault, Memory, SessionNo};
 use eql_resolve::prepare;
 use label_match::RegexMaker;
@@ -81,10 +81,11 @@ fn a_query_is_run(rt: HostRuntime) -> Result<(), Fail> {
 fn entry(alloc: Global) -> Result<Entry, Fail> {
     let key = key(alloc, "s1", "b1")?;
     let annot = words(alloc, 0)?;
+    let edits = Edits::one(alloc, Edit::AddBundle { key, annot })?;
     Ok(Entry {
         session: SessionNo(1),
         line: 2,
-        edit: Edit::AddBundle { key, annot },
+        act: Act::Edits(edits),
     })
 }
 

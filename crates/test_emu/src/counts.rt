@@ -1,38 +1,45 @@
 //! What no clause says: that edits of the greatest sizes succeed where memory is ample.
 use crate::made::{config, key, words};
 use db_config::Config;
-use edit_rules::{Counts, Edit, change};
-use emu_names::{Broken, Fault};
+use edit_rules::{Breach, ChangeFault, Counts, Edit, Edits, change};
+use emu_names::Broken;
 use std::alloc::Global;
 use std::test::Fail;
 
 /// What ends an edit, in a word; `none` where it is taken.
-fn word<T>(ended: &Result<T, Fault>) -> &'static str {
+fn word<T>(ended: &Result<T, ChangeFault>) -> &'static str {
     match ended {
         Ok(_) => "none",
-        Err(Fault::Broken(Broken::TooMany(what))) => what.word(),
-        Err(Fault::Broken(_)) => "another rule",
-        Err(Fault::Memory) => "memory",
+        Err(
+            ChangeFault::Broken(
+                Breach {
+                    rule: Broken::TooMany(what),
+                    ..
+                },
+            ),
+        ) => what.word(),
+        Err(ChangeFault::Broken(_)) => "another rule",
+        Err(ChangeFault::Memory) => "memory",
     }
 }
 
-/// The edit that adds a bundle of so many words.
-fn bundle_of(alloc: Global, count: u32) -> Result<Edit, Fail> {
+/// The list of the edit that adds a bundle of so many words.
+fn bundle_of(alloc: Global, count: u32) -> Result<Edits, Fail> {
     let key = key(alloc, "s1", "b1")?;
     let annot = words(alloc, count)?;
-    Ok(Edit::AddBundle { key, annot })
+    Ok(Edits::one(alloc, Edit::AddBundle { key, annot })?)
 }
 
-/// What ends an edit of a database with so many bundles and items.
-fn ended(alloc: Global, config: &Config, counts: Counts, edit: &Edit) -> &'static str {
-    let made = change(alloc, config, counts, None, edit);
+/// What ends a list of edits of a database with so many bundles and items.
+fn ended(alloc: Global, config: &Config, counts: Counts, edits: &Edits) -> &'static str {
+    let made = change(alloc, config, counts, None, edits);
     word(&made)
 }
 
 /// Adds one bundle of so many words to so many bundles with so many items.
 fn added(alloc: Global, config: &Config, counts: Counts, count: u32) -> Result<&'static str, Fail> {
-    let edit = bundle_of(alloc, count)?;
-    Ok(ended(alloc, config, counts, &edit))
+    let edits = bundle_of(alloc, count)?;
+    Ok(ended(alloc, config, counts, &edits))
 }
 
 /// How many bundles and items there are, how many words the bundle has that is added, and what ends the edit.

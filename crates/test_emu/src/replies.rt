@@ -94,6 +94,11 @@ enum Why {
     LabelTooLong,
 }
 
+/// The refusal by a rule, with the place of the edit that breaks it.
+fn broken(rule: Broken, place: Option<u32>) -> Refusal {
+    Refusal::Rule { rule, place }
+}
+
 /// The refusal that a row names.
 fn refusal(alloc: Global, why: Why) -> Result<Refusal, Memory> {
     Ok(match why {
@@ -102,10 +107,10 @@ fn refusal(alloc: Global, why: Why) -> Result<Refusal, Memory> {
         Why::Memory => Refusal::Memory,
         Why::Disk => Refusal::Disk,
         Why::UnknownName => { Refusal::Resolve(AskFault::UnknownName(Text::new(alloc, "a\"b\n")?)) }
-        Why::NoLevel => Refusal::Rule(Broken::NoLevel(Text::new(alloc, "Word")?)),
-        Why::Overlap => Refusal::Rule(Broken::Overlap(ItemId(1))),
-        Why::TooManyBundles => Refusal::Rule(Broken::TooMany(What::Bundles)),
-        Why::LabelTooLong => Refusal::Rule(Broken::LabelTooLong),
+        Why::NoLevel => broken(Broken::NoLevel(Text::new(alloc, "Word")?), None),
+        Why::Overlap => broken(Broken::Overlap(ItemId(1)), Some(3)),
+        Why::TooManyBundles => broken(Broken::TooMany(What::Bundles), None),
+        Why::LabelTooLong => broken(Broken::LabelTooLong, None),
     })
 }
 
@@ -144,7 +149,7 @@ static REFUSALS: [(Option<u64>, Why, &str); 9] = [
     (
         Some(0),
         Why::Overlap,
-        "{\"line\":7,\"n\":0,\"refused\":{\"id\":1,\"rule\":\"Overlap\"}}\n",
+        "{\"line\":7,\"n\":0,\"refused\":{\"id\":1,\"place\":3,\"rule\":\"Overlap\"}}\n",
     ),
     (
         Some(9),

@@ -1,11 +1,11 @@
-//! 10,000 bundles that are put in and taken out in three orders.
+//! 10,000 bundles that are put in and taken out in three orders; a configuration that gets a level.
 ghost use Rattle.std.specs.Prelude.{◌≡◌, IfOk};
 ghost use Rattle.bundle_state.specs.Built.{FitsConfig};
 
 use bundle_index::Indexed;
 use bundle_state::Bundle;
 use config_json::read_config;
-use db_config::Config;
+use db_config::{Config, LevelDef};
 use emu_names::{BundleKey, Fault, Memory, Name, NameFault, Series, Text};
 use json_view::View;
 use level_items::Annot;
@@ -17,6 +17,10 @@ use version_tree::Version;
 
 static DATABASE: &str =
     r#"{"name":"t","levelDefinitions":[{"name":"Word","type":"ITEM","attributeDefinitions":[{"name":"Word"}]}]}"#;
+
+/// The same, with a level more.
+static WIDER: &str =
+    r#"{"name":"t","levelDefinitions":[{"name":"Word","type":"ITEM","attributeDefinitions":[{"name":"Word"}]},{"name":"Tone","type":"EVENT","attributeDefinitions":[{"name":"Tone"}]}]}"#;
 
 /// How many bundles there are.
 const COUNT: u32 = 10_000;
@@ -30,10 +34,15 @@ fn config_of_value(alloc: Global, value: &Value) -> Result<Config, Fail> {
     Ok(read_config(alloc, &view)?)
 }
 
+/// The configuration of a text.
+fn config_of_text(alloc: Global, text: &str) -> Result<Config, Fail> {
+    let value = Value::from_str(alloc, text)?;
+    config_of_value(alloc, &value)
+}
+
 /// The configuration of the database.
 fn config_of(alloc: Global) -> Result<Config, Fail> {
-    let value = Value::from_str(alloc, DATABASE)?;
-    config_of_value(alloc, &value)
+    config_of_text(alloc, DATABASE)
 }
 
 /// The name of a session.
@@ -228,5 +237,64 @@ fn bundles_come_and_go(rt: HostRuntime) -> Result<(), Fail> {
     for &step in &STEPS {
         expect_full(&rt, rt.alloc(), step)?;
     }
+    Ok(())
+}
+
+/// The version under its configuration with a level more.
+fn with_level(alloc: Global, version: &Version, def: &LevelDef) -> Result<Version, Fail> {
+    let config = version.config().with_level(alloc, def)?;
+    Ok(version.with_config(alloc, config)?)
+}
+
+/// The version with the last level of a configuration more.
+fn widened(alloc: Global, version: &Version, wider: &Config) -> Result<Version, Fail> {
+    match wider.parts().levels.as_slice().last() {
+        Some(def) => with_level(alloc, version, def),
+        None => Ok(version.copy(alloc)?),
+    }
+}
+
+/// How many levels the bundle at a place has.
+fn levels_at(version: &Version, place: usize) -> Option<usize> {
+    if place < version.len() {
+        Some(version.at(place).bundle().level_count())
+    } else {
+        None
+    }
+}
+
+/// A version with the bundles of the numbers 0 to 2.
+fn three(alloc: Global) -> Result<Version, Fail> {
+    let mut version = empty(alloc)?;
+    for number in 0..3 {
+        version = with_number(alloc, &version, number)?;
+    }
+    Ok(version)
+}
+
+/// Checks that each of three bundles has so many levels, and stands at its place.
+fn expect_levels(
+    rt: &impl Abort,
+    alloc: Global,
+    version: &Version,
+    count: usize,
+) -> Result<(), Fail> {
+    for number in 0..3 {
+        let place = number as usize;
+        check_number(rt, alloc, version, place, number)?;
+        assert_eq!(rt; levels_at(version, place), Some(count));
+    }
+    Ok(())
+}
+
+#[test]
+fn levels_come(rt: HostRuntime) -> Result<(), Fail> {
+    let alloc = rt.alloc();
+    let wider = config_of_text(alloc, WIDER)?;
+    let version = three(alloc)?;
+    let next = widened(alloc, &version, &wider)?;
+    expect_levels(&rt, alloc, &version, 1)?;
+    expect_levels(&rt, alloc, &next, 2)?;
+    assert_eq!(rt; (version.number(), next.number()), (3, 4));
     Ok(())
 }

@@ -6,5 +6,4 @@ pub mod Fullness
 pub mod Changes
 pub mod States
 pub mod Versions
-mod StepChanges
-mod Drafting
+mod Fitting

@@ -7,7 +7,7 @@ use Rattle.emu_names.specs.declared.names.BundleKey.{BundleKey}
 use Rattle.db_config.specs.declared.parts.ConfigParts.{ConfigParts}
 use Rattle.bundle_state.specs.Bundle.{BundleParts, item_count}
 use Rattle.bundle_index.specs.Index.{IndexParts}
-use Rattle.edit_rules.specs.declared.bundle_change.Counts.{Counts}
+use Rattle.bundle_edits.specs.declared.bundle_change.Counts.{Counts}
 use Rattle.edit_rules.specs.Database.{IsBundleOf, is_before, same_key, bundle_with, without, put_in_order, put_for, all_items, are_keys_rising}
 use Rattle.edit_rules.proofs.KeyPlaces.{key_same}
 use Rattle.version_tree.specs.Version.{bundles_of}

@@ -6,9 +6,12 @@ ghost use Rattle.edit_rules.specs.Database.{is_before};
 ghost use Rattle.version_tree.specs.Inner.Version.{has_key, indexed_with, others, put_indexed};
 ghost use Rattle.version_tree.specs.Inner.Pages.{AreRising};
 ghost use Rattle.version_tree.specs.Inner.Places.{IsAtMostOneMore, IsGap, has_key_at};
+ghost use Rattle.version_tree.specs.Inner.Under.{CanFitAll, fitted_of};
+ghost use Rattle.version_tree.specs.Version.{bundles_of};
 
 use crate::splice::spliced;
 use bundle_index::Indexed;
+use db_config::Config;
 use emu_names::{BundleKey, Memory, Series, Shared};
 use std::alloc::Global;
 
@@ -115,4 +118,23 @@ pub(crate) fn without(
 {
     let gap = gap_for(bundles, key);
     spliced(alloc, bundles, gap.from, gap.to, &[])
+}
+
+/// These bundles, each made to fit a configuration. The only refusal is want of memory.
+#[tactic(auto, using(crate::proofs::Fitting::none_under, crate::proofs::Fitting::one_under, crate::proofs::Fitting::under_whole, crate::proofs::Fitting::can_fit_at))]
+pub(crate) fn under(
+    alloc: Global,
+    bundles: &[Shared<Indexed>],
+    config: &Config,
+) -> Result<Series<Shared<Indexed>>, Memory>
+    requires { CanFitAll config.now bundles.now }
+    ensures { IfOk result (λ made. bundles_of made ≡ fitted_of config.now bundles.now) }
+{
+    let mut made = Series::new(alloc);
+    'bundles: for indexed in bundles {
+        let next = indexed.as_ref().fit(alloc, config)?;
+        let next = Shared::new(alloc, next)?;
+        made.push(next)?;
+    }
+    Ok(made)
 }

@@ -3,8 +3,6 @@
 
 mod bundles;
 mod change;
-mod draft;
-mod next;
 mod page;
 mod pages;
 mod sizes;
@@ -12,6 +10,4 @@ mod splice;
 mod tree;
 mod version;
 
-pub use draft::Draft;
-pub use next::{next_drafted, next_version};
 pub use version::{Version, versions_cross_threads};

@@ -7,14 +7,17 @@ ghost use Rattle.version_tree.specs.declared.sizes.TheConstants.{HALF, PAGE};
 ghost use Rattle.version_tree.specs.declared.pages.Neighbour.TheVariants as Neighbour;
 ghost use Rattle.version_tree.specs.Inner.Version.{indexed_with, others, put_indexed};
 ghost use Rattle.version_tree.specs.Inner.Pages.{IsChangeOf, IsPage, KeepPages, bundles_behind, bundles_on, first_change, pages_behind, pages_of, starts_by};
+ghost use Rattle.version_tree.specs.Inner.Under.{CanFitAll, fitted_of};
+ghost use Rattle.version_tree.specs.Version.{bundles_of};
 ghost use Rattle.version_tree.specs.Inner.Places.{AreOneLess, IsNeighbour, IsPageFor, bundles_but, has_room};
 
-use crate::bundles::{bundle_of, only, with, without};
+use crate::bundles::{bundle_of, only, under, with, without};
 use crate::change::Change;
 use crate::page::Page;
 use crate::sizes::{HALF, PAGE};
 use crate::splice::{joined, spliced};
 use bundle_index::Indexed;
+use db_config::Config;
 use emu_names::{BundleKey, Memory, Series, Shared};
 use std::alloc::Global;
 
@@ -332,4 +335,26 @@ pub(crate) fn bundle_at<'a>(pages: &'a [Shared<Page>], place: usize) -> &'a Inde
         left -= bundles.len();
     }
     unreachable!()
+}
+
+/// The pages with each of their bundles made to fit a configuration. The only refusal is want of memory.
+#[tactic(auto, using(crate::proofs::Fitting::none_made, crate::proofs::Fitting::page_more, crate::proofs::Fitting::pages_whole, crate::proofs::Fitting::page_sized, crate::proofs::Fitting::pages_fitted))]
+pub(crate) fn pages_under(
+    alloc: Global,
+    pages: &[Shared<Page>],
+    config: &Config,
+) -> Result<Series<Shared<Page>>, Memory>
+    requires keeps { KeepPages pages.now }
+    requires fit { CanFitAll config.now (bundles_on pages.now) }
+    ensures bundles { IfOk result (λ made.
+        bundles_of (bundles_on made) ≡ fitted_of config.now (bundles_on pages.now)) }
+    ensures keeps { IfOk result KeepPages }
+{
+    let mut made = Series::new(alloc);
+    'pages: for page in pages {
+        let bundles = under(alloc, page.as_ref().as_slice(), config)?;
+        let next = Shared::new(alloc, Page::new(bundles))?;
+        made.push(next)?;
+    }
+    Ok(made)
 }

@@ -3,10 +3,13 @@ ghost use Rattle.std.specs.Prelude.{◌≡◌, ◌≢◌, ◌<◌, [], length, I
 ghost use Rattle.std.specs.List.{slice_get};
 ghost use Rattle.version_tree.specs.Inner.Version.{indexed_with, others, put_indexed};
 ghost use Rattle.version_tree.specs.Inner.Pages.{AreRising};
+ghost use Rattle.version_tree.specs.Inner.Under.{CanFitAll, fitted_of};
+ghost use Rattle.version_tree.specs.Version.{bundles_of};
 
 use crate::page::Page;
-use crate::pages::{bundle_at, bundle_on, pages_with, pages_without};
+use crate::pages::{bundle_at, bundle_on, pages_under, pages_with, pages_without};
 use bundle_index::Indexed;
+use db_config::Config;
 use emu_names::{BundleKey, Memory, PlainData, Series, Shared};
 use std::alloc::Global;
 use std::marker::Model;
@@ -73,6 +76,16 @@ impl Tree {
         ensures { IfOk result (λ made. made ≡ others key.now self.now) }
     {
         let pages = pages_without(alloc, self.pages.as_ref().as_slice(), key)?;
+        let pages = Shared::new(alloc, pages)?;
+        Ok(Tree { pages })
+    }
+
+    /// The bundles, each made to fit a configuration. The only refusal is want of memory.
+    pub(crate) fn under(&self, alloc: Global, config: &Config) -> Result<Tree, Memory>
+        requires { CanFitAll config.now self.now }
+        ensures { IfOk result (λ made. bundles_of made ≡ fitted_of config.now self.now) }
+    {
+        let pages = pages_under(alloc, self.pages.as_ref().as_slice(), config)?;
         let pages = Shared::new(alloc, pages)?;
         Ok(Tree { pages })
     }

@@ -3,13 +3,15 @@ ghost use Rattle.std.specs.Prelude.{◌≡◌, ◌≢◌, ◌<◌, [], length, I
 ghost use Rattle.std.specs.List.{slice_get};
 ghost use Rattle.std.specs.Option.{option_map};
 ghost use Rattle.emu_names.specs.declared.limits.TheConstants.{BUNDLES};
+ghost use Rattle.db_config.specs.Added.{Extends};
 ghost use Rattle.bundle_state.specs.Built.{FitsConfig};
 ghost use Rattle.bundle_state.specs.Valid.{KeepsBundleRules};
 ghost use Rattle.edit_rules.specs.Database.{bundle_with, counts_of, empty_database};
+ghost use Rattle.edit_rules.specs.Effects.{fitted_database};
 ghost use Rattle.version_tree.specs.Inner.Kept.{counts_in};
 ghost use Rattle.version_tree.specs.Inner.Pages.{AreRising};
 ghost use Rattle.version_tree.specs.Version.{bundles_of, state_of};
-ghost use Rattle.version_tree.specs.Inner.Version.{KeepsVersionRules, first_version, indexed_with, others, put_indexed, state_put, version_with, version_without};
+ghost use Rattle.version_tree.specs.Inner.Version.{IsUnder, KeepsVersionRules, first_version, indexed_with, others, put_indexed, state_put, version_with, version_without};
 
 use crate::tree::Tree;
 use bundle_index::Indexed;
@@ -25,7 +27,7 @@ use std::marker::Model;
 /// It is never changed. It always keeps the rules: at most 10,000 bundles, whose keys rise strictly, and
 /// each of which keeps the rules of bundles and has the configuration's levels and link definitions. A copy
 /// shares all of it, and the next version shares the configuration and all bundles but the one that is put
-/// or taken out.
+/// or taken out; under another configuration it shares with each bundle what nothing was added to.
 #[derive(Drop)]
 pub struct Version {
     config: Shared<Config>,
@@ -106,6 +108,26 @@ impl Version {
         })
     }
 
+    /// The next version, under a configuration that begins with this one's: each bundle is made to fit it. This one
+    /// stays as it is. The number of edits is one more, and stands still at 2^64 - 1. The only refusal is want of
+    /// memory.
+    pub fn with_config(&self, alloc: Global, config: Config) -> Result<Version, Memory>
+        requires { Extends self.now.config config }
+        ensures version { IfOk result (IsUnder config self.now) }
+        ensures state { IfOk result (λ next.
+            state_of next ≡ fitted_database (state_of self.now) config) }
+    {
+        let _count = self.len();
+        let bundles = self.bundles.under(alloc, &config)?;
+        let config = Shared::new(alloc, config)?;
+        Ok(Version {
+            config,
+            bundles,
+            counts: self.counts,
+            number: self.number.saturating_add(1),
+        })
+    }
+
     /// The bundle of a key, found by halving. It takes no memory.
     pub fn get(&self, key: &BundleKey) -> Option<&Indexed>
         ensures bundle { option_copied result ≡ indexed_with key.now self.now.bundles }
@@ -152,6 +174,13 @@ impl Version {
         ensures { result.now ≡ self.now.config }
     {
         self.config.as_ref()
+    }
+
+    /// The configuration, with one owner more. The only refusal is want of memory.
+    pub fn shared_config(&self, alloc: Global) -> Result<Shared<Config>, Memory>
+        ensures { IfOk result (λ made. made ≡ self.now.config) }
+    {
+        self.config.copy(alloc)
     }
 
     /// The same version again, which shares all that it has. The only refusal is want of memory.

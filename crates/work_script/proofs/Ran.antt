@@ -2,8 +2,8 @@
 use Rattle.std.proofs.Common.{◌≡◌, ℕ, ◌+◌, Bool, List, [], length, Result, Ok, Err, IfOk, ◌∙◌, subst}
 use Rattle.emu_names.specs.declared.shortage.Memory.{Memory}
 use Rattle.db_config.specs.declared.parts.ConfigParts.{ConfigParts}
-use Rattle.edit_rules.specs.declared.bundle_change.Counts.{Counts}
-use Rattle.edit_rules.specs.declared.edit.Entry.{Entry}
+use Rattle.bundle_edits.specs.declared.bundle_change.Counts.{Counts}
+use Rattle.edit_rules.specs.declared.acts.Entry.{Entry}
 use Rattle.live_book.specs.Commits.{has_journal}
 use Rattle.live_book.specs.Kept.{BookParts, faults_in}
 use Rattle.live_run.specs.declared.run.Ended.{Ended}

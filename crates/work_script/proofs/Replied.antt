@@ -2,8 +2,8 @@
 use Rattle.std.proofs.Common.{◌≡◌, ◌⊎◌, inl, inr, ℕ, ◌+◌, ◌≤◌, Bool, true, List, [], ◌∷◌, length, Option, Some, None, Ok, Err, refl, sym, ap, subst, eq-eqb}
 use Rattle.std.specs.List.{list_all}
 use Rattle.db_config.specs.declared.parts.ConfigParts.{ConfigParts}
-use Rattle.edit_rules.specs.declared.edit.Edit.{Edit}
-use Rattle.edit_rules.specs.declared.edit.Entry.{Entry}
+use Rattle.edit_rules.specs.declared.acts.Act.{Act}
+use Rattle.edit_rules.specs.declared.acts.Entry.{Entry}
 use Rattle.session_core.specs.declared.line.Answer.{Answer}
 use Rattle.session_core.specs.declared.line.Answer.TheVariants.{Done, Segments, Refused}
 use Rattle.session_core.specs.declared.line.Ask.{Ask}
@@ -36,21 +36,21 @@ number_of n (x ∷ xs) e (inr more) =
 record IsToldBy (ts : List Turn) (m : NumberedEntry) : Type 0 where
   turn : Turn
   there : Has ts turn
-  edit : Edit
-  request : turn.line.request ≡ requests.Edit (Ok edit)
-  entry : m.entry ≡ entry_of turn.line edit
+  act : Act
+  request : turn.line.request ≡ requests.Edit (Ok act)
+  entry : m.entry ≡ entry_of turn.line act
 
 told_by : (ts : List Turn) (m : NumberedEntry) → Has (accepted ts) m → IsToldBy ts m
 told_by [] m has = absurd has
 told_by (t ∷ ts) m has = by (has_either (accepting t.line t.line.request t.reply.n t.reply.answer) (accepted ts) m has) (λ more. told_by ts m more)
   where
     own : (request : Request) (n : Option ℕ) (answer : Answer) → t.line.request ≡ request → Has (accepting t.line request n answer) m → IsToldBy (t ∷ ts) m
-    own (requests.Edit (Ok edit)) (Some n) (Done command) is (inl same) =
-        record { turn = t; there = inl refl; edit = edit; request = is; entry = sym (ap (λ (x : NumberedEntry). x.entry) same) }
-    own (requests.Edit (Ok edit)) (Some n) (Done command) is (inr none) = absurd none
-    own (requests.Edit (Ok edit)) (Some n) (Segments rows) is none = absurd none
-    own (requests.Edit (Ok edit)) (Some n) (Refused refusal) is none = absurd none
-    own (requests.Edit (Ok edit)) None answer is none = absurd none
+    own (requests.Edit (Ok act)) (Some n) (Done command) is (inl same) =
+        record { turn = t; there = inl refl; act = act; request = is; entry = sym (ap (λ (x : NumberedEntry). x.entry) same) }
+    own (requests.Edit (Ok act)) (Some n) (Done command) is (inr none) = absurd none
+    own (requests.Edit (Ok act)) (Some n) (Segments rows) is none = absurd none
+    own (requests.Edit (Ok act)) (Some n) (Refused refusal) is none = absurd none
+    own (requests.Edit (Ok act)) None answer is none = absurd none
     own (requests.Edit (Err fault)) n answer is none = absurd none
     own (requests.Query ask) n answer is none = absurd none
     own (requests.Look ask) n answer is none = absurd none
@@ -61,7 +61,7 @@ told_by (t ∷ ts) m has = by (has_either (accepting t.line t.line.request t.rep
     by (inl here) later = own t.line.request t.reply.n t.reply.answer refl here
     by (inr more) later =
         let rest = later more in
-        record { turn = rest.turn; there = inr rest.there; edit = rest.edit; request = rest.request; entry = rest.entry }
+        record { turn = rest.turn; there = inr rest.there; act = rest.act; request = rest.request; entry = rest.entry }
 
 module _ (c : ConfigParts) (script : List Line) (replies : List Reply) (H : List Entry) (store : Bool) (before now : ℕ) (legal : Legal c [] script replies H store before now) where
   abbrev pub turns : List Turn
@@ -100,9 +100,9 @@ module _ (c : ConfigParts) (script : List Line) (replies : List Reply) (H : List
   pub record IsOfLine (e : Entry) : Type 0 where
     pub line : Line
     pub there : Has script line
-    pub edit : Edit
-    pub request : line.request ≡ requests.Edit (Ok edit)
-    pub entry : e ≡ entry_of line edit
+    pub act : Act
+    pub request : line.request ≡ requests.Edit (Ok act)
+    pub entry : e ≡ entry_of line act
 
   pub entry_from : (e : Entry) → Has H e → IsOfLine e
   entry_from e has =
@@ -113,7 +113,7 @@ module _ (c : ConfigParts) (script : List Line) (replies : List Reply) (H : List
       let told : Has (accepted turns) m =
       filter_in (has_number n.at) (accepted turns) m (subst (λ (ms : List NumberedEntry). Has ms m) (sym (legal.whole.one_entry n.at)) there) in
       let by = told_by turns m told in
-      record { line = by.turn.line; there = line_there by.turn by.there; edit = by.edit; request = by.request; entry = by.entry }
+      record { line = by.turn.line; there = line_there by.turn by.there; act = by.act; request = by.request; entry = by.entry }
 
   -- an answer to a request is right
   abbrev pub Right : Line → Request → Option ℕ → Answer → Type 0
@@ -136,18 +136,18 @@ module _ (c : ConfigParts) (script : List Line) (replies : List Reply) (H : List
   query_right l ask n given answer told is same right =
       (subst (λ (a : Answer). Right l (requests.Query ask) (Some n) a) same (subst (λ (o : Option ℕ). Right l (requests.Query ask) o answer) is right)).2
 
-  edit_kept : (l : Line) (edit : Edit) (n : Option ℕ) (answer : Answer) → Right l (requests.Edit (Ok edit)) n answer → is_taken answer ≡ true → Has H (entry_of l edit)
-  edit_kept l edit None (Done command) right kept = absurd right
-  edit_kept l edit None (Segments rows) right kept = absurd right
-  edit_kept l edit None (Refused refusal) right kept = absurd cc
-  edit_kept l edit (Some n) (Done command) right kept = has_at H right.2.before (entry_of l edit) right.2.entry
-  edit_kept l edit (Some n) (Segments rows) right kept = absurd right.2
-  edit_kept l edit (Some n) (Refused refusal) right kept = absurd cc
+  edit_kept : (l : Line) (act : Act) (n : Option ℕ) (answer : Answer) → Right l (requests.Edit (Ok act)) n answer → is_taken answer ≡ true → Has H (entry_of l act)
+  edit_kept l act None (Done command) right kept = absurd right
+  edit_kept l act None (Segments rows) right kept = absurd right
+  edit_kept l act None (Refused refusal) right kept = absurd cc
+  edit_kept l act (Some n) (Done command) right kept = has_at H right.2.before (entry_of l act) right.2.entry
+  edit_kept l act (Some n) (Segments rows) right kept = absurd right.2
+  edit_kept l act (Some n) (Refused refusal) right kept = absurd cc
 
   -- where no line was refused, the edit of each line is an entry
-  pub edit_there : list_all (λ (r : Reply). is_taken r.answer) replies ≡ true → (l : Line) (edit : Edit) → Has script l → l.request ≡ requests.Edit (Ok edit) → Has H (entry_of l edit)
-  edit_there taken l edit has is =
+  pub edit_there : list_all (λ (r : Reply). is_taken r.answer) replies ≡ true → (l : Line) (act : Act) → Has script l → l.request ≡ requests.Edit (Ok act) → Has H (entry_of l act)
+  edit_there taken l act has is =
       let on = turn_there l has in
       let t : Turn = on.turn in
-      edit_kept l edit t.reply.n t.reply.answer (right_for t l (requests.Edit (Ok edit)) on.there on.own is)
+      edit_kept l act t.reply.n t.reply.answer (right_for t l (requests.Edit (Ok act)) on.there on.own is)
       (all_at (λ (r : Reply). is_taken r.answer) replies t.reply taken (reply_there t on.there))

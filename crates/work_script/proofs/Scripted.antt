@@ -1,11 +1,11 @@
 -- The lines of the script of work: its edits are the additions of its bundles, and a line's number says what it asks.
 use Rattle.std.proofs.Common.{◌≡◌, ◌⊎◌, inl, inr, ℕ, suc, ◌+◌, ◌<◌, List, [], ◌∷◌, ◌++◌, length, Ok, sym, ◌∙◌, ap, subst}
-use Rattle.edit_rules.specs.declared.edit.Edit.{Edit}
+use Rattle.edit_rules.specs.declared.acts.Act.{Act}
 use Rattle.session_core.specs.declared.line.Line.{Line}
 use Rattle.session_core.specs.declared.line.Request.{Request}
 use Rattle.session_core.specs.declared.line.Request.TheVariants as requests
 use Rattle.work_script.specs.Script.{each, work_queries}
-use Rattle.work_script.specs.Inner.Script.{adding, last_of, others, wait_of, waits, work_edit}
+use Rattle.work_script.specs.Inner.Script.{adding, last_of, others, wait_of, waits, work_act}
 use Rattle.work_script.specs.Inner.Lines.{AreAsking, IsAsking, IsScript}
 use Rattle.work_script.specs.Inner.Replies.{Has}
 use Rattle.work_script.proofs.Lists.{IsEach, each_has, has_each, has_either, has_left}
@@ -25,11 +25,11 @@ ask_of line (text ∷ texts) (k ∷ ks) l asking (inr more) =
     let rest = ask_of (suc line) texts ks l asking.1 more in
     record { line = rest.line; text = rest.text; asks = rest.asks }
 
-edit_of : (one two : Edit) → ◌≡◌ {A = Request} (requests.Edit (Ok one)) (requests.Edit (Ok two)) → one ≡ two
-edit_of one two same = cc
+act_of : (one two : Act) → ◌≡◌ {A = Request} (requests.Edit (Ok one)) (requests.Edit (Ok two)) → one ≡ two
+act_of one two same = cc
 
-no_wait : (earlier : ℕ) (edit : Edit) → requests.After earlier ≡ requests.Edit (Ok edit) → ⊥
-no_wait earlier edit same = cc
+no_wait : (earlier : ℕ) (act : Act) → requests.After earlier ≡ requests.Edit (Ok act) → ⊥
+no_wait earlier act same = cc
 
 module _ (number count : ℕ) (lines : List Line) (script : IsScript number count lines) where
   abbrev pub added : List Line
@@ -42,32 +42,32 @@ module _ (number count : ℕ) (lines : List Line) (script : IsScript number coun
       (has_left added (waits count) (adding number k) (each_has (adding number) count k low)))
 
   -- an edit of the script adds one of its bundles
-  pub record IsAddition (edit : Edit) : Type 0 where
+  pub record IsAddition (act : Act) : Type 0 where
     pub bundle : ℕ
     pub low : bundle < count
-    pub is : edit ≡ work_edit number bundle
+    pub is : act ≡ work_act number bundle
 
-  pub edit_is : (l : Line) (edit : Edit) → Has lines l → l.request ≡ requests.Edit (Ok edit) → IsAddition edit
-  edit_is l edit has is =
+  pub edit_is : (l : Line) (act : Act) → Has lines l → l.request ≡ requests.Edit (Ok act) → IsAddition act
+  edit_is l act has is =
       by (has_either (added ++ waits count) script.asks l (subst (λ (ls : List Line). Has ls l) script.whole has))
     where
-      front : Has added l ⊎ Has (waits count) l → IsAddition edit
+      front : Has added l ⊎ Has (waits count) l → IsAddition act
       front (inl add) =
           let from : IsEach (adding number) count l = has_each (adding number) count l add in
           record {
             bundle = from.at;
             low = from.low;
-            is = edit_of edit (work_edit number from.at) (sym is ∙ ap (λ (k : Line). k.request) (sym from.value));
+            is = act_of act (work_act number from.at) (sym is ∙ ap (λ (k : Line). k.request) (sym from.value));
           }
       front (inr wait) =
           let from : IsEach (wait_of count) (others count) l = has_each (wait_of count) (others count) l wait in
-          absurd (no_wait (last_of count (from.at + 2) + 2) edit (ap (λ (k : Line). k.request) from.value ∙ is))
+          absurd (no_wait (last_of count (from.at + 2) + 2) act (ap (λ (k : Line). k.request) from.value ∙ is))
 
-      by : Has (added ++ waits count) l ⊎ Has script.asks l → IsAddition edit
+      by : Has (added ++ waits count) l ⊎ Has script.asks l → IsAddition act
       by (inl has) = front (has_either added (waits count) l has)
       by (inr ask) =
           let from = ask_of (length (added ++ waits count) + 2) work_queries script.asks l script.asking ask in
           absurd (not_both from.asks.request is)
         where
-          not_both : {q : _} → l.request ≡ requests.Query q → l.request ≡ requests.Edit (Ok edit) → ⊥
+          not_both : {q : _} → l.request ≡ requests.Query q → l.request ≡ requests.Edit (Ok act) → ⊥
           not_both first second = cc

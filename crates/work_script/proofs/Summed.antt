@@ -1,8 +1,8 @@
 -- The summary of a run of the script of work is that of the database in which all its bundles stand.
 use Rattle.std.proofs.Common.{◌≡◌, ℕ, ◌+◌, ◌-◌, ◌<◌, List, [], ◌++◌, length, take_all, Some, refl, sym, ◌∙◌, ap, subst, arith, length-append, slice_get}
-use Rattle.edit_rules.specs.declared.edit.Entry.{Entry}
+use Rattle.edit_rules.specs.declared.acts.Entry.{Entry}
 use Rattle.db_config.specs.declared.parts.ConfigParts.{ConfigParts}
-use Rattle.edit_rules.specs.declared.bundle_change.Counts.{Counts}
+use Rattle.bundle_edits.specs.declared.bundle_change.Counts.{Counts}
 use Rattle.edit_rules.specs.Database.{DatabaseParts, counts_of, empty_database}
 use Rattle.edit_rules.specs.Effects.{database_after, found_or}
 use Rattle.version_tree.specs.Version.{VersionParts, state_of}
@@ -39,8 +39,8 @@ module _ (number count : ℕ) (lines : List Line) (script : IsScript number coun
   adds : (e : Entry) → Has H e → AddsOne number count e
   adds e has =
       let from = entry_from work_config lines replies H store before now legal e has in
-      let is = edit_is number count lines script from.line from.edit from.there from.request in
-      record { bundle = is.bundle; low = is.low; is = ap (λ (x : Entry). x.edit) from.entry ∙ is.is }
+      let is = edit_is number count lines script from.line from.act from.there from.request in
+      record { bundle = is.bundle; low = is.low; is = ap (λ (x : Entry). x.act) from.entry ∙ is.is }
 
   all : (k : ℕ) → k < count → IsAddedIn number k H
   all k low = record {

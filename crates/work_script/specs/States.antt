@@ -6,8 +6,10 @@ use Rattle.db_config.specs.declared.parts.ConfigParts.{ConfigParts}
 use Rattle.db_config.specs.Valid.{is_valid}
 use Rattle.bundle_state.specs.Bundle.{BundleParts}
 use Rattle.bundle_state.specs.Built.{built}
-use Rattle.edit_rules.specs.declared.edit.Edit.TheVariants.{AddBundle}
-use Rattle.edit_rules.specs.declared.edit.Entry.{Entry}
+use Rattle.bundle_edits.specs.declared.edit.Edit.TheVariants.{AddBundle}
+use Rattle.edit_rules.specs.declared.acts.Act.{Act}
+use Rattle.edit_rules.specs.declared.acts.Act.TheVariants as acts
+use Rattle.edit_rules.specs.declared.acts.Entry.{Entry}
 use Rattle.edit_rules.specs.Database.{DatabaseParts, KeepsDatabaseRules, bundle_with, same_key}
 use Rattle.edit_rules.specs.Effects.{after}
 use Rattle.work_script.specs.Script.{work_annot, work_config, work_key}
@@ -22,15 +24,19 @@ pub record IsWorkState (number count : ℕ) (state : DatabaseParts) : Type 0 whe
   pub only : (key : BundleKey) → ((k : ℕ) → k < count → same_key (work_key k) key ≡ false)
       → bundle_with key state.bundles ≡ None
 
--- an edit is one of these
+-- the act that adds a bundle, and nothing else
+abbrev pub addition : BundleKey → Annot → Act
+addition key annot = acts.Edits (AddBundle key annot ∷ [])
+
+-- an addition is one of these
 abbrev pub Adds : List Entry → BundleKey → Annot → Type 0
 Adds [] key annot = ⊥
-Adds (e ∷ es) key annot = (e.edit ≡ AddBundle key annot) ⊎ Adds es key annot
+Adds (e ∷ es) key annot = (e.act ≡ addition key annot) ⊎ Adds es key annot
 
 -- each entry adds a bundle
 abbrev pub AreAdditions : List Entry → Type 0
 AreAdditions [] = Unit {0}
-AreAdditions (e ∷ es) = ((key : BundleKey) × (annot : Annot) × (e.edit ≡ AddBundle key annot)) × AreAdditions es
+AreAdditions (e ∷ es) = ((key : BundleKey) × (annot : Annot) × (e.act ≡ addition key annot)) × AreAdditions es
 
 -- two histories have the same additions, in any order
 abbrev pub HaveSameAdditions : List Entry → List Entry → Type 0

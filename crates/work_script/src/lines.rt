@@ -8,7 +8,7 @@ ghost use Rattle.work_script.specs.Inner.Lines.{AreAsking, IsAsking, IsScript};
 
 use crate::annotation::work_annot;
 use crate::config::name_of;
-use edit_rules::Edit;
+use edit_rules::{Act, Edit, Edits};
 use emu_names::{BundleKey, Memory, Name, SessionNo};
 use eql_resolve::prepare;
 use label_match::PatternMaker;
@@ -61,11 +61,12 @@ fn adding(alloc: Global, number: u64, bundle: u32) -> Result<Line, Memory>
 {
     let key = work_key(alloc, bundle)?;
     let annot = work_annot(alloc, number, bundle)?;
+    let edits = Edits::one(alloc, Edit::AddBundle { key, annot })?;
     Ok(Line {
         line: bundle + 2,
         session: SessionNo(bundle % 4 + 1),
         command: Command::AddBundle,
-        request: Request::Edit(Ok(Edit::AddBundle { key, annot })),
+        request: Request::Edit(Ok(Act::Edits(edits))),
     })
 }
 

@@ -73,7 +73,7 @@ IsNoStoreFor reads faults old Memory new = Unit {0}
 -- entries were read of their codes, and their version was made
 pub record IsReplay (own : ConfigParts) (texts : List (List ℕ)) (replayed : Replayed) : Type 0 where
   pub valid : IsTrue (is_valid own)
-  pub config : replayed.version.config ≡ own
+  pub opening : replayed.opening ≡ own
   pub entries : AreEntryCodes texts replayed.entries
   pub few : length replayed.entries ≤ HISTORY_EDITS
   pub state : IsStateAfter own replayed.entries replayed.version

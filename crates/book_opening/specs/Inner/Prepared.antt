@@ -3,9 +3,9 @@ use Rattle.std.specs.Prelude.{◌≡◌, ℕ, List, [], ◌∷◌, ◌++◌, len
 use Rattle.std.specs.Arc.{arc_value}
 use Rattle.db_config.specs.declared.parts.ConfigParts.{ConfigParts}
 use Rattle.db_config.specs.Valid.{is_valid}
-use Rattle.emu_names.specs.declared.rules.Broken.{Broken}
-use Rattle.edit_rules.specs.declared.edit.Edit.{Edit}
-use Rattle.edit_rules.specs.declared.edit.Entry.{Entry}
+use Rattle.edit_rules.specs.declared.acts.Act.{Act}
+use Rattle.edit_rules.specs.declared.acts.Breach.{Breach}
+use Rattle.edit_rules.specs.declared.acts.Entry.{Entry}
 use Rattle.edit_rules.specs.Effects.{effect}
 use Rattle.edit_code.specs.Codes.{head_code, IsHeadCode}
 use Rattle.edit_journal.specs.declared.body.Body.{Body}
@@ -36,9 +36,9 @@ IsHistoryOf [] replayed = ⊥
 IsHistoryOf (head ∷ texts) replayed =
     (config : ConfigParts) × IsHeadCode head config × IsReplay config texts replayed
 
--- an edit breaks a rule behind a version
-abbrev pub BreaksRule : VersionParts → Edit → Type 0
-BreaksRule version edit = (rule : Broken) × (effect (state_of version) edit ≡ Err rule)
+-- an act breaks a rule behind a version
+abbrev pub BreaksRule : VersionParts → Act → Type 0
+BreaksRule version act = (breach : Breach) × (effect (state_of version) act ≡ Err breach)
 
 -- of the bodies behind a configuration, the first that cannot be the next entry
 pub record IsWrongTail (config : ConfigParts) (bodies : List Body) (at : ℕ) : Type 0 where
@@ -55,7 +55,7 @@ pub record IsWrongTail (config : ConfigParts) (bodies : List Body) (at : ℕ) : 
 -- a book of a history that was read, over this journal
 abbrev pub IsOpenedBook : {D : Type 0} → (D → List ℕ → Type 0) → Journal D → Replayed → ℕ → Opened D → Type 0
 IsOpenedBook may_leave old replayed readers (stores.Stored book passes) =
-    (book.config ≡ replayed.version.config) × (book.history ≡ replayed.entries)
+    (book.config ≡ replayed.opening) × (book.history ≡ replayed.entries)
     × (book.opened ≡ length replayed.entries) × (book.journal ≡ Some old) × AreAtFront readers book passes
 IsOpenedBook may_leave old replayed readers (stores.Bare journal) = ⊥
 
@@ -94,6 +94,7 @@ pub record IsBegun {D : Type 0} (journal : Option (Journal D)) (config : ConfigP
   pub frame : IsHeadFrameOf config journal begun.frame
   pub coded : has_journal journal ≡ true → IsHeadCode (head_code config) config
   pub fits : IsHeadTooMuch (has_journal journal) config → ⊥
+  pub opening : begun.opening ≡ config
   pub entries : begun.entries ≡ []
   pub shown : IsFirstShown (first_version config) 0 readers begun.shown
 

@@ -1,5 +1,5 @@
 -- The columns that are kept of the levels of a bundle.
-use Rattle.std.specs.Prelude.{◌≡◌, ◌≢◌, ℕ, ◌<◌, List, [], length, map, get_or, Some}
+use Rattle.std.specs.Prelude.{◌≡◌, ◌≢◌, ℕ, ◌<◌, Bool, false, List, [], length, map, get_or, Some}
 use Rattle.std.specs.List.{slice_get}
 use Rattle.emu_names.specs.declared.kinds.LevelKind.TheVariants as kinds
 use Rattle.level_items.specs.declared.items.Item.{Item}
@@ -34,12 +34,17 @@ pub record AreColumnsOf (numbered : List (List ℕ)) (level : Level) (columns : 
   pub starts : level.kind ≢ kinds.Item → columns.starts ≡ starts_of level.items
   pub ends : level.kind ≢ kinds.Item → columns.ends ≡ ends_of level.items
 
--- the columns of each level but one are those of the level
-pub record AreColumnsBut (numbered : List (List ℕ)) (levels : List Level) (changed : ℕ)
+-- there are columns of each level that is not marked, and they are those of the level
+pub record AreColumnsBut (numbered : List (List ℕ)) (levels : List Level) (marked : List Bool)
     (all : List LevelColumns) : Type 0 where
-  pub each : (k : ℕ) (level : Level) (columns : LevelColumns) → k ≢ changed →
+  pub there : (k : ℕ) (level : Level) → get_or marked k false ≡ false → slice_get levels k ≡ Some level → k < length all
+  pub each : (k : ℕ) (level : Level) (columns : LevelColumns) → get_or marked k false ≡ false →
       slice_get levels k ≡ Some level → slice_get all k ≡ Some columns →
       AreColumnsOf numbered level columns
+
+-- each level that is not marked is as it was; there may be other ones, which are marked
+abbrev pub AreSameBut : List Bool → List Level → List Level → Type 0
+AreSameBut marked old new = (k : ℕ) → get_or marked k false ≡ false → slice_get new k ≡ slice_get old k
 
 -- there are as many levels as before, and each but one is as it was
 pub record AreOtherwiseSame (old new : List Level) (changed : ℕ) : Type 0 where

@@ -1,5 +1,5 @@
 -- Words of contracts and loops beside `specs/Index.antt`; no promise of the program rests on them.
-use Rattle.std.specs.Prelude.{◌≢◌, ℕ, Bool, true, false, List, [], ◌∷◌, length, get_or, if◌then◌else◌, Some}
+use Rattle.std.specs.Prelude.{◌≢◌, ℕ, Bool, true, false, List, [], ◌∷◌, length, if◌then◌else◌, Some}
 use Rattle.std.specs.List.{slice_get}
 use Rattle.level_items.specs.Levels.{label_of}
 use Rattle.std.specs.Option.{option_map, option_map_or}

@@ -1,7 +1,6 @@
 -- Words of contracts and loops beside `specs/Faults.antt`; no promise of the program rests on them.
 use Rattle.std.specs.Prelude.{Result}
 use Rattle.emu_names.specs.Inner.Gives.{ShowsAs}
-use Rattle.json_view.specs.declared.faults.Shape.{Shape}
 use Rattle.json_view.specs.declared.faults.ViewFault.{ViewFault}
 use Rattle.json_view.specs.declared.faults.ViewFault.TheVariants as view_faults
 use Rattle.config_json.specs.declared.faults.ConfigFault.{ConfigFault}

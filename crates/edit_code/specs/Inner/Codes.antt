@@ -1,15 +1,15 @@
 -- Words of contracts and loops beside `specs/Codes.antt`; no promise of the program rests on them.
-use Rattle.std.specs.Prelude.{◌≡◌, ℕ, ◌-◌, Bool, if◌then◌else◌, List, length, nat_lt, Result, Ok, Err}
+use Rattle.std.specs.Prelude.{◌≡◌, ℕ, ◌-◌, Bool, true, false, if◌then◌else◌, List, length, nat_lt, Option, Some, None, Result, Ok, Err}
 use Rattle.db_config.specs.declared.parts.ConfigParts.{ConfigParts}
-use Rattle.edit_rules.specs.declared.edit.Entry.{Entry}
+use Rattle.edit_rules.specs.declared.acts.Entry.{Entry}
 use Rattle.byte_forms.specs.Forms.{Form}
 use Rattle.byte_forms.specs.Inner.Forms.{StopsAt}
 use Rattle.edit_code.specs.declared.fault.CodeFault.{CodeFault}
 use Rattle.edit_code.specs.declared.fault.CodeFault.TheVariants as faults
 use Rattle.edit_code.specs.Edits.{entry_form}
-use Rattle.edit_code.specs.Heads.{head_form}
+use Rattle.value_codes.specs.Heads.{head_form}
 use Rattle.db_config.specs.Valid.{is_config}
-use Rattle.edit_code.specs.Names.{has_names}
+use Rattle.edit_code.specs.Names.{is_entry}
 
 -- an entry has a code: each of its texts has fewer than 2^32 bytes, and each of its lists fewer than 2^32 elements
 unfoldable pub HasCode : Entry → Type 0
@@ -32,7 +32,7 @@ tested test bytes (Err at) = Err at
 
 -- the entry whose code the bytes are, or the place where they are none
 unfoldable pub entry_of : List ℕ → Result Entry ℕ
-entry_of bytes = tested has_names bytes (whole bytes (entry_form.read bytes))
+entry_of bytes = tested is_entry bytes (whole bytes (entry_form.read bytes))
 
 -- the configuration whose code the bytes are, or the place where they are none
 unfoldable pub head_of : List ℕ → Result ConfigParts ℕ
@@ -43,6 +43,13 @@ abbrev pub Answers : {A : Type 0} → Result A CodeFault → Result A ℕ → Ty
 Answers (Ok v) there = there ≡ Ok v
 Answers (Err (faults.NotAnEntry at)) there = there ≡ Err at
 Answers (Err faults.Memory) there = Unit {0}
+
+-- it answers the value, if it passes the test, and none for one that does not, or the place
+abbrev pub AnswersIf : {A : Type 0} → (A → Bool) → Result (Option A) CodeFault → Result A ℕ → Type 0
+AnswersIf test (Ok (Some v)) there = (there ≡ Ok v) × (test v ≡ true)
+AnswersIf {A = A} test (Ok None) there = (v : A) × (there ≡ Ok v) × (test v ≡ false)
+AnswersIf test (Err (faults.NotAnEntry at)) there = there ≡ Err at
+AnswersIf test (Err faults.Memory) there = Unit {0}
 
 -- it answers this value, unless memory runs out
 abbrev pub IsReadAs : {A : Type 0} → A → Result A CodeFault → Type 0

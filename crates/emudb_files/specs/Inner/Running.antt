@@ -2,8 +2,8 @@
 use Rattle.std.specs.Prelude.{◌≡◌, ◌⊎◌, ℕ, List, ◌++◌, map, true, Option, None, Result, Ok, Err}
 use mathlib.Core.List.{IsPrefix}
 use Rattle.emu_io.specs.declared.tree.Stored.{Stored}
-use Rattle.edit_rules.specs.declared.edit.Edit.{Edit}
-use Rattle.edit_rules.specs.declared.edit.Entry.{Entry}
+use Rattle.edit_rules.specs.declared.acts.Act.{Act}
+use Rattle.edit_rules.specs.declared.acts.Entry.{Entry}
 use Rattle.live_book.specs.Kept.{BookParts, KeepsIn}
 use Rattle.live_book.specs.Commits.{has_journal}
 use Rattle.store_texts.specs.declared.faults.Refused.{Refused}
@@ -18,7 +18,7 @@ pub record IsKept {D : Type 0} (may_leave : D → List ℕ → Type 0) (lost : O
   pub keeps : KeepsIn may_leave book.config book.history lost book.journal
 
 -- these edits were accepted behind a book's history, each as an entry of the program
-pub record IsBehind {D : Type 0} (old : BookParts D) (more : List Edit) (new : BookParts D) : Type 0 where
+pub record IsBehind {D : Type 0} (old : BookParts D) (more : List Act) (new : BookParts D) : Type 0 where
   pub config : new.config ≡ old.config
   pub history : new.history ≡ old.history ++ map own_entry more
   pub add : AddBundles more
@@ -26,25 +26,25 @@ pub record IsBehind {D : Type 0} (old : BookParts D) (more : List Edit) (new : B
 -- all that is wanted was accepted, and nothing is in doubt
 pub record Advances {D : Type 0} (may_leave : D → List ℕ → Type 0) (moment : D → ℕ)
     (left_since : D → ℕ → List ℕ → Type 0) (told : Option (List Stored))
-    (wanted : List Stored → List (Result Edit Refused)) (old new : BookParts D) : Type 0 where
-  pub more : List Edit
+    (wanted : List Stored → List (Result Act Refused)) (old new : BookParts D) : Type 0 where
+  pub more : List Act
   pub is_behind : IsBehind old more new
   pub kept : IsKept may_leave None new
   pub all : Told told (λ content. wanted content ≡ map Ok more)
   pub moments : LeavesAlong moment left_since old.journal new.journal (IsPart new.config new.history)
 
 -- while a run goes on that stops at this fault, an image stands for a beginning of its history, or for one edit more
-abbrev pub DuringStop : {D : Type 0} → BookParts D → List (Result Edit Refused) → CommandFault → List ℕ → Type 0
+abbrev pub DuringStop : {D : Type 0} → BookParts D → List (Result Act Refused) → CommandFault → List ℕ → Type 0
 DuringStop book next fault c =
     IsPart book.config book.history c ⊎ IsOneMore book.config book.history next fault c
 
 -- a front of what is wanted was accepted, and this fault came at what was taken next
 pub record Stops {D : Type 0} (may_leave : D → List ℕ → Type 0) (moment : D → ℕ)
     (left_since : D → ℕ → List ℕ → Type 0) (told : Option (List Stored))
-    (wanted : List Stored → List (Result Edit Refused)) (old : BookParts D) (fault : CommandFault) (new : BookParts D)
+    (wanted : List Stored → List (Result Act Refused)) (old : BookParts D) (fault : CommandFault) (new : BookParts D)
     : Type 0 where
-  pub more : List Edit
-  pub next : List (Result Edit Refused)
+  pub more : List Act
+  pub next : List (Result Act Refused)
   pub lost : Option Entry
   pub is_behind : IsBehind old more new
   pub kept : IsKept may_leave lost new
@@ -54,7 +54,7 @@ pub record Stops {D : Type 0} (may_leave : D → List ℕ → Type 0) (moment : 
 
 -- one or the other, by the answer
 abbrev pub Goes : {D T : Type 0} → (D → List ℕ → Type 0) → (D → ℕ) → (D → ℕ → List ℕ → Type 0)
-    → Option (List Stored) → (List Stored → List (Result Edit Refused)) → BookParts D → Result T CommandFault
+    → Option (List Stored) → (List Stored → List (Result Act Refused)) → BookParts D → Result T CommandFault
     → BookParts D → Type 0
 Goes may_leave moment left_since told wanted old (Ok x) new = Advances may_leave moment left_since told wanted old new
 Goes may_leave moment left_since told wanted old (Err fault) new =

@@ -1,5 +1,5 @@
 -- Which items of a level link to which of another.
-use Rattle.std.specs.Prelude.{◌≡◌, ◌≢◌, ℕ, Bool, List, All, map}
+use Rattle.std.specs.Prelude.{◌≡◌, ℕ, Bool, true, false, List, All, get_or, map}
 use Rattle.level_items.specs.Levels.{Level}
 use Rattle.link_graph.specs.declared.link.Link.{Link}
 use Rattle.bundle_state.specs.Bundle.{BundleParts}
@@ -21,6 +21,10 @@ pub record AreLinkedIn (bundle : BundleParts) (all : List LinkedLevels) : Type 0
   pub rules : KeepsBundleRules bundle
   pub each : All (λ one. one.closure ≡ linked_of bundle one.upper one.lower bundle.links) all
 
--- on each level but one the items have the same ids, in the same order
-abbrev pub HaveSameIdsBut : ℕ → List Level → List Level → Type 0
-HaveSameIdsBut level old new = (k : ℕ) → k ≢ level → ids_at new k ≡ ids_at old k
+-- on each level that is not marked the items have the same ids, in the same order
+abbrev pub HaveSameIdsBut : List Bool → List Level → List Level → Type 0
+HaveSameIdsBut marked old new = (k : ℕ) → get_or marked k false ≡ false → ids_at new k ≡ ids_at old k
+
+-- and so have they on each level that is marked
+abbrev pub HaveSameIdsOn : List Bool → List Level → List Level → Type 0
+HaveSameIdsOn marked old new = (k : ℕ) → get_or marked k false ≡ true → ids_at new k ≡ ids_at old k

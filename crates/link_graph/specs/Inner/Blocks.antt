@@ -1,8 +1,15 @@
 -- A list of links in blocks.
-use Rattle.std.specs.Prelude.{List}
+use Rattle.std.specs.Prelude.{◌≡◌, ◌≤◌, ◌<◌, ◌+◌, ℕ, List, [], length, take, get_or}
 use Rattle.std.specs.List.{flat_map}
 use Rattle.link_graph.specs.declared.link.Link.{Link}
+use Rattle.link_graph.specs.declared.blocks.BlockPlace.{BlockPlace}
 
 -- the links of all blocks, one block behind another
 abbrev pub joined : List (List Link) → List Link
 joined blocks = flat_map (λ block. block) blocks
+
+-- where a link at a place of all blocks stands: in a block, at a place of it; or behind all blocks
+pub record IsBlockPlace (blocks : List (List Link)) (place : ℕ) (found : BlockPlace) : Type 0 where
+  pub within : found.block ≤ length blocks
+  pub sum : place ≡ length (joined (take found.block blocks)) + found.place
+  pub inside : found.block < length blocks → found.place ≤ length (get_or blocks found.block [])

@@ -1,10 +1,14 @@
 -- Words of contracts and loops beside `specs/Kept.antt`; no promise of the program rests on them.
-use Rattle.std.specs.Prelude.{◌≡◌, ◌⊎◌, ℕ, ◌≤◌, List, [], ◌∷◌, ◌++◌, length, take, drop, Option, IsTrue}
+use Rattle.std.specs.Prelude.{◌≡◌, ◌⊎◌, ℕ, ◌+◌, ◌≤◌, List, [], ◌∷◌, ◌++◌, length, take, drop, Option, Ok, IsTrue}
 use Rattle.std.specs.Arc.{arc_value}
 use Rattle.emu_names.specs.declared.limits.TheConstants.{HISTORY_EDITS}
 use Rattle.db_config.specs.declared.parts.ConfigParts.{ConfigParts}
 use Rattle.db_config.specs.Valid.{is_valid}
-use Rattle.edit_rules.specs.declared.edit.Entry.{Entry}
+use Rattle.edit_rules.specs.declared.acts.Act.{Act}
+use Rattle.edit_rules.specs.declared.acts.Act.TheVariants as acts
+use Rattle.edit_rules.specs.declared.acts.Entry.{Entry}
+use Rattle.edit_rules.specs.Database.{DatabaseParts}
+use Rattle.edit_rules.specs.Effects.{after}
 use Rattle.edit_journal.specs.declared.journal.Journal.{Journal}
 use Rattle.version_gate.specs.Lists.{EndsIn, entry}
 use Rattle.version_gate.specs.Inner.Lists.{Board}
@@ -20,9 +24,24 @@ abbrev pub DuringStore : ConfigParts → List Entry → Option Entry → Entry �
 DuringStore config history lost next c =
     StandsOrLost config history lost c ⊎ Stands config (history ++ next ∷ []) c
 
--- the configuration of a book
+-- the configuration of a book's opening, which its journal holds
 abbrev pub config_in : {D : Type 0} → Parts D → ConfigParts
-config_in parts = (arc_value parts.current).version.config
+config_in parts = parts.opening
+
+-- the configuration that is in force
+abbrev pub present_in : {D : Type 0} → Parts D → ConfigParts
+present_in parts = (arc_value parts.current).version.config
+
+-- this is the configuration of each state after so many entries or more
+abbrev pub HasConfigSince : ConfigParts → List Entry → ℕ → ConfigParts → Type 0
+HasConfigSince own entries since config =
+    (n : ℕ) (database : DatabaseParts) → since ≤ n → n ≤ length entries → after own (take n entries) ≡ Ok database
+    → database.config ≡ config
+
+-- since how many entries the configuration behind an act has been in force, where so many stood before it
+abbrev pub since_behind : Act → ℕ → ℕ → ℕ
+since_behind (acts.Edits es) since count = since
+since_behind (acts.Config edit) since count = count + 1
 
 -- the journal of a book, if it has one, holds its configuration and history
 abbrev pub Holding : {D : Type 0} → (D → List ℕ → Type 0) → ConfigParts → List Entry
@@ -30,23 +49,26 @@ abbrev pub Holding : {D : Type 0} → (D → List ℕ → Type 0) → ConfigPart
 Holding may_leave config history journal =
     (lost : Option Entry) × KeepsIn may_leave config history lost journal
 
--- What a book always keeps, of its version in force, its entries, how many of them stood at the opening,
--- what its publisher has, and its journal
-pub record IsBookOf {D : Type 0} (may_leave : D → List ℕ → Type 0) (current : Published) (entries : List Entry)
-    (opened : ℕ) (board : Board Published) (journal : Option (Journal D)) : Type 0 where
-  pub valid : IsTrue (is_valid current.version.config)
+-- What a book always keeps, of its opening's configuration, its version in force, its entries, how many of them
+-- stood at the opening, since how many the configuration in force has been so, what its publisher has, and its
+-- journal
+pub record IsBookOf {D : Type 0} (may_leave : D → List ℕ → Type 0) (own : ConfigParts) (current : Published)
+    (entries : List Entry) (opened since : ℕ) (board : Board Published) (journal : Option (Journal D)) : Type 0 where
+  pub valid : IsTrue (is_valid own)
   pub few : length entries ≤ HISTORY_EDITS
   pub opened_some : opened ≤ length entries
+  pub settled : HasConfigSince own entries since current.version.config
   pub number : board.number ≡ length entries
-  pub state : IsStateAfter current.version.config entries current.version
-  pub shown : AreShown current.version.config (take opened entries) (drop opened entries) board.list
+  pub state : IsStateAfter own entries current.version
+  pub shown : AreShown own (take opened entries) (drop opened entries) board.list
   pub last : EndsIn board.list (entry (length entries) current)
-  pub held : Holding may_leave current.version.config entries journal
+  pub held : Holding may_leave own entries journal
 
 -- what the fields of a book always keep
 abbrev pub IsBook : {D : Type 0} → (D → List ℕ → Type 0) → Parts D → Type 0
 IsBook may_leave parts =
-    IsBookOf may_leave (arc_value parts.current) parts.entries parts.opened parts.publisher parts.journal
+    IsBookOf may_leave parts.opening (arc_value parts.current) parts.entries parts.opened parts.since parts.publisher
+    parts.journal
 
 -- what contracts see of a book's fields
 abbrev pub book_of : {D : Type 0} → Parts D → BookParts D

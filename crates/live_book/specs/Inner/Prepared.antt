@@ -1,10 +1,10 @@
 -- What a commit has ready before it calls the disk.
 use Rattle.std.specs.Prelude.{◌≡◌, ℕ, List, [], ◌∷◌, ◌++◌, Bool, true, false, Option, None, Some, Result, Ok, Err}
 use Rattle.std.specs.Arc.{arc_value}
-use Rattle.emu_names.specs.declared.rules.Fault.{Fault}
-use Rattle.emu_names.specs.declared.rules.Fault.TheVariants as faults
 use Rattle.db_config.specs.declared.parts.ConfigParts.{ConfigParts}
-use Rattle.edit_rules.specs.declared.edit.Entry.{Entry}
+use Rattle.edit_rules.specs.declared.acts.ChangeFault.{ChangeFault}
+use Rattle.edit_rules.specs.declared.acts.ChangeFault.TheVariants as faults
+use Rattle.edit_rules.specs.declared.acts.Entry.{Entry}
 use Rattle.edit_code.specs.Codes.{entry_code}
 use Rattle.edit_journal.specs.declared.journal.Journal.{Journal}
 use Rattle.version_gate.specs.Lists.{entry}
@@ -58,9 +58,9 @@ abbrev pub HoldsSome : {D : Type 0} → (D → List ℕ → Type 0) → Option (
 HoldsSome may_leave journal =
     (config : ConfigParts) × (history : List Entry) × Holding may_leave config history journal
 
--- the refusal of an edit after so many entries
-abbrev pub refusal_of : Fault → ℕ → EditFault
-refusal_of (faults.Broken rule) number = edit_faults.Broken rule number
+-- the refusal of an act after so many entries
+abbrev pub refusal_of : ChangeFault → ℕ → EditFault
+refusal_of (faults.Broken breach) number = edit_faults.Broken breach number
 refusal_of faults.Memory number = edit_faults.Memory
 
 -- what a commit has ready is that of an entry after a history
@@ -68,7 +68,6 @@ pub record IsReady {D : Type 0} (journal : Option (Journal D)) (own : ConfigPart
     (ready : Ready) : Type 0 where
   pub frame : IsFrameOf ready.entry journal ready.frame
   pub coded : has_journal journal ≡ true → IsCoded ready.entry
-  pub config : (arc_value ready.next).version.config ≡ own
   pub version : IsStateAfter own (history ++ ready.entry ∷ []) (arc_value ready.next).version
   pub last : (arc_value ready.next).last ≡ Some ready.entry
   pub same : arc_value ready.kept ≡ arc_value ready.next

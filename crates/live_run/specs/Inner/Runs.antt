@@ -1,7 +1,7 @@
 -- Words of contracts and loops beside `specs/Runs.antt`; no promise of the program rests on them.
 use Rattle.std.specs.Prelude.{◌≡◌, ℕ, ◌+◌, List, ◌++◌, length, None, Result, Ok, Err}
 use Rattle.emu_names.specs.declared.shortage.Memory.{Memory}
-use Rattle.edit_rules.specs.declared.edit.Entry.{Entry}
+use Rattle.edit_rules.specs.declared.acts.Entry.{Entry}
 use Rattle.session_core.specs.declared.line.Line.{Line}
 use Rattle.session_core.specs.Legal.{Legal, disk_replies}
 use Rattle.live_book.specs.Kept.{BookParts, KeepsIn, faults_in}

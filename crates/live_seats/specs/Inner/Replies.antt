@@ -2,8 +2,8 @@
 -- product: they say how the steps of the code lead to those.
 use Rattle.std.specs.Prelude.{◌≡◌, ℕ, ◌≤◌, List, false, Option, Some, None, Result, length}
 use mathlib.Core.List.{IsPrefix}
-use Rattle.edit_rules.specs.declared.edit.Edit.{Edit}
-use Rattle.edit_rules.specs.declared.edit.Entry.{Entry}
+use Rattle.edit_rules.specs.declared.acts.Act.{Act}
+use Rattle.edit_rules.specs.declared.acts.Entry.{Entry}
 use Rattle.textgrid.specs.declared.fault.GridFault.{GridFault}
 use Rattle.version_gate.specs.declared.entry.Entry.{Entry as Numbered}
 use Rattle.version_gate.specs.Lists.{EndsIn, Numbered as IsNumbered, entry}
@@ -86,11 +86,11 @@ pub record IsGridRefused (list : List (Numbered Published)) (l : Line) (fault : 
 
 -- an edit was answered
 pub record IsEdited (o : Opened) (old new : List (Numbered Published)) (count count_now : Count) (l : Line)
-    (edit : Edit) (reply : Reply) : Type 0 where
+    (act : Act) (reply : Reply) : Type 0 where
   pub seen : ℕ
   pub numbered : IsNumbered seen old
   pub made : Result ℕ EditFault
-  pub edits : EditsLive o (entry_of l.session l.line edit) old new made
+  pub edits : EditsLive o (entry_of l.session l.line act) old new made
   pub counted : count_now ≡ count_behind count made
   pub told : reply ≡ commit_reply l made
 

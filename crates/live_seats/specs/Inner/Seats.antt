@@ -1,7 +1,7 @@
 -- Lanes as the code runs them: what each has seen, counted and answered.
 use Rattle.std.specs.Prelude.{◌≡◌, ℕ, ◌+◌, ◌<◌, ◌≤◌, ◌%◌, min, List, [], ◌∷◌, ◌++◌, length, filter, Bool, true, Option, nat_eq, nat_le}
 use mathlib.Core.List.{IsPrefix}
-use Rattle.edit_rules.specs.declared.edit.Entry.{Entry}
+use Rattle.edit_rules.specs.declared.acts.Entry.{Entry}
 use Rattle.version_gate.specs.declared.entry.Entry.{Entry as Numbered}
 use Rattle.version_gate.specs.Lists.{Numbered as IsNumbered}
 use Rattle.session_core.specs.declared.line.Line.{Line}

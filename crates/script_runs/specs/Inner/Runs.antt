@@ -1,6 +1,6 @@
 -- Words of contracts and loops beside `specs/Runs.antt`; no promise of the program rests on them.
 use Rattle.std.specs.Prelude.{List}
-use Rattle.edit_rules.specs.declared.edit.Entry.{Entry}
+use Rattle.edit_rules.specs.declared.acts.Entry.{Entry}
 use Rattle.session_core.specs.InOrder.{Outage}
 use Rattle.script_runs.specs.Scripts.{Parsed}
 use Rattle.script_runs.specs.Bases.{Base}

@@ -5,11 +5,12 @@ use Rattle.std.specs.Prelude.{◌≡◌, ◌≤◌, ℕ, ◌+◌, Bool, true, fa
 use Rattle.std.specs.Option.{option_map}
 use Rattle.emu_names.specs.declared.kinds.SessionNo.{SessionNo}
 use Rattle.emu_names.specs.declared.rules.Broken.{Broken}
+use Rattle.edit_rules.specs.declared.acts.Breach.{Breach}
 use Rattle.db_config.specs.declared.parts.ConfigParts.{ConfigParts}
 use Rattle.textgrid.specs.declared.fault.GridFault.{GridFault}
 use Rattle.edit_rules.specs.Database.{DatabaseParts}
-use Rattle.edit_rules.specs.declared.edit.Edit.{Edit}
-use Rattle.edit_rules.specs.declared.edit.Entry.{Entry}
+use Rattle.edit_rules.specs.declared.acts.Act.{Act}
+use Rattle.edit_rules.specs.declared.acts.Entry.{Entry}
 use Rattle.session_core.specs.declared.line.Ask.{Ask}
 use Rattle.session_core.specs.declared.line.Answer.{Answer}
 use Rattle.session_core.specs.declared.line.Answer.TheVariants.{Done, Refused}
@@ -21,7 +22,7 @@ use Rattle.session_core.specs.declared.slots.Held.{Held}
 use Rattle.session_core.specs.declared.moves.Head.{Head}
 use Rattle.edit_rules.specs.Effects.{after, effect}
 use Rattle.session_core.specs.Queries.{lacks_memory}
-use Rattle.session_core.specs.Answers.{answer_over, memory, is_want_of_memory, grid_number, grid_answer}
+use Rattle.session_core.specs.Answers.{answer_over, memory, is_want_of_memory, grid_number, grid_answer, rule_refusal}
 use Rattle.session_core.specs.Steps.{Opened, State, slot, put_slot, is_full, session_places, reply_of}
 
 -- The state that the parts of a core stand for.
@@ -61,6 +62,11 @@ pub record IsKept (c : ConfigParts) (history : List Entry) (database : DatabaseP
   pub of_looks : AreHeld c history looks
   pub of_queries : AreHeld c history queries
 
+-- the rule that a history breaks first, without the place of the edit in its entry
+abbrev pub ruled : {A : Type 0} → Result A Breach → Result A Broken
+ruled (Ok value) = Ok value
+ruled (Err breach) = Err breach.rule
+
 -- What one event does to the parts.
 
 -- the line of this head that asks for this
@@ -71,38 +77,38 @@ head_line head request = record { line = head.line; session = head.session; comm
 abbrev pub head_reply : Head → Option ℕ → Answer → Reply
 head_reply head n answer = reply_of head.line head.session n answer
 
--- the entry of an edit of this head
-abbrev pub head_entry : Head → Edit → Entry
-head_entry head edit = record { session = head.session; line = head.line; edit = edit }
+-- the entry of an act of this head
+abbrev pub head_entry : Head → Act → Entry
+head_entry head act = record { session = head.session; line = head.line; act = act }
 
--- an edit behind the rules: its entry is put last, or the rule is told
-abbrev pub edit_tried_made : Head → Edit → List Entry → DatabaseParts → Result DatabaseParts Broken →
+-- an act behind the rules: its entry is put last, or the rule is told
+abbrev pub edit_tried_made : Head → Act → List Entry → DatabaseParts → Result DatabaseParts Breach →
     Reply × List Entry × DatabaseParts
-edit_tried_made head edit history database (Ok next) =
-    (head_reply head (Some (length history + 1)) (Done head.command), history ++ head_entry head edit ∷ [], next)
-edit_tried_made head edit history database (Err rule) =
-    (head_reply head (Some (length history)) (Refused (refusals.Rule rule)), history, database)
+edit_tried_made head act history database (Ok next) =
+    (head_reply head (Some (length history + 1)) (Done head.command), history ++ head_entry head act ∷ [], next)
+edit_tried_made head act history database (Err breach) =
+    (head_reply head (Some (length history)) (Refused (rule_refusal head.command breach)), history, database)
 
--- an edit behind the limit of the history
-abbrev pub edit_tried_step : Head → Edit → List Entry → DatabaseParts → Bool → Result DatabaseParts Broken →
+-- an act behind the limit of the history
+abbrev pub edit_tried_step : Head → Act → List Entry → DatabaseParts → Bool → Result DatabaseParts Breach →
     Reply × List Entry × DatabaseParts
-edit_tried_step head edit history database true made =
+edit_tried_step head act history database true made =
     (head_reply head (Some (length history)) (Refused refusals.HistoryFull), history, database)
-edit_tried_step head edit history database false made = edit_tried_made head edit history database made
+edit_tried_step head act history database false made = edit_tried_made head act history database made
 
--- an edit: the reply, the history and the database
-abbrev pub edit_tried : Head → Edit → List Entry → DatabaseParts → Reply × List Entry × DatabaseParts
-edit_tried head edit history database =
-    edit_tried_step head edit history database (is_full history) (effect database edit)
+-- an act: the reply, the history and the database
+abbrev pub edit_tried : Head → Act → List Entry → DatabaseParts → Reply × List Entry × DatabaseParts
+edit_tried head act history database =
+    edit_tried_step head act history database (is_full history) (effect database act)
 
 -- the reply to the fault of a line's TextGrid, where n entries stand
 abbrev pub grid_told : Head → ℕ → GridFault → Reply
 grid_told head n fault =
     head_reply head (grid_number n (is_want_of_memory fault)) (grid_answer fault (is_want_of_memory fault))
 
--- an edit that was given, or the fault of a TextGrid
-abbrev pub given_tried : Head → Result Edit GridFault → List Entry → DatabaseParts → Reply × List Entry × DatabaseParts
-given_tried head (Ok edit) history database = edit_tried head edit history database
+-- an act that was given, or the fault of a TextGrid
+abbrev pub given_tried : Head → Result Act GridFault → List Entry → DatabaseParts → Reply × List Entry × DatabaseParts
+given_tried head (Ok act) history database = edit_tried head act history database
 given_tried head (Err fault) history database = (grid_told head (length history) fault, history, database)
 
 -- a query that holds this database

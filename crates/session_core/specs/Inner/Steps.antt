@@ -1,6 +1,5 @@
 -- Words of contracts and loops beside `specs/Steps.antt`; no promise of the program rests on them.
 use Rattle.std.specs.Prelude.{ℕ}
-use Rattle.edit_rules.specs.declared.edit.Edit.{Edit}
 use Rattle.session_core.specs.declared.event.Event.{Event}
 use Rattle.session_core.specs.declared.event.Event.TheVariants as events
 

@@ -1,15 +1,15 @@
 -- Words of contracts and loops beside `specs/Orders.antt`; no promise of the program rests on them.
 use Rattle.std.specs.Prelude.{◌≡◌, ◌⊎◌, ◌≤◌, ℕ, List, [], ◌∷◌, replicate, Option, None, Some, Result, Ok, Err}
 use Rattle.emu_names.specs.Count.{RoseBy}
-use Rattle.edit_rules.specs.declared.edit.Edit.{Edit}
-use Rattle.edit_rules.specs.declared.edit.Entry.{Entry}
+use Rattle.edit_rules.specs.declared.acts.Act.{Act}
+use Rattle.edit_rules.specs.declared.acts.Entry.{Entry}
 use Rattle.session_core.specs.declared.line.Answer.TheVariants.{Done, Refused}
 use Rattle.session_core.specs.declared.line.Line.{Line}
 use Rattle.session_core.specs.declared.line.Refusal.TheVariants as refusals
 use Rattle.session_core.specs.declared.line.Reply.{Reply}
 use Rattle.session_core.specs.declared.line.Request.{Request}
 use Rattle.session_core.specs.declared.line.Request.TheVariants as requests
-use Rattle.session_core.specs.Answers.{entry_of, memory, reply_to}
+use Rattle.session_core.specs.Answers.{entry_of, memory, reply_to, rule_refusal}
 use Rattle.session_core.specs.InOrder.{Outage, one_turn, disk_outages}
 use Rattle.session_core.specs.Steps.{Opened, State, session_places}
 use Rattle.live_book.specs.declared.fault.EditFault.{EditFault}
@@ -34,28 +34,28 @@ state_of run = record {
 
 -- The line of an edit.
 
--- the reply to a line whose edit was committed with this answer
+-- the reply to a line whose act was committed with this answer
 abbrev pub commit_reply : Line → Result ℕ EditFault → Reply
 commit_reply l (Ok n) = reply_to l (Some n) (Done l.command)
 commit_reply l (Err (faults.HistoryFull n)) = reply_to l (Some n) (Refused refusals.HistoryFull)
-commit_reply l (Err (faults.Broken rule n)) = reply_to l (Some n) (Refused (refusals.Rule rule))
+commit_reply l (Err (faults.Broken breach n)) = reply_to l (Some n) (Refused (rule_refusal l.command breach))
 commit_reply l (Err (faults.StoreFull n)) = reply_to l (Some n) (Refused refusals.StoreFull)
 commit_reply l (Err faults.Disk) = reply_to l None (Refused refusals.Disk)
 commit_reply l (Err faults.Memory) = reply_to l None memory
 
--- the edit of a line was committed, and the reply tells the commit's answer
+-- the act of a line was committed, and the reply tells the commit's answer
 pub record IsCommitted {D : Type 0} (may_leave : D → List ℕ → Type 0) (moment : D → ℕ)
-    (left_since : D → ℕ → List ℕ → Type 0) (faults : D → ℕ) (old : BookParts D) (l : Line) (edit : Edit)
+    (left_since : D → ℕ → List ℕ → Type 0) (faults : D → ℕ) (old : BookParts D) (l : Line) (act : Act)
     (reply : Reply) (new : BookParts D) : Type 0 where
   pub made : Result ℕ EditFault
-  pub commits : Commits may_leave moment left_since faults old (entry_of l edit) made new
+  pub commits : Commits may_leave moment left_since faults old (entry_of l act) made new
   pub told : reply ≡ commit_reply l made
 
--- what the request of a line does to the book: the commit of its edit, and nothing else
+-- what the request of a line does to the book: the commit of its act, and nothing else
 abbrev pub ChangesBook : {D : Type 0} → (D → List ℕ → Type 0) → (D → ℕ) → (D → ℕ → List ℕ → Type 0) → (D → ℕ)
     → BookParts D → Line → Request → Reply → BookParts D → Type 0
-ChangesBook may_leave moment left_since faults old l (requests.Edit (Ok edit)) reply new =
-    IsCommitted may_leave moment left_since faults old l edit reply new
+ChangesBook may_leave moment left_since faults old l (requests.Edit (Ok act)) reply new =
+    IsCommitted may_leave moment left_since faults old l act reply new
 ChangesBook may_leave moment left_since faults old l (requests.Edit (Err fault)) reply new = new ≡ old
 ChangesBook may_leave moment left_since faults old l (requests.Query ask) reply new = new ≡ old
 ChangesBook may_leave moment left_since faults old l (requests.Look ask) reply new = new ≡ old
@@ -72,7 +72,7 @@ pub record LeftBehind {D : Type 0} (may_leave : D → List ℕ → Type 0) (l : 
 
 -- The answer to a line. Its reply and the state behind it are those of the core's turn, in which perhaps memory
 -- ran out or the disk failed, and the disk's count rose where it failed; the book is changed by the commit of the
--- line's edit alone
+-- line's act alone
 pub record Answers {D : Type 0} (may_leave : D → List ℕ → Type 0) (moment : D → ℕ)
     (left_since : D → ℕ → List ℕ → Type 0) (faults : D → ℕ) (old : OrderParts D) (l : Line)
     (reply : Reply) (new : OrderParts D) : Type 0 where

@@ -4,8 +4,8 @@ use Rattle.std.specs.Prelude.{◌≡◌, ℕ, List, Option, None, Result, Ok, Er
 use Rattle.emu_names.specs.declared.shortage.Memory.{Memory}
 use Rattle.db_config.specs.declared.parts.ConfigParts.{ConfigParts}
 use Rattle.textgrid.specs.declared.fault.GridFault.{GridFault}
-use Rattle.edit_rules.specs.declared.edit.Edit.{Edit}
-use Rattle.edit_rules.specs.declared.edit.Entry.{Entry}
+use Rattle.edit_rules.specs.declared.acts.Act.{Act}
+use Rattle.edit_rules.specs.declared.acts.Entry.{Entry}
 use Rattle.edit_rules.specs.Database.{DatabaseParts}
 use Rattle.edit_rules.specs.Effects.{after}
 use Rattle.session_core.specs.declared.line.Ask.{Ask}
@@ -55,11 +55,11 @@ pub record IsAnsweredAt (config : ConfigParts) (history : List Entry) (head : He
   pub made : reply ≡ query_reply head.line head.session (held_at head ask (length history) database)
       (lacks_memory ask)
 
--- the edit of a line, or the fault of its TextGrid, for which it is refused
+-- the act of a line, or the fault of its TextGrid, for which it is refused
 abbrev pub EditsBook : {D : Type 0} → (D → List ℕ → Type 0) → (D → ℕ) → (D → ℕ → List ℕ → Type 0) → (D → ℕ)
-    → BookParts D → Head → Result Edit GridFault → Reply → BookParts D → Type 0
-EditsBook may_leave moment left_since faults old head (Ok edit) reply new =
-    IsCommitted may_leave moment left_since faults old (line_of head (requests.Edit (Ok edit))) edit reply new
+    → BookParts D → Head → Result Act GridFault → Reply → BookParts D → Type 0
+EditsBook may_leave moment left_since faults old head (Ok act) reply new =
+    IsCommitted may_leave moment left_since faults old (line_of head (requests.Edit (Ok act))) act reply new
 EditsBook may_leave moment left_since faults old head (Err fault) reply new =
     (new ≡ old) × (reply ≡ grid_told head (length old.history) fault)
 

@@ -1,10 +1,11 @@
 -- Words of contracts and loops beside `specs/Version.antt`; no promise of the program rests on them.
-use Rattle.std.specs.Prelude.{◌≤◌, ◌+◌, ◌-◌, ◌^◌, ℕ, Bool, not, min, List, [], ◌∷◌, length, IsTrue, Option, All, if◌then◌else◌}
+use Rattle.std.specs.Prelude.{◌≡◌, ◌≤◌, ◌+◌, ◌-◌, ◌^◌, ℕ, Bool, not, min, List, [], ◌∷◌, length, map, IsTrue, Option, All, if◌then◌else◌}
 use Rattle.std.specs.List.{filter, find}
 use Rattle.emu_names.specs.declared.limits.TheConstants.{BUNDLES}
 use Rattle.emu_names.specs.declared.names.BundleKey.{BundleKey}
 use Rattle.db_config.specs.declared.parts.ConfigParts.{ConfigParts}
 use Rattle.bundle_state.specs.Bundle.{BundleParts}
+use Rattle.bundle_state.specs.Fitted.{fitted}
 use Rattle.bundle_index.specs.Index.{IndexParts}
 use Rattle.edit_rules.specs.Database.{DatabaseParts, with_bundles, same_key, is_before, put_for, are_keys_rising, IsBundleOf}
 use Rattle.version_tree.specs.Version.{VersionParts, bundles_of, state_of}
@@ -59,6 +60,12 @@ version_without key version = record {
   bundles = others key version.bundles;
   number = next_number version.number;
 }
+
+-- the next version under a configuration that begins with its own: each bundle is made to fit it
+pub record IsUnder (wider : ConfigParts) (old next : VersionParts) : Type 0 where
+  pub config : next.config ≡ wider
+  pub bundles : bundles_of next.bundles ≡ map (fitted wider) (bundles_of old.bundles)
+  pub number : next.number ≡ next_number old.number
 
 -- a version keeps the rules: there are at most 10,000 bundles, in order of their keys, each of them valid
 -- and of the configuration

@@ -2,8 +2,8 @@
 use Rattle.std.specs.Prelude.{◌≡◌, ◌⊎◌, ℕ, ◌-◌, Bool, true, false, List, [], ◌∷◌, length, Some}
 use Rattle.std.specs.List.{list_all}
 use Rattle.db_config.specs.declared.parts.ConfigParts.{ConfigParts}
-use Rattle.edit_rules.specs.declared.edit.Entry.{Entry}
-use Rattle.edit_rules.specs.declared.bundle_change.Counts.{Counts}
+use Rattle.edit_rules.specs.declared.acts.Entry.{Entry}
+use Rattle.bundle_edits.specs.declared.bundle_change.Counts.{Counts}
 use Rattle.edit_rules.specs.Database.{counts_of}
 use Rattle.edit_rules.specs.Effects.{database_after}
 use Rattle.eql_model.specs.declared.row.Row.{Row}

@@ -1,15 +1,15 @@
 -- The lines of the script of work: the additions, and the lines in which session 1 waits for those of the others.
 use Rattle.std.specs.Prelude.{ℕ, ◌+◌, ◌*◌, ◌-◌, ◌/◌, ◌%◌, List, Ok, min}
-use Rattle.edit_rules.specs.declared.edit.Edit.{Edit}
-use Rattle.edit_rules.specs.declared.edit.Edit.TheVariants.{AddBundle}
+use Rattle.edit_rules.specs.declared.acts.Act.{Act}
 use Rattle.session_core.specs.declared.line.Command.TheVariants as commands
 use Rattle.session_core.specs.declared.line.Line.{Line}
 use Rattle.session_core.specs.declared.line.Request.TheVariants as requests
 use Rattle.work_script.specs.Script.{each, work_annot, work_key}
+use Rattle.work_script.specs.States.{addition}
 
 -- the addition of bundle k
-abbrev pub work_edit : ℕ → ℕ → Edit
-work_edit number k = AddBundle (work_key k) (work_annot number k)
+abbrev pub work_act : ℕ → ℕ → Act
+work_act number k = addition (work_key k) (work_annot number k)
 
 -- the line that adds bundle k: the sessions 1 to 4 add bundles in turn
 abbrev pub adding : ℕ → ℕ → Line
@@ -17,7 +17,7 @@ adding number k = record {
   line = k + 2;
   session = record { 0 = k % 4 + 1 };
   command = commands.AddBundle;
-  request = requests.Edit (Ok (work_edit number k));
+  request = requests.Edit (Ok (work_act number k));
 }
 
 -- the last of so many bundles that a session adds, where it adds one

@@ -21,11 +21,11 @@ returns-in_ok-put-in-Ok-clause-ok c = λ config texts is.
     let room : HasRoom old.entries = omega (arith, c.if-len-ge-HISTORY_EDITS.false, c.len.ensures) in
     let own : new.version ≡ c.in-Ok.version = c.in_ok-put-in-Ok.ensures.version in
     replay_next config texts old is c.args.body.now.bytes c.in_ok-entry.entry new room c.in_ok-entry.ensures.ok c.in_ok-put-in-Ok.ensures.entries
-    (ap (λ (v : VersionParts). v.config) own ∙ c.in-Ok.ensures.config) (ap (λ (v : VersionParts). v.number) own ∙ c.in-Ok.ensures.number)
-    (subst (λ (v : VersionParts). effect (state_of old.version) c.in_ok-entry.entry.edit ≡ Ok (state_of v)) (sym own) c.in-Ok.ensures.state)
+    c.in_ok-put-in-Ok.ensures.opening (ap (λ (v : VersionParts). v.number) own ∙ c.in-Ok.ensures.number)
+    (subst (λ (v : VersionParts). effect (state_of old.version) c.in_ok-entry.entry.act ≡ Ok (state_of v)) (sym own) c.in-Ok.ensures.state)
 
 pub returns-in-Err-clause-err : goal.returns-in-Err-clause-err
 returns-in-Err-clause-err c = λ config texts is.
-    wrong_weaker (λ at. (at ≡ c.args.body.now.at) × BreaksRule c.args.replayed.now.version c.in_ok-entry.entry.edit)
+    wrong_weaker (λ at. (at ≡ c.args.body.now.at) × BreaksRule c.args.replayed.now.version c.in_ok-entry.entry.act)
     (λ at. (at ≡ c.args.body.now.at) × IsNoNext config c.args.replayed.now.entries c.args.body.now.bytes)
     (broken_next config texts c.args.replayed.now is c.args.body.now c.in_ok-entry.entry c.in_ok-entry.ensures.ok) c.in-Err.fault c.in-Err.ensures.err

@@ -9,7 +9,7 @@ use Rattle.book_opening.proofs.replay.add_all.Goals as goal
 
 pub bodies-preserved : goal.bodies-preserved
 bodies-preserved c =
-    let config = c.args.version.config in
+    let config = c.args.opening in
     let all = c.args.bodies.now in
     let front = texts_of (take c.bodies.body-index all) in
     subst (λ (t : List (List ℕ)). IsReplay config t c.add.new.replayed)
@@ -18,7 +18,7 @@ bodies-preserved c =
 
 pub returns-in_err-add-clause-err : goal.returns-in_err-add-clause-err
 returns-in_err-add-clause-err c =
-    let config = c.args.version.config in
+    let config = c.args.opening in
     let all = c.args.bodies.now in
     let i = c.bodies.body-index in
     let texts = texts_of (take i all) in

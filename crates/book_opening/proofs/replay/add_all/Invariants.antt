@@ -4,4 +4,4 @@ use Rattle.book_opening.specs.Inner.Opens.{IsReplay}
 use Rattle.book_opening.proofs.replay.add_all.Given as goal
 
 abbrev pub invariant-bodies : goal.invariant-bodies
-invariant-bodies l = IsReplay l.fn.version.config (texts_of (take l.body-index l.bodies)) l.replayed
+invariant-bodies l = IsReplay l.fn.opening (texts_of (take l.body-index l.bodies)) l.replayed

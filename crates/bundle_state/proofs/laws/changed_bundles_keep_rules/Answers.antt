@@ -1,4 +1,5 @@
 use Rattle.bundle_state.proofs.ChangedKept.{added_item_rules, removed_item_rules, label_rules, time_rules, added_link_rules, removed_link_rules}
+use Rattle.bundle_state.proofs.LinkPlaces.{placed_link_rules}
 use Rattle.bundle_state.proofs.laws.changed_bundles_keep_rules.Goals as goal
 
 pub returns : goal.returns
@@ -8,5 +9,6 @@ returns c = record {
   labelled = label_rules;
   retimed = time_rules;
   linked = added_link_rules;
+  placed = placed_link_rules;
   unlinked = removed_link_rules;
 }

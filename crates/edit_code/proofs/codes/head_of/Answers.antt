@@ -2,7 +2,7 @@ use Rattle.std.proofs.Common.{◌≡◌, ℕ, Bool, true, false, List, refl, sym
 use Rattle.std.specs.Prelude.{Some, None, Result, Ok}
 use Rattle.edit_code.specs.Inner.Codes.{head_of, tested}
 use Rattle.db_config.specs.Valid.{is_config}
-use Rattle.edit_code.specs.Inner.Names.{if_so}
+use Rattle.value_codes.specs.Inner.Names.{if_so}
 use Rattle.edit_code.proofs.codes.head_of.Goals as goal
 
 -- a value that passed its test is what is answered

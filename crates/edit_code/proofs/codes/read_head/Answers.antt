@@ -1,8 +1,8 @@
 use Rattle.std.proofs.Common.{arith}
 use Rattle.edit_code.specs.Inner.Codes.{head_of}
-use Rattle.edit_code.specs.Heads.{head_form}
+use Rattle.value_codes.specs.Heads.{head_form}
 use Rattle.db_config.specs.Valid.{is_config}
-use Rattle.edit_code.proofs.HeadLaws.{head_law}
+use Rattle.value_codes.proofs.HeadLaws.{head_law}
 use Rattle.edit_code.proofs.Places.{answers_found, answers_only, answers_place}
 use Rattle.edit_code.proofs.codes.read_head.Goals as goal
 

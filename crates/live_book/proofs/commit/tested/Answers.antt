@@ -7,7 +7,7 @@ use Rattle.live_book.specs.declared.published.Published.{Published}
 use Rattle.live_book.specs.Published.{IsStateAfter}
 use Rattle.live_book.specs.Inner.Kept.{config_in}
 use Rattle.live_book.specs.Commits.{has_journal, HasRoom, IsTooMuch, IsAnswer}
-use Rattle.version_tree.specs.Inner.Drafts.{IsAddedBy}
+use Rattle.version_steps.specs.Inner.Drafts.{MayServe}
 use Rattle.live_book.specs.Inner.Prepared.{IsTest}
 use Rattle.live_book.proofs.Committing.{refused, store_full, breaks_none}
 use Rattle.live_book.proofs.States.{state_keeps, next_state}
@@ -23,7 +23,7 @@ pub next_drafted-requires-clause-added : goal.next_drafted-requires-clause-added
 next_drafted-requires-clause-added g c =
     let p = c.args.parts.now in
     let same : c.deref.result.now ≡ arc_value p.current = search rules in
-    subst (λ (x : Published). IsAddedBy x.version.config c.args.entry.now.edit c.args.added) (sym same) c.requires.added
+    subst (λ (x : Published). MayServe x.version.config c.args.entry.now.act c.args.added) (sym same) c.requires.added
 
 pub returns-in-Err-clause-refused : goal.returns-in-Err-clause-refused
 returns-in-Err-clause-refused g c =

@@ -4,7 +4,7 @@ use Rattle.session_core.specs.Worlds.{Each}
 use Rattle.live_book.specs.Histories.{IsHistory}
 use Rattle.live_book.specs.Kept.{BookParts}
 use Rattle.live_book.specs.Live.{HasGrown, Shows}
-use Rattle.edit_rules.specs.declared.edit.Entry.{Entry}
+use Rattle.edit_rules.specs.declared.acts.Entry.{Entry}
 use Rattle.live_laws.specs.Lanes.{Agrees, Step, all_steps, all_turns}
 use Rattle.live_seats.specs.Inner.Notes.{noted_in}
 use Rattle.live_run.specs.Inner.Running.{EndsOver, HaveLanes, accepts_in, refuses_in}

@@ -1,6 +1,6 @@
 use Rattle.std.proofs.Common.{Result, None, ap, sym, ◌∙◌, subst}
 use Rattle.textgrid.specs.declared.fault.GridFault.{GridFault}
-use Rattle.edit_rules.specs.declared.edit.Edit.{Edit}
+use Rattle.edit_rules.specs.declared.acts.Act.{Act}
 use Rattle.session_core.specs.declared.line.Reply.{Reply}
 use Rattle.session_core.specs.declared.line.Request.{Request}
 use Rattle.session_core.specs.declared.line.Request.TheVariants as requests
@@ -11,13 +11,13 @@ use Rattle.live_seats.proofs.Edits.{edit_replies}
 use Rattle.live_seats.proofs.Lines.{grid_replies}
 use Rattle.live_seats.proofs.line.take_edit.Goals as goal
 
-abbrev asked : Result Edit GridFault → Request
+abbrev asked : Result Act GridFault → Request
 asked r = requests.Edit r
 
 pub returns-in-Ok-clause-replies : goal.returns-in-Ok-clause-replies
 returns-in-Ok-clause-replies g c looks =
     edit_replies g.K.Opening.opened c.args.pass.now.list c.answer_edit.new.pass.list looks c.args.line.now c.answer_edit.ensures.edited.edits.learnt c.requires.place
-    c.in-Ok.edit (c.requires.asks ∙ ap asked c.in-Ok.is) c.args.share.now c.answer_edit.new.share c.answer_edit.result c.answer_edit.ensures.edited
+    c.in-Ok.act (c.requires.asks ∙ ap asked c.in-Ok.is) c.args.share.now c.answer_edit.new.share c.answer_edit.result c.answer_edit.ensures.edited
 
 pub returns-in-Err-clause-replies : goal.returns-in-Err-clause-replies
 returns-in-Err-clause-replies g c looks =

@@ -3,4 +3,4 @@ use Rattle.bundle_index.proofs.indexed.Indexed.changed_beside.Goals as goal
 
 pub relinked_levels-requires-clause-same : goal.relinked_levels-requires-clause-same
 relinked_levels-requires-clause-same c =
-    ids_stay _ c.args.self.now c.args.bundle.now.levels c.args.level c.self.view_is c.requires
+    ids_stay _ c.args.self.now c.args.bundle.now.levels c.args.marked.now c.self.view_is c.requires

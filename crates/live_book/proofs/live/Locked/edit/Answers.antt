@@ -1,6 +1,6 @@
 use Rattle.std.proofs.Common.{◌≡◌, ◌∙◌, ℕ, ◌≤◌, List, length, sym, ap, subst, arith}
 use mathlib.Core.List.{IsPrefix}
-use Rattle.edit_rules.specs.declared.edit.Entry.{Entry}
+use Rattle.edit_rules.specs.declared.acts.Entry.{Entry}
 use Rattle.version_gate.specs.declared.entry.Entry.{Entry as Numbered}
 use Rattle.version_gate.specs.Lists.{Numbered as IsNumbered}
 use Rattle.version_gate.proofs.Numbers.{numbered_once}
@@ -27,7 +27,7 @@ invariant_of-self g c =
     let one = c.self.inside in
     let two : BookParts g.row.D.Denot = c.commit_drafted-result.new.book in
     let is = grows g.D.Disk.may_leave g.D.Disk.faults g.D.Disk.moment g.D.Disk.left_since g.K.Opening.opened one.accepted.total one.refused.total one.book two
-    (entry_of c.args.session c.args.line c.args.edit.now) c.commit_drafted-result.result c.self.invariant c.commit_drafted-result.ensures.commits in
+    (entry_of c.args.session c.args.line c.args.act.now) c.commit_drafted-result.result c.self.invariant c.commit_drafted-result.ensures.commits in
     subst (λ (b : BookParts g.row.D.Denot). HasGrown g.D.Disk.may_leave g.D.Disk.faults g.K.Opening.opened c.count.new.accepted.total c.count.new.refused.total b) (sym c.tell.ensures.same)
     (subst (λ (n : ℕ). HasGrown g.D.Disk.may_leave g.D.Disk.faults g.K.Opening.opened n c.count.new.refused.total two) (sym c.count.ensures.accepted)
     (subst (λ (n : ℕ). HasGrown g.D.Disk.may_leave g.D.Disk.faults g.K.Opening.opened (accepted_behind one.accepted.total c.commit_drafted-result.result) n two) (sym c.count.ensures.refused) is))
@@ -37,7 +37,7 @@ returns-clause-edits g c =
     let one = c.self.inside in
     let two : BookParts g.row.D.Denot = c.commit_drafted-result.new.book in
     let mid : List (Numbered Published) = c.commit_drafted-result.new.pass.list in
-    let next : Entry = entry_of c.args.session c.args.line c.args.edit.now in
+    let next : Entry = entry_of c.args.session c.args.line c.args.act.now in
     let listed : c.tell.result.list ≡ two.list = ap (λ f. f.list) c.tell.ensures.note in
     let kept : one.book.history ≡ c.args.self.now.history = ap (λ (b : BookParts g.row.D.Denot). b.history) c.self.view_is in
     let own : (k : ℕ) → IsNumbered k c.args.pass.now.list → k ≤ length one.book.history = λ k is. subst (λ (h : List Entry). k ≤ length h) (sym kept) (c.requires.seen k is) in

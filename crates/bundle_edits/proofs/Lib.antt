@@ -1,0 +1,12 @@
+pub mod Cuts
+pub mod LabelSteps
+pub mod Lookups
+pub mod Next
+mod PairSteps
+pub mod Places
+mod SameEdit
+pub mod Spans
+pub mod Steps
+pub mod Traces
+pub mod TimedLinks
+pub mod TimedSteps

@@ -1,0 +1,5 @@
+use Rattle.bundle_edits.proofs.Traces.{edits_keep_ids}
+use Rattle.bundle_edits.proofs.laws.edits_keep_ids.Goals as goal
+
+pub returns : goal.returns
+returns c = edits_keep_ids

@@ -1,6 +1,0 @@
--- The bytes of the first elements are counted.
-use Rattle.edit_code.proofs.Loops.{SizedTo}
-use Rattle.edit_code.proofs.lists.list_size.Given as goal
-
-abbrev pub invariant-loop-item : goal.invariant-loop-item
-invariant-loop-item g l = SizedTo g.T.Coded.form l.items l.item-index l.size

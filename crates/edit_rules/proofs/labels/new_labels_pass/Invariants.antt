@@ -1,8 +1,0 @@
-use Rattle.std.proofs.Common.{◌≡◌, [], take, drop}
-use Rattle.edit_rules.specs.Changes.{new_labels_fault}
-use Rattle.edit_rules.specs.Inner.Given.{names_of}
-use Rattle.edit_rules.proofs.labels.new_labels_pass.Given as goal
-
-abbrev pub invariant-loop-place : goal.invariant-loop-place
-invariant-loop-place l =
-    new_labels_fault l.defs (names_of (take l.place l.labels)) (drop l.place l.labels) ≡ new_labels_fault l.defs [] l.fn.labels

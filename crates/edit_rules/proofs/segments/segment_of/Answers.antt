@@ -1,7 +1,0 @@
-use Rattle.std.proofs.Common.{sym}
-use Rattle.edit_rules.proofs.Steps.{position_low}
-use Rattle.edit_rules.proofs.segments.segment_of.Goals as goal
-
-pub returns-in-Some-segment_at-clause-place : goal.returns-in-Some-segment_at-clause-place
-returns-in-Some-segment_at-clause-place c =
-    position_low c.args.bundle.now (c.in-Some.level, c.in-Some.position) c.in-Some-segment_at.segment c.item_count-count.ensures.rules (sym c.in-Some-segment_at.ensures.segment)

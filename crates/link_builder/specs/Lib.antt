@@ -1,0 +1,3 @@
+pub mod Timed
+pub mod Laws
+pub mod Inner

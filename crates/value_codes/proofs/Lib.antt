@@ -1,0 +1,5 @@
+pub mod AnnotLaws
+pub mod HeadLaws
+pub mod KindPlaces
+pub mod Loops
+pub mod Tests

@@ -1,0 +1,4 @@
+pub mod Annots
+pub mod Heads
+pub mod Names
+pub mod Inner

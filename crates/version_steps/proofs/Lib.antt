@@ -1,0 +1,5 @@
+mod Marking
+mod Touching
+mod StepChanges
+mod Drafting
+mod Configuring
