@@ -6,6 +6,8 @@ mod cores;
 #[cfg(test)]
 mod counts;
 #[cfg(test)]
+mod databases;
+#[cfg(test)]
 mod limits;
 #[cfg(test)]
 mod made;
@@ -17,5 +19,3 @@ mod patterns;
 mod replies;
 #[cfg(test)]
 mod scripts;
-#[cfg(test)]
-mod stores;

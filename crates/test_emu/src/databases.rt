@@ -1,0 +1,64 @@
+//! What a database answers to an act that is tested, done and tested again, and a copy of it.
+use crate::made::{config, key, words};
+use db_config::Config;
+use edit_rules::{Act, ChangeFault, Database, Edit, Edits, apply, check};
+use std::alloc::Global;
+use std::process::Abort;
+use std::test::Fail;
+
+/// The act of one edit.
+fn act_of(alloc: Global, edit: Edit) -> Result<Act, Fail> {
+    Ok(Act::Edits(Edits::one(alloc, edit)?))
+}
+
+/// The act that adds the bundle.
+fn adding(alloc: Global) -> Result<Act, Fail> {
+    let annot = words(alloc, 1)?;
+    let key = key(alloc, "s1", "b1")?;
+    act_of(alloc, Edit::AddBundle { key, annot })
+}
+
+/// The act that drops it.
+fn dropping(alloc: Global) -> Result<Act, Fail> {
+    let key = key(alloc, "s1", "b1")?;
+    act_of(alloc, Edit::DropBundle { key })
+}
+
+/// The word of an answer.
+fn word(answer: &Result<(), ChangeFault>) -> &'static str {
+    match answer {
+        Ok(()) => "ok",
+        Err(ChangeFault::Broken(breach)) => breach.rule.word(),
+        Err(ChangeFault::Memory) => "memory",
+    }
+}
+
+/// Tests an act, does it, and tests it again.
+fn expect_act(rt: &impl Abort, alloc: Global, database: &mut Database, act: &Act, again: &str) {
+    let before = word(&check(alloc, database, act));
+    let done = word(&apply(alloc, database, act));
+    let after = word(&check(alloc, database, act));
+    assert_eq!(rt; (before, done, after), ("ok", "ok", again));
+}
+
+/// Adds the bundle to a database, compares a copy, and drops it.
+fn expect_acts(rt: &impl Abort, alloc: Global, database: &mut Database) -> Result<(), Fail> {
+    expect_act(rt, alloc, database, &adding(alloc)?, "BundleTaken");
+    let copied = database.copy(alloc)?;
+    assert_eq!(rt; copied.len(), 1);
+    expect_act(rt, alloc, database, &dropping(alloc)?, "NoBundle");
+    assert_eq!(rt; (copied.len(), database.len()), (1, 0));
+    Ok(())
+}
+
+/// A database of a configuration.
+fn database_of(alloc: Global, config: Config) -> Result<Database, Fail> {
+    Ok(Database::new(alloc, config)?)
+}
+
+#[test]
+fn acts_on_a_database(rt: HostRuntime) -> Result<(), Fail> {
+    let config = config(rt.alloc())?;
+    let mut database = database_of(rt.alloc(), config)?;
+    expect_acts(&rt, rt.alloc(), &mut database)
+}
