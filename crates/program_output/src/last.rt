@@ -1,19 +1,19 @@
 //! The last lines of runs that end early.
 ghost use Rattle.std.specs.Prelude.{◌≢◌, ◌≤◌, IfErr};
-ghost use Rattle.script_lines.specs.Texts.{fault_text};
 ghost use Rattle.store_texts.specs.Texts.{damaged_text};
 ghost use Rattle.program_output.specs.Inner.Written.{IsTold};
 ghost use Rattle.program_output.specs.Statuses.{Finishes, WritesLast};
 ghost use Rattle.program_output.specs.Inner.Statuses.{Closes};
-ghost use Rattle.program_output.specs.Texts.{limit_text, usage_text};
+ghost use Rattle.program_output.specs.Texts.{fault_text, limit_text, usage_text};
 
 use crate::ended::Ended;
 use crate::ending::Ending;
+use crate::lines::{print_fault, print_last};
 use crate::output::write_text;
 use crate::status::Status;
 use emu_io::Sink;
 use emu_names::Text;
-use script_lines::{LineFault, print_fault, print_last};
+use script_lines::LineFault;
 use std::alloc::Global;
 use store_texts::print_damaged;
 

@@ -4,6 +4,7 @@
 mod ended;
 mod ending;
 mod last;
+mod lines;
 mod output;
 mod status;
 

@@ -1,13 +1,13 @@
 //! Replies, written.
 ghost use Rattle.std.specs.Prelude.{◌≤◌, IfErr};
-ghost use Rattle.script_lines.specs.Texts.{reply_text};
+ghost use Rattle.reply_texts.specs.Texts.{reply_text};
 ghost use Rattle.program_output.specs.Texts.{config_reply};
 ghost use Rattle.program_output.specs.Inner.Written.{EndHasCause, WritesText};
 
 use crate::ended::Ended;
 use emu_io::{Sink, write_all};
 use emu_names::{SessionNo, Text};
-use script_lines::print_reply;
+use reply_texts::print_reply;
 use session_core::{Answer, Command, Reply};
 use std::alloc::Global;
 

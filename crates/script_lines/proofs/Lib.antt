@@ -2,9 +2,6 @@ pub mod Members
 pub mod Json
 pub mod Rising
 pub mod Taken
-pub mod Printed
-pub mod Pushed
-pub mod Pieced
 pub mod ValidConfigs
 pub mod Listed
 pub mod KnownLines

@@ -8,7 +8,5 @@ pub mod Requeries
 pub mod Questions
 pub mod Made
 pub mod Lines
-pub mod Texts
-pub mod LastLines
 pub mod Known
 pub mod Inner

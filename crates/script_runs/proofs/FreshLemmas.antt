@@ -10,7 +10,7 @@ use Rattle.live_book.specs.Commits.{has_journal}
 use Rattle.book_opening.specs.Inner.Opens.{IsEmpty}
 use Rattle.script_lines.specs.declared.faults.LineFault.TheVariants as faults_of
 use Rattle.script_lines.specs.declared.faults.ReadLine.TheVariants as reads
-use Rattle.script_lines.specs.Texts.{reply_text}
+use Rattle.reply_texts.specs.Texts.{reply_text}
 use Rattle.program_output.specs.declared.ended.Ended.{Ended}
 use Rattle.program_output.specs.declared.ended.Ended.TheVariants as ends
 use Rattle.script_runs.specs.declared.running.Running.{Running}

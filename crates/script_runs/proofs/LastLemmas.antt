@@ -7,7 +7,7 @@ use Rattle.emu_io.specs.Fronts.{WritesFront}
 use Rattle.db_config.specs.declared.parts.ConfigParts.{ConfigParts}
 use Rattle.session_core.specs.declared.line.Reply.{Reply}
 use Rattle.session_core.specs.InOrder.{Outage}
-use Rattle.script_lines.specs.Texts.{reply_text}
+use Rattle.reply_texts.specs.Texts.{reply_text}
 use Rattle.program_output.specs.Texts.{config_reply}
 use Rattle.script_runs.specs.Scripts.{Parsed}
 use Rattle.script_runs.specs.Bases.{Base}

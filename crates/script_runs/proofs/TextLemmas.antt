@@ -5,7 +5,7 @@ use Rattle.session_core.specs.declared.line.Line.{Line}
 use Rattle.session_core.specs.declared.line.Reply.{Reply}
 use Rattle.session_core.specs.Steps.{State, start}
 use Rattle.session_core.specs.InOrder.{Outage, in_turn, one_turn}
-use Rattle.script_lines.specs.Texts.{reply_text}
+use Rattle.reply_texts.specs.Texts.{reply_text}
 use Rattle.script_runs.specs.Scripts.{Parsed}
 use Rattle.script_runs.specs.Bases.{Base, is_stored, opening_by, config_by}
 use Rattle.script_runs.specs.Runs.{run_text, replies_by, run_from, history_in, config_text}

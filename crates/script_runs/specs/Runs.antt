@@ -12,7 +12,8 @@ use Rattle.edit_rules.specs.Effects.{database_after}
 use Rattle.session_core.specs.InOrder.{Outage, in_turn, ComeInOrder}
 use Rattle.session_core.specs.Readings.{IsInOrder}
 use Rattle.session_core.specs.Legal.{Legal}
-use Rattle.script_lines.specs.Texts.{reply_text, fault_text}
+use Rattle.reply_texts.specs.Texts.{reply_text}
+use Rattle.program_output.specs.Texts.{fault_text}
 use Rattle.program_output.specs.Texts.{config_reply, limit_text}
 use Rattle.script_runs.specs.Scripts.{Parsed, Stop, limit, at_fault}
 use Rattle.script_runs.specs.Bases.{Base, config_by, opening_by, is_stored, counted}

@@ -1,7 +1,7 @@
 //! What a live run was answered, written when its sessions have ended.
 ghost use Rattle.std.specs.Prelude.{◌≤◌, IfErr};
 ghost use Rattle.std.specs.List.{flat_map};
-ghost use Rattle.script_lines.specs.Texts.{reply_text};
+ghost use Rattle.reply_texts.specs.Texts.{reply_text};
 ghost use Rattle.store_texts.specs.Texts.{from_text, mark_text};
 ghost use Rattle.program_output.specs.Inner.Written.{EndHasCause, WritesText, WritesTexts};
 ghost use Rattle.script_runs.specs.LiveTexts.{ended_text, entries_text, given_text, live_text, text_of_mark};

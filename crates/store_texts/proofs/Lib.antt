@@ -1,4 +1,3 @@
-mod Ordered
 mod Printed
 mod Pieces
 mod Asks

@@ -3,8 +3,9 @@ use Rattle.std.proofs.Common.{◌≡◌, ℕ, List, [], ◌∷◌, ◌++◌, cod
 use Rattle.json.specs.Print.{escape_byte}
 use Rattle.eql_model.specs.declared.row.Row.{Row}
 use Rattle.segment_list.specs.Inner.Texts.{rows_text}
-use Rattle.store_texts.specs.Inner.Put.{head_text}
-use Rattle.store_texts.specs.Texts.{line_text, segments_text}
+use Rattle.store_texts.specs.Inner.Head.{head_text}
+use Rattle.reply_texts.specs.Members.{line_text}
+use Rattle.store_texts.specs.Texts.{segments_text}
 
 flat : (h n s r z f : List ℕ) → (h ++ (n ++ s)) ++ (r ++ (z ++ f)) ≡ (h ++ (n ++ (s ++ (r ++ z)))) ++ f
 flat h n s r z f = simp append_assoc

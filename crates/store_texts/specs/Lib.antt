@@ -1,4 +1,3 @@
-pub mod Notes
 pub mod Texts
 pub mod Causes
 pub mod Commands

@@ -1,8 +1,7 @@
 -- The texts of the commands on a store: JSON objects (RFC 8259), each printed compact on a line of its own,
 -- with the members in the order of their names' bytes.
-use Rattle.std.specs.Prelude.{ℕ, suc, List, [], ◌∷◌, ◌++◌, Option, Some, None, codes}
-use Rattle.serde_json.specs.Data.{Data, number, string, object, unsigned, Members, no_members, member}
-use Rattle.serde_json.specs.Written.{compact_text}
+use Rattle.std.specs.Prelude.{ℕ, suc, List, [], ◌∷◌, ◌++◌, codes}
+use Rattle.serde_json.specs.Data.{Data, string, object, no_members, member}
 use Rattle.bundle_edits.specs.declared.edit.Edit.{Edit}
 use Rattle.bundle_edits.specs.declared.edit.Edit.TheVariants as edits
 use Rattle.edit_rules.specs.declared.acts.Act.{Act}
@@ -11,48 +10,8 @@ use Rattle.edit_rules.specs.declared.acts.ConfigEdit.{ConfigEdit}
 use Rattle.edit_rules.specs.declared.acts.ConfigEdit.TheVariants as additions
 use Rattle.edit_rules.specs.declared.acts.Entry.{Entry}
 use Rattle.eql_model.specs.declared.row.Row.{Row}
-use Rattle.segment_list.specs.Texts.{rows_data}
-use Rattle.store_texts.specs.declared.note.Note.{Note}
-
--- a whole number
-abbrev pub whole : ℕ → Data
-whole n = number (unsigned n)
-
--- one line: the compact text and a line feed
-unfoldable pub line_text : Data → List ℕ
-line_text d = compact_text d ++ 10 ∷ []
-
--- a number at a name, where there is one, before these members
-abbrev pub with_whole : List ℕ → Option ℕ → Members → Members
-with_whole name None rest = rest
-with_whole name (Some n) rest = member name (whole n) rest
-
--- a text at a name, where there is one, before these members
-abbrev pub with_text : List ℕ → Option (List ℕ) → Members → Members
-with_text name None rest = rest
-with_text name (Some text) rest = member name (string text) rest
-
--- The last line of a command that is refused: what the refusal says, and the status 10.
-
--- the members of a note
-abbrev pub note_members : Note → Members
-note_members n =
-    with_whole (codes "at") n.at
-    (member (codes "cause") (string n.cause)
-    (with_whole (codes "entry") n.entry
-    (with_text (codes "file") n.file
-    (with_whole (codes "id") n.id
-    (with_text (codes "name") n.name
-    (with_text (codes "path") n.path
-    (member (codes "status") (whole 10)
-    (with_whole (codes "tier") n.tier
-    (with_text (codes "wanted") n.wanted
-    (with_text (codes "what") n.what
-    no_members))))))))))
-
--- the object of a note
-abbrev pub note_data : Note → Data
-note_data n = object (note_members n)
+use Rattle.segment_list.specs.Texts.{rows_data, whole}
+use Rattle.reply_texts.specs.Members.{line_text}
 
 -- The last line of a store that stands for no history, with the place of the damage and the status 7.
 abbrev pub damaged_data : ℕ → Data

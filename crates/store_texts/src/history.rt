@@ -1,6 +1,7 @@
 //! The text of a history.
 ghost use Rattle.std.specs.Prelude.{◌≡◌, ◌++◌, IfOk, OnOk, string_bytes};
-ghost use Rattle.store_texts.specs.Texts.{line_text, entry_data, lines_from, history_text};
+ghost use Rattle.reply_texts.specs.Members.{line_text};
+ghost use Rattle.store_texts.specs.Texts.{entry_data, lines_from, history_text};
 
 use crate::print::entry_line;
 use edit_rules::{Entries, Entry};

@@ -8,7 +8,6 @@ mod config;
 mod export;
 mod faults;
 mod history;
-mod note;
 mod print;
 mod segments;
 mod values;

@@ -1,29 +1,16 @@
 //! Lines of JSON: last lines of refusals and of a damaged store, what was done, and entries.
-ghost use Rattle.std.specs.Prelude.{◌≡◌, ◌++◌, ◌∷◌, [], IfOk, false};
-ghost use Rattle.serde_json.specs.View.{view};
-ghost use Rattle.serde_json.specs.Written.{has_float};
+ghost use Rattle.std.specs.Prelude.{◌≡◌, ◌++◌, ◌∷◌, [], IfOk};
+ghost use Rattle.reply_texts.specs.Members.{line_text};
 ghost use Rattle.store_texts.specs.Causes.{refused_text};
-ghost use Rattle.store_texts.specs.Texts.{line_text, note_data, damaged_text, done_text, entry_data, from_text, mark_text};
+ghost use Rattle.store_texts.specs.Texts.{damaged_text, done_text, entry_data, from_text, mark_text};
 
-use crate::causes::refused_note;
+use crate::causes::refused_value;
 use crate::faults::Refused;
-use crate::note::Note;
-use crate::values::{damaged_value, done_value, entry_value, from_value, mark_value, note_value};
+use crate::values::{damaged_value, done_value, entry_value, from_value, mark_value};
 use edit_rules::Entry;
 use emu_names::{Memory, SessionNo, Text};
-use serde_json::Value;
+use reply_texts::print_value;
 use std::alloc::Global;
-
-/// A value on a line of its own (RFC 8259, with no white space).
-#[tactic(auto, unfolding(crate::specs::Texts::line_text))]
-fn line_of(alloc: Global, value: &Value) -> Result<Text, Memory>
-    ensures { IfOk result (λ text. has_float (view value.now) ≡ false
-        → text ≡ line_text (view value.now)) }
-{
-    let mut line = value.to_string(alloc)?;
-    line.push_str("\n")?;
-    Text::from_string(line)
-}
 
 /// A text on a line of its own. The only refusal is want of memory.
 pub(crate) fn text_line(alloc: Global, text: &Text) -> Result<Text, Memory>
@@ -34,23 +21,14 @@ pub(crate) fn text_line(alloc: Global, text: &Text) -> Result<Text, Memory>
     Text::from_string(line)
 }
 
-/// The line of a note.
-fn note_line(alloc: Global, note: &Note) -> Result<Text, Memory>
-    ensures { IfOk result (λ text. text ≡ line_text (note_data note.now)) }
-{
-    let value = note_value(alloc, note)?;
-    line_of(alloc, &value)
-}
-
 /// The last line of a command that is refused, with the status 10: an object with the cause and, each where
-/// the refusal has it, the members `at`, `entry`, `file`, `id`, `name`, `path`, `tier`, `wanted` and `what`.
+/// the refusal has it, the members `at`, `entry`, `file`, `id`, `name`, `path`, `place`, `tier`, `wanted` and `what`.
 /// The only refusal is want of memory.
-#[tactic(auto, unfolding(crate::specs::Causes::refused_text))]
 pub fn print_refused(alloc: Global, refused: &Refused) -> Result<Text, Memory>
     ensures { IfOk result (λ text. text ≡ refused_text refused.now) }
 {
-    let note = refused_note(alloc, refused)?;
-    note_line(alloc, &note)
+    let value = refused_value(alloc, refused)?;
+    print_value(alloc, &value)
 }
 
 /// The last line for a store that stands for no history, with the status 7; `at` is the place of the damage
@@ -59,7 +37,7 @@ pub fn print_damaged(alloc: Global, at: u64) -> Result<Text, Memory>
     ensures { IfOk result (λ text. text ≡ damaged_text at) }
 {
     let value = damaged_value(alloc, at)?;
-    line_of(alloc, &value)
+    print_value(alloc, &value)
 }
 
 /// The line of a command that has added bundles, after which the store has `n` entries. The only refusal is
@@ -68,7 +46,7 @@ pub fn print_done(alloc: Global, n: u64, command: &str) -> Result<Text, Memory>
     ensures { IfOk result (λ text. text ≡ done_text n command.now) }
 {
     let value = done_value(alloc, n, command)?;
-    line_of(alloc, &value)
+    print_value(alloc, &value)
 }
 
 /// The line that says how many entries stood before a live run. The only refusal is want of memory.
@@ -76,7 +54,7 @@ pub fn print_from(alloc: Global, n: u64) -> Result<Text, Memory>
     ensures { IfOk result (λ text. text ≡ from_text n) }
 {
     let value = from_value(alloc, n)?;
-    line_of(alloc, &value)
+    print_value(alloc, &value)
 }
 
 /// The line of a new entry of a live run: its place in the history, counted from 1, its line and its session. The only
@@ -85,7 +63,7 @@ pub fn print_mark(alloc: Global, at: u64, line: u32, session: SessionNo) -> Resu
     ensures { IfOk result (λ text. text ≡ mark_text at line session.0) }
 {
     let value = mark_value(alloc, at, line, session)?;
-    line_of(alloc, &value)
+    print_value(alloc, &value)
 }
 
 /// The line of an entry at its place.
@@ -93,5 +71,5 @@ pub(crate) fn entry_line(alloc: Global, at: u64, entry: &Entry) -> Result<Text, 
     ensures { IfOk result (λ text. text ≡ line_text (entry_data at entry.now)) }
 {
     let value = entry_value(alloc, at, entry)?;
-    line_of(alloc, &value)
+    print_value(alloc, &value)
 }

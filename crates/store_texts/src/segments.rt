@@ -1,6 +1,6 @@
 //! The line of a segment list.
 ghost use Rattle.std.specs.Prelude.{◌≡◌, ◌++◌, IfOk, OnOk, string_bytes};
-ghost use Rattle.store_texts.specs.Inner.Put.{head_text};
+ghost use Rattle.store_texts.specs.Inner.Head.{head_text};
 ghost use Rattle.store_texts.specs.Texts.{segments_text};
 
 use emu_names::{Memory, Text};

@@ -2,7 +2,7 @@
 use emu_names::{Broken, ItemId, Memory, SessionNo, Text, What};
 use eql_model::{Row, SegmentList};
 use eql_resolve::AskFault;
-use script_lines::print_reply;
+use reply_texts::print_reply;
 use session_core::{Answer, Refusal, Reply};
 use std::alloc::Global;
 use std::process::Abort;

@@ -1,11 +1,10 @@
 -- Words of contracts and loops beside `specs/Statuses.antt`; no promise of the program rests on them.
 use Rattle.std.specs.Prelude.{◌≡◌, ℕ, List, Option, Result, Ok, Err}
-use Rattle.script_lines.specs.Texts.{fault_text}
 use Rattle.program_output.specs.declared.ended.Ended.{Ended}
 use Rattle.program_output.specs.declared.ended.Ended.TheVariants as ends
 use Rattle.program_output.specs.declared.status.Status.{Status}
 use Rattle.program_output.specs.declared.status.Status.TheVariants as statuses
-use Rattle.program_output.specs.Texts.{limit_text}
+use Rattle.program_output.specs.Texts.{fault_text, limit_text}
 use Rattle.program_output.specs.Statuses.{WritesLast}
 
 -- nothing was written, and the run ends so

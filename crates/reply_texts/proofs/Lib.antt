@@ -1,0 +1,4 @@
+mod Pushed
+mod Pieced
+pub mod Plain
+pub mod Printed

@@ -1,0 +1,4 @@
+pub mod Members
+pub mod Refusals
+pub mod Texts
+pub mod Inner

@@ -1,0 +1,11 @@
+//! The texts of replies, and what a refusal says in a reply and in a last line.
+#![tactic(auto)]
+
+mod members;
+mod print;
+mod refusals;
+mod replies;
+
+pub use members::{put_text, put_whole};
+pub use print::{print_reply, print_value};
+pub use refusals::{put_config, put_grid, put_name, put_refusal, put_shape};

@@ -1,6 +1,0 @@
-use Rattle.std.proofs.lemmas.Result.{IfOk-weaker}
-use Rattle.script_lines.proofs.Printed.{last_line}
-use Rattle.script_lines.proofs.print.print_last.Goals as goal
-
-pub returns : goal.returns
-returns c = IfOk-weaker _ _ _ (λ text is. last_line text _ c.args.cause.now c.args.status c.in_ok-value.ensures is) c.line_of.ensures
