@@ -18,7 +18,8 @@ use bundle_state::Bundle;
 use db_config::Config;
 use emu_names::{Memory, Series};
 use hier_closure::{
-    BundleStands, Closure, LinkedLevels, are_alike, linked_levels, relinked_levels, stands_again, stands_in,
+    BundleStands, Closure, LinkedLevels, are_alike, linked_levels, relinked_levels, stands_again,
+    stands_in,
 };
 use lane_bits::{BitRow, eq_lanes, range_lanes};
 use std::alloc::Global;

@@ -52,7 +52,14 @@ impl Closure {
         ensures { IfOk result (λ made. made ≡ closure_of bundle.now lower upper) }
     {
         let stands = stands_in(alloc, bundle)?;
-        Closure::placed(alloc, config, bundle, stands.as_ref().as_slice(), upper, lower)
+        Closure::placed(
+            alloc,
+            config,
+            bundle,
+            stands.as_ref().as_slice(),
+            upper,
+            lower,
+        )
     }
 
     /// The same rows of dominance, by the places of the items that the items of the bundle link to. The only
@@ -78,7 +85,15 @@ impl Closure {
             return Ok(Closure { held });
         }
         let table = rows_between(alloc, config, bundle, stands, upper, lower)?;
-        let rows = level_rows(alloc, config, bundle, stands, lower, table.as_slice(), upper)?;
+        let rows = level_rows(
+            alloc,
+            config,
+            bundle,
+            stands,
+            lower,
+            table.as_slice(),
+            upper,
+        )?;
         Closure::of(alloc, rows)
     }
 

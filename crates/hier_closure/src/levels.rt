@@ -73,7 +73,15 @@ fn add_level(
     if rank_of(config, level) != rank {
         return Ok(());
     }
-    let rows = level_rows(alloc, config, bundle, stands, lower, table.as_slice(), level)?;
+    let rows = level_rows(
+        alloc,
+        config,
+        bundle,
+        stands,
+        lower,
+        table.as_slice(),
+        level,
+    )?;
     table[level] = rows;
     Ok(())
 }
@@ -136,7 +144,15 @@ pub(crate) fn rows_between(
     }
     let mut table = empty_table(alloc, bundle.level_count())?;
     for rank in 0..rank_of(config, upper) {
-        add_rank(alloc, config, bundle, stands, (upper, lower), &mut table, rank)?;
+        add_rank(
+            alloc,
+            config,
+            bundle,
+            stands,
+            (upper, lower),
+            &mut table,
+            rank,
+        )?;
     }
     Ok(table)
 }
