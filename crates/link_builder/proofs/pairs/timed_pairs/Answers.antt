@@ -43,6 +43,6 @@ returns c =
     let lower = c.args.lower.now.items in
     let all = timed_pairs upper lower in
     elim c.loop-place-test.branch [
-      then-loop-place-test+else-at-len w ↦ no_item_left upper lower c.loop-place.place c.loop-place.at all c.loop-place.pairs (omega (arith, w.len-in-loop-place.ensures.length, w.if-at-len.false)) c.loop-place.invariant
-    | else-loop-place-test w ↦ no_segment_left upper lower c.loop-place.place c.loop-place.at all c.loop-place.pairs (omega (arith, c.len.ensures.length, w.loop-place-test.false)) c.loop-place.invariant
+      | then-loop-place-test+else-at-len w ↦ no_item_left upper lower c.loop-place.place c.loop-place.at all c.loop-place.pairs (omega (arith, w.len-in-loop-place.ensures.length, w.if-at-len.false)) c.loop-place.invariant
+      | else-loop-place-test w ↦ no_segment_left upper lower c.loop-place.place c.loop-place.at all c.loop-place.pairs (omega (arith, c.len.ensures.length, w.loop-place-test.false)) c.loop-place.invariant
     ]
