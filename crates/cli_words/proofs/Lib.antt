@@ -8,6 +8,7 @@ pub mod Ends
 pub mod Leaves
 pub mod Top
 pub mod Parsed
-pub mod Grown
+pub mod Failed
 pub mod Whole
 pub mod Ranges
+pub mod Table

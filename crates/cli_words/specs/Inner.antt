@@ -1,3 +1,4 @@
 pub mod Gives
 pub mod Apps
 pub mod Readings
+pub mod Table

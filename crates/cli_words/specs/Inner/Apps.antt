@@ -5,7 +5,7 @@ use Rattle.clap.specs.declared.builder.command.Command.TheViews.{out-Command as 
 use Rattle.clap.specs.declared.builder.command.Command.{Command}
 use Rattle.clap.specs.declared.builder.action.ArgAction.TheVariants.{Set, SetTrue}
 use Rattle.cli_words.specs.Lines.{Form, Text}
-use Rattle.cli_words.specs.Forms.{CommandLine, ask, command_lines, import, live, load, run}
+use Rattle.cli_words.specs.Forms.{CommandLine, command_lines}
 
 -- `--name`
 abbrev pub flag : Text → Rule
@@ -43,10 +43,6 @@ bare = record {
 -- with these subcommands more
 abbrev pub with_lines : App → List CommandLine → App
 with_lines app lines = fold (λ a line. with_subcommand a (leaf line).top) app lines
-
--- its first five subcommands
-abbrev pub half : App
-half = with_lines bare (run ∷ live ∷ ask ∷ load ∷ import ∷ [])
 
 -- the whole command
 abbrev pub emu : App

@@ -1,7 +1,7 @@
 use Rattle.std.proofs.Common.{◌≡◌, ◌∙◌, ap, sym, rules, map, string_bytes}
 use Rattle.clap.specs.Words.{fault_of, is_simple, is_simple_and_free, kind_of, subcommand_of}
 use Rattle.clap.specs.declared.error.kind.ErrorKind.TheVariants as kind
-use Rattle.cli_words.proofs.Grown.{emu_is_free, emu_is_simple, only_memory}
+use Rattle.cli_words.proofs.Failed.{emu_is_free, emu_is_simple, only_memory}
 use Rattle.cli_words.proofs.parsing.parsed.Goals as goal
 
 pub returns-in-Ok-try_get_matches_from-clause-fits : goal.returns-in-Ok-try_get_matches_from-clause-fits

@@ -1,4 +1,4 @@
--- A command with one subcommand more, and why a parse failed.
+-- Why a parse failed.
 use Rattle.std.proofs.Common.{◌≡◌, ◌∙◌, ap, ap₂, refl, subst, [], true, inl, inr}
 use Rattle.clap.specs.Words.{App, app_of, is_simple, is_simple_and_free, kind_of, shape_of, with_subcommand}
 use Rattle.clap.specs.Kinds.{HasKind, IsAmong, Kinds}
@@ -6,9 +6,6 @@ use Rattle.clap.specs.declared.builder.command.Command.{Command}
 use Rattle.clap.specs.declared.error.Error.{Error}
 use Rattle.clap.specs.declared.error.kind.ErrorKind.TheVariants as kind
 use Rattle.cli_words.specs.Inner.Apps.{IsApp, emu}
-
-pub grown : (a b : App) (c s r : Command) → IsApp a c → IsApp b s → IsApp (with_subcommand (app_of c) (shape_of s)) r → IsApp (with_subcommand a b.top) r
-grown a b c s r p q l = record { same = l.same ∙ ap₂ with_subcommand p.same (ap (λ (x : App). x.top) q.same); own = l.own }
 
 -- the command is one of which `clap` says what it finds
 pub emu_is_free : is_simple_and_free emu ≡ true
