@@ -15,7 +15,7 @@ use Rattle.session_core.specs.declared.line.Reply.{Reply}
 use Rattle.session_core.specs.declared.line.Command.TheVariants as commands
 use Rattle.edit_rules.specs.Effects.{edited}
 use Rattle.session_core.specs.Answers.{memory, reply_to, entry_of}
-use Rattle.edit_undo.specs.declared.undo.NoUndo.{NoUndo}
+use Rattle.edit_undo.specs.declared.faults.NoUndo.{NoUndo}
 use Rattle.session_core.specs.Steps.{State, present, is_full, act_event, taking_back, undo_step, edit_event, look_event, finish_event, finish_fails, opened_at, with_query, session_places}
 use Rattle.session_core.specs.Worlds.{Trouble, untroubled, no_memory, store_full, disk_failed, passes_store, Each, NamesChange}
 use Rattle.session_core.specs.Commands.{is_command_of}

@@ -18,7 +18,7 @@ use Rattle.session_core.specs.declared.line.Request.TheVariants as requests
 use Rattle.session_core.specs.declared.line.Line.{Line}
 use Rattle.session_core.specs.declared.line.Reply.{Reply}
 use Rattle.edit_rules.specs.Effects.{IsLegal, edited, database_after}
-use Rattle.edit_undo.specs.declared.undo.NoUndo.{NoUndo}
+use Rattle.edit_undo.specs.declared.faults.NoUndo.{NoUndo}
 use Rattle.edit_undo.specs.Inverse.{inverse_at}
 use Rattle.session_core.specs.Queries.{lacks_memory}
 use Rattle.session_core.specs.Answers.{answer_at, memory, is_want_of_memory, entry_of, place_shown}

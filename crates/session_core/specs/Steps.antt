@@ -20,7 +20,7 @@ use Rattle.session_core.specs.declared.line.Request.TheVariants as requests
 use Rattle.session_core.specs.declared.line.Line.{Line}
 use Rattle.session_core.specs.declared.line.Reply.{Reply}
 use Rattle.edit_rules.specs.Effects.{edited}
-use Rattle.edit_undo.specs.declared.undo.NoUndo.{NoUndo}
+use Rattle.edit_undo.specs.declared.faults.NoUndo.{NoUndo}
 use Rattle.session_core.specs.declared.kept_acts.KeptAct.{KeptAct}
 use Rattle.session_core.specs.Queries.{lacks_memory}
 use Rattle.session_core.specs.Undos.{kept_behind, latest_of, undo_refusal}

@@ -6,8 +6,8 @@ use Rattle.db_config.specs.declared.parts.ConfigParts.{ConfigParts}
 use Rattle.edit_rules.specs.declared.acts.Act.{Act}
 use Rattle.edit_rules.specs.declared.acts.Entry.{Entry}
 use Rattle.edit_rules.specs.Effects.{database_after}
-use Rattle.edit_undo.specs.declared.undo.NoUndo.{NoUndo}
-use Rattle.edit_undo.specs.declared.undo.NoUndo.TheVariants as reasons
+use Rattle.edit_undo.specs.declared.faults.NoUndo.{NoUndo}
+use Rattle.edit_undo.specs.declared.faults.NoUndo.TheVariants as reasons
 use Rattle.edit_undo.specs.Inverse.{inverse_at}
 use Rattle.session_core.specs.declared.kept_acts.KeptAct.{KeptAct}
 use Rattle.session_core.specs.declared.line.Refusal.{Refusal}

@@ -21,7 +21,7 @@ use Rattle.edit_rules.specs.Effects.{edited}
 use Rattle.session_core.specs.Answers.{reply_to, entry_of}
 use Rattle.session_core.specs.Commands.{is_change, is_command_of}
 use Rattle.session_core.specs.Sizes.{store_size, entry_size}
-use Rattle.edit_undo.specs.declared.undo.NoUndo.{NoUndo}
+use Rattle.edit_undo.specs.declared.faults.NoUndo.{NoUndo}
 use Rattle.session_core.specs.Steps.{Opened, State, slot, taking_back, present, is_full, core_step, core_fails, start, session_places, Asker, by_look, by_query, by_none, asker_of}
 
 -- a line with its reply

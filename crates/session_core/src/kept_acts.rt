@@ -1,5 +1,5 @@
 //! What takes back the accepted changes of a run, kept for its `undo` lines.
-ghost use Rattle.std.specs.Prelude.{◌≡◌, ◌<◌, ◌≤◌, ◌+◌, ◌∷◌, ◌++◌, [], IfOk, OnErr, OnOk};
+ghost use Rattle.std.specs.Prelude.{◌≡◌, ◌<◌, ◌≤◌, ◌+◌, ◌∷◌, ◌++◌, [], IfOk, OnErr, OnOk, option_copied};
 ghost use Rattle.session_core.specs.Undos.{kept_act, latest_of};
 
 use edit_rules::Act;

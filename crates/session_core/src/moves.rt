@@ -4,21 +4,23 @@ ghost use Rattle.emu_names.specs.Inner.Gives.{GivesOrBroken};
 ghost use Rattle.edit_rules.specs.Database.{DatabaseParts};
 ghost use Rattle.edit_rules.specs.Effects.{effect};
 ghost use Rattle.edit_rules.specs.Inner.Effects.{GivesOrBreach};
-ghost use Rattle.edit_undo.specs.Inverse.{inverse_at};
+ghost use Rattle.edit_undo.specs.Inverse.{bundle_for, inverse_at};
+ghost use Rattle.bundle_state.specs.Built.{FitsConfig};
 ghost use Rattle.session_core.specs.Undos.{latest_of, undo_refusal};
 ghost use Rattle.session_core.specs.Inner.Kept.{edit_accepted, edit_tried, given_tried, undo_tried, grid_told, head_reply, held_answer, held_at, look_closed, looked, query_closed, query_dropped, query_reply, ruled};
 ghost use Rattle.session_core.specs.Answers.{memory, place_shown, rule_refusal};
 ghost use Rattle.session_core.specs.Queries.{lacks_memory};
 ghost use Rattle.session_core.specs.Steps.{is_full as is_full_list, put_slot, reply_of, slot};
-ghost use Rattle.std.specs.Prelude.{◌≡◌, ◌<◌, None, Ok, Some, IfOk, OnErr, OnOk, length};
+ghost use Rattle.std.specs.Prelude.{◌≡◌, ◌<◌, None, Ok, Some, IfOk, IfSome, OnErr, OnOk, length, option_copied};
 
 use crate::kept_acts::KeptActs;
 use crate::line::{Answer, Ask, Command, Refusal, Reply};
 use crate::queries::{answer, lacks_memory};
 use crate::slots::{Held, Slots};
+use bundle_state::Bundle;
 use db_config::Config;
 use edit_rules::{Act, Breach, ChangeFault, Database, Entries, Entry, apply};
-use edit_undo::NoUndo;
+use edit_undo::{InverseFault, NoUndo, inverse};
 use emu_names::limits::HISTORY_EDITS;
 use emu_names::{Fault, Memory, SessionNo};
 use std::alloc::Global;
@@ -103,8 +105,19 @@ fn changed(alloc: Global, database: &Database, act: &Act) -> Result<Database, Ch
     Ok(next)
 }
 
+/// The bundle that an act changes, where it is there.
+fn bundle_of<'a>(database: &'a Database, act: &Act) -> Option<&'a Bundle>
+    ensures bundle { option_copied result ≡ bundle_for act.now database.now.bundles }
+    ensures fits { IfSome (option_copied result) (λ b. FitsConfig database.now.config b) }
+{
+    match act {
+        Act::Edits(edits) => database.bundle(edits.key()),
+        Act::Config(_) => None,
+    }
+}
+
 /// What takes back an act that breaks no rule, or why nothing does. The only refusal is want of memory.
-fn inverse_of(
+fn take_back(
     alloc: Global,
     database: &Database,
     act: &Act,
@@ -112,7 +125,12 @@ fn inverse_of(
     requires { (next : DatabaseParts) × (effect database.now act.now ≡ Ok next) }
     ensures { IfOk result (λ made. made ≡ inverse_at database.now act.now) }
 {
-    Err(Memory)
+    let old = bundle_of(database, act);
+    match inverse(alloc, database.config(), old, act) {
+        Ok(back) => Ok(Ok(back)),
+        Err(InverseFault::NoUndo(reason)) => Ok(Err(reason)),
+        Err(InverseFault::Memory) => Err(Memory),
+    }
 }
 
 /// Puts an act that leaves this database last in the history, and keeps what takes it back: the reply. Want of
@@ -133,7 +151,7 @@ fn accept(
     ensures present { OnErr result (database.new ≡ database.old) }
     ensures kept { OnErr result (kept.new.acts ≡ kept.old.acts) }
 {
-    let inverse = inverse_of(alloc, database, &act)?;
+    let inverse = take_back(alloc, database, &act)?;
     kept.make_room()?;
     let n = entries.len() as u64 + 1;
     entries.push(Entry {

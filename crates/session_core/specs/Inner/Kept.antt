@@ -22,7 +22,7 @@ use Rattle.session_core.specs.declared.kept_acts.KeptAct.{KeptAct}
 use Rattle.session_core.specs.declared.slots.Held.{Held}
 use Rattle.session_core.specs.declared.moves.Head.{Head}
 use Rattle.edit_rules.specs.Effects.{after, effect}
-use Rattle.edit_undo.specs.declared.undo.NoUndo.{NoUndo}
+use Rattle.edit_undo.specs.declared.faults.NoUndo.{NoUndo}
 use Rattle.edit_undo.specs.Inverse.{inverse_at}
 use Rattle.session_core.specs.Undos.{kept_act, kept_behind, undo_refusal}
 use Rattle.session_core.specs.Queries.{lacks_memory}
