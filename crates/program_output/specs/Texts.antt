@@ -39,6 +39,7 @@ fault_members (faults.Config fault) = config_members (codes "cause") fault
 fault_members faults.NoSuchCommand = plain (codes "cause") (codes "NoSuchCommand")
 fault_members faults.ConfigPlace = plain (codes "cause") (codes "ConfigPlace")
 fault_members faults.BadAfter = plain (codes "cause") (codes "BadAfter")
+fault_members faults.BadUndo = plain (codes "cause") (codes "BadUndo")
 fault_members faults.Memory = plain (codes "cause") (codes "Memory")
 
 -- the object

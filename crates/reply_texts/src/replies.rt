@@ -36,6 +36,7 @@ fn word_of_command(command: Command) -> &'static str
         Command::AddLevel => "add_level",
         Command::AddAttribute => "add_attribute",
         Command::AddLinkDefinition => "add_link_definition",
+        Command::Undo => "undo",
         Command::Query => "query",
         Command::Look => "look",
         Command::Finish => "finish",

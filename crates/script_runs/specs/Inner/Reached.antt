@@ -24,7 +24,7 @@ use Rattle.script_lines.specs.declared.faults.ReadLine.TheVariants as reads
 use Rattle.program_output.specs.declared.ended.Ended.{Ended}
 use Rattle.program_output.specs.declared.ended.Ended.TheVariants as ends
 use Rattle.script_runs.specs.declared.running.Running.{Running}
-use Rattle.script_runs.specs.Scripts.{AskedLine, AreRead, Parsed, read_from, with_read, parse, parse_line, parsed_front, passes_limit, script_from, Stop, limit, at_fault, numbers_of}
+use Rattle.script_runs.specs.Scripts.{AskedLine, AreRead, Parsed, read_from, with_read, parse, parse_line, parsed_front, passes_limit, script_from, Stop, limit, at_fault, earlier_of}
 use Rattle.script_runs.specs.Bases.{Base, wants_by, is_stored, opening_by, config_by, counted, IfRefused, LeavesStore, EachOf, AtEach, AtMoment}
 use Rattle.script_runs.specs.Runs.{replies_by, run_text, run_texts, WritesToLast}
 use Rattle.script_runs.specs.Inner.Runs.{history_by}
@@ -102,7 +102,7 @@ pub record IsAt {D : Type 0} (base : Base) (running : Running D) (config : Confi
   pub book : running.core.book.config ≡ config
   pub state : state_of running.core ≡
       (in_turn (is_stored base) (start config (opening_by base)) p.requests outages).1
-  pub earlier : running.earlier ≡ numbers_of p.requests
+  pub earlier : running.earlier ≡ earlier_of p.requests
   pub number : running.number ≡ p.number
 
 -- the run stands behind the line of its configuration, or before the first line where the store has one
