@@ -1,5 +1,5 @@
 -- Lines whose numbers rise: one more behind them, and what a binary search says of them.
-use Rattle.std.proofs.Common.{◌≡◌, ℕ, ◌+◌, ◌<◌, ◌≤◌, List, [], ◌∷◌, ◌++◌, Option, Some, None, length, map, get_or, refl, sym, subst, ap, ◌∙◌, arith, inl, inr, length-append, length-map}
+use Rattle.std.proofs.Common.{◌≡◌, ℕ, ◌+◌, ◌<◌, ◌≤◌, List, [], ◌∷◌, ◌++◌, Option, Some, None, length, map, get_or, refl, sym, subst, ap, ◌∙◌, arith, inl, inr, length-append}
 use Rattle.std.proofs.Math.ListN.{get_or-append}
 use Rattle.std.proofs.Math.Seq.{get_or-append_seam}
 use Rattle.std.specs.Prelude.{Bool, true, false, Result, Ok, Err, All, nat_eq, ◌⊎◌}
@@ -8,7 +8,7 @@ use Rattle.std.specs.List.Sorted.{IsStrictlyIncreasing, IsBinarySearchResult, Is
 use Rattle.std.specs.Ordering.{nat_cmp, ordering_index}
 use Rattle.std.specs.declared.cmp.Ordering.TheVariants.{Equal, Less, Greater}
 use Rattle.std.proofs.lemmas.Bool.{cases_Bool, cases_lt}
-use Rattle.std.proofs.lemmas.List.{get_or-map, map-append}
+use Rattle.std.proofs.lemmas.List.{get_or-map, length-map, map-append}
 use Rattle.std.proofs.lemmas.Option.{slice_get_within, get_or_from_slice_get}
 use Rattle.std.proofs.lemmas.Bool.Decides.{nat_tests}
 use Rattle.std.proofs.lemmas.List.Elements.{All-get_or, All-from_get_or}
@@ -101,7 +101,7 @@ by_numbers xs x (Err i) within found = λ rises.
     )
 
 -- what passes no line of another number passes none but the line that was found
-Avoids : ℕ → (EarlierLine → Bool) → Type 0
+abbrev pub Avoids : ℕ → (EarlierLine → Bool) → Type 0
 Avoids x test = (it : EarlierLine) → is_line x it ≡ false → test it ≡ false
 
 fails_at : (xs : List EarlierLine) (x k : ℕ) (test : EarlierLine → Bool) → Avoids x test → k < length xs →

@@ -86,7 +86,6 @@ impl LineSet {
 
     /// Puts a line in, whose number is above all that are there. The only refusal is want of memory, which changes
     /// nothing.
-    #[tactic(auto, using(crate::proofs::Rising::push_rises))]
     pub fn add(&mut self, line: u32, session: SessionNo, command: Command) -> Result<(), Memory>
         requires { All (λ it. it.line < line) self.old }
         ensures ok { OnOk result (self.new
