@@ -6,22 +6,14 @@ ghost use Rattle.value_codes.specs.Names.{is_key};
 
 use db_config::{attribute_is, level_is};
 use edit_rules::{Act, ConfigEdit, Edits, Entry};
-use emu_names::BundleKey;
-
-/// Both parts of a key are names.
-fn names_are(key: &BundleKey)
-    ensures { is_key key.now ≡ true }
-{
-    let _session = key.session.as_str();
-    let _bundle = key.bundle.as_str();
-}
+use value_codes::key_is;
 
 /// The key of edits has names.
 fn edits_are(edits: &Edits)
     ensures { is_key (first_key edits.now) ≡ true }
 {
     let _count = edits.len();
-    names_are(edits.get(0).key());
+    key_is(edits.get(0).key());
 }
 
 /// What is added to the configuration is a level, an attribute or a link definition.

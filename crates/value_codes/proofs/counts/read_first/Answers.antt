@@ -1,9 +1,9 @@
 use Rattle.std.proofs.Common.{arith}
-use Rattle.std.specs.Prelude.{◌&&◌, ◌==◌, nat_le, nat_lt}
+use Rattle.std.specs.Prelude.{◌==◌}
 use Rattle.byte_forms.specs.Parts.{byte_in}
-use Rattle.edit_code.specs.Counts.{count_form}
-use Rattle.edit_code.proofs.CountLaws.{step_gives, stop_gives, zero_first}
-use Rattle.edit_code.proofs.counts.read_first.Goals as goal
+use Rattle.value_codes.specs.Counts.{count_form}
+use Rattle.value_codes.proofs.CountLaws.{step_gives, stop_gives, zero_first}
+use Rattle.value_codes.proofs.counts.read_first.Goals as goal
 
 pub returns-in-Ok : goal.returns-in-Ok
 unfolding byte_in count_form

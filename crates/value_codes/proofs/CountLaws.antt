@@ -1,5 +1,5 @@
 -- The law of counts: a count is four digits, each within the bounds that those before it leave.
-use Rattle.std.proofs.Common.{◌≡◌, ℕ, zero, suc, ◌+◌, ◌-◌, ◌*◌, ◌/◌, ◌%◌, ◌^◌, ◌<◌, ◌≤◌, ◌∙◌, Bool, true, false, List, [], ◌∷◌, ◌++◌, length, refl, sym, ap, subst, arith}
+use Rattle.std.proofs.Common.{◌≡◌, ℕ, zero, suc, ◌+◌, ◌-◌, ◌*◌, ◌/◌, ◌%◌, ◌^◌, ◌<◌, ◌≤◌, ◌∙◌, Bool, true, false, List, [], ◌∷◌, length, refl, sym, ap, subst, arith}
 use Rattle.std.specs.Prelude.{◌&&◌, ◌==◌, nat_le, nat_lt, IfOk, Result, Ok, Err}
 use Rattle.std.proofs.lemmas.Bool.{true≢false}
 use Rattle.std.specs.Int.{w32, to_be_bytes}
@@ -13,7 +13,7 @@ use Rattle.byte_forms.specs.Parts.{byte_at, byte_in, just, led}
 use Rattle.byte_forms.proofs.Laws.{just_law, led_law}
 use Rattle.byte_forms.proofs.Numbers.{byte_law}
 use Rattle.byte_forms.proofs.Steps.{alike, bind_ok, bind_err}
-use Rattle.edit_code.specs.Counts.{is_begun, may_follow, count_at, count_form}
+use Rattle.value_codes.specs.Counts.{is_begun, may_follow, count_at, count_form}
 
 -- a number that begins with this one, from so many digits more
 abbrev digits : ℕ → ℕ → Form ℕ

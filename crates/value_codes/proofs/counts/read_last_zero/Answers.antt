@@ -1,9 +1,9 @@
 use Rattle.std.specs.Prelude.{◌==◌}
-use Rattle.std.proofs.Common.{◌≡◌, ℕ, ◌+◌, ◌*◌, List, ◌∙◌, ap, arith}
+use Rattle.std.proofs.Common.{◌≡◌, ℕ, ◌+◌, ◌*◌, ◌∙◌, ap, arith}
 use Rattle.std.specs.Prelude.{Ok}
 use Rattle.byte_forms.specs.Parts.{byte_in}
-use Rattle.edit_code.proofs.CountLaws.{count_step, stop_gives, zero_last}
-use Rattle.edit_code.proofs.counts.read_last_zero.Goals as goal
+use Rattle.value_codes.proofs.CountLaws.{count_step, stop_gives, zero_last}
+use Rattle.value_codes.proofs.counts.read_last_zero.Goals as goal
 
 pub returns-in-Ok : goal.returns-in-Ok
 unfolding byte_in

@@ -1,5 +1,5 @@
-use Rattle.edit_code.proofs.CountLaws.{count_ranged}
-use Rattle.edit_code.proofs.counts.read_count.Goals as goal
+use Rattle.value_codes.proofs.CountLaws.{count_ranged}
+use Rattle.value_codes.proofs.counts.read_count.Goals as goal
 
 pub returns : goal.returns
 returns c =

@@ -2,7 +2,7 @@
 ghost use Rattle.std.specs.Prelude.{◌≡◌, ◌≤◌, ◌<◌, IfOk};
 ghost use Rattle.emu_names.specs.declared.limits.TheConstants.{LIST_EDITS};
 ghost use Rattle.byte_forms.specs.Inner.Reading.{Gives};
-ghost use Rattle.edit_code.specs.Counts.{count_at, count_form};
+ghost use Rattle.value_codes.specs.Counts.{count_at, count_form};
 
 use byte_forms::{ReadFault, Rest};
 
@@ -88,8 +88,8 @@ fn read_first(from: &mut Rest<'_>) -> Result<u32, ReadFault>
     }
 }
 
-/// Reads how many edits there are, 2 to 65,536.
-pub(crate) fn read_count(from: &mut Rest<'_>) -> Result<u32, ReadFault>
+/// Reads how many edits a list has, 2 to 65,536. A byte with which no such count goes on is where it stops.
+pub fn read_count(from: &mut Rest<'_>) -> Result<u32, ReadFault>
     ensures count { Gives result from.new (count_form.read from.old) }
     ensures some { IfOk result (λ n. 2 ≤ n) }
     ensures few { IfOk result (λ n. n ≤ LIST_EDITS) }

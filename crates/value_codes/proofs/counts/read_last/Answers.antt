@@ -1,8 +1,8 @@
-use Rattle.std.proofs.Common.{ℕ, arith}
+use Rattle.std.proofs.Common.{arith}
 use Rattle.std.specs.Prelude.{◌&&◌, nat_le}
 use Rattle.byte_forms.specs.Parts.{byte_in}
-use Rattle.edit_code.proofs.CountLaws.{count_step, stop_gives, from_least}
-use Rattle.edit_code.proofs.counts.read_last.Goals as goal
+use Rattle.value_codes.proofs.CountLaws.{count_step, stop_gives, from_least}
+use Rattle.value_codes.proofs.counts.read_last.Goals as goal
 
 pub returns-in-Ok : goal.returns-in-Ok
 unfolding byte_in

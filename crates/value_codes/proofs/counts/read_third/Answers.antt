@@ -1,8 +1,8 @@
 use Rattle.std.proofs.Common.{arith}
-use Rattle.std.specs.Prelude.{◌&&◌, ◌==◌, nat_le, nat_lt}
+use Rattle.std.specs.Prelude.{◌&&◌, nat_le}
 use Rattle.byte_forms.specs.Parts.{byte_in}
-use Rattle.edit_code.proofs.CountLaws.{step_gives, stop_gives, any_third}
-use Rattle.edit_code.proofs.counts.read_third.Goals as goal
+use Rattle.value_codes.proofs.CountLaws.{step_gives, stop_gives, any_third}
+use Rattle.value_codes.proofs.counts.read_third.Goals as goal
 
 pub returns-in-Ok : goal.returns-in-Ok
 unfolding byte_in
