@@ -1,3 +1,4 @@
+pub mod Undoing
 pub mod Turns
 pub mod Places
 pub mod SlotPlaces
