@@ -71,7 +71,7 @@ lines_below xs y below = All-from_get_or (λ n. n < y) (numbers_of xs) 0 at
   where
     at : (k : ℕ) → k < length (numbers_of xs) → get_or (numbers_of xs) k 0 < y
     at k within =
-        let here : k < length xs = rw (length-map (λ (it : EarlierLine). it.line) xs) at within in
+        let here : k < length xs = rw (length-map xs (λ (it : EarlierLine). it.line)) at within in
         subst (λ (n : ℕ). n < y) (sym (number_at xs k 0 here)) (All-get_or (λ (it : EarlierLine). it.line < y) xs k any_line here below)
 
 pub push_rises : (xs : List EarlierLine) (l : EarlierLine) → IsStrictlyIncreasing (numbers_of xs) → All (λ it. it.line < l.line) xs →
@@ -92,11 +92,11 @@ by_numbers xs x (Err i) within found = λ rises.
         let high : get_or (numbers_of xs) b 0 ≡ (get_or xs b d).line = get_or-map f xs b d 0 lt in
         subst (λ (n : ℕ). ordering_index (nat_cmp n x) ≤ ordering_index (nat_cmp (get_or xs b d).line x)) low
         (subst (λ (n : ℕ). ordering_index (nat_cmp (get_or (numbers_of xs) a 0) x) ≤ ordering_index (nat_cmp n x)) high
-        (rises a b 0 le (rw (length-map f xs) lt))) in
+        (rises a b 0 le (rw (length-map xs f) lt))) in
     let parted = found climbs in (
       (λ k d low under. subst (λ (n : ℕ). nat_cmp n x ≡ Less) (sym (number_at xs k d (omega (arith, within)))) (parted.0 k any_line low under)),
       (λ k d low under.
-      let here : k < length xs = rw (length-map (λ (it : EarlierLine). it.line) xs) at under in
+      let here : k < length xs = rw (length-map xs (λ (it : EarlierLine). it.line)) at under in
       subst (λ (n : ℕ). nat_cmp n x ≡ Greater) (sym (number_at xs k d here)) (parted.1 k any_line low here)),
     )
 
@@ -117,13 +117,13 @@ fails_beside : (xs : List EarlierLine) (x i k : ℕ) (test : EarlierLine → Boo
     i < length xs → get_or (numbers_of xs) i 0 ≡ x → test (get_or xs i any_line) ≡ false → k < length xs →
     (k < i) ⊎ (i ≤ k) → test (get_or xs k any_line) ≡ false
 fails_beside xs x i k test avoids rising inside here fails within (inl before) =
-    let up = climbs_at (numbers_of xs) rising k i before (rw (length-map (λ (it : EarlierLine). it.line) xs) inside) in
+    let up = climbs_at (numbers_of xs) rising k i before (rw (length-map xs (λ (it : EarlierLine). it.line)) inside) in
     fails_at xs x k test avoids within (inl (subst (λ (n : ℕ). get_or (numbers_of xs) k 0 < n) here up))
 fails_beside xs x i k test avoids rising inside here fails within (inr after) = by (before_or_here i k after)
   where
     by : (i < k) ⊎ (i ≡ k) → test (get_or xs k any_line) ≡ false
     by (inl later) =
-        let up = climbs_at (numbers_of xs) rising i k later (rw (length-map (λ (it : EarlierLine). it.line) xs) within) in
+        let up = climbs_at (numbers_of xs) rising i k later (rw (length-map xs (λ (it : EarlierLine). it.line)) within) in
         fails_at xs x k test avoids within (inr (subst (λ (n : ℕ). n < get_or (numbers_of xs) k 0) here up))
     by (inr it) = subst (λ (n : ℕ). test (get_or xs n any_line) ≡ false) it fails
 
@@ -157,7 +157,7 @@ pub none_passes : (xs : List EarlierLine) (x i : ℕ) (test : EarlierLine → Bo
 none_passes xs x i test avoids rising range found =
     let facts = searched (numbers_of xs) x (Err i) (by_numbers xs x (Err i) range found) (never_falls (numbers_of xs) rising) in
     list_any_none test xs (All-from_get_or (λ l. test l ≡ false) xs any_line (λ k within.
-    fails_at xs x k test avoids within (beside facts.1 facts.2 k (rw (length-map (λ (it : EarlierLine). it.line) xs) within) (cases_lt k i))))
+    fails_at xs x k test avoids within (beside facts.1 facts.2 k (rw (length-map xs (λ (it : EarlierLine). it.line)) within) (cases_lt k i))))
   where
     beside : ((j : ℕ) → j < i → get_or (numbers_of xs) j 0 < x) → ((j : ℕ) → i ≤ j → j < length (numbers_of xs) → x < get_or (numbers_of xs) j 0) →
         (k : ℕ) → k < length (numbers_of xs) → (k < i) ⊎ (i ≤ k) → (get_or (numbers_of xs) k 0 < x) ⊎ (x < get_or (numbers_of xs) k 0)
