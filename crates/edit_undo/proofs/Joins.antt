@@ -166,7 +166,7 @@ labels_end key id labels place made is past = is ∙ ap (labels_from key id) (ta
 
 -- Edits in the reverse order.
 
-last_split : {A : Type 0} (n : ℕ) (xs : List A) (x : A) → length xs ≡ suc n → slice_get xs n ≡ Some x → xs ≡ remove xs n ++ x ∷ []
+pub last_split : {A : Type 0} (n : ℕ) (xs : List A) (x : A) → length xs ≡ suc n → slice_get xs n ≡ Some x → xs ≡ remove xs n ++ x ∷ []
 last_split n [] x long here = cc
 last_split zero (y ∷ []) x long here = cc
 last_split zero (y ∷ z ∷ zs) x long here = let no : ⊥ = omega (arith, long) in absurd no

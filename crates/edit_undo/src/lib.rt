@@ -5,7 +5,6 @@ mod act_inverse;
 mod annot;
 mod faults;
 mod item_edits;
-mod laws;
 mod link_edits;
 mod own_edits;
 mod reversed;
@@ -13,4 +12,3 @@ mod turns;
 
 pub use act_inverse::inverse;
 pub use faults::{InverseFault, NoUndo};
-pub use laws::acts_are_taken_back;
