@@ -1,9 +1,9 @@
 -- Lists of edits that are taken back.
-use Rattle.std.proofs.Common.{◌≡◌, ◌≢◌, ◌≤◌, ◌<◌, ℕ, suc, ◌+◌, ◌-◌, Bool, true, false, cond, not, ◌&&◌, List, [], ◌∷◌, ◌++◌, length, remove, reverse, take, drop, All, Option, Some, None, Result, Ok, Err, IsOk, IfOk, nat_le, refl, sym, ◌∙◌, ap, subst, append_assoc, arith}
+use Rattle.std.proofs.Common.{◌≡◌, ◌≢◌, ◌≤◌, ◌<◌, ℕ, suc, ◌+◌, ◌-◌, Bool, true, false, cond, List, [], ◌∷◌, ◌++◌, length, remove, reverse, All, Option, Some, None, Result, Ok, Err, IsOk, IfOk, nat_le, refl, sym, ◌∙◌, ap, subst, append_assoc, arith}
 use Rattle.std.specs.List.{list_all, slice_get}
 use Rattle.std.proofs.lemmas.Bool.{true≢false, and_parts, and_from, cond-true, cond-false, lt-leb, le-leb, leb-true, leb-false}
 use Rattle.std.proofs.lemmas.List.{length-append, length-reverse, reverse-append, reverse-reverse}
-use Rattle.std.proofs.lemmas.List.Elements.{All-append, All-cons, All-nil, All-from_recursion, recursion_from_All}
+use Rattle.std.proofs.lemmas.List.Elements.{All-append, All-nil, All-from_recursion, recursion_from_All}
 use Rattle.emu_names.specs.declared.limits.TheConstants.{LIST_EDITS}
 use Rattle.emu_names.specs.declared.names.BundleKey.{BundleKey}
 use Rattle.emu_names.specs.declared.rules.Broken.{Broken}
@@ -13,12 +13,11 @@ use Rattle.db_config.specs.declared.parts.ConfigParts.{ConfigParts}
 use Rattle.bundle_state.specs.Bundle.{BundleParts}
 use Rattle.bundle_state.specs.Built.{FitsConfig}
 use Rattle.bundle_state.specs.Valid.{KeepsBundleRules}
-use Rattle.bundle_state.proofs.LinksKept.{ok_same, fine_value}
 use Rattle.bundle_edits.specs.declared.bundle_change.Counts.{Counts}
 use Rattle.bundle_edits.specs.declared.edit.Edit.{Edit}
 use Rattle.bundle_edits.specs.declared.edit.Edit.TheVariants as edits
 use Rattle.bundle_edits.specs.Edits.{key_of}
-use Rattle.bundle_edits.specs.Changes.{bundle_changed, if_kept, is_kept_by, missing_changed, changed}
+use Rattle.bundle_edits.specs.Changes.{bundle_changed, if_kept, is_kept_by, changed}
 use Rattle.bundle_edits.proofs.Spans.{some_same}
 use Rattle.edit_rules.specs.Acts.{has_key}
 use Rattle.edit_rules.specs.Database.{same_key}
@@ -27,8 +26,8 @@ use Rattle.edit_rules.specs.Turns.{with_own, changed_in_turn}
 use Rattle.edit_rules.specs.Inner.Acts.{is_inner, is_edit_of, are_together, AreTogether}
 use Rattle.edit_rules.proofs.Calls.{inner_kept}
 use Rattle.edit_rules.proofs.KeyPlaces.{key_same, same_itself}
-use Rattle.edit_rules.proofs.Lists.{inner_many, some_edit}
-use Rattle.edit_rules.proofs.Turns.{GoesOn, goes_on, at_ok, told_same}
+use Rattle.edit_rules.proofs.Lists.{inner_many}
+use Rattle.edit_rules.proofs.Turns.{goes_on, at_ok}
 use Rattle.edit_undo.specs.declared.faults.NoUndo.{NoUndo}
 use Rattle.edit_undo.specs.declared.faults.NoUndo.TheVariants as missing
 use Rattle.edit_undo.specs.declared.faults.InverseFault.{InverseFault}
@@ -43,7 +42,7 @@ use Rattle.edit_undo.proofs.Own.{own_all, some_own, times_of}
 
 -- One edit of a bundle that is there.
 
-inner_stays : (e : Edit) → is_inner e ≡ true → is_kept_by e ≡ true
+pub inner_stays : (e : Edit) → is_inner e ≡ true → is_kept_by e ≡ true
 inner_stays (edits.AddBundle key annot) is = refl
 inner_stays (edits.DropBundle key) is = absurd (true≢false (sym is))
 inner_stays (edits.AddItem key level position item) is = refl

@@ -1,5 +1,5 @@
 -- Steps of loops that put lists together.
-use Rattle.std.proofs.Common.{◌≡◌, ◌≤◌, ◌<◌, ℕ, zero, suc, ◌+◌, ◌-◌, Bool, true, false, cond, not, List, [], ◌∷◌, ◌++◌, map, take, drop, remove, reverse, length, get_or, Some, None, refl, ap, sym, ◌∙◌, append_assoc, subst, add-one, arith}
+use Rattle.std.proofs.Common.{◌≡◌, ◌≤◌, ◌<◌, ℕ, zero, suc, ◌+◌, Bool, true, false, cond, not, List, [], ◌∷◌, ◌++◌, map, take, drop, remove, reverse, length, get_or, Some, refl, ap, sym, ◌∙◌, append_assoc, add-one, arith}
 use Rattle.std.specs.List.{enumerate_from, filter, slice_get}
 use Rattle.std.proofs.lemmas.List.{append-nil, map-append, take_all, reverse-append}
 use Rattle.std.proofs.lemmas.List.Elements.{filter-append}

@@ -1,9 +1,9 @@
 -- The edits that take an edit back: there are some, they are edits of its bundle, and they may stand in one list.
-use Rattle.std.proofs.Common.{◌≡◌, ◌≢◌, ◌≤◌, ◌<◌, ℕ, suc, ◌+◌, Bool, true, false, cond, not, ◌&&◌, ◌||◌, List, [], ◌∷◌, ◌++◌, length, map, reverse, All, Option, Some, None, Result, Ok, Err, ok_or, option_map, refl, sym, ◌∙◌, ap, subst, arith}
+use Rattle.std.proofs.Common.{◌≡◌, ◌≤◌, ℕ, suc, ◌+◌, Bool, true, false, cond, not, ◌&&◌, ◌||◌, List, [], ◌∷◌, ◌++◌, length, map, reverse, All, Option, Some, None, Ok, ok_or, option_map, refl, sym, ◌∙◌, ap, subst, arith}
 use Rattle.std.specs.List.{enumerate_from, filter, list_any, list_all, slice_get, position}
 use Rattle.std.specs.Option.{option_or, option_and_then}
-use Rattle.std.proofs.lemmas.Bool.{true≢false, or_parts}
-use Rattle.std.proofs.lemmas.List.{length-append, length-map, length-reverse}
+use Rattle.std.proofs.lemmas.Bool.{true≢false}
+use Rattle.std.proofs.lemmas.List.{length-map, length-reverse}
 use Rattle.std.proofs.lemmas.List.Elements.{All-append, All-cons, All-nil}
 use Rattle.emu_names.specs.declared.kinds.ItemId.{ItemId}
 use Rattle.emu_names.specs.declared.kinds.LevelKind.{LevelKind}
@@ -12,7 +12,6 @@ use Rattle.emu_names.specs.declared.names.BundleKey.{BundleKey}
 use Rattle.emu_names.specs.declared.rules.Broken.{Broken}
 use Rattle.emu_names.specs.declared.rules.Broken.TheVariants as rules
 use Rattle.emu_names.specs.Steps.{onward}
-use Rattle.level_items.specs.declared.annot.AnnotLabel.{AnnotLabel}
 use Rattle.level_items.specs.declared.annot.AnnotLink.{AnnotLink}
 use Rattle.level_items.specs.declared.times.Time.{Time}
 use Rattle.level_items.specs.declared.times.Time.TheVariants.{NoTime, Span, Point}
@@ -23,7 +22,6 @@ use Rattle.level_items.proofs.Changes.{fit_at}
 use Rattle.link_graph.specs.declared.link.Link.{Link}
 use Rattle.link_graph.specs.Link.{joins, names_item}
 use Rattle.link_builder.specs.Timed.{timed_pairs}
-use Rattle.db_config.specs.declared.attributes.AttributeDef.{AttributeDef}
 use Rattle.db_config.specs.declared.parts.ConfigParts.{ConfigParts}
 use Rattle.db_config.specs.declared.parts.LevelDef.{LevelDef}
 use Rattle.db_config.specs.Lookups.{level_named, attribute_named}
@@ -31,7 +29,7 @@ use Rattle.bundle_state.specs.Bundle.{BundleParts, place_of}
 use Rattle.bundle_state.specs.Built.{FitsConfig}
 use Rattle.bundle_state.specs.Linked.{unless_broken}
 use Rattle.bundle_state.specs.Valid.{KeepsBundleRules}
-use Rattle.bundle_state.specs.Changed.{with_links, with_change, without, links_but, place_for, missing_fault, new_time_fault, item_retimed, item_removed, link_removed}
+use Rattle.bundle_state.specs.Changed.{with_links, with_change, without, links_but, place_for, missing_fault, new_time_fault, item_retimed, link_removed}
 use Rattle.bundle_state.proofs.BuiltKept.{unbroken}
 use Rattle.bundle_state.proofs.ChangedKept.{place_there}
 use Rattle.bundle_state.proofs.ChangedLevels.{rule_at}
@@ -42,7 +40,7 @@ use Rattle.bundle_edits.specs.declared.edit.Edit.{Edit}
 use Rattle.bundle_edits.specs.declared.edit.Edit.TheVariants as edits
 use Rattle.bundle_edits.specs.Edits.{key_of}
 use Rattle.bundle_edits.specs.Laws.{new_pairs}
-use Rattle.bundle_edits.specs.Changes.{NumberedLevel, NumberedAttribute, numbered, level_found, attribute_found, attribute_of, labelled, label_given, segment_at, segment_of, next_of, cut_fault, last_of, moved, joined, boundary_moved, segments_merged, timed_kinds_fault, definition_fault, is_linked, linked_fault, timed_fault, pairs_linked, levels_linked, times_linked, bundle_changed, is_kept_by}
+use Rattle.bundle_edits.specs.Changes.{NumberedLevel, NumberedAttribute, numbered, level_found, attribute_of, labelled, label_given, segment_at, segment_of, next_of, cut_fault, last_of, moved, joined, timed_kinds_fault, definition_fault, is_linked, linked_fault, timed_fault, pairs_linked, levels_linked, times_linked, bundle_changed, is_kept_by}
 use Rattle.bundle_edits.proofs.Cuts.{ArePair, segment_parts, segment_found, pair_found}
 use Rattle.bundle_edits.proofs.Spans.{some_same}
 use Rattle.bundle_edits.proofs.TimedLinks.{from_segments}

@@ -5,6 +5,7 @@ mod act_inverse;
 mod annot;
 mod faults;
 mod item_edits;
+mod laws;
 mod link_edits;
 mod own_edits;
 mod reversed;
@@ -12,3 +13,4 @@ mod turns;
 
 pub use act_inverse::inverse;
 pub use faults::{InverseFault, NoUndo};
+pub use laws::passing_acts_are_before;

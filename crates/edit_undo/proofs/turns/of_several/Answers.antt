@@ -1,7 +1,6 @@
-use Rattle.std.proofs.Common.{◌≡◌, sym, subst}
+use Rattle.std.proofs.Common.{sym, subst}
 use Rattle.bundle_state.specs.Bundle.{BundleParts}
-use Rattle.std.specs.Prelude.{Some, IsOk}
-use Rattle.edit_undo.specs.Before.{BreakNoRule}
+use Rattle.std.specs.Prelude.{IsOk}
 use Rattle.edit_undo.specs.Inner.Turns.{own_turns}
 use Rattle.edit_undo.proofs.InTurn.{several_pass, several_as}
 use Rattle.edit_undo.proofs.turns.of_several.Goals as goal
