@@ -66,9 +66,9 @@ dropped_bundle_back d next key annot b keeps there made is =
     ap (λ (z : DatabaseParts). edit_effect z add) (sym (ok_same (with_bundles d ws) next first))
     ∙ ap (λ o. onward (changed d.config counts o add) (put_back (with_bundles d ws) add)) (apart_find key ws (apart_left key d.bundles))
     ∙ ap (λ r. onward r (put_back (with_bundles d ws) add)) (
-      cond-false (nat_le BUNDLES (length ws)) (Err (rules.TooMany counted.Bundles)) (onward (built d.config key annot) (unless_too_many counts)) (lt-leb BUNDLES (length ws) (omega (arith, fewer, few)))
-      ∙ ap (λ r. onward r (unless_too_many counts)) made
-      ∙ cond-false (nat_lt ALL_ITEMS (all_items ws + item_count b.levels)) (Err (rules.TooMany counted.AllItems)) (Ok (Some b)) (le-ltb ALL_ITEMS (all_items ws + item_count b.levels) (omega (arith, items, few_items)))
+    cond-false (nat_le BUNDLES (length ws)) (Err (rules.TooMany counted.Bundles)) (onward (built d.config key annot) (unless_too_many counts)) (lt-leb BUNDLES (length ws) (omega (arith, fewer, few)))
+    ∙ ap (λ r. onward r (unless_too_many counts)) made
+    ∙ cond-false (nat_lt ALL_ITEMS (all_items ws + item_count b.levels)) (Err (rules.TooMany counted.AllItems)) (Ok (Some b)) (le-ltb ALL_ITEMS (all_items ws + item_count b.levels) (omega (arith, items, few_items)))
     )
     ∙ ap (λ zs. fine_value (with_bundles d (put_in_order b zs))) (apart_without key ws (apart_left key d.bundles))
     ∙ ap (λ zs. fine_value (with_bundles d zs)) (put_again key b d.bundles keeps.rising there)

@@ -1,5 +1,5 @@
 -- What takes an edit of a bundle back leads to the bundle before it.
-use Rattle.std.proofs.Common.{◌≡◌, ◌<◌, ◌≤◌, ℕ, suc, ◌+◌, Bool, true, false, cond, List, [], ◌∷◌, ◌++◌, length, map, reverse, Option, Some, None, Result, Ok, refl, sym, ◌∙◌, ap, subst, unwrap_or, arith}
+use Rattle.std.proofs.Common.{◌≡◌, ◌<◌, ◌≤◌, ℕ, zero, suc, ◌+◌, ◌-◌, Bool, true, false, cond, List, [], ◌∷◌, ◌++◌, length, map, reverse, Option, Some, None, Result, Ok, refl, sym, ◌∙◌, ap, subst, unwrap_or, arith}
 use Rattle.std.specs.List.{enumerate_from, filter, slice_get, IsDistinct}
 use Rattle.std.proofs.lemmas.Option.{slice_get_within}
 use Rattle.emu_names.specs.declared.limits.TheConstants.{ALL_ITEMS}
@@ -70,17 +70,17 @@ placed_is {X = X} test n (x ∷ xs) = by (test x) (placed_is test (n + 1) xs)
     by true rest = ap (λ ps. (n, x) ∷ ps) rest
     by false rest = rest
 
-there_or : {A : Type 0} (xs : List A) (n : ℕ) (other : A) → n < length xs → slice_get xs n ≡ Some (unwrap_or (slice_get xs n) other)
-there_or xs n other low = by (slice_get xs n) (slice_there xs n low)
-  where
-    slice_there : (xs : List _) (n : ℕ) → n < length xs → slice_get xs n ≡ None → ⊥
-    slice_there [] n low is = omega (arith, low)
-    slice_there (x ∷ xs) 0 low is = cc
-    slice_there (x ∷ xs) (suc n) low is = slice_there xs n (omega (arith, low)) is
+slice_there : {A : Type 0} (xs : List A) (n : ℕ) → n < length xs → slice_get xs n ≡ None → ⊥
+slice_there [] n low is = omega (arith, low)
+slice_there (x ∷ xs) zero low is = cc
+slice_there (x ∷ xs) (suc n) low is = slice_there xs n (omega (arith, low)) is
 
-    by : (o : Option _) → (o ≡ None → ⊥) → o ≡ Some (unwrap_or o other)
-    by None some = absurd (some refl)
-    by (Some x) some = refl
+or_other : {A : Type 0} (o : Option A) (other : A) → (o ≡ None → ⊥) → o ≡ Some (unwrap_or o other)
+or_other None other some = absurd (some refl)
+or_other (Some x) other some = refl
+
+there_or : {A : Type 0} (xs : List A) (n : ℕ) (other : A) → n < length xs → slice_get xs n ≡ Some (unwrap_or (slice_get xs n) other)
+there_or xs n other low = or_other (slice_get xs n) other (slice_there xs n low)
 
 module _ (d : DatabaseParts) (keeps : KeepsDatabaseRules d) (key : BundleKey) (b c : BundleParts) (there : bundle_with key d.bundles ≡ Some b) (fine : IsBundleOf d.config b)
     (whole : IsBundleOf d.config c) where

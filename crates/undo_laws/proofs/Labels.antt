@@ -29,7 +29,7 @@ none_of (c ∷ cs) is = by (length (c ∷ cs) == 0) refl is
 
 module _ {S F : Type 0} (put : AnnotLabel → S → Result S F) (state : List (List ℕ) → S) (whole : List AttributeDef)
     (goes : (front : List AttributeDef) (d : AttributeDef) (back : List AttributeDef) (t : List ℕ) (ls : List (List ℕ)) → whole ≡ front ++ d ∷ back → is_short t ≡ true →
-        put (given_label d t) (state ls) ≡ Ok (state (slice_set ls (length front) t))) where
+    put (given_label d t) (state ls) ≡ Ok (state (slice_set ls (length front) t))) where
   pub labels_from : (front back : List AttributeDef) (done xs : List (List ℕ)) → whole ≡ front ++ back → length front ≡ length done → length back ≡ length xs → list_all is_short xs ≡ true →
       in_turn put (filter is_labelled (given_labels back xs)) (state (done ++ replicate (length xs) [])) ≡ Ok (state (done ++ xs))
   labels_from front [] done [] e here same short = refl
@@ -40,9 +40,9 @@ module _ {S F : Type 0} (put : AnnotLabel → S → Result S F) (state : List (L
       let one = longer front d in
       let two = longer done x in
       by (
-        ap (λ zs. in_turn put (filter is_labelled (given_labels back xs)) (state zs)) (sym (onto done x (replicate (length xs) [])))
-        ∙ labels_from (front ++ d ∷ []) back (done ++ x ∷ []) xs (e ∙ sym (onto front d back)) (one ∙ ap suc here ∙ sym two) (omega (arith, same)) parts.1
-        ∙ ap (λ zs. Ok (state zs)) (onto done x xs)
+      ap (λ zs. in_turn put (filter is_labelled (given_labels back xs)) (state zs)) (sym (onto done x (replicate (length xs) [])))
+      ∙ labels_from (front ++ d ∷ []) back (done ++ x ∷ []) xs (e ∙ sym (onto front d back)) (one ∙ ap suc here ∙ sym two) (omega (arith, same)) parts.1
+      ∙ ap (λ zs. Ok (state zs)) (onto done x xs)
       ) parts.0 (is_labelled (given_label d x)) refl
     where
       by : in_turn put (filter is_labelled (given_labels back xs)) (state (done ++ x ∷ replicate (length xs) [])) ≡ Ok (state (done ++ x ∷ xs)) → is_short x ≡ true →

@@ -139,4 +139,3 @@ module _ (test : Link → Bool) (front : List Link) (x : Link) (back : List Link
       option_or (add_fault kind x.definition x.from x.to (front ++ left test back)) (place_fault (length front) (front ++ left test back)) ≡ None
   no_put_fault kind apart few keeps =
       ap (λ o. option_or o (place_fault (length front) (front ++ left test back))) (no_add_fault kind apart few keeps) ∙ place_free
-

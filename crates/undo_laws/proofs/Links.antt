@@ -130,4 +130,3 @@ linked_at_back b c place from to is =
     ap (link_removed from to) (sym p.same)
     ∙ unlinked_goes b from to number (take place b.links) (drop place b.links) (ap (list_any (joins from to)) whole ∙ none)
     ∙ ap (λ ls. fine_value (with_links b ls)) whole
-

@@ -279,7 +279,7 @@ pub record IsCutAgain (config : ConfigParts) (counts : Counts) (b made : BundleP
       ≡ Ok (with_links b (links_without item.id b.links))
 
 -- two segments that were joined are cut again
-Recut : (config : ConfigParts) (counts : Counts) (b : BundleParts) (id : ItemId) (s next : Segment) → Type 0
+abbrev Recut : (config : ConfigParts) (counts : Counts) (b : BundleParts) (id : ItemId) (s next : Segment) → Type 0
 Recut config counts b id s next =
     (p : ArePair b.levels s next) (def : LevelDef) → slice_get config.levels s.level ≡ Some def → p.level.attributes ≡ length def.attributes → AreNamed def.attributes →
     IsCutAgain config counts b (joined b s next) id def p.second

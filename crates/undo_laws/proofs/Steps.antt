@@ -54,9 +54,9 @@ module _ {X S F : Type 0} (test : X → Bool) (put : ℕ × X → S → Result S
   put_from done [] e = ap (λ zs. Ok (state zs)) (sym e)
   put_from done (x ∷ xs) e =
       by (
-        ap (λ n. in_turn put (placed_from test n xs) (state (done ++ x ∷ left test xs))) (sym (longer done x))
-        ∙ ap (λ zs. in_turn put (placed_from test (length (done ++ x ∷ [])) xs) (state zs)) (sym (onto done x (left test xs)))
-        ∙ put_from (done ++ x ∷ []) xs (e ∙ sym (onto done x xs))
+      ap (λ n. in_turn put (placed_from test n xs) (state (done ++ x ∷ left test xs))) (sym (longer done x))
+      ∙ ap (λ zs. in_turn put (placed_from test (length (done ++ x ∷ [])) xs) (state zs)) (sym (onto done x (left test xs)))
+      ∙ put_from (done ++ x ∷ []) xs (e ∙ sym (onto done x xs))
       ) (test x) refl
     where
       by : in_turn put (placed_from test (length done + 1) xs) (state (done ++ x ∷ left test xs)) ≡ Ok (state ws) → (b : Bool) → test x ≡ b →
@@ -73,4 +73,3 @@ pub insert_at : {X : Type 0} (front : List X) (x : X) (back : List X) → insert
 insert_at front x back =
     ap (λ zs. zs ++ x ∷ drop (length front) (front ++ back)) (take_at front back (length front) refl)
     ∙ ap (λ zs. front ++ x ∷ zs) (drop_at front back (length front) refl)
-

@@ -188,4 +188,3 @@ bundles_enough d next edit inverse b keeps there kept of back is =
     let same : holding d key c ≡ next = ap (λ o. with_bundles d (put_for key o d.bundles)) made ∙ ok_same (with_bundles d (put_for key on.middle d.bundles)) next on.second in
     ap (in_turn (λ e z. edit_effect z e) inverse) (sym same)
     ∙ lists_taken_back d key b c inverse keeps there whole (after.is.key ∙ found_own key b d.bundles there) of (back c fine whole found.first)
-
