@@ -17,7 +17,10 @@ use crate::short_keys::ShortKeys;
 use bundle_state::Bundle;
 use db_config::Config;
 use emu_names::{Memory, Series};
-use hier_closure::{Closure, LinkedLevels, linked_levels, relinked_levels};
+use hier_closure::{
+    BundleStands, Closure, LinkedLevels, are_alike, linked_levels, relinked_levels, stands_again,
+    stands_in,
+};
 use lane_bits::{BitRow, eq_lanes, range_lanes};
 use std::alloc::Global;
 use std::marker::Model;
@@ -31,8 +34,9 @@ const KEPT_LABELS: usize = 4_194_304;
 /// It always keeps for each attribute of each level the column of the numbers of its items' labels, where
 /// the number of a label is its place in the list, and for each SEGMENT and EVENT level the columns of its
 /// items' first and last samples. Of a bundle of at most 128 links it also keeps, for each two levels between
-/// which a link leads, which items of the upper one link to which items of the lower one; and of at most 16
-/// labels it keeps keys, by which a short label is found without a look at the labels.
+/// which a link leads, which items of the upper one link to which items of the lower one; of any it keeps for each
+/// item the places of the items that it links to; and of at most 16 labels it keeps keys, by which a short label
+/// is found without a look at the labels.
 #[derive(Drop)]
 pub struct Indexed {
     bundle: Bundle,
@@ -40,6 +44,7 @@ pub struct Indexed {
     keys: ShortKeys,
     columns: Series<SharedColumns>,
     linked: Series<LinkedLevels>,
+    stands: BundleStands,
 }
 
 impl Model for Indexed {
@@ -51,7 +56,7 @@ impl Model for Indexed {
 
     ghost view = { λ x. record { bundle = x.bundle; labels = x.labels } };
 
-    ghost invariant = { λ x. AreKeptOf x.bundle x.labels x.keys x.columns x.linked };
+    ghost invariant = { λ x. AreKeptOf x.bundle x.labels x.keys x.columns x.linked x.stands };
 }
 
 impl Indexed {
@@ -101,7 +106,7 @@ impl Indexed {
 
     /// A bundle with what is kept beside it.
     fn of(bundle: Bundle, kept: Kept) -> Indexed
-        requires { AreKeptOf bundle kept.labels kept.keys kept.columns kept.linked }
+        requires { AreKeptOf bundle kept.labels kept.keys kept.columns kept.linked kept.stands }
         ensures { result.bundle ≡ bundle }
     {
         let Kept {
@@ -109,6 +114,7 @@ impl Indexed {
             keys,
             columns,
             linked,
+            stands,
         } = kept;
         Indexed {
             bundle,
@@ -116,6 +122,7 @@ impl Indexed {
             keys,
             columns,
             linked,
+            stands,
         }
     }
 
@@ -129,15 +136,17 @@ impl Indexed {
     ) -> Result<Kept, Memory>
         requires { AreSameBut marked.now self.now.bundle.levels bundle.now.levels }
         ensures { IfOk result (λ kept.
-            AreKeptOf bundle.now kept.labels kept.keys kept.columns kept.linked) }
+            AreKeptOf bundle.now kept.labels kept.keys kept.columns kept.linked kept.stands) }
     {
         let mut labels = self.labels.copy()?;
         let columns = changed_columns(alloc, &self.columns, bundle, marked, &mut labels)?;
         if labels.len() > KEPT_LABELS {
             return kept_beside(alloc, bundle);
         }
-        let linked = relinked_levels(alloc, &self.bundle, &self.linked, bundle, marked)?;
-        keyed(alloc, labels, columns, linked)
+        let alike = are_alike(&self.bundle, bundle, marked);
+        let linked = relinked_levels(alloc, &self.bundle, &self.linked, bundle, marked, alike)?;
+        let stands = stands_again(alloc, &self.bundle, &self.stands, bundle, marked, alike)?;
+        keyed(alloc, labels, columns, linked, stands)
     }
 
     /// The bundle.
@@ -210,7 +219,8 @@ impl Indexed {
         ensures { IfOk result (λ made. made ≡ closure_of self.now.bundle lower upper) }
     {
         let linked = self.linked.as_slice();
-        Closure::kept(alloc, config, &self.bundle, linked, upper, lower)
+        let stands = self.stands.as_ref().as_slice();
+        Closure::kept(alloc, config, &self.bundle, linked, stands, upper, lower)
     }
 
     /// The same rows of dominance where the bundle keeps them, that is where no level lies between the two and a
@@ -270,25 +280,29 @@ impl Indexed {
     }
 }
 
-/// What is kept beside a bundle: its labels and their keys, the columns of its levels, the rows of its links.
+/// What is kept beside a bundle: its labels and their keys, the columns of its levels, the rows of its links, and the
+/// places of the items that its items link to.
 #[derive(Drop)]
 struct Kept {
     labels: Labels,
     keys: ShortKeys,
     columns: Series<SharedColumns>,
     linked: Series<LinkedLevels>,
+    stands: BundleStands,
 }
 
-/// The labels, columns and rows of links, with the keys of the labels. The only refusal is want of memory.
+/// The labels, columns, rows of links and places, with the keys of the labels. The only refusal is want of memory.
 fn keyed(
     alloc: Global,
     labels: Labels,
     columns: Series<SharedColumns>,
     linked: Series<LinkedLevels>,
+    stands: BundleStands,
 ) -> Result<Kept, Memory>
     ensures labels { IfOk result (λ kept. kept.labels ≡ labels) }
     ensures columns { IfOk result (λ kept. kept.columns ≡ columns) }
     ensures linked { IfOk result (λ kept. kept.linked ≡ linked) }
+    ensures stands { IfOk result (λ kept. kept.stands ≡ stands) }
     ensures keys { IfOk result (λ kept. AreKeysOf labels kept.keys) }
 {
     match ShortKeys::of(alloc, &labels) {
@@ -297,6 +311,7 @@ fn keyed(
             keys,
             columns,
             linked,
+            stands,
         }),
         Err(fault) => Err(fault),
     }
@@ -305,12 +320,13 @@ fn keyed(
 /// What is kept beside a bundle. The only refusal is want of memory, or of a number for a label.
 fn kept_beside(alloc: Global, bundle: &Bundle) -> Result<Kept, Memory>
     ensures { IfOk result (λ kept.
-        AreKeptOf bundle.now kept.labels kept.keys kept.columns kept.linked) }
+        AreKeptOf bundle.now kept.labels kept.keys kept.columns kept.linked kept.stands) }
 {
     let linked = linked_levels(alloc, bundle)?;
+    let stands = stands_in(alloc, bundle)?;
     let mut labels = Labels::new(alloc)?;
     let columns = all_columns(alloc, bundle, &mut labels)?;
-    keyed(alloc, labels, columns, linked)
+    keyed(alloc, labels, columns, linked, stands)
 }
 
 /// The columns of all levels. The only refusal is want of memory, or of a number for a label.

@@ -22,6 +22,7 @@ pub use groups::{GroupDef, GroupDefs, GroupValues};
 pub use laws::{
     above_is_by_paths, additions_extend, additions_keep_rules, cycles_are_found, doubles_are_found,
 };
+pub use made::{attribute_is, level_is};
 pub use names::double_name;
 pub use parts::{AttributePlace, ConfigParts, LevelDef, LevelDefs, LinkDef, LinkDefs, TrackNames};
 pub use places::level_named;

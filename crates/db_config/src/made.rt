@@ -40,8 +40,8 @@ fn legal_is(legal: &Option<GroupValues>)
     }
 }
 
-/// An attribute has a name, and its lists are short enough.
-fn attribute_is(def: &AttributeDef)
+/// An attribute has a name, and its lists are short enough: its type keeps that. It changes nothing.
+pub fn attribute_is(def: &AttributeDef)
     ensures { is_attribute def.now ≡ true }
 {
     let _name = def.name.as_str();
@@ -66,8 +66,8 @@ fn attributes_are(defs: &AttributeDefs)
     each_attribute(defs.as_slice());
 }
 
-/// A level has a name, and attributes.
-fn level_is(def: &LevelDef)
+/// A level has a name, and attributes, which are such: its type keeps that. It changes nothing.
+pub fn level_is(def: &LevelDef)
     ensures { is_level def.now ≡ true }
 {
     let _name = def.name.as_str();

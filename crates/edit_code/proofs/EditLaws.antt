@@ -21,13 +21,13 @@ use Rattle.edit_code.specs.declared.kinds.Body.TheVariants as bodies
 use Rattle.edit_code.specs.declared.kinds.Kind.{Kind}
 use Rattle.edit_code.specs.declared.kinds.Kind.TheVariants as kinds
 use Rattle.edit_code.specs.Additions.{addition_form}
-use Rattle.edit_code.specs.Counts.{count_form}
+use Rattle.value_codes.specs.Counts.{count_form}
 use Rattle.edit_code.specs.Edits.{keyed_form, edit_form, told_form, inner_form, first_key, several_form, body_of, one_of, edits_of, config_of, act_form, body_form, entry_form}
 use Rattle.edit_code.specs.Fields.{fields_of, edit_of, kind_of, fields_form}
 use Rattle.edit_code.specs.Kinds.{all_bodies, body_number, all_kinds, inner_kinds, kind_number}
 use Rattle.edit_code.specs.Tags.{tag_form}
 use Rattle.edit_code.proofs.AdditionLaws.{addition_law}
-use Rattle.edit_code.proofs.CountLaws.{count_law}
+use Rattle.value_codes.proofs.CountLaws.{count_law}
 use Rattle.edit_code.proofs.FieldLaws.{fields_law, fields_are, edit_there, parts_of, parts_here, key_is, fields_stay}
 use Rattle.edit_code.proofs.KindLaws.{body_is_byte, body_there, kind_is_byte, kind_there}
 use Rattle.edit_code.proofs.TagLaws.{tag_law}

@@ -15,7 +15,7 @@ use Rattle.value_codes.specs.Annots.{key_form, session_form}
 use Rattle.value_codes.specs.Heads.{attribute_form, level_def_form}
 use Rattle.value_codes.specs.Inner.Names.{if_so}
 use Rattle.value_codes.specs.Names.{is_key}
-use Rattle.edit_code.specs.Counts.{count_form}
+use Rattle.value_codes.specs.Counts.{count_form}
 use Rattle.edit_code.specs.declared.fields.Fields.{Fields}
 use Rattle.edit_code.specs.declared.kinds.Addition.TheVariants as additions
 use Rattle.edit_code.specs.declared.kinds.Body.{Body}

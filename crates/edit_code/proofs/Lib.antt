@@ -1,5 +1,4 @@
 pub mod AdditionLaws
-pub mod CountLaws
 pub mod EditLaws
 pub mod EntrySteps
 pub mod Exits

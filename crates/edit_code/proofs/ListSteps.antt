@@ -22,7 +22,7 @@ use Rattle.value_codes.specs.Annots.{key_form}
 use Rattle.value_codes.proofs.Loops.{put_front, read_first, read_more, read_stops, read_done}
 use Rattle.edit_code.specs.declared.fields.Fields.{Fields}
 use Rattle.edit_code.specs.declared.kinds.Kind.{Kind}
-use Rattle.edit_code.specs.Counts.{count_form}
+use Rattle.value_codes.specs.Counts.{count_form}
 use Rattle.edit_code.specs.Edits.{first_key, inner_form, several_form, told_form}
 use Rattle.edit_code.specs.Fields.{fields_of, edit_of, fields_form}
 use Rattle.edit_code.specs.Kinds.{inner_kinds, kind_number}

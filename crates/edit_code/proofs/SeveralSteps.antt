@@ -7,7 +7,7 @@ use Rattle.byte_forms.specs.Lists.{times}
 use Rattle.value_codes.specs.Annots.{key_form}
 use Rattle.value_codes.specs.Inner.Names.{if_so}
 use Rattle.value_codes.specs.Names.{is_key}
-use Rattle.edit_code.specs.Counts.{count_form}
+use Rattle.value_codes.specs.Counts.{count_form}
 use Rattle.edit_code.specs.Edits.{first_key, inner_form, several_form}
 use Rattle.edit_code.proofs.ListSteps.{first_read, several_read}
 use Rattle.edit_code.proofs.Tested.{so_by, so_not}

@@ -18,7 +18,7 @@ use Rattle.byte_forms.specs.Parts.{pair, shaped, imaged, led, u32_form}
 use Rattle.byte_forms.specs.Lists.{times}
 use Rattle.value_codes.specs.Annots.{key_form, session_form}
 use Rattle.edit_code.specs.Additions.{addition_form}
-use Rattle.edit_code.specs.Counts.{count_form}
+use Rattle.value_codes.specs.Counts.{count_form}
 use Rattle.edit_code.specs.Fields.{fields_of, edit_of, kind_of, fields_form}
 use Rattle.edit_code.specs.Kinds.{all_bodies, body_number, all_kinds, inner_kinds, kind_number}
 use Rattle.edit_code.specs.Tags.{tag_form}

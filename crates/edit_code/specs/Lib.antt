@@ -1,5 +1,4 @@
 pub mod Tags
-pub mod Counts
 pub mod Kinds
 pub mod Fields
 pub mod Additions

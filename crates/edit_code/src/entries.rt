@@ -3,6 +3,7 @@ ghost use Rattle.std.specs.Prelude.{◌≡◌, ◌<◌, ◌^◌, ◌++◌, lengt
 ghost use Rattle.edit_code.specs.declared.kinds.Body.TheVariants as bodies;
 ghost use Rattle.edit_code.specs.Edits.{act_form, body_form, body_of, entry_form};
 ghost use Rattle.edit_code.specs.Fields.{edit_of};
+ghost use Rattle.edit_code.specs.Inner.Acts.{ActFits, act_code};
 ghost use Rattle.edit_code.specs.Inner.Reading.{GivesIf, IsMadeOne};
 ghost use Rattle.edit_code.specs.Names.{is_act, is_entry};
 
@@ -40,9 +41,9 @@ fn body_of(act: &Act) -> Body
 
 /// How many bytes a list of edits has behind its first byte, or 2^32 where it has as many or more.
 fn edits_size(edits: &Edits) -> u64
-    ensures len { result ≡ min (2 ^ 32) (length ((act_form (body_of (Act.Edits edits.now))).code (Act.Edits edits.now))) }
+    ensures len { result ≡ min (2 ^ 32) (length (act_code (Act.Edits edits.now))) }
     ensures some { 0 < result }
-    ensures fits { result < 2 ^ 32 → (act_form (body_of (Act.Edits edits.now))).fits (Act.Edits edits.now) }
+    ensures fits { result < 2 ^ 32 → ActFits (Act.Edits edits.now) }
 {
     if edits.len() == 1 {
         return edit_size(edits.get(0));
@@ -52,8 +53,7 @@ fn edits_size(edits: &Edits) -> u64
 
 /// Writes a list of edits behind its first byte. The only refusal is want of memory.
 fn put_edits(edits: &Edits, out: &mut CodeBytes) -> Result<(), Memory>
-    ensures { OnOk result
-        (out.new ≡ out.old ++ (act_form (body_of (Act.Edits edits.now))).code (Act.Edits edits.now)) }
+    ensures { OnOk result (out.new ≡ out.old ++ act_code (Act.Edits edits.now)) }
 {
     if edits.len() == 1 {
         return put_edit(edits.get(0), out);
@@ -64,9 +64,9 @@ fn put_edits(edits: &Edits, out: &mut CodeBytes) -> Result<(), Memory>
 /// How many bytes an act has behind the first byte of its entry, or 2^32 where it has as many or more.
 #[tactic(auto, unfolding(byte_forms::specs::Parts::imaged))]
 fn act_size(act: &Act) -> u64
-    ensures len { result ≡ min (2 ^ 32) (length ((act_form (body_of act.now)).code act.now)) }
+    ensures len { result ≡ min (2 ^ 32) (length (act_code act.now)) }
     ensures some { 0 < result }
-    ensures fits { result < 2 ^ 32 → (act_form (body_of act.now)).fits act.now }
+    ensures fits { result < 2 ^ 32 → ActFits act.now }
 {
     match act {
         Act::Edits(edits) => edits_size(edits),
@@ -77,7 +77,7 @@ fn act_size(act: &Act) -> u64
 /// Writes an act behind the first byte of its entry. The only refusal is want of memory.
 #[tactic(auto, unfolding(byte_forms::specs::Parts::imaged))]
 fn put_act(act: &Act, out: &mut CodeBytes) -> Result<(), Memory>
-    ensures { OnOk result (out.new ≡ out.old ++ (act_form (body_of act.now)).code act.now) }
+    ensures { OnOk result (out.new ≡ out.old ++ act_code act.now) }
 {
     match act {
         Act::Edits(edits) => put_edits(edits, out),

@@ -3,7 +3,6 @@
 
 mod additions;
 mod codes;
-mod counts;
 mod edits;
 mod entries;
 mod fault;

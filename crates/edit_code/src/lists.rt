@@ -10,13 +10,12 @@ ghost use Rattle.edit_code.specs.Edits.{first_key, inner_form, several_form};
 ghost use Rattle.edit_code.specs.Inner.Reading.{GivesIf, Skips};
 ghost use Rattle.value_codes.specs.Names.{is_key};
 
-use crate::counts::read_count;
 use crate::edits::{put_told, read_inner, read_told, told_size};
 use byte_forms::{CODE_LIMIT, CodeBytes, ReadFault, Rest};
 use edit_rules::{Edit, Edits};
 use emu_names::{BundleKey, Memory};
 use std::alloc::Global;
-use value_codes::{Coded, RawKey, Readable, key_in};
+use value_codes::{Coded, RawKey, Readable, key_in, read_count};
 
 /// How many bytes the count and the edits of a list have, or 2^32 where they have as many or more. It takes no memory.
 fn inner_size(edits: &[Edit]) -> u64
@@ -56,7 +55,7 @@ pub(crate) fn several_size(key: &BundleKey, edits: &[Edit]) -> u64
 }
 
 /// Writes two or more edits. The only refusal is want of memory.
-#[tactic(auto, unfolding(crate::specs::Edits::several_form, crate::specs::Counts::count_form, byte_forms::specs::Lists::times, byte_forms::specs::Parts::led, byte_forms::specs::Parts::u32_form))]
+#[tactic(auto, unfolding(crate::specs::Edits::several_form, value_codes::specs::Counts::count_form, byte_forms::specs::Lists::times, byte_forms::specs::Parts::led, byte_forms::specs::Parts::u32_form))]
 pub(crate) fn put_several(
     key: &BundleKey,
     edits: &[Edit],

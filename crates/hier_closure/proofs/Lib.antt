@@ -4,6 +4,7 @@ pub mod Heights
 pub mod Ids
 pub mod Joins
 pub mod Passes
+pub mod Places
 pub mod Near
 pub mod Stay
 pub mod Tables

@@ -12,7 +12,7 @@ use Rattle.link_graph.specs.declared.link.Link.{Link}
 use Rattle.bundle_state.specs.Bundle.{BundleParts}
 use Rattle.bundle_state.specs.Valid.{KeepsBundleRules}
 use Rattle.hier_closure.specs.Dominance.{ids_at}
-use Rattle.hier_closure.specs.Inner.Linked.{AreLinkedIn, HaveSameIdsBut, HaveSameIdsOn, linked_of, linked_row}
+use Rattle.hier_closure.specs.Inner.Linked.{AreAlike, AreLinkedIn, HaveSameIdsBut, HaveSameIdsOn, linked_of, linked_row}
 use Rattle.hier_closure.specs.declared.linked.LinkedLevels.{LinkedLevels}
 
 -- ---- lists that are compared place by place
@@ -97,7 +97,7 @@ alike_whole marked old new n done so k is = by (cases_lt k n)
         let none : get_or marked k false ≡ false = get_or_past marked k false past in
         absurd (true≢false (sym is ∙ none))
 
-same_ids : (old new : List Level) (marked : List Bool) → HaveSameIdsBut marked old new → HaveSameIdsOn marked old new →
+pub same_ids : (old new : List Level) (marked : List Bool) → HaveSameIdsBut marked old new → HaveSameIdsOn marked old new →
     (k : ℕ) → ids_at new k ≡ ids_at old k
 same_ids old new marked others here k =
     ⊎_elim
@@ -106,13 +106,13 @@ same_ids old new marked others here k =
     (cases_Bool (get_or marked k false))
 
 pub linked_stay : (old new : BundleParts) (marked : List Bool) (all : List LinkedLevels) → KeepsBundleRules new →
-    HaveSameIdsBut marked old.levels new.levels → HaveSameIdsOn marked old.levels new.levels → new.links ≡ old.links →
-    AreLinkedIn old all → AreLinkedIn new all
-linked_stay old new marked all rules others here links linked = record {
+    HaveSameIdsBut marked old.levels new.levels → AreAlike marked old new → AreLinkedIn old all → AreLinkedIn new all
+linked_stay old new marked all rules others alike linked = record {
   rules = rules;
   each = λ k one within.
       linked.each k one within
-      ∙ rows_stay old new (get_or all k one).upper (get_or all k one).lower (same_ids old.levels new.levels marked others here) links;
+      ∙ rows_stay old new (get_or all k one).upper (get_or all k one).lower (same_ids old.levels new.levels marked others alike.ids)
+      alike.links;
 }
 
 -- so is a copy of the rows

@@ -28,6 +28,10 @@ rank_falls config bundle n m under within above =
     rank_lt bundle.definitions (length bundle.levels) n m within
     (ap (λ defs. is_above defs m m) under.fits.definitions ∙ not_above_self config m under.valid) above
 
+-- the two bits are not the same
+pub is_apart : true ≡ false → ⊥
+is_apart same = cc
+
 -- nothing is wanted yet
 pub made_start : (bundle : BundleParts) (upper lower : ℕ) (table : List (List (List Bool))) → AreMadeTo bundle upper lower 0 0 table
 made_start bundle upper lower table = λ n within up down low before.

@@ -1,3 +1,4 @@
 pub mod Held
 pub mod Linked
 pub mod Ranks
+pub mod Stands

@@ -1,12 +1,15 @@
 //! The row of one item, which joins those of the items that it links to.
-ghost use Rattle.std.specs.Prelude.{◌≡◌, ◌<◌, ◌||◌, [], get_or, length, map, slice_get, IfOk, IsSome, Some};
+ghost use Rattle.std.specs.Prelude.{◌≡◌, ◌<◌, ◌||◌, [], All, get_or, length, map, slice_get, IfOk, Some};
+ghost use Rattle.std.specs.List.{list_any};
 ghost use Rattle.std.specs.Simd.Lanes.{zip2};
-ghost use Rattle.bundle_state.specs.Bundle.{level_of_id, place_of};
+ghost use Rattle.bundle_state.specs.Bundle.{place_of};
 ghost use Rattle.bundle_state.specs.Valid.{KeepsBundleRules};
-ghost use Rattle.hier_closure.specs.Dominance.{is_or_dominates, ids_at, closure_row};
-ghost use Rattle.hier_closure.specs.Inner.Ranks.{IsUnder, AreMadeAtItem, AreMadeBelowItem};
+ghost use Rattle.hier_closure.specs.Dominance.{is_or_dominates, ids_at};
+ghost use Rattle.hier_closure.specs.Inner.Ranks.{IsUnder, AreMadeAtItem};
+ghost use Rattle.hier_closure.specs.Inner.Stands.{IsReady, id_at, stand_id};
 
 use crate::levels::Rows;
+use crate::stands::Stand;
 use bundle_state::Bundle;
 use db_config::Config;
 use emu_names::{ItemId, Memory};
@@ -37,30 +40,41 @@ pub(crate) fn place_near(
     }
 }
 
-/// Sets the bits of a row that stand for an item and for those that it dominates. The item is looked for
-/// at a position of the lower level first, which then is the one behind it, where it stands there.
-fn add_child(
+/// The level and the position of an item, which is looked for at this place first, if there is such a level.
+pub(crate) fn place_from(
+    bundle: &Bundle,
+    near: (usize, usize),
+    id: ItemId,
+) -> Option<(usize, usize)>
+    requires { KeepsBundleRules bundle.now }
+    ensures { result ≡ place_of bundle.now.levels id.0 }
+{
+    if near.0 < bundle.level_count() {
+        place_near(bundle, near, id)
+    } else {
+        bundle.place(id)
+    }
+}
+
+/// Sets the bits of a row that stand for the item at a place and for those that it dominates.
+fn add_stand(
     row: &mut BitRow,
     config: &Config,
     bundle: &Bundle,
     lower: usize,
     table: &[Rows],
-    near: &mut usize,
-    child: ItemId,
+    stand: Stand,
 )
     requires under { IsUnder config.now bundle.now }
     requires lower { lower < length bundle.now.levels }
     requires wide { length row.old ≡ length (ids_at bundle.now.levels lower) }
-    requires there { IsSome (level_of_id bundle.now.levels child.0) }
-    requires made { AreMadeAtItem bundle.now lower table.now child.0 }
-    ensures { row.new ≡ zip2 (λ a b. a || b) row.old
-        (map (λ b. is_or_dominates bundle.now.links b child) (ids_at bundle.now.levels lower)) }
+    requires ready { IsReady bundle.now lower table.now stand }
+    ensures { row.new ≡ zip2 (λ a b. a || b) row.old (map
+        (λ b. is_or_dominates bundle.now.links b (stand_id bundle.now stand)) (ids_at bundle.now.levels lower)) }
 {
-    let Some((level, position)) = place_near(bundle, (lower, *near), child) else {
-        return;
-    };
+    let level = stand.level as usize;
+    let position = stand.position as usize;
     if level == lower {
-        *near = position.saturating_add(1);
         row.set(position, true);
         return;
     }
@@ -69,29 +83,27 @@ fn add_child(
     }
 }
 
-/// The row of an item of a level. Its first child is looked for at a position of the lower level first,
-/// which then is the one behind its last child that stands there. The only refusal is want of memory.
-pub(crate) fn item_row(
+/// The row of the items at some places and of those that they dominate. The only refusal is want of memory.
+pub(crate) fn joined_row(
     alloc: Global,
     config: &Config,
     bundle: &Bundle,
     lower: usize,
     table: &[Rows],
-    near: &mut usize,
-    item: ItemId,
+    stands: &[Stand],
 ) -> Result<BitRow, Memory>
     requires under { IsUnder config.now bundle.now }
     requires lower { lower < length bundle.now.levels }
-    requires made { AreMadeBelowItem bundle.now lower table.now item.0 }
-    ensures { IfOk result (λ row. row
-        ≡ closure_row bundle.now.links (ids_at bundle.now.levels lower) item.0) }
+    requires ready { All (IsReady bundle.now lower table.now) stands.now }
+    ensures { IfOk result (λ row. row ≡ map (λ b. list_any (is_or_dominates bundle.now.links b)
+        (map (stand_id bundle.now) stands.now)) (ids_at bundle.now.levels lower)) }
 {
     let mut row = match BitRow::new(alloc, bundle.level(lower).len()) {
         Ok(row) => row,
         Err(_) => return Err(Memory),
     };
-    for child in bundle.links().children(item) {
-        add_child(&mut row, config, bundle, lower, table, near, child);
+    for at in 0..stands.len() {
+        add_stand(&mut row, config, bundle, lower, table, stands[at]);
     }
     Ok(row)
 }

@@ -4,11 +4,13 @@ ghost use Rattle.bundle_state.specs.Bundle.{BundleParts};
 ghost use Rattle.bundle_state.specs.Built.{FitsConfig};
 ghost use Rattle.hier_closure.specs.Dominance.{closure_of};
 ghost use Rattle.hier_closure.specs.Inner.Linked.{AreLinkedIn};
+ghost use Rattle.hier_closure.specs.Inner.Stands.{AreStandsIn};
 
 use crate::held::Held;
 use crate::levels::{Rows, level_rows, rows_between};
 use crate::linked::{LinkedLevels, rows_at};
 use crate::ranks::any_between;
+use crate::stands::{LevelStands, stands_in};
 use bundle_state::Bundle;
 use db_config::Config;
 use emu_names::{Memory, PlainData, Shared};
@@ -49,14 +51,49 @@ impl Closure {
         requires lower { lower < length bundle.now.levels }
         ensures { IfOk result (λ made. made ≡ closure_of bundle.now lower upper) }
     {
+        let stands = stands_in(alloc, bundle)?;
+        Closure::placed(
+            alloc,
+            config,
+            bundle,
+            stands.as_ref().as_slice(),
+            upper,
+            lower,
+        )
+    }
+
+    /// The same rows of dominance, by the places of the items that the items of the bundle link to. The only
+    /// refusal is want of memory.
+    pub fn placed(
+        alloc: Global,
+        config: &Config,
+        bundle: &Bundle,
+        stands: &[LevelStands],
+        upper: usize,
+        lower: usize,
+    ) -> Result<Closure, Memory>
+        requires fits { FitsConfig config.now bundle.now }
+        requires upper { upper < length bundle.now.levels }
+        requires lower { lower < length bundle.now.levels }
+        requires stands { AreStandsIn bundle.now stands.now }
+        ensures { IfOk result (λ made. made ≡ closure_of bundle.now lower upper) }
+    {
         let _parts = config.parts();
         let _items = bundle.item_count();
         if !config.is_above(upper, lower) {
             let held = Held::unset(alloc, bundle, upper, lower)?;
             return Ok(Closure { held });
         }
-        let table = rows_between(alloc, config, bundle, upper, lower)?;
-        let rows = level_rows(alloc, config, bundle, lower, table.as_slice(), upper)?;
+        let table = rows_between(alloc, config, bundle, stands, upper, lower)?;
+        let rows = level_rows(
+            alloc,
+            config,
+            bundle,
+            stands,
+            lower,
+            table.as_slice(),
+            upper,
+        )?;
         Closure::of(alloc, rows)
     }
 
@@ -96,6 +133,7 @@ impl Closure {
         config: &Config,
         bundle: &Bundle,
         all: &[LinkedLevels],
+        stands: &[LevelStands],
         upper: usize,
         lower: usize,
     ) -> Result<Closure, Memory>
@@ -103,11 +141,12 @@ impl Closure {
         requires upper { upper < length bundle.now.levels }
         requires lower { lower < length bundle.now.levels }
         requires kept { AreLinkedIn bundle.now all.now }
+        requires stands { AreStandsIn bundle.now stands.now }
         ensures { IfOk result (λ made. made ≡ closure_of bundle.now lower upper) }
     {
         match Closure::kept_at(config, all, upper, lower) {
             Some(closure) => closure.copy(alloc),
-            None => Closure::between(alloc, config, bundle, upper, lower),
+            None => Closure::placed(alloc, config, bundle, stands, upper, lower),
         }
     }
 

@@ -2,9 +2,11 @@
 ghost use Rattle.std.specs.Prelude.{◌≡◌, ◌<◌, ◌+◌, length, IfOk, OnOk};
 ghost use Rattle.hier_closure.specs.Dominance.{closure_of};
 ghost use Rattle.hier_closure.specs.Inner.Ranks.{IsUnder, AreMadeBelow, AreMadeTo};
+ghost use Rattle.hier_closure.specs.Inner.Stands.{AreStandsIn};
 
-use crate::children::item_row;
+use crate::children::joined_row;
 use crate::ranks::{any_between, is_between, rank_of};
+use crate::stands::LevelStands;
 use bundle_state::Bundle;
 use db_config::Config;
 use emu_names::{Memory, Series};
@@ -19,21 +21,25 @@ pub(crate) fn level_rows(
     alloc: Global,
     config: &Config,
     bundle: &Bundle,
+    stands: &[LevelStands],
     lower: usize,
     table: &[Rows],
     level: usize,
 ) -> Result<Rows, Memory>
     requires under { IsUnder config.now bundle.now }
+    requires stands { AreStandsIn bundle.now stands.now }
     requires lower { lower < length bundle.now.levels }
     requires level { level < length bundle.now.levels }
     requires made { AreMadeBelow bundle.now lower table.now level }
     ensures { IfOk result (λ rows. rows ≡ closure_of bundle.now lower level) }
 {
-    let items = bundle.level(level).as_slice();
-    let mut rows = Series::from_vec(Vec::with_capacity(alloc, items.len())?);
-    let mut near = 0;
-    for item in items {
-        rows.push(item_row(alloc, config, bundle, lower, table, &mut near, item.id)?)?;
+    let count = bundle.level(level).len();
+    let own = &stands[level];
+    let mut rows = Series::from_vec(Vec::with_capacity(alloc, count)?);
+    for position in 0..count {
+        let children = own.of_item(position);
+        let row = joined_row(alloc, config, bundle, lower, table, children)?;
+        rows.push(row)?;
     }
     Ok(rows)
 }
@@ -43,12 +49,14 @@ fn add_level(
     alloc: Global,
     config: &Config,
     bundle: &Bundle,
+    stands: &[LevelStands],
     between: (usize, usize),
     table: &mut Vec<Rows>,
     rank: usize,
     level: usize,
 ) -> Result<(), Memory>
     requires under { IsUnder config.now bundle.now }
+    requires stands { AreStandsIn bundle.now stands.now }
     requires upper { between.0 < length bundle.now.levels }
     requires lower { between.1 < length bundle.now.levels }
     requires level { level < length bundle.now.levels }
@@ -65,7 +73,15 @@ fn add_level(
     if rank_of(config, level) != rank {
         return Ok(());
     }
-    let rows = level_rows(alloc, config, bundle, lower, table.as_slice(), level)?;
+    let rows = level_rows(
+        alloc,
+        config,
+        bundle,
+        stands,
+        lower,
+        table.as_slice(),
+        level,
+    )?;
     table[level] = rows;
     Ok(())
 }
@@ -75,11 +91,13 @@ fn add_rank(
     alloc: Global,
     config: &Config,
     bundle: &Bundle,
+    stands: &[LevelStands],
     between: (usize, usize),
     table: &mut Vec<Rows>,
     rank: usize,
 ) -> Result<(), Memory>
     requires under { IsUnder config.now bundle.now }
+    requires stands { AreStandsIn bundle.now stands.now }
     requires upper { between.0 < length bundle.now.levels }
     requires lower { between.1 < length bundle.now.levels }
     requires count { length table.old.items ≡ length bundle.now.levels }
@@ -89,7 +107,7 @@ fn add_rank(
         (AreMadeTo bundle.now between.0 between.1 (rank + 1) 0 table.new.items) }
 {
     for level in 0..bundle.level_count() {
-        add_level(alloc, config, bundle, between, table, rank, level)?;
+        add_level(alloc, config, bundle, stands, between, table, rank, level)?;
     }
     Ok(())
 }
@@ -111,10 +129,12 @@ pub(crate) fn rows_between(
     alloc: Global,
     config: &Config,
     bundle: &Bundle,
+    stands: &[LevelStands],
     upper: usize,
     lower: usize,
 ) -> Result<Vec<Rows>, Memory>
     requires under { IsUnder config.now bundle.now }
+    requires stands { AreStandsIn bundle.now stands.now }
     requires upper { upper < length bundle.now.levels }
     requires lower { lower < length bundle.now.levels }
     ensures { IfOk result (λ table. AreMadeBelow bundle.now lower table.items upper) }
@@ -124,7 +144,15 @@ pub(crate) fn rows_between(
     }
     let mut table = empty_table(alloc, bundle.level_count())?;
     for rank in 0..rank_of(config, upper) {
-        add_rank(alloc, config, bundle, (upper, lower), &mut table, rank)?;
+        add_rank(
+            alloc,
+            config,
+            bundle,
+            stands,
+            (upper, lower),
+            &mut table,
+            rank,
+        )?;
     }
     Ok(table)
 }

@@ -1,12 +1,12 @@
 //! The rows of links between two levels, as a bundle with few links keeps them: between levels of which
 //! one is right above the other they are its rows of dominance.
 ghost use Rattle.std.specs.Prelude.{◌≡◌, ◌≢◌, ◌<◌, ◌+◌, true, false, [], take, replicate, length, get_or, slice_get, slice_set, IfOk, IfNone, IfSome, IsSome, OnOk, Some};
-ghost use Rattle.bundle_state.specs.Bundle.{BundleParts, level_of_id, place_of};
+ghost use Rattle.bundle_state.specs.Bundle.{BundleParts, level_of_id};
 ghost use Rattle.bundle_state.specs.Valid.{KeepsBundleRules};
 ghost use Rattle.hier_closure.specs.Dominance.{ids_at};
 ghost use Rattle.hier_closure.specs.Inner.Linked.{AreLinkedIn, linked_of};
 
-use crate::children::place_near;
+use crate::children::place_from;
 use crate::closure::Closure;
 use crate::levels::Rows;
 use bundle_state::Bundle;
@@ -78,18 +78,6 @@ fn set_bit(rows: &mut [BitRow], row: usize, at: usize)
     ensures { rows.new ≡ slice_set rows.old row (slice_set (get_or rows.old row []) at true) }
 {
     rows[row].set(at, true);
-}
-
-/// The level and the position of an item, which is looked for at this place first, if there is such a level.
-fn place_from(bundle: &Bundle, near: (usize, usize), id: ItemId) -> Option<(usize, usize)>
-    requires { KeepsBundleRules bundle.now }
-    ensures { result ≡ place_of bundle.now.levels id.0 }
-{
-    if near.0 < bundle.level_count() {
-        place_near(bundle, near, id)
-    } else {
-        bundle.place(id)
-    }
 }
 
 /// The position of an item of the bundle, where it is one of this level. It is looked for at a position of

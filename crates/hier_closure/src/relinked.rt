@@ -3,9 +3,11 @@
 ghost use Rattle.std.specs.Prelude.{◌≡◌, ◌<◌, true, false, get_or, length, IfOk};
 ghost use Rattle.level_items.specs.Levels.{ids_of};
 ghost use Rattle.hier_closure.specs.Dominance.{ids_at};
-ghost use Rattle.hier_closure.specs.Inner.Linked.{AreLinkedIn, HaveSameIdsBut, HaveSameIdsOn};
+ghost use Rattle.hier_closure.specs.Inner.Linked.{AreAlike, AreLinkedIn, HaveSameIdsBut, HaveSameIdsOn};
+ghost use Rattle.hier_closure.specs.Inner.Stands.{AreStandsIn};
 
 use crate::linked::{LinkedLevels, linked_levels};
+use crate::stands::{BundleStands, stands_in};
 use bundle_state::Bundle;
 use emu_names::{Memory, PlainData, Series};
 use lane_bits::BitRow;
@@ -82,9 +84,8 @@ fn are_alike_on(old: &Bundle, bundle: &Bundle, marked: &BitRow) -> bool
 }
 
 /// Whether two bundles have the same links, and items with the same ids on the marked levels.
-fn are_alike(old: &Bundle, bundle: &Bundle, marked: &BitRow) -> bool
-    ensures links { result ≡ true → bundle.now.links ≡ old.now.links }
-    ensures ids { result ≡ true → HaveSameIdsOn marked.now old.now.levels bundle.now.levels }
+pub fn are_alike(old: &Bundle, bundle: &Bundle, marked: &BitRow) -> bool
+    ensures { result ≡ true → AreAlike marked.now old.now bundle.now }
 {
     if !are_same_links(old.links(), bundle.links()) {
         return false;
@@ -93,22 +94,47 @@ fn are_alike(old: &Bundle, bundle: &Bundle, marked: &BitRow) -> bool
 }
 
 /// The rows of links of a bundle, from those of a bundle with the same ids on all levels but the marked ones: where
-/// the links and the ids of these levels are the same too, these rows are shared, and they are made anew else.
-/// The only refusal is want of memory.
+/// the two are alike on these levels too, these rows are shared, and they are made anew else. The only refusal is
+/// want of memory.
 pub fn relinked_levels(
     alloc: Global,
     old: &Bundle,
     all: &Series<LinkedLevels>,
     bundle: &Bundle,
     marked: &BitRow,
+    alike: bool,
 ) -> Result<Series<LinkedLevels>, Memory>
     requires linked { AreLinkedIn old.now all.now }
     requires same { HaveSameIdsBut marked.now old.now.levels bundle.now.levels }
+    requires alike { alike ≡ true → AreAlike marked.now old.now bundle.now }
     ensures { IfOk result (λ made. AreLinkedIn bundle.now made) }
 {
     let _items = bundle.item_count();
-    if !all.is_empty() && are_alike(old, bundle, marked) {
+    if alike && !all.is_empty() {
         return all.copy(alloc);
     }
     linked_levels(alloc, bundle)
+}
+
+/// Where the items stand that the items of a bundle link to, from the places of a bundle with the same ids on all
+/// levels but the marked ones: where there are as many levels, and the links and the ids of the marked ones are the
+/// same too, they are shared, and looked up anew else. The only refusal is want of memory.
+pub fn stands_again(
+    alloc: Global,
+    old: &Bundle,
+    stands: &BundleStands,
+    bundle: &Bundle,
+    marked: &BitRow,
+    alike: bool,
+) -> Result<BundleStands, Memory>
+    requires stands { AreStandsIn old.now stands.now }
+    requires same { HaveSameIdsBut marked.now old.now.levels bundle.now.levels }
+    requires alike { alike ≡ true → AreAlike marked.now old.now bundle.now }
+    ensures { IfOk result (λ made. AreStandsIn bundle.now made) }
+{
+    let _items = bundle.item_count();
+    if alike && bundle.level_count() == old.level_count() {
+        return stands.copy(alloc);
+    }
+    stands_in(alloc, bundle)
 }

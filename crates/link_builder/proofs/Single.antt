@@ -129,7 +129,7 @@ two x y (i ∷ lower) order apart =
 
 -- ---- all segments
 
-all_later : (x : Item) (upper : List Item) → are_apart (x ∷ upper) ≡ true → AllByRecursion (λ y. is_before x.time y.time ≡ true) upper
+pub all_later : (x : Item) (upper : List Item) → are_apart (x ∷ upper) ≡ true → AllByRecursion (λ y. is_before x.time y.time ≡ true) upper
 all_later x [] apart = tt
 all_later x (y ∷ upper) apart =
     let parts = and_parts (is_before x.time y.time) (are_apart (y ∷ upper)) apart in

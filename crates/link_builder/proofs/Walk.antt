@@ -1,167 +1,160 @@
--- A walk over the set places of a row, and what the rows of a segment come to.
-use Rattle.std.proofs.Common.{◌≡◌, ℕ, zero, suc, ◌+◌, ◌<◌, ◌≤◌, Bool, true, false, ◌&&◌, cond, List, [], ◌∷◌, ◌++◌, length, map, take, get_or, Some, None, nat_le, refl, sym, ap, ◌∙◌, append_assoc, append-nil, arith}
-use Rattle.std.specs.List.{filter, slice_get, list_all, All}
-use Rattle.std.specs.Simd.Lanes.{zip2}
-use Rattle.std.proofs.lemmas.Bool.{and_parts}
+-- Both levels gone through side by side: what becomes of the pairs that are left, at each step.
+use Rattle.std.proofs.Common.{◌≡◌, ◌≢◌, ℕ, ◌+◌, ◌<◌, ◌≤◌, true, false, ◌&&◌, cond, List, [], ◌∷◌, ◌++◌, length, map, take, drop, get_or, Some, refl, sym, ap, ◌∙◌, append_assoc, append-nil, arith}
+use Rattle.std.specs.List.{filter, slice_get, list_all, All, AllByRecursion}
+use Rattle.std.proofs.lemmas.Bool.{and_parts, ltb-true}
 use Rattle.std.proofs.lemmas.Bool.Decides.{nat_tests}
-use Rattle.std.proofs.lemmas.Grind.{flat_map-append}
-use Rattle.std.proofs.lemmas.List.{length-map, map-append, take_more}
+use Rattle.std.proofs.lemmas.List.{drop_all, drop_more, take-append-drop}
 use Rattle.std.proofs.lemmas.List.Elements.{All-nil, All-cons}
-use Rattle.std.proofs.lemmas.Option.{get_or_from_slice_get, slice_get_read, slice_get_within}
-use Rattle.std.proofs.lemmas.Simd.{length-zip2}
-use Rattle.emu_names.specs.declared.kinds.ItemId.{ItemId}
+use Rattle.std.proofs.lemmas.Option.{get_or_from_slice_get, slice_get_within}
 use Rattle.emu_names.specs.declared.kinds.LevelKind.{LevelKind}
+use Rattle.emu_names.specs.declared.kinds.LevelKind.TheVariants as kinds
 use Rattle.level_items.specs.declared.annot.AnnotLink.{AnnotLink}
 use Rattle.level_items.specs.declared.items.Item.{Item}
 use Rattle.level_items.specs.declared.times.Time.{Time}
-use Rattle.level_items.specs.declared.times.Time.TheVariants.{NoTime, Span, Point}
-use Rattle.level_items.specs.Times.{first_sample, last_sample, fits_kind, ends_in_time}
-use Rattle.level_items.specs.Levels.{Level, KeepsLevelRule, are_labels_for, fits_level}
-use Rattle.lane_bits.specs.Inner.Row.{is_between, IsNext}
+use Rattle.level_items.specs.Times.{first_sample, last_sample, fits_kind, ends_in_time, is_before}
+use Rattle.level_items.specs.Levels.{Level, KeepsLevelRule, are_apart, are_in_order, are_labels_for, fits_level}
+use Rattle.level_items.proofs.Apart.{first-le-last, halves}
 use Rattle.link_builder.specs.Timed.{is_within, pair_with, pairs_with, timed_pairs}
-use Rattle.link_builder.specs.Inner.Held.{held_items, firsts_of, lasts_of}
+use Rattle.link_builder.proofs.Single.{all_later}
 
--- no item is held among those before a place none of whose bits is set from another place on
-held_none : (bits : List Bool) (items : List Item) (n : ℕ) → ((i : ℕ) → i < n → slice_get bits i ≡ Some false) → held_items (take n bits) (take n items) ≡ []
-held_none bits items zero none = refl
-held_none [] items (suc n) none = refl
-held_none (b ∷ bits) [] (suc n) none = nothing b (take n bits)
-  where
-    nothing : (b : Bool) (bs : List Bool) → held_items (b ∷ bs) [] ≡ []
-    nothing true bs = refl
-    nothing false bs = refl
-held_none (true ∷ bits) (x ∷ items) (suc n) none = let set : Some true ≡ Some false = none 0 (omega arith) in absurd cc
-held_none (false ∷ bits) (x ∷ items) (suc n) none = held_none bits items n (λ i low. none (suc i) (omega (arith, low)))
+-- ---- what stands within what
 
--- the items that are held up to a place, and the one at it
-pub held_more : (bits : List Bool) (items : List Item) (from at : ℕ) (d : Item) → from ≤ at → slice_get bits at ≡ Some true → slice_get items at ≡ Some d →
-    ((i : ℕ) → from ≤ i → i < at → slice_get bits i ≡ Some false) →
-    held_items (take (suc at) bits) (take (suc at) items) ≡ held_items (take from bits) (take from items) ++ d ∷ []
-held_more [] items from at d low here there none = absurd cc
-held_more (b ∷ bits) [] from at d low here there none = absurd cc
-held_more (b ∷ bits) (x ∷ items) zero zero d low here there none = first b cc
-  where
-    first : (t : Bool) → t ≡ true → held_items (t ∷ take 0 bits) (x ∷ take 0 items) ≡ d ∷ []
-    first true set = let same : x ≡ d = cc in ap (λ y. y ∷ []) same
-    first false set = absurd cc
-held_more (true ∷ bits) (x ∷ items) zero (suc at) d low here there none = let set : Some true ≡ Some false = none 0 (omega arith) (omega arith) in absurd cc
-held_more (false ∷ bits) (x ∷ items) zero (suc at) d low here there none =
-    held_more bits items zero at d (omega arith) here there (λ i from_low high. none (suc i) (omega arith) (omega (arith, high)))
-held_more (true ∷ bits) (x ∷ items) (suc from) (suc at) d low here there none =
-    ap (λ ys. x ∷ ys) (held_more bits items from at d (omega (arith, low)) here there (λ i above high. none (suc i) (omega (arith, above)) (omega (arith, high))))
-held_more (false ∷ bits) (x ∷ items) (suc from) (suc at) d low here there none =
-    held_more bits items from at d (omega (arith, low)) here there (λ i above high. none (suc i) (omega (arith, above)) (omega (arith, high)))
-held_more (b ∷ bits) (x ∷ items) (suc from) zero d low here there none = absurd (omega (arith, low))
+starts_early : (outer inner : Time) → first_sample inner < first_sample outer → is_within outer inner ≡ false
+starts_early outer inner low = grind (arith, nat_tests)
 
--- an item begins no later than it is over
-first_before : (t : Time) → first_sample t ≤ last_sample t
-first_before NoTime = omega arith
-first_before (Span start dur) = omega arith
-first_before (Point at) = omega arith
+ends_late : (outer inner : Time) → last_sample outer < last_sample inner → is_within outer inner ≡ false
+ends_late outer inner high = grind (arith, nat_tests)
 
-within_same : (a b c d : ℕ) → c ≤ d → (is_between a b c && is_between a b d) ≡ (nat_le a c && nat_le d b)
-within_same a b c d order = grind (arith, nat_tests)
+stands_within : (outer inner : Time) → first_sample outer ≤ first_sample inner → last_sample inner ≤ last_sample outer → is_within outer inner ≡ true
+stands_within outer inner low high = grind (arith, nat_tests)
 
-held_step : (t : Bool) (bits : List Bool) (x : Item) (items : List Item) → held_items (t ∷ bits) (x ∷ items) ≡ cond t (x ∷ held_items bits items) (held_items bits items)
-held_step true bits x items = refl
-held_step false bits x items = refl
+-- ---- an item before all segments, and items behind a segment
 
--- which of these items begin and are over from the one sample to the other
-abbrev marked : ℕ → ℕ → List Item → List Bool
-marked first last lower = zip2 (λ a b. a && b) (map (is_between first last) (firsts_of lower)) (map (is_between first last) (lasts_of lower))
+-- each of these begins behind this time's first sample
+abbrev begin_behind : Time → List Item → Type 0
+begin_behind t items = AllByRecursion (λ y. first_sample t < first_sample y.time) items
 
--- the rows of a segment mark the items that stand within it
-pub held_within : (outer : Time) (lower : List Item) →
-    held_items (zip2 (λ a b. a && b) (map (is_between (first_sample outer) (last_sample outer)) (firsts_of lower)) (map (is_between (first_sample outer) (last_sample outer)) (lasts_of lower))) lower
-    ≡ filter (λ i. is_within outer i.time) lower
-held_within outer [] = refl
-held_within outer (x ∷ lower) =
-    let rest = marked (first_sample outer) (last_sample outer) lower in
-    held_step _ rest x lower
-    ∙ ap (λ t. cond t (x ∷ held_items rest lower) (held_items rest lower))
-    (within_same (first_sample outer) (last_sample outer) (first_sample x.time) (last_sample x.time) (first_before x.time))
-    ∙ ap (λ ys. cond (is_within outer x.time) (x ∷ ys) ys) (held_within outer lower)
+-- an item that begins before each of the segments is in none of their pairs
+without : (i : Item) (upper lower : List Item) → begin_behind i.time upper → timed_pairs upper (i ∷ lower) ≡ timed_pairs upper lower
+without i [] lower early = refl
+without i (y ∷ upper) lower early =
+    let rest = filter (λ j. is_within y.time j.time) lower in
+    ap (λ t. map (pair_with y.id) (cond t (i ∷ rest) rest) ++ timed_pairs upper (i ∷ lower)) (starts_early y.time i.time early.0)
+    ∙ ap (λ ps. pairs_with lower y ++ ps) (without i upper lower early.1)
 
-no_items : (bits : List Bool) → held_items bits [] ≡ []
+-- each of these is over behind this time's last sample
+abbrev end_behind : Time → List Item → Type 0
+end_behind t items = AllByRecursion (λ j. last_sample t < last_sample j.time) items
+
+no_pairs : (y : Item) (lower : List Item) → end_behind y.time lower → pairs_with lower y ≡ []
+no_pairs y [] late = refl
+no_pairs y (j ∷ lower) late =
+    let rest = filter (λ j. is_within y.time j.time) lower in
+    ap (λ t. map (pair_with y.id) (cond t (j ∷ rest) rest)) (ends_late y.time j.time late.0) ∙ no_pairs y lower late.1
+
+no_items : (upper : List Item) → timed_pairs upper [] ≡ []
 no_items [] = refl
-no_items (true ∷ bits) = refl
-no_items (false ∷ bits) = refl
+no_items (y ∷ upper) = no_items upper
 
-take_none : {X : Type 0} (n : ℕ) → take {A = X} n [] ≡ []
-take_none zero = refl
-take_none (suc n) = refl
+-- what begins no later than a segment is over begins before all later segments
+before_later : (t s : Time) (upper : List Item) → first_sample t ≤ last_sample s → AllByRecursion (λ y. is_before s y.time ≡ true) upper → begin_behind t upper
+before_later t s [] low later = tt
+before_later t s (y ∷ upper) low later =
+    let next = ltb-true (last_sample s) (first_sample y.time) later.0 in
+    (omega (arith, next, low), before_later t s upper low later.1)
 
--- no bit is set from a place on, so that the items that are held up to it are all
-pub held_all : (bits : List Bool) (items : List Item) (from : ℕ) → ((i : ℕ) → i < length bits → from ≤ i → slice_get bits i ≡ Some false) →
-    held_items (take from bits) (take from items) ≡ held_items bits items
-held_all [] items from none = ap (λ bs. held_items bs (take from items)) (take_none from)
-held_all (b ∷ bits) [] from none = ap (held_items (take from (b ∷ bits))) (take_none from) ∙ no_items (take from (b ∷ bits)) ∙ sym (no_items (b ∷ bits))
-held_all (true ∷ bits) (x ∷ items) zero none = let set : Some true ≡ Some false = none 0 (omega arith) (omega arith) in absurd cc
-held_all (false ∷ bits) (x ∷ items) zero none = held_all bits items zero (λ i low above. none (suc i) (omega (arith, low)) (omega arith))
-held_all (true ∷ bits) (x ∷ items) (suc from) none = ap (λ ys. x ∷ ys) (held_all bits items from (λ i low above. none (suc i) (omega (arith, low)) (omega (arith, above))))
-held_all (false ∷ bits) (x ∷ items) (suc from) none = held_all bits items from (λ i low above. none (suc i) (omega (arith, low)) (omega (arith, above)))
+-- what stands behind an item that is over too late is over too late
+behind_late : (s t : Time) (lower : List Item) → last_sample s < last_sample t → AllByRecursion (λ j. is_before t j.time ≡ true) lower → end_behind s lower
+behind_late s t [] high later = tt
+behind_late s t (j ∷ lower) high later =
+    let next = ltb-true (last_sample t) (first_sample j.time) later.0 in
+    let end = first-le-last j.time in
+    (omega (arith, next, high, end), behind_late s t lower high later.1)
 
--- ---- the loop over the places that are set
+-- ---- the three steps
 
-next_is : (n : ℕ) → suc n ≡ n + 1
-next_is n = omega arith
+-- the item begins before the segment
+pub pass_item : (s i : Item) (upper lower : List Item) → are_apart (s ∷ upper) ≡ true → first_sample i.time < first_sample s.time →
+    timed_pairs (s ∷ upper) (i ∷ lower) ≡ timed_pairs (s ∷ upper) lower
+pass_item s i upper lower apart low =
+    let end = first-le-last s.time in
+    without i (s ∷ upper) lower (low, before_later i.time s.time upper (omega (arith, low, end)) (all_later s upper apart))
 
-pub pairs_more : (upper : ItemId) (bits : List Bool) (lower : List Item) (from at : ℕ) (d : Item) (all before now : List AnnotLink) → at < length lower → d ≡ get_or lower at d → IsNext from bits (Some at) →
-    before ≡ all ++ map (pair_with upper) (held_items (take from bits) (take from lower)) → now ≡ before ++ pair_with upper d ∷ [] →
-    now ≡ all ++ map (pair_with upper) (held_items (take (at + 1) bits) (take (at + 1) lower))
-pairs_more upper bits lower from at d all before now low is (above, set, none) so_far pushed =
-    let within = slice_get_within bits at true set in
-    let there : slice_get lower at ≡ Some d = slice_get_read lower (length lower) at d refl low is in
-    let more : held_items (take (suc at) bits) (take (suc at) lower) ≡ held_items (take from bits) (take from lower) ++ d ∷ [] =
-    held_more bits lower from at d above set there (λ i behind front. none i (omega (arith, within, front)) (behind, front)) in
-    pushed ∙ ap (λ ps. ps ++ pair_with upper d ∷ []) so_far
-    ∙ append_assoc all (map (pair_with upper) (held_items (take from bits) (take from lower))) (pair_with upper d ∷ [])
-    ∙ ap (λ ps. all ++ ps) (sym (map-append (pair_with upper) (held_items (take from bits) (take from lower)) (d ∷ [])) ∙ ap (map (pair_with upper)) (sym more))
-    ∙ ap (λ n. all ++ map (pair_with upper) (held_items (take n bits) (take n lower))) (next_is at)
+-- the item is over behind the segment
+pub pass_segment : (s i : Item) (upper lower : List Item) → are_apart (i ∷ lower) ≡ true → last_sample s.time < last_sample i.time →
+    timed_pairs (s ∷ upper) (i ∷ lower) ≡ timed_pairs upper (i ∷ lower)
+pass_segment s i upper lower apart high =
+    ap (λ ps. ps ++ timed_pairs upper (i ∷ lower)) (no_pairs s (i ∷ lower) (high, behind_late s.time i.time lower high (all_later i lower apart)))
 
-pub pairs_all : (upper : ItemId) (bits : List Bool) (lower : List Item) (from : ℕ) (all now : List AnnotLink) → IsNext from bits None →
-    now ≡ all ++ map (pair_with upper) (held_items (take from bits) (take from lower)) → now ≡ all ++ map (pair_with upper) (held_items bits lower)
-pairs_all upper bits lower from all now none so_far = so_far ∙ ap (λ is. all ++ map (pair_with upper) is) (held_all bits lower from none)
+-- the item stands within the segment
+pub take_pair : (s i : Item) (upper lower : List Item) → are_apart (s ∷ upper) ≡ true → first_sample s.time ≤ first_sample i.time → last_sample i.time ≤ last_sample s.time →
+    timed_pairs (s ∷ upper) (i ∷ lower) ≡ pair_with s.id i ∷ timed_pairs (s ∷ upper) lower
+take_pair s i upper lower apart low high =
+    let begin = first-le-last i.time in
+    let rest = filter (λ j. is_within s.time j.time) lower in
+    ap (λ t. map (pair_with s.id) (cond t (i ∷ rest) rest) ++ timed_pairs upper (i ∷ lower)) (stands_within s.time i.time low high)
+    ∙ ap (λ ps. pair_with s.id i ∷ pairs_with lower s ++ ps) (without i upper lower (before_later i.time s.time upper (omega (arith, begin, high)) (all_later s upper apart)))
 
--- ---- the loop over the segments
+-- ---- the loop
 
--- which places of two columns are from the one sample to the other in both
-abbrev rows_of : ℕ → ℕ → List ℕ → List ℕ → List Bool
-rows_of first last firsts lasts = zip2 (λ a b. a && b) (map (is_between first last) firsts) (map (is_between first last) lasts)
+next_item : (items : List Item) (n : ℕ) (i : Item) → slice_get items n ≡ Some i → drop n items ≡ i ∷ drop (n + 1) items
+next_item items n i there =
+    drop_more items n i (slice_get_within items n i there) ∙ ap (λ j. j ∷ drop (n + 1) items) (get_or_from_slice_get items n i i there)
 
-module _ (outer : Time) (lower : List Item) (first last : ℕ) (firsts lasts : List ℕ) (held : List Bool) (begins : first ≡ first_sample outer) (ends : last ≡ last_sample outer)
-    (is_first : firsts ≡ firsts_of lower) (is_last : lasts ≡ lasts_of lower) (rows : held ≡ rows_of first last firsts lasts) where
-  rows_are : held ≡ rows_of (first_sample outer) (last_sample outer) (firsts_of lower) (lasts_of lower)
-  rows_are =
-      rows ∙ ap (λ n. rows_of n last firsts lasts) begins ∙ ap (λ n. rows_of (first_sample outer) n firsts lasts) ends
-      ∙ ap (λ column. rows_of (first_sample outer) (last_sample outer) column lasts) is_first
-      ∙ ap (λ column. rows_of (first_sample outer) (last_sample outer) (firsts_of lower) column) is_last
+-- levels of segments and of events stand in the order of their times
+timed_apart : (kind : LevelKind) (items : List Item) → kind ≢ kinds.Item → are_in_order kind items ≡ true → are_apart items ≡ true
+timed_apart kinds.Segment items timed h = h
+timed_apart kinds.Event items timed h = h
+timed_apart kinds.Item items timed h = absurd (timed refl)
 
-  -- a row is as long as its level
-  pub row_length : length held ≡ length lower
-  row_length =
-      let one : length (map (is_between (first_sample outer) (last_sample outer)) (firsts_of lower)) ≡ length lower =
-      length-map (firsts_of lower) (is_between (first_sample outer) (last_sample outer)) ∙ length-map lower (λ (i : Item). first_sample i.time) in
-      let two : length (map (is_between (first_sample outer) (last_sample outer)) (lasts_of lower)) ≡ length lower =
-      length-map (lasts_of lower) (is_between (first_sample outer) (last_sample outer)) ∙ length-map lower (λ (i : Item). last_sample i.time) in
-      ap length rows_are
-      ∙ length-zip2 (λ (a b : Bool). a && b) (map (is_between (first_sample outer) (last_sample outer)) (firsts_of lower)) (map (is_between (first_sample outer) (last_sample outer)) (lasts_of lower)) (one ∙ sym two)
-      ∙ one
+left_apart : (items : List Item) (n : ℕ) (i : Item) → are_apart items ≡ true → slice_get items n ≡ Some i → are_apart (i ∷ drop (n + 1) items) ≡ true
+left_apart items n i apart there =
+    let behind = (halves (take n items) (drop n items) (ap are_apart (take-append-drop n items) ∙ apart)).1 in
+    ap are_apart (sym (next_item items n i there)) ∙ behind
 
-  -- the pairs of one segment
-  pub own_pairs : (upper : ItemId) → map (pair_with upper) (held_items held lower) ≡ map (pair_with upper) (filter (λ i. is_within outer i.time) lower)
-  own_pairs upper = ap (λ bits. map (pair_with upper) (held_items bits lower)) rows_are ∙ ap (map (pair_with upper)) (held_within outer lower)
+module _ (upper lower : Level) (kind : upper.kind ≡ kinds.Segment) (other : lower.kind ≢ kinds.Item) (rule : KeepsLevelRule upper) (low_rule : KeepsLevelRule lower)
+    (place at : ℕ) (s i : Item) (segment : slice_get upper.items place ≡ Some s) (item : slice_get lower.items at ≡ Some i) (all before : List AnnotLink)
+    (so_far : before ++ timed_pairs (drop place upper.items) (drop at lower.items) ≡ all) where
+  is_timed : upper.kind ≢ kinds.Item
+  is_timed is = let two : kinds.Segment ≡ kinds.Item = sym kind ∙ is in absurd cc
 
--- the pairs of one segment more
-pub segment_more : (upper lower : List Item) (place : ℕ) (segment : Item) (own before now : List AnnotLink) → slice_get upper place ≡ Some segment → own ≡ pairs_with lower segment →
-    before ≡ timed_pairs (take place upper) lower → now ≡ before ++ own → now ≡ timed_pairs (take (place + 1) upper) lower
-segment_more upper lower place segment own before now there own_is so_far pushed =
-    let within = slice_get_within upper place segment there in
-    let here : get_or upper place segment ≡ segment = get_or_from_slice_get upper place segment segment there in
-    let more : take (place + 1) upper ≡ take place upper ++ segment ∷ [] =
-    take_more upper place segment within ∙ ap (λ s. take place upper ++ s ∷ []) here in
-    pushed ∙ ap (λ ps. ps ++ own) so_far ∙ ap (λ ps. timed_pairs (take place upper) lower ++ ps) (own_is ∙ sym (append-nil (pairs_with lower segment)))
-    ∙ sym (flat_map-append (pairs_with lower) (take place upper) (segment ∷ [])) ∙ ap (λ ss. timed_pairs ss lower) (sym more)
+  segments_left : are_apart (s ∷ drop (place + 1) upper.items) ≡ true
+  segments_left = left_apart upper.items place s (timed_apart upper.kind upper.items is_timed rule.ordered) segment
+
+  items_left : are_apart (i ∷ drop (at + 1) lower.items) ≡ true
+  items_left = left_apart lower.items at i (timed_apart lower.kind lower.items other low_rule.ordered) item
+
+  opened : before ++ timed_pairs (s ∷ drop (place + 1) upper.items) (i ∷ drop (at + 1) lower.items) ≡ all
+  opened =
+      ap (λ ss. before ++ timed_pairs ss (i ∷ drop (at + 1) lower.items)) (sym (next_item upper.items place s segment))
+      ∙ ap (λ is. before ++ timed_pairs (drop place upper.items) is) (sym (next_item lower.items at i item)) ∙ so_far
+
+  pub item_passed : first_sample i.time < first_sample s.time → before ++ timed_pairs (drop place upper.items) (drop (at + 1) lower.items) ≡ all
+  item_passed low =
+      ap (λ ss. before ++ timed_pairs ss (drop (at + 1) lower.items)) (next_item upper.items place s segment)
+      ∙ ap (λ ps. before ++ ps) (sym (pass_item s i (drop (place + 1) upper.items) (drop (at + 1) lower.items) segments_left low)) ∙ opened
+
+  pub segment_passed : last_sample s.time < last_sample i.time → before ++ timed_pairs (drop (place + 1) upper.items) (drop at lower.items) ≡ all
+  segment_passed high =
+      ap (λ is. before ++ timed_pairs (drop (place + 1) upper.items) is) (next_item lower.items at i item)
+      ∙ ap (λ ps. before ++ ps) (sym (pass_segment s i (drop (place + 1) upper.items) (drop (at + 1) lower.items) items_left high)) ∙ opened
+
+  pub pair_taken : (now : List AnnotLink) → first_sample s.time ≤ first_sample i.time → last_sample i.time ≤ last_sample s.time → now ≡ before ++ pair_with s.id i ∷ [] →
+      now ++ timed_pairs (drop place upper.items) (drop (at + 1) lower.items) ≡ all
+  pair_taken now low high pushed =
+      ap (λ ps. ps ++ timed_pairs (drop place upper.items) (drop (at + 1) lower.items)) pushed
+      ∙ append_assoc before (pair_with s.id i ∷ []) (timed_pairs (drop place upper.items) (drop (at + 1) lower.items))
+      ∙ ap (λ ss. before ++ pair_with s.id i ∷ timed_pairs ss (drop (at + 1) lower.items)) (next_item upper.items place s segment)
+      ∙ ap (λ ps. before ++ ps) (sym (take_pair s i (drop (place + 1) upper.items) (drop (at + 1) lower.items) segments_left low high)) ∙ opened
+
+-- no segment is left, or no item
+pub no_segment_left : (upper lower : List Item) (place at : ℕ) (all now : List AnnotLink) → length upper ≤ place → now ++ timed_pairs (drop place upper) (drop at lower) ≡ all → now ≡ all
+no_segment_left upper lower place at all now over so_far =
+    sym (append-nil now) ∙ ap (λ ss. now ++ timed_pairs ss (drop at lower)) (sym (drop_all place upper over)) ∙ so_far
+
+pub no_item_left : (upper lower : List Item) (place at : ℕ) (all now : List AnnotLink) → length lower ≤ at → now ++ timed_pairs (drop place upper) (drop at lower) ≡ all → now ≡ all
+no_item_left upper lower place at all now over so_far =
+    sym (append-nil now) ∙ ap (λ ps. now ++ ps) (sym (no_items (drop place upper))) ∙ ap (λ is. now ++ timed_pairs (drop place upper) is) (sym (drop_all at lower over)) ∙ so_far
 
 -- ---- times end in time
 

@@ -1,3 +1,2 @@
 pub mod Timed
 pub mod Laws
-pub mod Inner

@@ -1,4 +1,5 @@
 pub mod AnnotLaws
+pub mod CountLaws
 pub mod HeadLaws
 pub mod KindPlaces
 pub mod Loops

@@ -1,5 +1,5 @@
 //! The key of a bundle as it is read, before its parts are names.
-ghost use Rattle.std.specs.Prelude.{◌≡◌, IfOk};
+ghost use Rattle.std.specs.Prelude.{◌≡◌, true, IfOk};
 ghost use Rattle.byte_forms.specs.Forms.{Form};
 ghost use Rattle.byte_forms.specs.Inner.Reading.{Gives};
 ghost use Rattle.emu_names.specs.Name.{is_name};
@@ -60,4 +60,12 @@ pub fn key_in(alloc: Global, raw: &RawKey) -> Result<Option<BundleKey>, Memory>
         return Ok(None);
     };
     Ok(Some(BundleKey { session, bundle }))
+}
+
+/// Both parts of a key are names: its type keeps that. It changes nothing.
+pub fn key_is(key: &BundleKey)
+    ensures { is_key key.now ≡ true }
+{
+    let _session = key.session.as_str();
+    let _bundle = key.bundle.as_str();
 }

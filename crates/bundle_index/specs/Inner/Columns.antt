@@ -7,7 +7,9 @@ use Rattle.level_items.specs.Levels.{Level, label_of}
 use Rattle.level_items.specs.Times.{first_sample, last_sample}
 use Rattle.bundle_state.specs.Bundle.{BundleParts}
 use Rattle.hier_closure.specs.Inner.Linked.{AreLinkedIn}
+use Rattle.hier_closure.specs.Inner.Stands.{AreStandsIn}
 use Rattle.hier_closure.specs.declared.linked.LinkedLevels.{LinkedLevels}
+use Rattle.hier_closure.specs.declared.stands.LevelStands.{LevelStands}
 use Rattle.bundle_index.specs.declared.columns.LevelColumns.{LevelColumns}
 use Rattle.bundle_index.specs.Inner.Numbered.{IsColumnOf}
 use Rattle.bundle_index.specs.Inner.Keys.{AreKeysOf}
@@ -58,9 +60,11 @@ pub record AreColumnsFor (numbered : List (List ℕ)) (levels : List Level) (all
       slice_get levels k ≡ Some level → slice_get all k ≡ Some columns →
       AreColumnsOf numbered level columns
 
--- there are columns for each level of the bundle, keys of the labels, and rows of links that are those of its links
+-- there are columns for each level of the bundle, keys of the labels, rows of links that are those of its links, and
+-- the places of the items that its items link to
 pub record AreKeptOf (bundle : BundleParts) (numbered : List (List ℕ)) (keys : List ℕ) (all : List LevelColumns)
-    (rows : List LinkedLevels) : Type 0 where
+    (rows : List LinkedLevels) (places : List LevelStands) : Type 0 where
   pub columns : AreColumnsFor numbered bundle.levels all
   pub keys_of : AreKeysOf numbered keys
   pub linked : AreLinkedIn bundle rows
+  pub stands : AreStandsIn bundle places

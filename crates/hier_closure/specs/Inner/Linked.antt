@@ -28,3 +28,8 @@ HaveSameIdsBut marked old new = (k : ℕ) → get_or marked k false ≡ false �
 -- and so have they on each level that is marked
 abbrev pub HaveSameIdsOn : List Bool → List Level → List Level → Type 0
 HaveSameIdsOn marked old new = (k : ℕ) → get_or marked k false ≡ true → ids_at new k ≡ ids_at old k
+
+-- two bundles have the same links, and on each marked level items with the same ids
+pub record AreAlike (marked : List Bool) (old new : BundleParts) : Type 0 where
+  pub links : new.links ≡ old.links
+  pub ids : HaveSameIdsOn marked old.levels new.levels

@@ -6,7 +6,7 @@ use Rattle.value_codes.specs.Annots.{id_form, key_form, session_form}
 use Rattle.value_codes.specs.Heads.{link_kind_form}
 use Rattle.edit_code.specs.Additions.{addition_form}
 use Rattle.edit_code.specs.Codes.{entry_code}
-use Rattle.edit_code.specs.Counts.{count_form}
+use Rattle.value_codes.specs.Counts.{count_form}
 use Rattle.edit_code.specs.Edits.{body_form, edit_form, entry_form, inner_form, keyed_form, several_form, told_form}
 use Rattle.edit_code.specs.Tags.{tag_form}
 use Rattle.edit_code.proofs.laws.an_entry_in_bytes.Goals as goal

@@ -2,7 +2,7 @@ use Rattle.std.proofs.Common.{◌≡◌, ◌∙◌, ap, sym, subst, true}
 use Rattle.std.proofs.lemmas.Bool.{and_parts}
 use Rattle.hier_closure.specs.Inner.Ranks.{AreMadeTo, is_between}
 use Rattle.db_config.specs.Above.{is_above}
-use Rattle.hier_closure.proofs.Tables.{rank_in, rank_is, made_skip, made_below, lies_between}
+use Rattle.hier_closure.proofs.Tables.{is_apart, rank_in, rank_is, made_skip, made_below, lies_between}
 use Rattle.hier_closure.proofs.levels.add_level.Goals as goal
 
 pub returns-then-not-is_between-clause-made : goal.returns-then-not-is_between-clause-made
@@ -11,9 +11,9 @@ returns-then-not-is_between-clause-made c =
     (λ up down same.
     let both : is_between c.args.bundle.now.definitions c.args.between.0 c.args.between.1 c.args.level ≡ true =
     lies_between c.args.bundle.now.definitions c.args.between.0 c.args.between.1 c.args.level up down in
-    let own = c.is_between.ensures in
-    let defs = c.requires.under.fits.definitions in
-    cc)
+    is_apart (sym both
+    ∙ (ap (λ defs. is_between defs c.args.between.0 c.args.between.1 c.args.level) c.requires.under.fits.definitions
+    ∙ (sym c.is_between.ensures ∙ c.if-not-is_between.true))))
 
 pub returns-then-rank_of-rank-clause-made : goal.returns-then-rank_of-rank-clause-made
 returns-then-rank_of-rank-clause-made c =
