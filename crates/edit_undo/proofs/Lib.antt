@@ -1,0 +1,5 @@
+pub mod Joins
+pub mod Fewer
+pub mod Found
+pub mod Own
+pub mod InTurn

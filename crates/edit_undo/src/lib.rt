@@ -2,8 +2,14 @@
 #![tactic(auto)]
 
 mod act_inverse;
+mod annot;
 mod faults;
+mod item_edits;
 mod laws;
+mod link_edits;
+mod own_edits;
+mod reversed;
+mod turns;
 
 pub use act_inverse::inverse;
 pub use faults::{InverseFault, NoUndo};
