@@ -1,9 +1,9 @@
 -- Lists of edits that are taken back.
-use Rattle.std.proofs.Common.{◌≡◌, ◌≢◌, ◌≤◌, ◌<◌, ℕ, suc, ◌+◌, ◌-◌, Bool, true, false, cond, not, ◌&&◌, List, [], ◌∷◌, ◌++◌, length, reverse, take, drop, All, Option, Some, None, Result, Ok, Err, IsOk, nat_le, refl, sym, ◌∙◌, ap, subst, append_assoc, arith}
+use Rattle.std.proofs.Common.{◌≡◌, ◌≢◌, ◌≤◌, ◌<◌, ℕ, suc, ◌+◌, ◌-◌, Bool, true, false, cond, List, [], ◌∷◌, ◌++◌, length, remove, reverse, All, Option, Some, None, Result, Ok, Err, IsOk, IfOk, nat_le, refl, sym, ◌∙◌, ap, subst, append_assoc, arith}
 use Rattle.std.specs.List.{list_all, slice_get}
 use Rattle.std.proofs.lemmas.Bool.{true≢false, and_parts, and_from, cond-true, cond-false, lt-leb, le-leb, leb-true, leb-false}
 use Rattle.std.proofs.lemmas.List.{length-append, length-reverse, reverse-append, reverse-reverse}
-use Rattle.std.proofs.lemmas.List.Elements.{All-append, All-cons, All-nil, All-from_recursion, recursion_from_All}
+use Rattle.std.proofs.lemmas.List.Elements.{All-append, All-nil, All-from_recursion, recursion_from_All}
 use Rattle.emu_names.specs.declared.limits.TheConstants.{LIST_EDITS}
 use Rattle.emu_names.specs.declared.names.BundleKey.{BundleKey}
 use Rattle.emu_names.specs.declared.rules.Broken.{Broken}
@@ -13,36 +13,36 @@ use Rattle.db_config.specs.declared.parts.ConfigParts.{ConfigParts}
 use Rattle.bundle_state.specs.Bundle.{BundleParts}
 use Rattle.bundle_state.specs.Built.{FitsConfig}
 use Rattle.bundle_state.specs.Valid.{KeepsBundleRules}
-use Rattle.bundle_state.proofs.LinksKept.{ok_same, fine_value}
 use Rattle.bundle_edits.specs.declared.bundle_change.Counts.{Counts}
 use Rattle.bundle_edits.specs.declared.edit.Edit.{Edit}
 use Rattle.bundle_edits.specs.declared.edit.Edit.TheVariants as edits
 use Rattle.bundle_edits.specs.Edits.{key_of}
-use Rattle.bundle_edits.specs.Changes.{bundle_changed, if_kept, is_kept_by, missing_changed, changed}
+use Rattle.bundle_edits.specs.Changes.{bundle_changed, if_kept, is_kept_by, changed}
 use Rattle.bundle_edits.proofs.Spans.{some_same}
 use Rattle.edit_rules.specs.Acts.{has_key}
 use Rattle.edit_rules.specs.Database.{same_key}
 use Rattle.edit_rules.specs.Effects.{at_place}
 use Rattle.edit_rules.specs.Turns.{with_own, changed_in_turn}
 use Rattle.edit_rules.specs.Inner.Acts.{is_inner, is_edit_of, are_together, AreTogether}
-use Rattle.edit_rules.proofs.Calls.{inner_kept, some_of}
+use Rattle.edit_rules.proofs.Calls.{inner_kept}
 use Rattle.edit_rules.proofs.KeyPlaces.{key_same, same_itself}
-use Rattle.edit_rules.proofs.Lists.{inner_many, some_edit}
-use Rattle.edit_rules.proofs.Turns.{GoesOn, goes_on, at_ok, told_same}
+use Rattle.edit_rules.proofs.Lists.{inner_many}
+use Rattle.edit_rules.proofs.Turns.{goes_on, at_ok}
 use Rattle.edit_undo.specs.declared.faults.NoUndo.{NoUndo}
 use Rattle.edit_undo.specs.declared.faults.NoUndo.TheVariants as missing
 use Rattle.edit_undo.specs.declared.faults.InverseFault.{InverseFault}
 use Rattle.edit_undo.specs.declared.faults.InverseFault.TheVariants as faults
 use Rattle.edit_undo.specs.Inverse.{own_inverse, missing_inverse, edit_inverse, uncounted, from_next, edits_inverse}
-use Rattle.edit_undo.specs.Laws.{BreakNoRule}
-use Rattle.edit_undo.specs.Inner.Answers.{no_undo_of, few_reversed, if_room}
+use Rattle.edit_undo.specs.Before.{BreakNoRule}
+use Rattle.edit_undo.specs.Inner.Answers.{no_undo_of, GivesInverse, few_reversed, if_room}
 use Rattle.edit_undo.specs.Inner.Turns.{HasTimes, own_turns, IsOwnEdit, CanBeList}
 use Rattle.edit_undo.proofs.Fewer.{fewer_counts}
+use Rattle.edit_undo.proofs.Joins.{last_split, last_first, shorter}
 use Rattle.edit_undo.proofs.Own.{own_all, some_own, times_of}
 
 -- One edit of a bundle that is there.
 
-inner_stays : (e : Edit) → is_inner e ≡ true → is_kept_by e ≡ true
+pub inner_stays : (e : Edit) → is_inner e ≡ true → is_kept_by e ≡ true
 inner_stays (edits.AddBundle key annot) is = refl
 inner_stays (edits.DropBundle key) is = absurd (true≢false (sym is))
 inner_stays (edits.AddItem key level position item) is = refl
@@ -123,6 +123,9 @@ turns_pass config others place b (e ∷ es) next inner is =
     subst (λ (r : Result BundleParts Broken). IsOk (onward r (λ c. own_turns config c es))) (sym alone)
     (turns_pass config others (suc place) p.middle es next parts.1 (ap (λ o. changed_in_turn config others (suc place) o es) (sym made) ∙ p.rest))
 
+abbrev some_of : BundleParts → Result (Option BundleParts) Broken
+some_of b = Ok (Some b)
+
 -- what takes a first edit and others back
 pub inverse_step : (config : ConfigParts) (b c : BundleParts) (e : Edit) (es : List Edit) → is_inner e ≡ true → bundle_changed config uncounted e b ≡ Ok c →
     edits_inverse config (Some b) (e ∷ es) ≡ edits_inverse config (Some c) es ++ own_inverse config b e
@@ -190,12 +193,10 @@ pub turn_stops : (fault : InverseFault) (config : ConfigParts) (first next : Bun
     IsFaultOf (no_undo_of fault) (if_room done (own_inverse config next e)) → IsFaultOf (no_undo_of fault) (few_reversed (edits_inverse config (Some first) all))
 turn_stops fault config first next all done e after turn h = by (bundle_changed config uncounted e next) refl (turn_passes config first next all done e after turn)
   where
-    parts = and_parts (is_inner e) (list_all is_inner after) turn.inner
-
     by : (r : Result BundleParts Broken) → bundle_changed config uncounted e next ≡ r → IsOk r → IsFaultOf (no_undo_of fault) (few_reversed (edits_inverse config (Some first) all))
     by (Ok c) is ok =
         stops fault done (own_inverse config next e) (edits_inverse config (Some c) after) (edits_inverse config (Some first) all)
-        (ap (λ (ys : List Edit). ys ++ reverse done) (sym (inverse_step config next c e after parts.0 is)) ∙ turn.made) h
+        (ap (λ (ys : List Edit). ys ++ reverse done) (sym (inverse_step config next c e after (and_parts (is_inner e) (list_all is_inner after) turn.inner).0 is)) ∙ turn.made) h
     by (Err rule) is ok = absurd (true≢false (sym ok))
 
 -- the loop is over
@@ -442,3 +443,101 @@ can_push whole es rest x can is some =
       room = omega (arith, long, parts, few);
       together = subst (λ (k : BundleKey). list_all (is_edit_of k) (es ++ x ∷ []) ≡ true) (sym (last_own key es x front)) front;
     }
+
+-- the edits of a list so far, and those that are left in the reverse order
+pub record IsMade (all es left : List Edit) : Type 0 where
+  pub whole : es ++ reverse left ≡ reverse all
+  pub some : 1 ≤ length es
+
+one_less : (xs : List Edit) (n : ℕ) → length xs ≡ suc n → n ≡ length xs - 1
+one_less xs n long = omega (arith, long)
+
+pub made_first : (all : List Edit) (n : ℕ) (x : Edit) → length all ≡ suc n → slice_get all n ≡ Some x → IsMade all (x ∷ []) (remove all n)
+made_first all n x long here = record {
+  whole = sym (reverse-append (remove all n) (x ∷ [])) ∙ ap reverse (sym (last_split n all x long here));
+  some = omega arith;
+}
+
+pub made_more : (all es more left : List Edit) (n : ℕ) (x : Edit) → IsMade all es left → length left ≡ suc n → slice_get left n ≡ Some x → more ≡ es ++ x ∷ [] → IsMade all more (remove left n)
+made_more all es more left n x made long here put =
+    let longer : length more ≡ length (es ++ x ∷ []) = ap length put in
+    let parts = length-append es (x ∷ []) in
+    let some = made.some in
+    record {
+      whole = last_first es more left (reverse all) n x made.whole long here put;
+      some = omega (arith, longer, parts, some);
+    }
+
+pub may_push : (all es left : List Edit) (n : ℕ) (x : Edit) → CanBeList (reverse all) → IsMade all es left → length left ≡ suc n → slice_get left n ≡ Some x → CanPush es x
+may_push all es left n x can made long here =
+    can_push (reverse all) es (reverse (remove left n)) x can
+    (ap (λ (ys : List Edit). es ++ ys) (sym (reverse-append (remove left n) (x ∷ []))) ∙ ap (λ (ys : List Edit). es ++ reverse ys) (sym (last_split n left x long here)) ∙ made.whole)
+    made.some
+
+-- What the calls answer.
+
+pub one_listed : (config : ConfigParts) (b : BundleParts) (e : Edit) (made : List Edit) (r : Result (List Edit) InverseFault) → KeepsBundleRules b → FitsConfig config b →
+    BreakNoRule config (Some b) (e ∷ []) → made ≡ [] → GivesInverse r (if_room made (own_inverse config b e)) → IfOk r (λ done. CanBeList (reverse done))
+one_listed config b e made (Ok done) keeps fits before none gives =
+    one_list config b e done keeps fits before (sym (one_room config b e) ∙ ap (λ (ys : List Edit). if_room ys (own_inverse config b e)) (sym none) ∙ gives)
+one_listed config b e made (Err fault) keeps fits before none gives = tt
+
+pub several_listed : (config : ConfigParts) (b : BundleParts) (es : List Edit) (r : Result (List Edit) InverseFault) → KeepsBundleRules b → FitsConfig config b → BreakNoRule config (Some b) es →
+    AreTogether es → 2 ≤ length es → GivesInverse r (few_reversed (edits_inverse config (Some b) es)) → IfOk r (λ done. CanBeList (reverse done))
+several_listed config b es (Ok done) keeps fits before together many gives = several_list config b es done keeps fits before together many gives
+several_listed config b es (Err fault) keeps fits before together many gives = tt
+
+pub several_pass : (config : ConfigParts) (b : BundleParts) (es : List Edit) → AreTogether es → 2 ≤ length es → BreakNoRule config (Some b) es →
+    (list_all is_inner es ≡ true) × IsOk (own_turns config b es)
+several_pass config b es together many before =
+    let inner = inner_many es together.together (omega (arith, many)) in
+    (inner, turns_pass config before.others 1 b es before.next inner before.passes)
+
+room_made : (done group more : List Edit) → if_room done group ≡ Ok more → (length more ≤ LIST_EDITS) × (more ≡ done ++ reverse group)
+room_made done group more is = by (nat_le (length done + length group) LIST_EDITS) refl is
+  where
+    values : (a b : List Edit) → cond true (Ok a) many_fault ≡ Ok b → a ≡ b
+    values a b e = cc
+
+    by : (t : Bool) → nat_le (length done + length group) LIST_EDITS ≡ t → cond t (Ok (done ++ reverse group)) many_fault ≡ Ok more →
+        (length more ≤ LIST_EDITS) × (more ≡ done ++ reverse group)
+    by true e h =
+        let same : done ++ reverse group ≡ more = values (done ++ reverse group) more h in
+        let few = leb-true (length done + length group) LIST_EDITS e in
+        let one = length-append done (reverse group) in
+        let two = length-reverse group in
+        let three : length (done ++ reverse group) ≡ length more = ap length same in
+        (omega (arith, few, one, two, three), sym same)
+    by false e h = absurd cc
+
+pub turn_goes : (config : ConfigParts) (first next c : BundleParts) (all done more rest : List Edit) (e : Edit) (after : List Edit) → rest ≡ e ∷ after →
+    IsTurn config first all next done rest → bundle_changed config uncounted e next ≡ Ok c → FitsConfig config c → if_room done (own_inverse config next e) ≡ Ok more →
+    IsTurn config first all c more after
+turn_goes config first next c all done more rest e after split turn is fits put =
+    let both = room_made done (own_inverse config next e) more put in
+    turn_over config first next c all done more e after (subst (λ (es : List Edit). IsTurn config first all next done es) split turn) is fits both.0 both.1
+
+pub first_made : (all es left : List Edit) (count : ℕ) (x : Edit) → CanBeList (reverse all) → count ≡ length all → slice_get all (count - 1) ≡ Some x → es ≡ x ∷ [] →
+    left ≡ remove all (count - 1) → IsMade all es left
+first_made all es left count x can counted here own less =
+    let some = can.some in
+    let same = length-reverse all in
+    let long : length all ≡ suc (count - 1) = omega (arith, some, same, counted) in
+    subst (λ (ys : List Edit). IsMade all es ys) (sym less) (subst (λ (ys : List Edit). IsMade all ys (remove all (count - 1))) (sym own) (made_first all (count - 1) x long here))
+
+pub more_made : (all es more left rest : List Edit) (n : ℕ) (x : Edit) → IsMade all es left → length left ≡ suc n → slice_get left n ≡ Some x → more ≡ es ++ x ∷ [] →
+    rest ≡ remove left n → IsMade all more rest
+more_made all es more left rest n x made long here put less =
+    subst (λ (ys : List Edit). IsMade all more ys) (sym less) (made_more all es more left n x made long here put)
+
+pub less_left : (left rest : List Edit) (n : ℕ) (x : Edit) → length left ≡ suc n → slice_get left n ≡ Some x → rest ≡ remove left n → length rest < length left
+less_left left rest n x long here less =
+    let same : length rest ≡ length (remove left n) = ap length less in
+    let count = shorter n left x long here in
+    omega (arith, long, same, count)
+
+pub several_as : (config : ConfigParts) (b copy : BundleParts) (es : List Edit) (r : Result (List Edit) InverseFault) → copy ≡ b → KeepsBundleRules b → FitsConfig config b →
+    BreakNoRule config (Some b) es → AreTogether es → 2 ≤ length es → GivesInverse r (few_reversed (edits_inverse config (Some copy) es)) → IfOk r (λ done. CanBeList (reverse done))
+several_as config b copy es r same keeps fits before together many gives =
+    several_listed config b es r keeps fits before together many
+    (subst (λ (z : BundleParts). GivesInverse r (few_reversed (edits_inverse config (Some z) es))) same gives)

@@ -1,5 +1,5 @@
 -- Steps of loops that put lists together.
-use Rattle.std.proofs.Common.{◌≡◌, ◌≤◌, ◌<◌, ℕ, zero, suc, ◌+◌, ◌-◌, Bool, true, false, cond, not, List, [], ◌∷◌, ◌++◌, map, take, drop, remove, reverse, length, get_or, Some, None, refl, ap, sym, ◌∙◌, append_assoc, subst, add-one, arith}
+use Rattle.std.proofs.Common.{◌≡◌, ◌≤◌, ◌<◌, ℕ, zero, suc, ◌+◌, Bool, true, false, cond, not, List, [], ◌∷◌, ◌++◌, map, take, drop, remove, reverse, length, get_or, Some, refl, ap, sym, ◌∙◌, append_assoc, add-one, arith}
 use Rattle.std.specs.List.{enumerate_from, filter, slice_get}
 use Rattle.std.proofs.lemmas.List.{append-nil, map-append, take_all, reverse-append}
 use Rattle.std.proofs.lemmas.List.Elements.{filter-append}
@@ -166,7 +166,7 @@ labels_end key id labels place made is past = is ∙ ap (labels_from key id) (ta
 
 -- Edits in the reverse order.
 
-last_split : {A : Type 0} (n : ℕ) (xs : List A) (x : A) → length xs ≡ suc n → slice_get xs n ≡ Some x → xs ≡ remove xs n ++ x ∷ []
+pub last_split : {A : Type 0} (n : ℕ) (xs : List A) (x : A) → length xs ≡ suc n → slice_get xs n ≡ Some x → xs ≡ remove xs n ++ x ∷ []
 last_split n [] x long here = cc
 last_split zero (y ∷ []) x long here = cc
 last_split zero (y ∷ z ∷ zs) x long here = let no : ⊥ = omega (arith, long) in absurd no

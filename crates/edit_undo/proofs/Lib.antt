@@ -3,3 +3,4 @@ pub mod Fewer
 pub mod Found
 pub mod Own
 pub mod InTurn
+pub mod Passing

@@ -1,9 +1,9 @@
 -- The edits that take an edit back: there are some, they are edits of its bundle, and they may stand in one list.
-use Rattle.std.proofs.Common.{◌≡◌, ◌≢◌, ◌≤◌, ◌<◌, ℕ, suc, ◌+◌, Bool, true, false, cond, not, ◌&&◌, ◌||◌, List, [], ◌∷◌, ◌++◌, length, map, reverse, All, Option, Some, None, Result, Ok, Err, ok_or, option_map, refl, sym, ◌∙◌, ap, subst, arith}
+use Rattle.std.proofs.Common.{◌≡◌, ◌≤◌, ℕ, suc, ◌+◌, Bool, true, false, cond, not, ◌&&◌, ◌||◌, List, [], ◌∷◌, ◌++◌, length, map, reverse, All, Option, Some, None, Ok, ok_or, option_map, refl, sym, ◌∙◌, ap, subst, arith}
 use Rattle.std.specs.List.{enumerate_from, filter, list_any, list_all, slice_get, position}
 use Rattle.std.specs.Option.{option_or, option_and_then}
-use Rattle.std.proofs.lemmas.Bool.{true≢false, or_parts}
-use Rattle.std.proofs.lemmas.List.{length-append, length-map, length-reverse}
+use Rattle.std.proofs.lemmas.Bool.{true≢false}
+use Rattle.std.proofs.lemmas.List.{length-map, length-reverse}
 use Rattle.std.proofs.lemmas.List.Elements.{All-append, All-cons, All-nil}
 use Rattle.emu_names.specs.declared.kinds.ItemId.{ItemId}
 use Rattle.emu_names.specs.declared.kinds.LevelKind.{LevelKind}
@@ -12,7 +12,6 @@ use Rattle.emu_names.specs.declared.names.BundleKey.{BundleKey}
 use Rattle.emu_names.specs.declared.rules.Broken.{Broken}
 use Rattle.emu_names.specs.declared.rules.Broken.TheVariants as rules
 use Rattle.emu_names.specs.Steps.{onward}
-use Rattle.level_items.specs.declared.annot.AnnotLabel.{AnnotLabel}
 use Rattle.level_items.specs.declared.annot.AnnotLink.{AnnotLink}
 use Rattle.level_items.specs.declared.times.Time.{Time}
 use Rattle.level_items.specs.declared.times.Time.TheVariants.{NoTime, Span, Point}
@@ -23,7 +22,6 @@ use Rattle.level_items.proofs.Changes.{fit_at}
 use Rattle.link_graph.specs.declared.link.Link.{Link}
 use Rattle.link_graph.specs.Link.{joins, names_item}
 use Rattle.link_builder.specs.Timed.{timed_pairs}
-use Rattle.db_config.specs.declared.attributes.AttributeDef.{AttributeDef}
 use Rattle.db_config.specs.declared.parts.ConfigParts.{ConfigParts}
 use Rattle.db_config.specs.declared.parts.LevelDef.{LevelDef}
 use Rattle.db_config.specs.Lookups.{level_named, attribute_named}
@@ -31,7 +29,7 @@ use Rattle.bundle_state.specs.Bundle.{BundleParts, place_of}
 use Rattle.bundle_state.specs.Built.{FitsConfig}
 use Rattle.bundle_state.specs.Linked.{unless_broken}
 use Rattle.bundle_state.specs.Valid.{KeepsBundleRules}
-use Rattle.bundle_state.specs.Changed.{with_links, with_change, without, links_but, place_for, missing_fault, new_time_fault, item_retimed, item_removed, link_removed}
+use Rattle.bundle_state.specs.Changed.{with_links, with_change, without, links_but, place_for, missing_fault, new_time_fault, item_retimed, link_removed}
 use Rattle.bundle_state.proofs.BuiltKept.{unbroken}
 use Rattle.bundle_state.proofs.ChangedKept.{place_there}
 use Rattle.bundle_state.proofs.ChangedLevels.{rule_at}
@@ -42,8 +40,7 @@ use Rattle.bundle_edits.specs.declared.edit.Edit.{Edit}
 use Rattle.bundle_edits.specs.declared.edit.Edit.TheVariants as edits
 use Rattle.bundle_edits.specs.Edits.{key_of}
 use Rattle.bundle_edits.specs.Laws.{new_pairs}
-use Rattle.bundle_edits.specs.Changes.{NumberedLevel, NumberedAttribute, numbered, level_found, attribute_found, attribute_of, labelled, label_given, segment_at, segment_of, next_of, cut_fault, last_of, moved, joined, boundary_moved, segments_merged, timed_kinds_fault, definition_fault, is_linked, linked_fault, timed_fault, pairs_linked, levels_linked, times_linked, bundle_changed, is_kept_by}
-use Rattle.bundle_edits.specs.declared.segments.Segment.{Segment}
+use Rattle.bundle_edits.specs.Changes.{NumberedLevel, NumberedAttribute, numbered, level_found, attribute_of, labelled, label_given, segment_at, segment_of, next_of, cut_fault, last_of, moved, joined, timed_kinds_fault, definition_fault, is_linked, linked_fault, timed_fault, pairs_linked, levels_linked, times_linked, bundle_changed, is_kept_by}
 use Rattle.bundle_edits.proofs.Cuts.{ArePair, segment_parts, segment_found, pair_found}
 use Rattle.bundle_edits.proofs.Spans.{some_same}
 use Rattle.bundle_edits.proofs.TimedLinks.{from_segments}
@@ -56,13 +53,21 @@ use Rattle.edit_undo.specs.Inner.Links.{again_from}
 use Rattle.edit_undo.specs.Inner.Turns.{HasTimes, IsOwnEdit}
 use Rattle.edit_undo.proofs.Found.{IsFound, found_at, HasDef, def_of, behind_is}
 
+-- what a function takes
+abbrev pub taken_by : {A B : Type 0} → (A → B) → Type 0
+taken_by {A = A} {B = B} f = A
+
+-- a segment of a bundle, as the definitions of edits have it
+abbrev pub Segment : Type 0
+Segment = taken_by last_of
+
 -- All of them.
 
 pub all_mapped : {A B : Type 0} (P : B → Type 0) (f : A → B) → ((x : A) → P (f x)) → (xs : List A) → All P (map f xs)
 all_mapped P f each [] = All-nil P
 all_mapped P f each (x ∷ xs) = All-cons P (f x) (map f xs) (each x) (all_mapped P f each xs)
 
-all_there : {A B : Type 0} (P : B → Type 0) (f : A → List Edit) (o : Option A) → ((x : A) → All P (f x)) → All P (if_there f o)
+all_there : {A : Type 0} (P : Edit → Type 0) (f : A → List Edit) (o : Option A) → ((x : A) → All P (f x)) → All P (if_there f o)
 all_there P f None each = All-nil P
 all_there P f (Some x) each = each x
 
@@ -127,21 +132,21 @@ some_joined (x ∷ xs) ys some = omega arith
 
 some_again : (key : BundleKey) (test : Link → Bool) (n : ℕ) (links : List Link) → list_any test links ≡ true → 1 ≤ length (again_from key test n links)
 some_again key test n [] any = absurd (true≢false (sym any))
-some_again key test n (link ∷ links) any = by (test link) refl any
+some_again key test n (link ∷ links) any = by (λ h. some_again key test (n + 1) links h) (test link) any
   where
-    by : (t : Bool) → test link ≡ t → (t || list_any test links) ≡ true →
+    by : (list_any test links ≡ true → 1 ≤ length (again_from key test (n + 1) links)) → (t : Bool) → (t || list_any test links) ≡ true →
         1 ≤ length (map (link_again key) (cond t ((n, link) ∷ filter (λ (p : ℕ × Link). test p.1) (enumerate_from (n + 1) links)) (filter (λ (p : ℕ × Link). test p.1) (enumerate_from (n + 1) links))))
-    by true is h = omega arith
-    by false is h = some_again key test (n + 1) links h
+    by rest true h = omega arith
+    by rest false h = rest h
 
 some_new : (links : List Link) (pairs : List AnnotLink) → list_all (is_linked links) pairs ≡ false → 1 ≤ length (filter (λ (p : AnnotLink). not (is_linked links p)) pairs)
 some_new links [] none = absurd (true≢false none)
-some_new links (p ∷ pairs) none = by (is_linked links p) none
+some_new links (p ∷ pairs) none = by (λ h. some_new links pairs h) (is_linked links p) none
   where
-    by : (t : Bool) → (t && list_all (is_linked links) pairs) ≡ false →
+    by : (list_all (is_linked links) pairs ≡ false → 1 ≤ length (filter (λ (q : AnnotLink). not (is_linked links q)) pairs)) → (t : Bool) → (t && list_all (is_linked links) pairs) ≡ false →
         1 ≤ length (cond (not t) (p ∷ filter (λ (q : AnnotLink). not (is_linked links q)) pairs) (filter (λ (q : AnnotLink). not (is_linked links q)) pairs))
-    by true h = some_new links pairs h
-    by false h = omega arith
+    by rest true h = rest h
+    by rest false h = omega arith
 
 -- an item whose level has times has one
 timed_some : (key : BundleKey) (id : ItemId) (kind : LevelKind) (own other : Time) → fits_kind kind own ≡ true → fits_kind kind other ≡ true → (other ≡ NoTime → ⊥) →
@@ -320,7 +325,7 @@ label_some tested config b next key id name label fits is =
     one_there (label_again key name) (item_of config b id) (placed p.found.def p.place.1 p.found.item) p.found.is
     (one_there _ (attribute_named name p.found.def.attributes) p.attribute.0 p.named (omega arith))
 
-time_some : (config : ConfigParts) (b next : BundleParts) (key : BundleKey) (id : ItemId) (time : Time) → KeepsBundleRules b → FitsConfig config b → (time ≡ NoTime → ⊥) →
+pub time_some : (config : ConfigParts) (b next : BundleParts) (key : BundleKey) (id : ItemId) (time : Time) → KeepsBundleRules b → FitsConfig config b → (time ≡ NoTime → ⊥) →
     item_retimed id time b ≡ Ok next → 1 ≤ length (if_there (time_again key) (item_of config b id))
 time_some config b next key id time keeps fits timed is =
     let p : IsRetimed config b next id time = retimed_parts config b next id time fits is in
@@ -384,9 +389,10 @@ times_of config counts b next (edits.LinkTimes key upper lower) fits is =
     let same : p.one.0 ≡ one = some_same p.one.0 one (sym p.upper_is ∙ first) in
     let alike : p.other.0 ≡ other = some_same p.other.0 other (sym p.lower_is ∙ second) in
     let upper_kind : own.kind ≡ p.one.1.kind = kinds_right config b one own p.one.1 fits there (ap (λ (k : ℕ). slice_get config.levels k) (sym same) ∙ p.upper_def) in
-    let lower_kind : below.kind ≡ p.other.1.kind = kinds_right config b other below p.other.1 fits under (ap (λ (k : ℕ). slice_get config.levels k) (sym alike) ∙ p.lower_def) in
-    (upper_kind ∙ from_segments p.one.1.kind p.other.1.kind p.kinds_free,
-    λ no. to_timed p.one.1.kind p.other.1.kind p.kinds_free (sym lower_kind ∙ no))
+    let lower_kind : below.kind ≡ p.other.1.kind = kinds_right config b other below p.other.1 fits under (ap (λ (k : ℕ). slice_get config.levels k) (sym alike) ∙ p.lower_def) in (
+      upper_kind ∙ from_segments p.one.1.kind p.other.1.kind p.kinds_free,
+      λ no. to_timed p.one.1.kind p.other.1.kind p.kinds_free (sym lower_kind ∙ no),
+    )
 times_of config counts b next (edits.AddBundle key annot) fits is = tt
 times_of config counts b next (edits.DropBundle key) fits is = tt
 times_of config counts b next (edits.AddItem key level position item) fits is = tt

@@ -2,7 +2,7 @@
 ghost use Rattle.std.specs.Prelude.{IfSome, option_copied};
 ghost use Rattle.bundle_state.specs.Built.{FitsConfig};
 ghost use Rattle.edit_undo.specs.Inverse.{inverse_of};
-ghost use Rattle.edit_undo.specs.Laws.{IsBefore};
+ghost use Rattle.edit_undo.specs.Before.{IsBefore};
 ghost use Rattle.edit_undo.specs.Inner.Answers.{GivesInverse};
 
 use crate::faults::{InverseFault, NoUndo};

@@ -202,11 +202,6 @@ pub(crate) fn cut_again(
     )?;
     let labels = given_labels(alloc, def.attributes.as_slice(), item.labels.as_slice())?;
     made.append(labels_again(alloc, key, new_id, labels.as_slice())?)?;
-    made.append(links_again(
-        alloc,
-        key,
-        Wanted::Item(new_id),
-        bundle.links(),
-    )?)?;
+    made.append(links_again(alloc, key, Wanted::Item(new_id), bundle.links())?)?;
     Ok(made)
 }

@@ -13,4 +13,4 @@ mod turns;
 
 pub use act_inverse::inverse;
 pub use faults::{InverseFault, NoUndo};
-pub use laws::acts_are_taken_back;
+pub use laws::passing_acts_are_before;

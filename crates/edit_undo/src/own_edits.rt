@@ -106,9 +106,7 @@ fn from_behind(
 {
     let _rules = bundle.item_count();
     match bundle.place(id) {
-        Some((level, position)) => {
-            from_place(alloc, config, bundle, edit, level, position + 1)
-        }
+        Some((level, position)) => { from_place(alloc, config, bundle, edit, level, position + 1) }
         None => Ok(Series::new(alloc)),
     }
 }

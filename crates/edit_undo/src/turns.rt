@@ -7,7 +7,7 @@ ghost use Rattle.bundle_edits.specs.Changes.{bundle_changed};
 ghost use Rattle.edit_rules.specs.declared.acts.Act.TheVariants as acts;
 ghost use Rattle.edit_rules.specs.Inner.Acts.{is_inner, AreTogether};
 ghost use Rattle.edit_undo.specs.Inverse.{uncounted, missing_inverse, own_inverse, edits_inverse};
-ghost use Rattle.edit_undo.specs.Laws.{BreakNoRule};
+ghost use Rattle.edit_undo.specs.Before.{BreakNoRule};
 ghost use Rattle.edit_undo.specs.Inner.Answers.{GivesInverse, if_room, few_reversed};
 ghost use Rattle.edit_undo.specs.Inner.Turns.{HasTimes, CanBeList, own_turns};
 

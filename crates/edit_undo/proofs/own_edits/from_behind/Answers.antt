@@ -1,4 +1,4 @@
-use Rattle.std.proofs.Common.{rules, ◌≡◌, ◌<◌, ◌+◌, Some, arith}
+use Rattle.std.proofs.Common.{rules, ◌≡◌, ◌<◌, Some, arith}
 use Rattle.bundle_state.specs.Bundle.{place_of}
 use Rattle.edit_undo.proofs.Found.{place_low}
 use Rattle.edit_undo.proofs.own_edits.from_behind.Goals as goal
