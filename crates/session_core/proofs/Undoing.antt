@@ -1,5 +1,5 @@
 -- What takes lines back: of a history that grows, and beside the marks of what was accepted.
-use Rattle.std.proofs.Common.{◌≡◌, ◌≢◌, ℕ, zero, suc, ◌+◌, ◌<◌, ◌≤◌, Bool, true, false, cond, ◌&&◌, List, [], ◌∷◌, ◌++◌, length, take, drop, filter, get_or, slice_get, Option, Some, None, Result, nat_eq, refl, sym, ◌∙◌, ap, subst, arith, append_assoc, eq-eqb}
+use Rattle.std.proofs.Common.{◌≡◌, ◌≢◌, ℕ, zero, suc, ◌+◌, ◌-◌, ◌<◌, ◌≤◌, Bool, true, false, cond, ◌&&◌, List, [], ◌∷◌, ◌++◌, length, take, drop, filter, get_or, slice_get, Option, Some, None, Result, nat_eq, refl, sym, ◌∙◌, ap, subst, arith, append_assoc, eq-eqb}
 use Rattle.std.proofs.lemmas.Bool.{and_left, both_ways, ne_eqb}
 use Rattle.std.proofs.lemmas.List.{append-nil, length_push, take-append-drop, take-append-le, drop-append-le}
 use Rattle.std.proofs.lemmas.Option.{same_Some, slice_get_within}
@@ -282,14 +282,29 @@ look_back s line acts place kept low is =
     ap (λ (ks : List KeptAct). latest_of s line ks) (take-suc acts place kept low ∙ ap (λ (x : KeptAct). take place acts ++ x ∷ []) (sym is))
     ∙ latest_push s line (take place acts) kept
 
-pub found_back : (s line : ℕ) (acts : List KeptAct) (place : ℕ) (kept : KeptAct) → place < length acts → kept ≡ get_or acts place kept → is_kept_of s line kept ≡ true
+found_back : (s line : ℕ) (acts : List KeptAct) (place : ℕ) (kept : KeptAct) → place < length acts → kept ≡ get_or acts place kept → is_kept_of s line kept ≡ true
     → latest_of s line (take (suc place) acts) ≡ Some kept.inverse
 found_back s line acts place kept low is own =
     look_back s line acts place kept low is
     ∙ ap (λ (b : Bool). found_later (cond b (Some kept.inverse) None) (latest_of s line (take place acts))) own
 
-pub passed_back : (s line : ℕ) (acts : List KeptAct) (place : ℕ) (kept : KeptAct) → place < length acts → kept ≡ get_or acts place kept → is_kept_of s line kept ≡ false
+passed_back : (s line : ℕ) (acts : List KeptAct) (place : ℕ) (kept : KeptAct) → place < length acts → kept ≡ get_or acts place kept → is_kept_of s line kept ≡ false
     → latest_of s line (take (suc place) acts) ≡ latest_of s line (take place acts)
 passed_back s line acts place kept low is other =
     look_back s line acts place kept low is
     ∙ ap (λ (b : Bool). found_later (cond b (Some kept.inverse) None) (latest_of s line (take place acts))) other
+
+-- the same where the place was counted down
+pub found_at : (s line : ℕ) (acts items : List KeptAct) (place : ℕ) (kept : KeptAct) → items ≡ acts → 0 < place → place ≤ length acts → kept ≡ get_or items (place - 1) kept
+    → is_kept_of s line kept ≡ true → latest_of s line (take place acts) ≡ Some kept.inverse
+found_at s line acts items place kept same some within is own =
+    let next : suc (place - 1) ≡ place = omega arith in
+    subst (λ (k : ℕ). latest_of s line (take k acts) ≡ Some kept.inverse) next
+    (found_back s line acts (place - 1) kept (omega arith) (is ∙ ap (λ (xs : List KeptAct). get_or xs (place - 1) kept) same) own)
+
+pub passed_at : (s line : ℕ) (acts items : List KeptAct) (place : ℕ) (kept : KeptAct) → items ≡ acts → 0 < place → place ≤ length acts → kept ≡ get_or items (place - 1) kept
+    → is_kept_of s line kept ≡ false → latest_of s line (take (place - 1) acts) ≡ latest_of s line (take place acts)
+passed_at s line acts items place kept same some within is other =
+    let next : suc (place - 1) ≡ place = omega arith in
+    subst (λ (k : ℕ). latest_of s line (take (place - 1) acts) ≡ latest_of s line (take k acts)) next
+    (sym (passed_back s line acts (place - 1) kept (omega arith) (is ∙ ap (λ (xs : List KeptAct). get_or xs (place - 1) kept) same) other))

@@ -5,7 +5,7 @@ ghost use Rattle.edit_rules.specs.Database.{DatabaseParts};
 ghost use Rattle.edit_rules.specs.Effects.{effect};
 ghost use Rattle.edit_rules.specs.Inner.Effects.{GivesOrBreach};
 ghost use Rattle.edit_undo.specs.Inverse.{bundle_for, inverse_at};
-ghost use Rattle.edit_undo.specs.Laws.{IsBefore};
+ghost use Rattle.edit_undo.specs.Before.{IsBefore};
 ghost use Rattle.bundle_state.specs.Built.{FitsConfig};
 ghost use Rattle.session_core.specs.Undos.{latest_of, undo_refusal};
 ghost use Rattle.session_core.specs.Inner.Kept.{edit_accepted, edit_tried, given_tried, undo_tried, grid_told, head_reply, held_answer, held_at, look_closed, looked, query_closed, query_dropped, query_reply, ruled};
