@@ -4,6 +4,7 @@ pub mod Configs
 mod Ahead
 pub mod Storing
 mod Showing
+mod Inverses
 mod Committing
 mod Answering
 pub mod Lists

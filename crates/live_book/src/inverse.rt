@@ -2,11 +2,14 @@
 ghost use Rattle.std.specs.Prelude.{◌≡◌, IfOk, IfSome, option_copied};
 ghost use Rattle.bundle_state.specs.Built.{FitsConfig};
 ghost use Rattle.edit_rules.specs.Effects.{database_after};
+ghost use Rattle.edit_rules.specs.declared.acts.Act.TheVariants as Act;
 ghost use Rattle.edit_rules.specs.Database.{bundle_with};
+ghost use Rattle.edit_rules.specs.Inner.Acts.{AreTogether};
 ghost use Rattle.edit_undo.specs.Inverse.{bundle_for, inverse_at};
 ghost use Rattle.version_tree.specs.Version.{state_of};
 ghost use Rattle.live_book.specs.Inner.Kept.{IsBook, config_in};
 ghost use Rattle.live_book.specs.Commits.{BreaksNone};
+ghost use Rattle.live_book.specs.Inner.Inverses.{IsTogether};
 
 use crate::parts::Parts;
 use bundle_state::Bundle;
@@ -28,13 +31,25 @@ fn bundle_of<'a>(version: &'a Version, key: &BundleKey) -> Option<&'a Bundle>
     }
 }
 
-/// The bundle of the key of an act, where a version has it.
+/// The bundle of the key of some edits, where a version has it.
+#[tactic(auto, using(crate::proofs::Inverses::first_key))]
+fn bundle_for_edits<'a>(version: &'a Version, edits: &Edits) -> Option<&'a Bundle>
+    ensures bundle { option_copied result ≡ bundle_for (Act.Edits edits.now) (state_of version.now).bundles }
+    ensures fits { IfSome (option_copied result) (λ b. FitsConfig version.now.config b) }
+    ensures together { AreTogether edits.now }
+{
+    let _count = edits.len();
+    bundle_of(version, edits.get(0).key())
+}
+
+/// The bundle of the key of an act, where a version has it. Whoever asks may rely on the rule of lists.
 fn bundle_for<'a>(version: &'a Version, act: &Act) -> Option<&'a Bundle>
     ensures bundle { option_copied result ≡ bundle_for act.now (state_of version.now).bundles }
     ensures fits { IfSome (option_copied result) (λ b. FitsConfig version.now.config b) }
+    ensures together { IsTogether act.now }
 {
     match act {
-        Act::Edits(edits) => bundle_of(version, edits.get(0).key()),
+        Act::Edits(edits) => bundle_for_edits(version, edits),
         Act::Config(_) => None,
     }
 }
