@@ -14,6 +14,7 @@ pub mod Ordered
 pub mod RowLists
 pub mod Keeping
 pub mod Ruled
+pub mod Backs
 pub mod Turning
 pub mod ReadingSteps
 pub mod Readings

@@ -5,6 +5,7 @@ ghost use Rattle.edit_rules.specs.Database.{DatabaseParts};
 ghost use Rattle.edit_rules.specs.Effects.{effect};
 ghost use Rattle.edit_rules.specs.Inner.Effects.{GivesOrBreach};
 ghost use Rattle.edit_undo.specs.Inverse.{bundle_for, inverse_at};
+ghost use Rattle.edit_undo.specs.Laws.{IsBefore};
 ghost use Rattle.bundle_state.specs.Built.{FitsConfig};
 ghost use Rattle.session_core.specs.Undos.{latest_of, undo_refusal};
 ghost use Rattle.session_core.specs.Inner.Kept.{edit_accepted, edit_tried, given_tried, undo_tried, grid_told, head_reply, held_answer, held_at, look_closed, looked, query_closed, query_dropped, query_reply, ruled};
@@ -105,13 +106,19 @@ fn changed(alloc: Global, database: &Database, act: &Act) -> Result<Database, Ch
     Ok(next)
 }
 
-/// The bundle that an act changes, where it is there.
+/// The bundle that an act changes which breaks no rule, where it is there.
 fn bundle_of<'a>(database: &'a Database, act: &Act) -> Option<&'a Bundle>
+    requires { (next : DatabaseParts) × (effect database.now act.now ≡ Ok next) }
     ensures bundle { option_copied result ≡ bundle_for act.now database.now.bundles }
     ensures fits { IfSome (option_copied result) (λ b. FitsConfig database.now.config b) }
+    ensures before { IsBefore database.now.config (option_copied result) act.now }
 {
+    let _count = database.len();
     match act {
-        Act::Edits(edits) => database.bundle(edits.key()),
+        Act::Edits(edits) => {
+            let _edits = edits.len();
+            database.bundle(edits.key())
+        }
         Act::Config(_) => None,
     }
 }
