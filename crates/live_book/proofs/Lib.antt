@@ -5,7 +5,7 @@ mod Ahead
 pub mod Storing
 mod Showing
 mod Inverses
-mod Committing
-mod Answering
+pub mod Committing
+pub mod Answering
 pub mod Lists
 pub mod Living
