@@ -1,10 +1,9 @@
--- What takes an act back is made over the version in force.
-use Rattle.std.proofs.Common.{◌≡◌, ℕ, true, List, [], ◌∷◌, Option, None, Some, Result, Ok, Err, IfOk, IsTrue, refl, sym, ◌∙◌, ap, subst}
+-- What takes an act back, over the version in force.
+use Rattle.std.proofs.Common.{◌≡◌, ℕ, true, List, [], ◌∷◌, Option, None, Some, Result, Ok, Err, IfOk, refl, sym, ◌∙◌, ap, subst}
 use Rattle.std.specs.List.{list_all, slice_get}
 use Rattle.emu_names.specs.Steps.{onward}
 use Rattle.emu_names.specs.declared.names.BundleKey.{BundleKey}
 use Rattle.db_config.specs.declared.parts.ConfigParts.{ConfigParts}
-use Rattle.db_config.specs.Valid.{is_valid}
 use Rattle.bundle_state.specs.Bundle.{BundleParts}
 use Rattle.bundle_edits.specs.declared.edit.Edit.{Edit}
 use Rattle.bundle_edits.specs.Edits.{key_of}
@@ -14,8 +13,8 @@ use Rattle.edit_rules.specs.declared.acts.Act.TheVariants as acts
 use Rattle.edit_rules.specs.declared.acts.Breach.{Breach}
 use Rattle.edit_rules.specs.declared.acts.Entry.{Entry}
 use Rattle.edit_rules.specs.Acts.{has_key}
-use Rattle.edit_rules.specs.Database.{DatabaseParts, KeepsDatabaseRules, bundle_with, counts_of, without}
-use Rattle.edit_rules.specs.Effects.{database_after, effect}
+use Rattle.edit_rules.specs.Database.{DatabaseParts, KeepsDatabaseRules, bundle_with, counts_of, empty_database, without}
+use Rattle.edit_rules.specs.Effects.{database_after, effect, found_or}
 use Rattle.edit_rules.specs.Laws.{put_whole}
 use Rattle.edit_rules.specs.Turns.{changed_in_turn}
 use Rattle.edit_rules.proofs.Bundles.{one_bundle}
@@ -31,7 +30,6 @@ use Rattle.live_book.specs.Commits.{BreaksNone, Commits, KeepsInverse, numbered}
 use Rattle.live_book.specs.Kept.{BookParts}
 use Rattle.live_book.specs.Published.{IsStateAfter}
 use Rattle.live_book.specs.Inner.Inverses.{IsTogether}
-use Rattle.live_book.proofs.States.{state_keeps}
 
 -- the bundle of the key of the first edit is that of the list
 pub first_key : (es : List Edit) (e : Edit) (key : BundleKey) (found : Option BundleParts) (bundles : List BundleParts) → slice_get es 0 ≡ Some e → key ≡ key_of e → found ≡ bundle_with key bundles → found ≡ bundle_for (acts.Edits es) bundles
@@ -49,14 +47,24 @@ before_act d next (acts.Edits (e ∷ es)) keeps together is =
     record { others = counts_of (without (key_of e) d.bundles); next = on.middle; passes = on.first }
 before_act d next (acts.Config edit) keeps together is = tt
 
-module _ (own : ConfigParts) (history : List Entry) (v : VersionParts) (act : Act) (config : ConfigParts) (old : Option BundleParts)
-    (state : IsStateAfter own history v) (same : config ≡ v.config) (found : old ≡ bundle_for act (state_of v).bundles) where
-  pub before_in : IsTrue (is_valid own) → BreaksNone own history act → IsTogether act → IsBefore config old act
-  before_in valid none together =
-      let is : effect (state_of v) act ≡ Ok none.0 = sym (ap (λ (s : Result DatabaseParts Breach). onward s (λ d. effect d act)) state.state) ∙ none.1 in
-      subst (λ (c : ConfigParts). IsBefore c old act) (sym same)
-      (subst (λ (o : Option BundleParts). IsBefore v.config o act) (sym found)
-      (before_act (state_of v) none.0 act (state_keeps own history v valid state) together is))
+pub before_of : (v : VersionParts) (act : Act) (config : ConfigParts) (old : Option BundleParts) → KeepsDatabaseRules (state_of v) → (next : DatabaseParts) × (effect (state_of v) act ≡ Ok next) → IsTogether act
+    → config ≡ v.config → old ≡ bundle_for act (state_of v).bundles → IsBefore config old act
+before_of v act config old keeps none together same found =
+    subst (λ (c : ConfigParts). IsBefore c old act) (sym same)
+    (subst (λ (o : Option BundleParts). IsBefore v.config o act) (sym found)
+    (before_act (state_of v) none.0 act keeps together none.1))
+
+-- The version in force.
+
+module _ (own : ConfigParts) (history : List Entry) (v : VersionParts) (state : IsStateAfter own history v) where
+  -- an act that breaks no rule after a history breaks none over the version behind it
+  pub none_over : (act : Act) → BreaksNone own history act → (next : DatabaseParts) × (effect (state_of v) act ≡ Ok next)
+  none_over act none = (none.0, sym (ap (λ (s : Result DatabaseParts Breach). onward s (λ d. effect d act)) state.state) ∙ none.1)
+
+  -- what takes an act back over the version takes it back after the history
+  pub inverse_after : (act : Act) (inverse : Result Act NoUndo) → inverse ≡ inverse_at (state_of v) act → inverse ≡ inverse_at (database_after own history) act
+  inverse_after act inverse is =
+      is ∙ ap (λ (r : Result DatabaseParts Breach). inverse_at (found_or (empty_database own) r) act) (sym state.state)
 
 -- An answer with what was kept of its act.
 

@@ -122,17 +122,20 @@ module _ {D : Type 0} (may_leave : D → List ℕ → Type 0) (faults : D → �
     -- and the answer
     pub edits_live : (before after : List (Numbered Published)) → ((k : ℕ) → IsNumbered k before → k ≤ length old.history) → IsPrefix before after → after ≡ new.list
         → AreShown new.config (take new.opened new.history) (drop new.opened new.history) new.list → (live : EditsLive o next before after result) × (live.history ≡ old.history)
-    edits_live before after seen learnt is shown = (record {
-      history = old.history;
-      right =
-          subst (λ (c : ConfigParts). IsAnswer o.stored c old.history next result) has.config
-          (subst (λ (s : _). IsAnswer s old.config old.history next result) has.stored commits.right);
-      goes_on = (has.more, sym has.history);
-      seen = seen;
-      learnt = learnt;
-      shown = subst (λ (h : List Entry). Shows o h after) commits.history
-          (subst (λ (l : List (Numbered Published)). Shows o new.history l) (sym is) (books_show o (accepted_behind accepted result) (refused_behind refused result) new grows shown));
-    }, refl)
+    edits_live before after seen learnt is shown = (
+      record {
+        history = old.history;
+        right =
+            subst (λ (c : ConfigParts). IsAnswer o.stored c old.history next result) has.config
+            (subst (λ (s : _). IsAnswer s old.config old.history next result) has.stored commits.right);
+        goes_on = (has.more, sym has.history);
+        seen = seen;
+        learnt = learnt;
+        shown = subst (λ (h : List Entry). Shows o h after) commits.history
+            (subst (λ (l : List (Numbered Published)). Shows o new.history l) (sym is) (books_show o (accepted_behind accepted result) (refused_behind refused result) new grows shown));
+      },
+      refl,
+    )
 
 -- and what takes the act back, over the entries of that moment
 pub edits_kept : (o : Opened) (next : Entry) (before after : List (Numbered Published)) (result : Result Kept EditFault) (config : ConfigParts) (history : List Entry)

@@ -1,21 +1,17 @@
-//! What takes an act back, over the version in force.
-ghost use Rattle.std.specs.Prelude.{◌≡◌, IfOk, IfSome, option_copied};
+//! What takes an act back.
+ghost use Rattle.std.specs.Prelude.{◌×◌, ◌≡◌, IfOk, IfSome, Ok, option_copied};
 ghost use Rattle.bundle_state.specs.Built.{FitsConfig};
-ghost use Rattle.edit_rules.specs.Effects.{database_after};
 ghost use Rattle.edit_rules.specs.declared.acts.Act.TheVariants as Act;
-ghost use Rattle.edit_rules.specs.Database.{bundle_with};
+ghost use Rattle.edit_rules.specs.Database.{DatabaseParts, KeepsDatabaseRules, bundle_with};
+ghost use Rattle.edit_rules.specs.Effects.{effect};
 ghost use Rattle.edit_rules.specs.Inner.Acts.{AreTogether};
 ghost use Rattle.edit_undo.specs.Inverse.{bundle_for, inverse_at};
 ghost use Rattle.version_tree.specs.Version.{state_of};
-ghost use Rattle.live_book.specs.Inner.Kept.{IsBook, config_in};
-ghost use Rattle.live_book.specs.Commits.{BreaksNone};
 ghost use Rattle.live_book.specs.Inner.Inverses.{IsTogether};
 
-use crate::parts::Parts;
 use bundle_state::Bundle;
 use edit_rules::{Act, Edits};
 use edit_undo::{InverseFault, NoUndo, inverse};
-use emu_disk::Disk;
 use emu_names::{BundleKey, Memory};
 use std::alloc::Global;
 use version_tree::Version;
@@ -54,19 +50,16 @@ fn bundle_for<'a>(version: &'a Version, act: &Act) -> Option<&'a Bundle>
     }
 }
 
-/// What takes an act back that breaks no rule, over the version in force, or why nothing does. The only refusal is want
-/// of memory.
-pub(crate) fn inverse_in<D: Disk>(
+/// What takes back an act that breaks no rule over a version, or why nothing does. The only refusal is want of memory.
+pub(crate) fn inverse_over(
     alloc: Global,
-    parts: &Parts<D>,
+    version: &Version,
     act: &Act,
 ) -> Result<Result<Act, NoUndo>, Memory>
-    requires book { IsBook D.may_leave parts.now }
-    requires breaks_none { BreaksNone (config_in parts.now) parts.now.entries act.now }
-    ensures { IfOk result (λ inverse.
-        inverse ≡ inverse_at (database_after (config_in parts.now) parts.now.entries) act.now) }
+    requires keeps { KeepsDatabaseRules (state_of version.now) }
+    requires breaks_none { (next : DatabaseParts) × (effect (state_of version.now) act.now ≡ Ok next) }
+    ensures { IfOk result (λ inverse. inverse ≡ inverse_at (state_of version.now) act.now) }
 {
-    let version = &parts.current.version;
     let old = bundle_for(version, act);
     match inverse(alloc, version.config(), old, act) {
         Ok(back) => Ok(Ok(back)),
