@@ -1,5 +1,5 @@
 //! What takes an act back.
-ghost use Rattle.std.specs.Prelude.{◌×◌, ◌≡◌, IfOk, IfSome, Ok, option_copied};
+ghost use Rattle.std.specs.Prelude.{◌≡◌, IfOk, IfSome, Ok, option_copied};
 ghost use Rattle.bundle_state.specs.Built.{FitsConfig};
 ghost use Rattle.edit_rules.specs.declared.acts.Act.TheVariants as Act;
 ghost use Rattle.edit_rules.specs.Database.{DatabaseParts, KeepsDatabaseRules, bundle_with};

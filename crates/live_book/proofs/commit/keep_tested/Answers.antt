@@ -1,4 +1,4 @@
-use Rattle.std.proofs.Common.{◌≡◌, ◌×◌, Ok, rules, sym, subst}
+use Rattle.std.proofs.Common.{◌≡◌, Ok, rules, sym, subst}
 use Rattle.std.specs.Arc.{arc_value}
 use Rattle.edit_rules.specs.Database.{DatabaseParts, KeepsDatabaseRules}
 use Rattle.edit_rules.specs.Effects.{effect}
