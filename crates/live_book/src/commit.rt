@@ -18,7 +18,7 @@ ghost use Rattle.live_book.specs.Inner.Drafts.{serving};
 ghost use Rattle.live_book.specs.Inner.Prepared.{IsFrameOf, IsReady, IsTest, HasRoomFor, HoldsSome, ForStoreIn, refusal_of, entries_behind};
 
 use crate::fault::EditFault;
-use crate::inverse::inverse_in;
+use crate::inverse::inverse_over;
 use crate::kept::Kept;
 use crate::parts::Parts;
 use crate::published::Published;
@@ -400,7 +400,7 @@ fn keep_tested<D: Disk, R: Wait>(
         (numbered result) (book_of parts.new) }
     ensures inverse { KeepsInverse (config_in parts.old) parts.old.entries entry.act result }
 {
-    match inverse_in(alloc, parts, &entry.act) {
+    match inverse_over(alloc, &parts.current.version, &entry.act) {
         Err(Memory) => {
             drop(version);
             drop(entry);
