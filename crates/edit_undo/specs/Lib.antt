@@ -1,3 +1,3 @@
 pub mod Inverse
-pub mod Laws
+pub mod Before
 pub mod Inner

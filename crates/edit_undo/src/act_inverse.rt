@@ -2,10 +2,11 @@
 ghost use Rattle.std.specs.Prelude.{IfSome, option_copied};
 ghost use Rattle.bundle_state.specs.Built.{FitsConfig};
 ghost use Rattle.edit_undo.specs.Inverse.{inverse_of};
-ghost use Rattle.edit_undo.specs.Laws.{IsBefore};
+ghost use Rattle.edit_undo.specs.Before.{IsBefore};
 ghost use Rattle.edit_undo.specs.Inner.Answers.{GivesInverse};
 
-use crate::faults::InverseFault;
+use crate::faults::{InverseFault, NoUndo};
+use crate::turns::{as_act, reversed_inverse};
 use bundle_state::Bundle;
 use db_config::Config;
 use edit_rules::Act;
@@ -15,7 +16,7 @@ use std::alloc::Global;
 /// key before it, which may be missing. There is none for an edit of the configuration (`NoInverse`), and where it
 /// would have over 65,536 edits (`TooManyEdits`).
 pub fn inverse(
-    _alloc: Global,
+    alloc: Global,
     config: &Config,
     old: Option<&Bundle>,
     act: &Act,
@@ -24,5 +25,11 @@ pub fn inverse(
     requires before { IsBefore config.now (option_copied old) act.now }
     ensures { GivesInverse result (inverse_of config.now (option_copied old.entry) act.now) }
 {
-    Err(InverseFault::Memory)
+    match act {
+        Act::Edits(edits) => {
+            let made = reversed_inverse(alloc, config, old, edits)?;
+            Ok(as_act(alloc, made)?)
+        }
+        Act::Config(_) => Err(InverseFault::NoUndo(NoUndo::NoInverse)),
+    }
 }

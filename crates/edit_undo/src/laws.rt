@@ -1,7 +1,7 @@
-//! Laws with nothing to run.
-ghost use Rattle.edit_undo.specs.Laws.{ActsAreTakenBack};
+//! A law with nothing to run: when `inverse` may be asked.
+ghost use Rattle.edit_undo.specs.Before.{PassingActsAreBefore};
 
-/// The inverse of an act that breaks no rule leads from the database behind it to the one before it.
-pub fn acts_are_taken_back()
-    ensures { ActsAreTakenBack }
+/// An act that breaks no rule of a database, whose edits are all of one bundle, breaks none over that bundle.
+pub fn passing_acts_are_before()
+    ensures { PassingActsAreBefore }
 {}

@@ -2,9 +2,15 @@
 #![tactic(auto)]
 
 mod act_inverse;
+mod annot;
 mod faults;
+mod item_edits;
 mod laws;
+mod link_edits;
+mod own_edits;
+mod reversed;
+mod turns;
 
 pub use act_inverse::inverse;
 pub use faults::{InverseFault, NoUndo};
-pub use laws::acts_are_taken_back;
+pub use laws::passing_acts_are_before;

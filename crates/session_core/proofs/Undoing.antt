@@ -1,9 +1,9 @@
 -- What takes lines back: of a history that grows, and beside the marks of what was accepted.
-use Rattle.std.proofs.Common.{◌≡◌, ◌≢◌, ℕ, zero, suc, ◌+◌, ◌<◌, ◌≤◌, Bool, true, false, cond, ◌&&◌, List, [], ◌∷◌, ◌++◌, length, take, drop, filter, slice_get, Option, Some, None, Result, nat_eq, refl, sym, ◌∙◌, ap, subst, arith, append_assoc, eq-eqb}
+use Rattle.std.proofs.Common.{◌≡◌, ◌≢◌, ℕ, zero, suc, ◌+◌, ◌-◌, ◌<◌, ◌≤◌, Bool, true, false, cond, ◌&&◌, List, [], ◌∷◌, ◌++◌, length, take, drop, filter, get_or, slice_get, Option, Some, None, Result, nat_eq, refl, sym, ◌∙◌, ap, subst, arith, append_assoc, eq-eqb}
 use Rattle.std.proofs.lemmas.Bool.{and_left, both_ways, ne_eqb}
 use Rattle.std.proofs.lemmas.List.{append-nil, length_push, take-append-drop, take-append-le, drop-append-le}
 use Rattle.std.proofs.lemmas.Option.{same_Some, slice_get_within}
-use Rattle.std.proofs.Math.Seq.{take-append_seam, drop-append_seam}
+use Rattle.std.proofs.Math.Seq.{take-append_seam, drop-append_seam, take-suc}
 use Rattle.db_config.specs.declared.parts.ConfigParts.{ConfigParts}
 use Rattle.edit_rules.specs.declared.acts.Act.{Act}
 use Rattle.edit_rules.specs.declared.acts.Entry.{Entry}
@@ -246,9 +246,11 @@ pub undos_push : (c : ConfigParts) (H : List Entry) (store : Bool) (marks : List
 undos_push c H store marks [] t fit undoes =
     (subst (λ (ms : List Mark). ReplyUndoes c H store ms t.line t.line.request t.reply.n t.reply.answer) (append-nil marks) undoes, tt)
 undos_push c H store marks (u ∷ ts) t fit undoes =
-    let told : List Mark = accepting u.line u.line.request u.reply.n u.reply.answer in
-    (fit.0, undos_push c H store (marks ++ told) ts t fit.1
-    (subst (λ (ms : List Mark). ReplyUndoes c H store ms t.line t.line.request t.reply.n t.reply.answer) (sym (append_assoc marks told (accepted ts))) undoes))
+    let told : List Mark = accepting u.line u.line.request u.reply.n u.reply.answer in (
+      fit.0,
+      undos_push c H store (marks ++ told) ts t fit.1
+          (subst (λ (ms : List Mark). ReplyUndoes c H store ms t.line t.line.request t.reply.n t.reply.answer) (sym (append_assoc marks told (accepted ts))) undoes),
+    )
 
 -- of one session's replies, what matters of the marks is what they tell of the session
 pub undos_same : (c : ConfigParts) (H : List Entry) (store : Bool) (s : ℕ) (marks marks' : List Mark) (ts : List Turn) → Each (λ (t : Turn). t.line.session.0 ≡ s) ts
@@ -265,3 +267,46 @@ undos_same c H store s marks marks' (t ∷ ts) own same fit =
           ∙ sym (as_append s line marks' told))
           fit.1,
     )
+
+-- Going through what is kept, from its end.
+
+latest_push : (s line : ℕ) (acts : List KeptAct) (kept : KeptAct)
+    → latest_of s line (acts ++ kept ∷ []) ≡ found_later (cond (is_kept_of s line kept) (Some kept.inverse) None) (latest_of s line acts)
+latest_push s line [] kept = later_none (cond (is_kept_of s line kept) (Some kept.inverse) None)
+latest_push s line (x ∷ acts) kept =
+    let here : Option (Result Act NoUndo) = cond (is_kept_of s line x) (Some x.inverse) None in
+    ap (λ (found : Option (Result Act NoUndo)). found_later found here) (latest_push s line acts kept)
+    ∙ later_assoc (cond (is_kept_of s line kept) (Some kept.inverse) None) (latest_of s line acts) here
+
+look_back : (s line : ℕ) (acts : List KeptAct) (place : ℕ) (kept : KeptAct) → place < length acts → kept ≡ get_or acts place kept
+    → latest_of s line (take (suc place) acts) ≡ found_later (cond (is_kept_of s line kept) (Some kept.inverse) None) (latest_of s line (take place acts))
+look_back s line acts place kept low is =
+    ap (λ (ks : List KeptAct). latest_of s line ks) (take-suc acts place kept low ∙ ap (λ (x : KeptAct). take place acts ++ x ∷ []) (sym is))
+    ∙ latest_push s line (take place acts) kept
+
+found_back : (s line : ℕ) (acts : List KeptAct) (place : ℕ) (kept : KeptAct) → place < length acts → kept ≡ get_or acts place kept → is_kept_of s line kept ≡ true
+    → latest_of s line (take (suc place) acts) ≡ Some kept.inverse
+found_back s line acts place kept low is own =
+    look_back s line acts place kept low is
+    ∙ ap (λ (b : Bool). found_later (cond b (Some kept.inverse) None) (latest_of s line (take place acts))) own
+
+passed_back : (s line : ℕ) (acts : List KeptAct) (place : ℕ) (kept : KeptAct) → place < length acts → kept ≡ get_or acts place kept → is_kept_of s line kept ≡ false
+    → latest_of s line (take (suc place) acts) ≡ latest_of s line (take place acts)
+passed_back s line acts place kept low is other =
+    look_back s line acts place kept low is
+    ∙ ap (λ (b : Bool). found_later (cond b (Some kept.inverse) None) (latest_of s line (take place acts))) other
+
+-- the same where the place was counted down
+pub found_at : (s line : ℕ) (acts items : List KeptAct) (place : ℕ) (kept : KeptAct) → items ≡ acts → 0 < place → place ≤ length acts → kept ≡ get_or items (place - 1) kept
+    → is_kept_of s line kept ≡ true → latest_of s line (take place acts) ≡ Some kept.inverse
+found_at s line acts items place kept same some within is own =
+    let next : suc (place - 1) ≡ place = omega arith in
+    subst (λ (k : ℕ). latest_of s line (take k acts) ≡ Some kept.inverse) next
+    (found_back s line acts (place - 1) kept (omega arith) (is ∙ ap (λ (xs : List KeptAct). get_or xs (place - 1) kept) same) own)
+
+pub passed_at : (s line : ℕ) (acts items : List KeptAct) (place : ℕ) (kept : KeptAct) → items ≡ acts → 0 < place → place ≤ length acts → kept ≡ get_or items (place - 1) kept
+    → is_kept_of s line kept ≡ false → latest_of s line (take (place - 1) acts) ≡ latest_of s line (take place acts)
+passed_at s line acts items place kept same some within is other =
+    let next : suc (place - 1) ≡ place = omega arith in
+    subst (λ (k : ℕ). latest_of s line (take (place - 1) acts) ≡ latest_of s line (take k acts)) next
+    (sym (passed_back s line acts (place - 1) kept (omega arith) (is ∙ ap (λ (xs : List KeptAct). get_or xs (place - 1) kept) same) other))

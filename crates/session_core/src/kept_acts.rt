@@ -1,6 +1,6 @@
 //! What takes back the accepted changes of a run, kept for its `undo` lines.
 ghost use Rattle.std.specs.Prelude.{◌≡◌, ◌<◌, ◌≤◌, ◌+◌, ◌∷◌, ◌++◌, [], IfOk, OnErr, OnOk, option_copied};
-ghost use Rattle.session_core.specs.Undos.{kept_act, latest_of};
+ghost use Rattle.session_core.specs.Undos.{is_kept_of, kept_act, latest_of};
 
 use edit_rules::Act;
 use edit_undo::NoUndo;
@@ -19,6 +19,15 @@ pub struct KeptAct {
     pub inverse: Result<Act, NoUndo>,
 }
 
+impl KeptAct {
+    /// Whether it is of this line of this session.
+    fn is_of(&self, session: SessionNo, line: u32) -> bool
+        ensures { result ≡ is_kept_of session.0 line self.now }
+    {
+        self.session.0 == session.0 && self.line == line
+    }
+}
+
 /// What takes back the accepted changes of a run, in the order of the history. Room for one more is made before
 /// the change is committed, so that what is accepted is kept without asking for memory.
 #[derive(Drop)]
@@ -28,7 +37,7 @@ pub struct KeptActs {
 
 impl Model for KeptActs {
     ghost use Rattle.std.specs.Prelude.{◌-◌, vec_capacity, vec_len};
-    ghost use Rattle.session_core.specs.Undos.{KeptParts};
+    ghost use Rattle.session_core.specs.Inner.Room.{KeptParts};
 
     ghost Value = { KeptParts };
 
@@ -85,7 +94,7 @@ impl KeptActs {
         while place > 0 {
             place -= 1;
             let kept = &self.list[place];
-            if kept.session.0 == session.0 && kept.line == line {
+            if kept.is_of(session, line) {
                 return Some(&kept.inverse);
             }
         }

@@ -5,7 +5,7 @@ ghost use Rattle.edit_rules.specs.Database.{DatabaseParts};
 ghost use Rattle.edit_rules.specs.Effects.{effect};
 ghost use Rattle.edit_rules.specs.Inner.Effects.{GivesOrBreach};
 ghost use Rattle.edit_undo.specs.Inverse.{bundle_for, inverse_at};
-ghost use Rattle.edit_undo.specs.Laws.{IsBefore};
+ghost use Rattle.edit_undo.specs.Before.{IsBefore};
 ghost use Rattle.bundle_state.specs.Built.{FitsConfig};
 ghost use Rattle.session_core.specs.Undos.{latest_of, undo_refusal};
 ghost use Rattle.session_core.specs.Inner.Kept.{edit_accepted, edit_tried, given_tried, undo_tried, grid_told, head_reply, held_answer, held_at, look_closed, looked, query_closed, query_dropped, query_reply, ruled};
@@ -124,11 +124,7 @@ fn bundle_of<'a>(database: &'a Database, act: &Act) -> Option<&'a Bundle>
 }
 
 /// What takes back an act that breaks no rule, or why nothing does. The only refusal is want of memory.
-fn take_back(
-    alloc: Global,
-    database: &Database,
-    act: &Act,
-) -> Result<Result<Act, NoUndo>, Memory>
+fn take_back(alloc: Global, database: &Database, act: &Act) -> Result<Result<Act, NoUndo>, Memory>
     requires { (next : DatabaseParts) × (effect database.now act.now ≡ Ok next) }
     ensures { IfOk result (λ made. made ≡ inverse_at database.now act.now) }
 {
@@ -160,7 +156,7 @@ fn accept(
 {
     let inverse = take_back(alloc, database, &act)?;
     kept.make_room()?;
-    let n = entries.len() as u64 + 1;
+    let before = entries.len();
     entries.push(Entry {
         session: head.session,
         line: head.line,
@@ -168,7 +164,7 @@ fn accept(
     })?;
     kept.keep(head.session, head.line, inverse);
     *database = next;
-    Ok(head.reply(Some(n), Answer::Done(head.command)))
+    Ok(head.reply(Some(before as u64 + 1), Answer::Done(head.command)))
 }
 
 /// Tries an act: the reply to it. Want of memory changes nothing.
