@@ -53,7 +53,6 @@ never_falls_at xs rising i j (inr here) within = let P : ℕ → Type 0 = λ n. 
 never_falls : (xs : List ℕ) → IsStrictlyIncreasing xs → (i j : ℕ) → i ≤ j → j < length xs → get_or xs i 0 ≤ get_or xs j 0
 never_falls xs rising i j order within = never_falls_at xs rising i j (before_or_here i j order) within
 
-
 -- lines by their numbers
 
 any_line : EarlierLine
@@ -86,18 +85,18 @@ by_numbers xs x (Ok i) within found =
     λ d. subst (λ (n : ℕ). nat_cmp n x ≡ Equal) (sym (number_at xs i d within)) (found any_line)
 by_numbers xs x (Err i) within found = λ rises.
     let climbs : (a b : ℕ) (d : EarlierLine) → a ≤ b → b < length xs →
-        ordering_index (nat_cmp (get_or xs a d).line x) ≤ ordering_index (nat_cmp (get_or xs b d).line x) = λ a b d le lt.
-        let f : EarlierLine → ℕ = λ it. it.line in
-        let low : get_or (numbers_of xs) a 0 ≡ (get_or xs a d).line = get_or-map f xs a d 0 (omega arith) in
-        let high : get_or (numbers_of xs) b 0 ≡ (get_or xs b d).line = get_or-map f xs b d 0 lt in
-        subst (λ (n : ℕ). ordering_index (nat_cmp n x) ≤ ordering_index (nat_cmp (get_or xs b d).line x)) low
-        (subst (λ (n : ℕ). ordering_index (nat_cmp (get_or (numbers_of xs) a 0) x) ≤ ordering_index (nat_cmp n x)) high
-        (rises a b 0 le (rw (length-map xs f) lt))) in
+    ordering_index (nat_cmp (get_or xs a d).line x) ≤ ordering_index (nat_cmp (get_or xs b d).line x) = λ a b d le lt.
+    let f : EarlierLine → ℕ = λ it. it.line in
+    let low : get_or (numbers_of xs) a 0 ≡ (get_or xs a d).line = get_or-map f xs a d 0 (omega arith) in
+    let high : get_or (numbers_of xs) b 0 ≡ (get_or xs b d).line = get_or-map f xs b d 0 lt in
+    subst (λ (n : ℕ). ordering_index (nat_cmp n x) ≤ ordering_index (nat_cmp (get_or xs b d).line x)) low
+    (subst (λ (n : ℕ). ordering_index (nat_cmp (get_or (numbers_of xs) a 0) x) ≤ ordering_index (nat_cmp n x)) high
+    (rises a b 0 le (rw (length-map xs f) lt))) in
     let parted = found climbs in (
       (λ k d low under. subst (λ (n : ℕ). nat_cmp n x ≡ Less) (sym (number_at xs k d (omega (arith, within)))) (parted.0 k any_line low under)),
       (λ k d low under.
-      let here : k < length xs = rw (length-map xs (λ (it : EarlierLine). it.line)) at under in
-      subst (λ (n : ℕ). nat_cmp n x ≡ Greater) (sym (number_at xs k d here)) (parted.1 k any_line low here)),
+          let here : k < length xs = rw (length-map xs (λ (it : EarlierLine). it.line)) at under in
+          subst (λ (n : ℕ). nat_cmp n x ≡ Greater) (sym (number_at xs k d here)) (parted.1 k any_line low here)),
     )
 
 -- what passes no line of another number passes none but the line that was found
@@ -134,10 +133,13 @@ found_passes xs x i it test avoids rising at found = by (cases_Bool (test it))
   where
     inside : i < length xs
     inside = slice_get_within xs i it at
+
     is : get_or xs i any_line ≡ it
     is = get_or_from_slice_get xs i it any_line at
+
     facts : (i < length (numbers_of xs)) × (get_or (numbers_of xs) i 0 ≡ x)
     facts = searched (numbers_of xs) x (Ok i) (by_numbers xs x (Ok i) inside found) (never_falls (numbers_of xs) rising)
+
     by : (test it ≡ true) ⊎ (test it ≡ false) → list_any test xs ≡ test it
     by (inl passes) = list_any_at test xs i any_line inside (ap test is ∙ passes) ∙ sym passes
     by (inr fails) =

@@ -27,11 +27,8 @@ fn is_change(command: Command) -> bool
     ensures { result ≡ is_change command }
 {
     match command {
-        Command::Config
-        | Command::Query
-        | Command::Look
-        | Command::Finish
-        | Command::After => false,
+        Command::Config | Command::Query | Command::Look | Command::Finish | Command::After =>
+            false,
         Command::AddBundle
         | Command::AddTextgrid
         | Command::DropBundle

@@ -30,11 +30,7 @@ fn after_request(view: &View, earlier: &LineSet) -> Result<Request, LineFault>
 
 // `undo`: the number of an earlier line of its session that asked for a change.
 #[tactic(auto, unfolding(crate::specs::Lines::undo_request))]
-fn undo_request(
-    view: &View,
-    earlier: &LineSet,
-    session: SessionNo,
-) -> Result<Request, LineFault>
+fn undo_request(view: &View, earlier: &LineSet, session: SessionNo) -> Result<Request, LineFault>
     ensures { Reads result (undo_request earlier.now session.0 (seen_at view.now)) }
 {
     let line = whole_member(view, "line", TOP_ID)? as u32;
