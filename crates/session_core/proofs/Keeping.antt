@@ -212,7 +212,7 @@ look_cases c base l ask H bs ls qs (Some held) = refl
 
 pub looked_step : (c : ConfigParts) (base : ℕ) (l : Line) (ask : Ask) (H : List Entry) (bs : DatabaseParts) (ls ls2 qs : List (Option Held)) (r : Reply) → (r, ls2) ≡ looked (head_of l) ask (length H) bs ls (slot ls l.session.0) → look_step (state_of c H base ls qs) l ask (slot (opened_in ls) l.session.0) ≡ (Some r, state_of c H base ls2 qs)
 looked_step c base l ask H bs ls ls2 qs r e =
-    let told : Reply × List (Option Held) → Option Reply × State = λ t. (Some t.0, state_of c H t.1 qs) in
+    let told : Reply × List (Option Held) → Option Reply × State = λ t. (Some t.0, state_of c H base t.1 qs) in
     rw (slot_map opened_by ls l.session.0) (look_cases c base l ask H bs ls qs (slot ls l.session.0) ∙ ap told (sym e))
 
 pub looked_kept : (c : ConfigParts) (head : Head) (ask : Ask) (H : List Entry) (bs : DatabaseParts) (ls : List (Option Held)) (held : Option Held) → after c H ≡ Ok bs → AreHeld c H ls → AreHeld c H (looked head ask (length H) bs ls held).1
@@ -256,7 +256,7 @@ close_cases c base line s H ls qs (Some held) h = close_answer c base line s H l
 
 pub closed_step : (c : ConfigParts) (base : ℕ) (line : ℕ) (s : SessionNo) (H : List Entry) (ls ls2 qs : List (Option Held)) (r : Reply) → (r, ls2) ≡ look_closed line s ls (slot ls s.0) → AreHeld c H ls → finish_step (state_of c H base ls qs) line s (slot (opened_in ls) s.0) ≡ (Some r, state_of c H base ls2 qs)
 closed_step c base line s H ls ls2 qs r e h =
-    let told : Reply × List (Option Held) → Option Reply × State = λ t. (Some t.0, state_of c H t.1 qs) in
+    let told : Reply × List (Option Held) → Option Reply × State = λ t. (Some t.0, state_of c H base t.1 qs) in
     rw (slot_map opened_by ls s.0) (close_cases c base line s H ls qs (slot ls s.0) (h.each s.0) ∙ ap told (sym e))
 
 answer_kept : (c : ConfigParts) (line : ℕ) (s : SessionNo) (H : List Entry) (ls : List (Option Held)) (held : Held) (short : Bool) → AreHeld c H ls → AreHeld c H (look_answer line s ls held short).1
