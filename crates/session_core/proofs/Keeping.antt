@@ -204,36 +204,15 @@ undo_told c old l earlier H H2 base bs bs2 acts acts2 ls qs r old_is f e k =
     event_told c old l (requests.Undo earlier) H H2 base bs2 acts2 ls qs r (undo_tried (head_of l) H bs acts inverse) old_is f
     (ap (λ (ks : List KeptAct). undo_step (state_of c H base ls qs) l (latest_of l.session.0 earlier ks)) (sym k.taking_back) ∙ undo_cases c l inverse H base bs acts ls qs k.present) e
 
-step_refused : (head : Head) (act : Act) (H : List Entry) (bs : DatabaseParts) (acts : List KeptAct) (full : Bool) (made : Result DatabaseParts Breach) (breach : Breach)
-    → full ≡ false → made ≡ Err breach → edit_tried_step head act H bs acts full made ≡ (head_reply head (Some (length H)) (Refused (rule_refusal head.command breach)), H, bs, acts)
-step_refused head act H bs acts full made breach room broken = rw (room, broken) refl
-
-step_accepted : (head : Head) (act : Act) (H : List Entry) (bs : DatabaseParts) (acts : List KeptAct) (full : Bool) (made : Result DatabaseParts Breach) (next : DatabaseParts)
-    → full ≡ false → made ≡ Ok next → edit_tried_step head act H bs acts full made ≡ edit_accepted head act H bs acts next
-step_accepted head act H bs acts full made next room is = rw (room, is) refl
-
--- the reply, the history, the database and what is kept where the act breaks a rule
-pub refused_act : (head : Head) (act : Act) (H : List Entry) (bs : DatabaseParts) (acts : List KeptAct) (breach : Breach) (refusal : Refusal) (reply : Reply) (n : ℕ) (full : Bool)
-    → full ≡ is_full H → full ≡ false → n ≡ length H → effect bs act ≡ Err breach → refusal ≡ rule_refusal head.command breach → reply ≡ head_reply head (Some n) (Refused refusal)
-    → (reply, H, bs, acts) ≡ edit_tried head act H bs acts
-refused_act head act H bs acts breach refusal reply n full counted room count broken rule_is told =
-    let as_was : (reply, H, bs, acts) ≡ (head_reply head (Some (length H)) (Refused (rule_refusal head.command breach)), H, bs, acts) = rw (told, rule_is, count) refl in
-    as_was ∙ sym (step_refused head act H bs acts (is_full H) (effect bs act) breach (sym counted ∙ room) broken)
-
-pub accepted_act : (head : Head) (act : Act) (H : List Entry) (bs next : DatabaseParts) (acts : List KeptAct) (t : Tried) (full : Bool)
-    → full ≡ is_full H → full ≡ false → effect bs act ≡ Ok next → t ≡ edit_accepted head act H bs acts next → t ≡ edit_tried head act H bs acts
-accepted_act head act H bs next acts t full counted room made told =
-    told ∙ sym (step_accepted head act H bs acts (is_full H) (effect bs act) next (sym counted ∙ room) made)
-
 -- A look.
 
-look_cases : (c : ConfigParts) (base : ℕ) (l : Line) (ask : Ask) (H : List Entry) (bs : DatabaseParts) (ls qs : List (Option Held)) (held : Option Held) → look_step (state_of c H base ls qs) l ask (option_map opened_by held) ≡ (Some (looked (head_of l) ask (length H) bs ls held).0, state_of c H (looked (head_of l) ask (length H) bs ls held).1 qs)
+look_cases : (c : ConfigParts) (base : ℕ) (l : Line) (ask : Ask) (H : List Entry) (bs : DatabaseParts) (ls qs : List (Option Held)) (held : Option Held) → look_step (state_of c H base ls qs) l ask (option_map opened_by held) ≡ (Some (looked (head_of l) ask (length H) bs ls held).0, state_of c H base (looked (head_of l) ask (length H) bs ls held).1 qs)
 look_cases c base l ask H bs ls qs None = rw (put_slot_map opened_by ls l.session.0 (Some (held_at (head_of l) ask (length H) bs))) refl
 look_cases c base l ask H bs ls qs (Some held) = refl
 
 pub looked_step : (c : ConfigParts) (base : ℕ) (l : Line) (ask : Ask) (H : List Entry) (bs : DatabaseParts) (ls ls2 qs : List (Option Held)) (r : Reply) → (r, ls2) ≡ looked (head_of l) ask (length H) bs ls (slot ls l.session.0) → look_step (state_of c H base ls qs) l ask (slot (opened_in ls) l.session.0) ≡ (Some r, state_of c H base ls2 qs)
 looked_step c base l ask H bs ls ls2 qs r e =
-    let told : Reply × List (Option Held) → Option Reply × State = λ t. (Some t.0, state_of c H t.1 qs) in
+    let told : Reply × List (Option Held) → Option Reply × State = λ t. (Some t.0, state_of c H base t.1 qs) in
     rw (slot_map opened_by ls l.session.0) (look_cases c base l ask H bs ls qs (slot ls l.session.0) ∙ ap told (sym e))
 
 pub looked_kept : (c : ConfigParts) (head : Head) (ask : Ask) (H : List Entry) (bs : DatabaseParts) (ls : List (Option Held)) (held : Option Held) → after c H ≡ Ok bs → AreHeld c H ls → AreHeld c H (looked head ask (length H) bs ls held).1
@@ -267,17 +246,17 @@ kept_begun c base acts head ask H bs ls qs k = record {
 
 -- The answer of a look.
 
-close_answer : (c : ConfigParts) (base : ℕ) (line : ℕ) (s : SessionNo) (H : List Entry) (ls qs : List (Option Held)) (held : Held) (short : Bool) → IsMoment c H held → look_answered (state_of c H base ls qs) line s (opened_by held) short ≡ (Some (look_answer line s ls held short).0, state_of c H (look_answer line s ls held short).1 qs)
+close_answer : (c : ConfigParts) (base : ℕ) (line : ℕ) (s : SessionNo) (H : List Entry) (ls qs : List (Option Held)) (held : Held) (short : Bool) → IsMoment c H held → look_answered (state_of c H base ls qs) line s (opened_by held) short ≡ (Some (look_answer line s ls held short).0, state_of c H base (look_answer line s ls held short).1 qs)
 close_answer c base line s H ls qs held true h = refl
 close_answer c base line s H ls qs held false h = rw (h.database, put_slot_map opened_by ls s.0 None) refl
 
-close_cases : (c : ConfigParts) (base : ℕ) (line : ℕ) (s : SessionNo) (H : List Entry) (ls qs : List (Option Held)) (held : Option Held) → IsHeld c H held → finish_step (state_of c H base ls qs) line s (option_map opened_by held) ≡ (Some (look_closed line s ls held).0, state_of c H (look_closed line s ls held).1 qs)
+close_cases : (c : ConfigParts) (base : ℕ) (line : ℕ) (s : SessionNo) (H : List Entry) (ls qs : List (Option Held)) (held : Option Held) → IsHeld c H held → finish_step (state_of c H base ls qs) line s (option_map opened_by held) ≡ (Some (look_closed line s ls held).0, state_of c H base (look_closed line s ls held).1 qs)
 close_cases c base line s H ls qs None h = refl
 close_cases c base line s H ls qs (Some held) h = close_answer c base line s H ls qs held (lacks_memory held.ask) h
 
 pub closed_step : (c : ConfigParts) (base : ℕ) (line : ℕ) (s : SessionNo) (H : List Entry) (ls ls2 qs : List (Option Held)) (r : Reply) → (r, ls2) ≡ look_closed line s ls (slot ls s.0) → AreHeld c H ls → finish_step (state_of c H base ls qs) line s (slot (opened_in ls) s.0) ≡ (Some r, state_of c H base ls2 qs)
 closed_step c base line s H ls ls2 qs r e h =
-    let told : Reply × List (Option Held) → Option Reply × State = λ t. (Some t.0, state_of c H t.1 qs) in
+    let told : Reply × List (Option Held) → Option Reply × State = λ t. (Some t.0, state_of c H base t.1 qs) in
     rw (slot_map opened_by ls s.0) (close_cases c base line s H ls qs (slot ls s.0) (h.each s.0) ∙ ap told (sym e))
 
 answer_kept : (c : ConfigParts) (line : ℕ) (s : SessionNo) (H : List Entry) (ls : List (Option Held)) (held : Held) (short : Bool) → AreHeld c H ls → AreHeld c H (look_answer line s ls held short).1

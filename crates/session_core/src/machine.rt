@@ -69,6 +69,7 @@ impl Core {
         let database = replay(alloc, config, &history)?;
         let looks = Slots::new(alloc)?;
         let queries = Slots::new(alloc)?;
+        let kept = KeptActs::new(alloc);
         let base = history.len();
         Ok(Core {
             alloc,
@@ -76,7 +77,7 @@ impl Core {
             entries: history,
             base,
             database,
-            kept: KeptActs::new(alloc),
+            kept,
             looks,
             queries,
         })

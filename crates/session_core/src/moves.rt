@@ -156,15 +156,15 @@ fn accept(
 {
     let inverse = take_back(alloc, database, &act)?;
     kept.make_room()?;
-    let before = entries.len();
     entries.push(Entry {
         session: head.session,
         line: head.line,
         act,
     })?;
+    let n = entries.len() as u64;
     kept.keep(head.session, head.line, inverse);
     *database = next;
-    Ok(head.reply(Some(before as u64 + 1), Answer::Done(head.command)))
+    Ok(head.reply(Some(n), Answer::Done(head.command)))
 }
 
 /// Tries an act: the reply to it. Want of memory changes nothing.
