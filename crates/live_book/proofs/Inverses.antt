@@ -22,10 +22,10 @@ use Rattle.edit_undo.proofs.Passing.{acts_before}
 use Rattle.version_tree.specs.Version.{VersionParts, state_of}
 use Rattle.live_book.specs.declared.fault.EditFault.{EditFault}
 use Rattle.live_book.specs.declared.kept.Kept.{Kept}
-use Rattle.live_book.specs.Commits.{BreaksNone, Commits, KeepsInverse, numbered}
+use Rattle.live_book.specs.Commits.{BreaksNone, Commits}
+use Rattle.live_book.specs.Inner.Inverses.{IsTogether, KeepsInverse, numbered}
 use Rattle.live_book.specs.Kept.{BookParts}
 use Rattle.live_book.specs.Published.{IsStateAfter}
-use Rattle.live_book.specs.Inner.Inverses.{IsTogether}
 
 -- the bundle of the key of the first edit is that of the list
 pub first_key : (es : List Edit) (e : Edit) (key : BundleKey) (found : Option BundleParts) (bundles : List BundleParts) → slice_get es 0 ≡ Some e → key ≡ key_of e → found ≡ bundle_with key bundles → found ≡ bundle_for (acts.Edits es) bundles

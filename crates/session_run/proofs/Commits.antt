@@ -29,7 +29,8 @@ use Rattle.session_core.specs.Worlds.{Trouble, act_back, act_wanted, untroubled,
 use Rattle.session_core.proofs.Keeping.{slots_longer}
 use Rattle.live_book.specs.declared.fault.EditFault.{EditFault}
 use Rattle.live_book.specs.declared.fault.EditFault.TheVariants as faults
-use Rattle.live_book.specs.Commits.{Commits, HasRoom, IsSameBook, IsTooMuch, LeavesKept, has_journal, history_behind, numbered}
+use Rattle.live_book.specs.Commits.{Commits, HasRoom, IsSameBook, IsTooMuch, LeavesKept, has_journal, history_behind}
+use Rattle.live_book.specs.Inner.Inverses.{numbered}
 use Rattle.live_book.specs.Kept.{BookParts, KeepsIn, faults_in}
 use Rattle.session_run.specs.Inner.Orders.{ChangesBook, LeftBehind, commit_reply}
 use Rattle.session_run.specs.Inner.Taken.{CommitsAct, EditsBook, IsTaken, KeepsActs, LeavesBook, UndoesBook, base_of, head_of}

@@ -11,7 +11,8 @@ use Rattle.session_core.specs.Undos.{kept_act, kept_behind, kept_of}
 use Rattle.session_core.proofs.Undoing.{kept_none, kept_push}
 use Rattle.live_book.specs.declared.fault.EditFault.{EditFault}
 use Rattle.live_book.specs.declared.kept.Kept.{Kept}
-use Rattle.live_book.specs.Commits.{KeepsInverse, history_behind, numbered}
+use Rattle.live_book.specs.Commits.{history_behind}
+use Rattle.live_book.specs.Inner.Inverses.{KeepsInverse, numbered}
 use Rattle.session_run.specs.Inner.Taken.{KeepsActs, acts_behind, base_of}
 
 -- with one entry more, of which is kept what takes it back, the beginning is the same

@@ -1,5 +1,5 @@
 use Rattle.std.proofs.Common.{ap, sym, ◌∙◌}
-use Rattle.live_book.specs.Commits.{numbered}
+use Rattle.live_book.specs.Inner.Inverses.{numbered}
 use Rattle.session_run.specs.Inner.Orders.{commit_reply}
 use Rattle.session_run.specs.Inner.Taken.{line_of}
 use Rattle.session_run.proofs.turns.keep_made.Goals as goal
