@@ -90,23 +90,11 @@ fn try_act<R: Wait, K: Opening + Row, N: Ledger, D: Disk, G: Gate>(
     ensures tried { IsTried K.opened pass.old.list pass.new.list share.old share.new line.now act.now result }
 {
     let _seen = pass.seen();
-    around.live.edit_kept(
-        rt,
-        around.alloc,
-        pass,
-        share,
-        line.session,
-        line.line,
-        act,
-    )
+    around.live.edit_kept(rt, around.alloc, pass, share, line.session, line.line, act)
 }
 
 /// Keeps what takes an accepted act back, in room that was made for it: the number of the answer.
-fn keep(
-    kept: &mut KeptActs,
-    line: &Line,
-    made: Result<Kept, EditFault>,
-) -> Result<u64, EditFault>
+fn keep(kept: &mut KeptActs, line: &Line, made: Result<Kept, EditFault>) -> Result<u64, EditFault>
     requires { 0 < kept.old.room }
     ensures number { result ≡ numbered made }
     ensures kept { kept.new.acts ≡ kept_with kept.old.acts line.now made }
