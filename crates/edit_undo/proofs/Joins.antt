@@ -88,7 +88,7 @@ drop_one (y ∷ ys) (suc place) x here = drop_one ys place x here
 abbrev pub if_passing : BundleKey → Bool → ℕ × Link → List Edit
 if_passing key passes placed = cond passes (link_again key placed ∷ []) []
 
-first_again : (key : BundleKey) (test : Link → Bool) (place : ℕ) (link : Link) (links : List Link) →
+pub first_again : (key : BundleKey) (test : Link → Bool) (place : ℕ) (link : Link) (links : List Link) →
     again_from key test place (link ∷ links) ≡ if_passing key (test link) (place, link) ++ again_from key test (place + 1) links
 first_again key test place link links = by (test link)
   where

@@ -4,3 +4,4 @@ pub mod Found
 pub mod Own
 pub mod InTurn
 pub mod Passing
+pub mod Places

@@ -6,7 +6,7 @@ ghost use Rattle.edit_undo.specs.Inverse.{position_again, item_again, time_of_it
 ghost use Rattle.edit_undo.specs.Inner.Items.{placed, given_number, boundary_of, if_labelled, labels_from, cut_of};
 
 use crate::annot::{given_item, given_labels};
-use crate::link_edits::{Wanted, links_again};
+use crate::link_edits::links_of_item;
 use bundle_edits::Edit;
 use bundle_state::Bundle;
 use db_config::LevelDef;
@@ -202,6 +202,6 @@ pub(crate) fn cut_again(
     )?;
     let labels = given_labels(alloc, def.attributes.as_slice(), item.labels.as_slice())?;
     made.append(labels_again(alloc, key, new_id, labels.as_slice())?)?;
-    made.append(links_again(alloc, key, Wanted::Item(new_id), bundle.links())?)?;
+    made.append(links_of_item(alloc, key, new_id, bundle.links())?)?;
     Ok(made)
 }

@@ -7,6 +7,7 @@ mod faults;
 mod item_edits;
 mod laws;
 mod link_edits;
+mod link_places;
 mod own_edits;
 mod reversed;
 mod turns;

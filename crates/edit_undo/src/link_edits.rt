@@ -3,8 +3,11 @@ ghost use Rattle.std.specs.Prelude.{◌≡◌, ◌<◌, ◌++◌, IfOk, OnOk, le
 ghost use Rattle.emu_names.specs.declared.limits.TheConstants.{BUNDLE_LINKS};
 ghost use Rattle.bundle_edits.specs.Laws.{new_pairs};
 ghost use Rattle.edit_undo.specs.Inverse.{links_again, pair_out};
-ghost use Rattle.edit_undo.specs.Inner.Links.{is_wanted, if_wanted, if_new, new_out, HaveTimes};
+ghost use Rattle.link_graph.specs.Link.{joins, names_item};
+ghost use Rattle.edit_undo.specs.Inner.Links.{if_named, if_new, new_out, HaveTimes};
 
+use crate::item_edits::one;
+use crate::link_places::{has_links, pair_place};
 use crate::reversed::reversed;
 use bundle_edits::Edit;
 use bundle_state::Bundle;
@@ -14,40 +17,19 @@ use link_builder::timed_pairs;
 use link_graph::{Link, Links};
 use std::alloc::Global;
 
-/// Which links are put back.
-#[derive(Clone, Copy, Debug, PartialEq, Eq)]
-pub(crate) enum Wanted {
-    /// Those that name an item, at either end.
-    Item(ItemId),
-    /// That of a pair of items.
-    Pair(ItemId, ItemId),
-}
-
-impl Wanted {
-    /// Whether a link is put back.
-    fn is_met(self, link: &Link) -> bool
-        ensures { result ≡ is_wanted self link.now }
-    {
-        match self {
-            Wanted::Item(id) => link.from == id || link.to == id,
-            Wanted::Pair(from, to) => link.from == from && link.to == to,
-        }
-    }
-}
-
-/// Puts the edit last that puts a link back at its place, where it is one of those.
+/// Puts the edit last that puts a link back at its place, where it names an item.
 fn put_link(
     alloc: Global,
     made: &mut Series<Edit>,
     key: &BundleKey,
-    wanted: Wanted,
+    id: ItemId,
     link: &Link,
     place: usize,
 ) -> Result<(), Memory>
     requires { place < BUNDLE_LINKS }
-    ensures { OnOk result (made.new ≡ made.old ++ if_wanted key.now wanted (place, link.now)) }
+    ensures { OnOk result (made.new ≡ made.old ++ if_named key.now id (place, link.now)) }
 {
-    if wanted.is_met(link) {
+    if link.from == id || link.to == id {
         let key = key.copy(alloc)?;
         made.push(Edit::PutLink {
             key,
@@ -59,21 +41,67 @@ fn put_link(
     Ok(())
 }
 
-/// The links of some kind, each put back at the place that it had, places rising.
+/// The links that name an item, found by going over all.
 #[tactic(auto, using(crate::proofs::Joins::link_step, crate::proofs::Joins::links_end))]
-pub(crate) fn links_again(
+fn all_named(
     alloc: Global,
     key: &BundleKey,
-    wanted: Wanted,
+    id: ItemId,
     links: &Links,
 ) -> Result<Series<Edit>, Memory>
-    ensures { IfOk result (λ made. made ≡ links_again key.now (is_wanted wanted) links.now) }
+    ensures { IfOk result (λ made. made ≡ links_again key.now (names_item id) links.now) }
 {
     let mut made = Series::new(alloc);
     for place in 0..links.len() {
-        put_link(alloc, &mut made, key, wanted, links.get(place), place)?;
+        put_link(alloc, &mut made, key, id, links.get(place), place)?;
     }
     Ok(made)
+}
+
+/// The links that name an item, each put back at the place that it had, places rising.
+#[tactic(auto, using(crate::proofs::Places::none_again))]
+pub(crate) fn links_of_item(
+    alloc: Global,
+    key: &BundleKey,
+    id: ItemId,
+    links: &Links,
+) -> Result<Series<Edit>, Memory>
+    ensures { IfOk result (λ made. made ≡ links_again key.now (names_item id) links.now) }
+{
+    if has_links(links, id) {
+        return all_named(alloc, key, id, links);
+    }
+    Ok(Series::new(alloc))
+}
+
+/// The link of a pair put back at the place that it had.
+#[tactic(auto, using(crate::proofs::Places::none_again, crate::proofs::Places::pair_again))]
+pub(crate) fn link_of_pair(
+    alloc: Global,
+    key: &BundleKey,
+    from: ItemId,
+    to: ItemId,
+    links: &Links,
+) -> Result<Series<Edit>, Memory>
+    ensures { IfOk result (λ made. made ≡ links_again key.now (joins from to) links.now) }
+{
+    let _count = links.len();
+    match pair_place(links, from, to) {
+        Some(place) => {
+            let link = links.get(place);
+            let key = key.copy(alloc)?;
+            one(
+                alloc,
+                Edit::PutLink {
+                    key,
+                    from: link.from,
+                    to: link.to,
+                    place: place as u32,
+                },
+            )
+        }
+        None => Ok(Series::new(alloc)),
+    }
 }
 
 /// Puts the edit last that takes the link of a pair out, where it is none yet.

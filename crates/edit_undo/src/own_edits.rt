@@ -12,7 +12,7 @@ ghost use Rattle.edit_undo.specs.Inner.Turns.{HasTimes, NamedTimes};
 
 use crate::annot::given;
 use crate::item_edits::{boundary_again, cut_again, item_again, label_again, one, time_again};
-use crate::link_edits::{Wanted, links_again, times_out};
+use crate::link_edits::{link_of_pair, links_of_item, times_out};
 use bundle_edits::Edit;
 use bundle_state::Bundle;
 use db_config::{Config, LevelDef};
@@ -126,7 +126,7 @@ fn of_removed(
         ++ links_again key.now (names_item id) bundle.now.links) }
 {
     let mut made = from_item(alloc, config, bundle, edit, id)?;
-    made.append(links_again(alloc, key, Wanted::Item(id), bundle.links())?)?;
+    made.append(links_of_item(alloc, key, id, bundle.links())?)?;
     Ok(made)
 }
 
@@ -190,7 +190,7 @@ pub(crate) fn own_inverse(
             from_behind(alloc, config, bundle, edit, *id)
         }
         Edit::RemoveLink { key, from, to } => {
-            links_again(alloc, key, Wanted::Pair(*from, *to), bundle.links())
+            link_of_pair(alloc, key, *from, *to, bundle.links())
         }
         Edit::LinkTimes { key, upper, lower } => {
             of_times(alloc, config, bundle, key, upper, lower)

@@ -1,6 +1,7 @@
 -- Words of loops over links.
-use Rattle.std.specs.Prelude.{◌≡◌, ◌≢◌, ℕ, Bool, not, List, [], ◌∷◌, map, reverse, Some, if◌then◌else◌}
-use Rattle.std.specs.List.{enumerate_from, filter, slice_get}
+use Rattle.std.specs.Prelude.{◌≡◌, ◌≢◌, ℕ, Bool, not, List, [], ◌∷◌, map, reverse, true, false, Option, Some, None, if◌then◌else◌}
+use Rattle.std.specs.List.{enumerate_from, filter, list_any, slice_get}
+use Rattle.emu_names.specs.declared.kinds.ItemId.{ItemId}
 use Rattle.emu_names.specs.declared.kinds.LevelKind.TheVariants as kinds
 use Rattle.emu_names.specs.declared.names.BundleKey.{BundleKey}
 use Rattle.level_items.specs.declared.annot.AnnotLink.{AnnotLink}
@@ -9,18 +10,11 @@ use Rattle.link_graph.specs.declared.link.Link.{Link}
 use Rattle.link_graph.specs.Link.{joins, names_item}
 use Rattle.bundle_edits.specs.declared.edit.Edit.{Edit}
 use Rattle.bundle_edits.specs.Changes.{is_linked}
-use Rattle.edit_undo.specs.declared.link_edits.Wanted.{Wanted}
-use Rattle.edit_undo.specs.declared.link_edits.Wanted.TheVariants as wanted
 use Rattle.edit_undo.specs.Inverse.{link_again, pair_out}
 
--- whether a link is one of those that are put back
-abbrev pub is_wanted : Wanted → Link → Bool
-is_wanted (wanted.Item id) link = names_item id link
-is_wanted (wanted.Pair from to) link = joins from to link
-
--- a link put back at its place, where it is one of those
-abbrev pub if_wanted : BundleKey → Wanted → ℕ × Link → List Edit
-if_wanted key wanted placed = if is_wanted wanted placed.1 then link_again key placed ∷ [] else []
+-- a link put back at its place, where it names an item
+abbrev pub if_named : BundleKey → ItemId → ℕ × Link → List Edit
+if_named key id placed = if names_item id placed.1 then link_again key placed ∷ [] else []
 
 -- the links that pass a test, of those from a place on, put back at their places
 abbrev pub again_from : BundleKey → (Link → Bool) → ℕ → List Link → List Edit
@@ -44,3 +38,8 @@ abbrev pub HaveTimes : List Level → ℕ → ℕ → Type 0
 HaveTimes levels upper lower =
     (one other : Level) → slice_get levels upper ≡ Some one → slice_get levels lower ≡ Some other →
     (one.kind ≡ kinds.Segment) × (other.kind ≢ kinds.Item)
+
+-- the place of the link of a pair, or that there is none
+abbrev pub IsPairPlace : ItemId → ItemId → List Link → Option ℕ → Type 0
+IsPairPlace from to links None = list_any (joins from to) links ≡ false
+IsPairPlace from to links (Some place) = (link : Link) × (slice_get links place ≡ Some link) × (joins from to link ≡ true)
