@@ -246,9 +246,11 @@ pub undos_push : (c : ConfigParts) (H : List Entry) (store : Bool) (marks : List
 undos_push c H store marks [] t fit undoes =
     (subst (λ (ms : List Mark). ReplyUndoes c H store ms t.line t.line.request t.reply.n t.reply.answer) (append-nil marks) undoes, tt)
 undos_push c H store marks (u ∷ ts) t fit undoes =
-    let told : List Mark = accepting u.line u.line.request u.reply.n u.reply.answer in
-    (fit.0, undos_push c H store (marks ++ told) ts t fit.1
-    (subst (λ (ms : List Mark). ReplyUndoes c H store ms t.line t.line.request t.reply.n t.reply.answer) (sym (append_assoc marks told (accepted ts))) undoes))
+    let told : List Mark = accepting u.line u.line.request u.reply.n u.reply.answer in (
+      fit.0,
+      undos_push c H store (marks ++ told) ts t fit.1
+          (subst (λ (ms : List Mark). ReplyUndoes c H store ms t.line t.line.request t.reply.n t.reply.answer) (sym (append_assoc marks told (accepted ts))) undoes),
+    )
 
 -- of one session's replies, what matters of the marks is what they tell of the session
 pub undos_same : (c : ConfigParts) (H : List Entry) (store : Bool) (s : ℕ) (marks marks' : List Mark) (ts : List Turn) → Each (λ (t : Turn). t.line.session.0 ≡ s) ts

@@ -2,3 +2,4 @@ pub mod Kept
 pub mod Steps
 pub mod Stops
 pub mod Undone
+pub mod Room

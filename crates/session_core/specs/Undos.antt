@@ -45,8 +45,3 @@ latest_of session line (kept ∷ rest) =
 abbrev pub undo_refusal : NoUndo → Refusal
 undo_refusal reasons.NoInverse = refusals.NoInverse
 undo_refusal reasons.TooManyEdits = refusals.TooManyEdits
-
--- what is kept, and the room for more
-pub record KeptParts : Type 0 where
-  pub acts : List KeptAct
-  pub room : ℕ

@@ -37,7 +37,7 @@ pub struct KeptActs {
 
 impl Model for KeptActs {
     ghost use Rattle.std.specs.Prelude.{◌-◌, vec_capacity, vec_len};
-    ghost use Rattle.session_core.specs.Undos.{KeptParts};
+    ghost use Rattle.session_core.specs.Inner.Room.{KeptParts};
 
     ghost Value = { KeptParts };
 

@@ -124,11 +124,7 @@ fn bundle_of<'a>(database: &'a Database, act: &Act) -> Option<&'a Bundle>
 }
 
 /// What takes back an act that breaks no rule, or why nothing does. The only refusal is want of memory.
-fn take_back(
-    alloc: Global,
-    database: &Database,
-    act: &Act,
-) -> Result<Result<Act, NoUndo>, Memory>
+fn take_back(alloc: Global, database: &Database, act: &Act) -> Result<Result<Act, NoUndo>, Memory>
     requires { (next : DatabaseParts) × (effect database.now act.now ≡ Ok next) }
     ensures { IfOk result (λ made. made ≡ inverse_at database.now act.now) }
 {

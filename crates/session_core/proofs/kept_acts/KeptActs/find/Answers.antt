@@ -1,5 +1,5 @@
 use Rattle.std.proofs.Common.{sym, ◌∙◌, ap, arith}
-use Rattle.session_core.specs.Undos.{KeptParts}
+use Rattle.session_core.specs.Inner.Room.{KeptParts}
 use Rattle.session_core.proofs.Undoing.{found_at, passed_at}
 use Rattle.session_core.proofs.kept_acts.KeptActs.find.Goals as goal
 
