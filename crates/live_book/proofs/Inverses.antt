@@ -1,6 +1,6 @@
 -- What takes an act back, over the version in force.
-use Rattle.std.proofs.Common.{◌≡◌, ℕ, true, List, [], ◌∷◌, Option, None, Some, Result, Ok, Err, IfOk, refl, sym, ◌∙◌, ap, subst}
-use Rattle.std.specs.List.{list_all, slice_get}
+use Rattle.std.proofs.Common.{◌≡◌, ℕ, true≢false, List, [], ◌∷◌, Option, Some, Result, Ok, Err, IfOk, sym, ◌∙◌, ap, subst}
+use Rattle.std.specs.List.{slice_get}
 use Rattle.emu_names.specs.Steps.{onward}
 use Rattle.emu_names.specs.declared.names.BundleKey.{BundleKey}
 use Rattle.db_config.specs.declared.parts.ConfigParts.{ConfigParts}
@@ -12,24 +12,20 @@ use Rattle.edit_rules.specs.declared.acts.Act.{Act}
 use Rattle.edit_rules.specs.declared.acts.Act.TheVariants as acts
 use Rattle.edit_rules.specs.declared.acts.Breach.{Breach}
 use Rattle.edit_rules.specs.declared.acts.Entry.{Entry}
-use Rattle.edit_rules.specs.Acts.{has_key}
-use Rattle.edit_rules.specs.Database.{DatabaseParts, KeepsDatabaseRules, bundle_with, counts_of, empty_database, without}
+use Rattle.edit_rules.specs.Database.{DatabaseParts, KeepsDatabaseRules, bundle_with, empty_database}
 use Rattle.edit_rules.specs.Effects.{database_after, effect, found_or}
-use Rattle.edit_rules.specs.Laws.{put_whole}
-use Rattle.edit_rules.specs.Turns.{changed_in_turn}
-use Rattle.edit_rules.proofs.Bundles.{one_bundle}
 use Rattle.edit_rules.proofs.Lists.{keys_of}
-use Rattle.edit_rules.proofs.Turns.{goes_on}
 use Rattle.edit_undo.specs.declared.faults.NoUndo.{NoUndo}
 use Rattle.edit_undo.specs.Inverse.{bundle_for, inverse_at}
-use Rattle.edit_undo.specs.Laws.{BreakNoRule, IsBefore}
+use Rattle.edit_undo.specs.Before.{IsBefore, IsOfOneBundle}
+use Rattle.edit_undo.proofs.Passing.{acts_before}
 use Rattle.version_tree.specs.Version.{VersionParts, state_of}
 use Rattle.live_book.specs.declared.fault.EditFault.{EditFault}
 use Rattle.live_book.specs.declared.kept.Kept.{Kept}
-use Rattle.live_book.specs.Commits.{BreaksNone, Commits, KeepsInverse, numbered}
+use Rattle.live_book.specs.Commits.{BreaksNone, Commits}
+use Rattle.live_book.specs.Inner.Inverses.{IsTogether, KeepsInverse, numbered}
 use Rattle.live_book.specs.Kept.{BookParts}
 use Rattle.live_book.specs.Published.{IsStateAfter}
-use Rattle.live_book.specs.Inner.Inverses.{IsTogether}
 
 -- the bundle of the key of the first edit is that of the list
 pub first_key : (es : List Edit) (e : Edit) (key : BundleKey) (found : Option BundleParts) (bundles : List BundleParts) → slice_get es 0 ≡ Some e → key ≡ key_of e → found ≡ bundle_with key bundles → found ≡ bundle_for (acts.Edits es) bundles
@@ -37,22 +33,19 @@ first_key [] e key found bundles at same is = absurd cc
 first_key (x ∷ es) e key found bundles at same is =
     is ∙ ap (λ (k : BundleKey). bundle_with k bundles) (same ∙ ap key_of (sym (some_same x e at)))
 
--- an act that breaks no rule is one over the bundle of its key
-before_act : (d next : DatabaseParts) (act : Act) → KeepsDatabaseRules d → IsTogether act → effect d act ≡ Ok next → IsBefore d.config (bundle_for act d.bundles) act
-before_act d next (acts.Edits []) keeps together is = record { others = counts_of d.bundles; next = None; passes = refl }
-before_act d next (acts.Edits (e ∷ es)) keeps together is =
-    let own : list_all (has_key (key_of e)) (e ∷ es) ≡ true = keys_of e es together.together in
-    let on = goes_on (changed_in_turn d.config (counts_of (without (key_of e) d.bundles)) 1 (bundle_with (key_of e) d.bundles) (e ∷ es)) (put_whole d (key_of e)) next
-    (sym (one_bundle (key_of e) (e ∷ es) 1 d keeps own) ∙ is) in
-    record { others = counts_of (without (key_of e) d.bundles); next = on.middle; passes = on.first }
-before_act d next (acts.Config edit) keeps together is = tt
+-- edits that may stand in one list are of one bundle
+one_bundle_of : (act : Act) → IsTogether act → IsOfOneBundle act
+one_bundle_of (acts.Edits []) together = absurd (true≢false (sym together.together))
+one_bundle_of (acts.Edits (e ∷ es)) together = (key_of e, keys_of e es together.together)
+one_bundle_of (acts.Config edit) together = tt
 
+-- an act that breaks no rule over a version breaks none over the bundle of its key there
 pub before_of : (v : VersionParts) (act : Act) (config : ConfigParts) (old : Option BundleParts) → KeepsDatabaseRules (state_of v) → (next : DatabaseParts) × (effect (state_of v) act ≡ Ok next) → IsTogether act
     → config ≡ v.config → old ≡ bundle_for act (state_of v).bundles → IsBefore config old act
 before_of v act config old keeps none together same found =
     subst (λ (c : ConfigParts). IsBefore c old act) (sym same)
     (subst (λ (o : Option BundleParts). IsBefore v.config o act) (sym found)
-    (before_act (state_of v) none.0 act keeps together none.1))
+    (acts_before (state_of v) none.0 act keeps (one_bundle_of act together) none.1))
 
 -- The version in force.
 

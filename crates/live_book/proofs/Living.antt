@@ -14,7 +14,8 @@ use Rattle.live_book.specs.declared.kept.Kept.{Kept}
 use Rattle.live_book.specs.declared.published.Published.{Published}
 use Rattle.live_book.specs.Published.{AreShown}
 use Rattle.live_book.specs.Kept.{BookParts, KeepsIn, faults_in}
-use Rattle.live_book.specs.Commits.{IsAnswer, KeepsInverse, LeavesKept, history_behind, numbered, Commits}
+use Rattle.live_book.specs.Commits.{IsAnswer, LeavesKept, history_behind, Commits}
+use Rattle.live_book.specs.Inner.Inverses.{KeepsInverse, numbered}
 use Rattle.live_book.specs.Live.{Opened, HasGrown, Shows, opening_of}
 use Rattle.live_book.specs.Inner.Live.{EditsKept, EditsLive, accepted_behind, refused_behind}
 use Rattle.live_book.specs.Laws.{BooksShow, OpeningsShow}

@@ -5,13 +5,11 @@ use Rattle.emu_names.specs.declared.limits.TheConstants.{HISTORY_EDITS}
 use Rattle.db_config.specs.declared.parts.ConfigParts.{ConfigParts}
 use Rattle.edit_rules.specs.declared.acts.Act.{Act}
 use Rattle.edit_rules.specs.declared.acts.Entry.{Entry}
-use Rattle.edit_rules.specs.Effects.{database_after, edited}
+use Rattle.edit_rules.specs.Effects.{edited}
 use Rattle.edit_rules.specs.Database.{DatabaseParts}
-use Rattle.edit_undo.specs.Inverse.{inverse_at}
 use Rattle.edit_journal.specs.declared.journal.Journal.{Journal}
 use Rattle.live_book.specs.declared.fault.EditFault.{EditFault}
 use Rattle.live_book.specs.declared.fault.EditFault.TheVariants.{HistoryFull, Broken, StoreFull, Disk, Memory}
-use Rattle.live_book.specs.declared.kept.Kept.{Kept}
 use Rattle.live_book.specs.Histories.{PassesLimit, Stands}
 use Rattle.version_gate.specs.declared.entry.Entry.{Entry as Numbered}
 use Rattle.version_gate.specs.Lists.{entry}
@@ -126,14 +124,3 @@ pub record Commits {D : Type 0} (may_leave : D → List ℕ → Type 0) (moment 
       DuringCommit result old.config old.history lost next))
   pub later : faults_in faults old.journal ≤ faults_in faults new.journal
   pub disk : IsErrOf result Disk → Rose (faults_in faults old.journal) (faults_in faults new.journal)
-
--- the answer of a commit that keeps what takes its act back, with the number alone
-abbrev pub numbered : Result Kept EditFault → Result ℕ EditFault
-numbered (Ok kept) = Ok kept.n
-numbered (Err fault) = Err fault
-
--- what is kept of an accepted act takes it back: it is the act's inverse over the state after the entries that stood
--- before
-abbrev pub KeepsInverse : ConfigParts → List Entry → Act → Result Kept EditFault → Type 0
-KeepsInverse config history act (Ok kept) = kept.inverse ≡ inverse_at (database_after config history) act
-KeepsInverse config history act (Err fault) = Unit {0}

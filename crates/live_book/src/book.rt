@@ -6,7 +6,8 @@ ghost use Rattle.version_gate.specs.Lists.{entry, front, EndsIn, Numbered};
 ghost use Rattle.live_book.specs.Histories.{IsHistory};
 ghost use Rattle.live_book.specs.Published.{IsStateAfter, AreShown};
 ghost use Rattle.live_book.specs.Inner.Kept.{IsBook, book_of, Holding};
-ghost use Rattle.live_book.specs.Commits.{entry_of, numbered, Commits, KeepsInverse};
+ghost use Rattle.live_book.specs.Commits.{entry_of, Commits};
+ghost use Rattle.live_book.specs.Inner.Inverses.{numbered, KeepsInverse};
 ghost use Rattle.live_book.specs.Inner.Drafts.{IsDraftIn};
 
 use crate::commit::{commit_in, commit_kept_in, own_entry, serving};

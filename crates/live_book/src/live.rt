@@ -1,7 +1,8 @@
 //! A book that several threads edit, one after another.
 ghost use Rattle.std.specs.Prelude.{◌≡◌, ◌<◌, ◌≤◌, ℕ, IfSome, None, drop, length, take};
 ghost use mathlib.Core.List.{IsPrefix};
-ghost use Rattle.live_book.specs.Commits.{Commits, KeepsInverse, entry_of, numbered};
+ghost use Rattle.live_book.specs.Commits.{Commits, entry_of};
+ghost use Rattle.live_book.specs.Inner.Inverses.{KeepsInverse, numbered};
 ghost use Rattle.live_book.specs.Inner.Drafts.{IsDraftAt};
 ghost use Rattle.version_steps.specs.Inner.Drafts.{IsDraftOf};
 ghost use Rattle.live_book.specs.Kept.{KeepsIn};

@@ -29,12 +29,13 @@ use Rattle.session_core.specs.Worlds.{Trouble, act_back, act_wanted, untroubled,
 use Rattle.session_core.proofs.Keeping.{slots_longer}
 use Rattle.live_book.specs.declared.fault.EditFault.{EditFault}
 use Rattle.live_book.specs.declared.fault.EditFault.TheVariants as faults
-use Rattle.live_book.specs.Commits.{Commits, HasRoom, IsSameBook, IsTooMuch, LeavesKept, has_journal, history_behind, numbered}
+use Rattle.live_book.specs.Commits.{Commits, HasRoom, IsSameBook, IsTooMuch, LeavesKept, has_journal, history_behind}
+use Rattle.live_book.specs.Inner.Inverses.{numbered}
 use Rattle.live_book.specs.Kept.{BookParts, KeepsIn, faults_in}
 use Rattle.session_run.specs.Inner.Orders.{ChangesBook, LeftBehind, commit_reply}
 use Rattle.session_run.specs.Inner.Taken.{CommitsAct, EditsBook, IsTaken, KeepsActs, LeavesBook, UndoesBook, base_of, head_of}
 use Rattle.session_run.proofs.Others.{at, calm, quiet_at, taken_so}
-use Rattle.session_run.proofs.Undos.{base_now, keeps_now}
+use Rattle.session_run.proofs.Undos.{acts_now, base_now}
 use Rattle.session_run.proofs.Sizes.{fits_so, passes_so}
 
 -- What keeps an edit from its step.
@@ -227,7 +228,7 @@ module _ {D : Type 0} (may_leave : D → List ℕ → Type 0) (moment : D → �
           later = did.later;
         };
         held = held_now may_leave moment left_since count old new (base_of old.history acts) ls l act made did.same did.history held;
-        keeps = keeps_now (head_of l) act old.history new.history acts acts2 old.config new.config does.made did.same.config did.history does.behind does.inverse keeps;
+        keeps = acts_now (head_of l) act old.history new.history acts acts2 old.config new.config does.made did.same.config did.history does.behind does.inverse keeps;
       }
 
   -- a line that leaves the book

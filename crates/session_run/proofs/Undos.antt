@@ -11,7 +11,8 @@ use Rattle.session_core.specs.Undos.{kept_act, kept_behind, kept_of}
 use Rattle.session_core.proofs.Undoing.{kept_none, kept_push}
 use Rattle.live_book.specs.declared.fault.EditFault.{EditFault}
 use Rattle.live_book.specs.declared.kept.Kept.{Kept}
-use Rattle.live_book.specs.Commits.{KeepsInverse, history_behind, numbered}
+use Rattle.live_book.specs.Commits.{history_behind}
+use Rattle.live_book.specs.Inner.Inverses.{KeepsInverse, numbered}
 use Rattle.session_run.specs.Inner.Taken.{KeepsActs, acts_behind, base_of}
 
 -- with one entry more, of which is kept what takes it back, the beginning is the same
@@ -52,8 +53,8 @@ module _ (head : Head) (act : Act) (H H2 : List Entry) (acts acts2 : List KeptAc
   keeps_behind c (Err fault) inverse keeps = keeps
 
   -- what is kept behind a commit takes back each entry that came
-  pub keeps_now : (c c2 : ConfigParts) (made : Result Kept EditFault) → c2 ≡ c → H2 ≡ history_behind H (head_entry head act) (numbered made) → acts2 ≡ acts_behind acts head made → KeepsInverse c H act made → KeepsActs c H acts → KeepsActs c2 H2 acts2
-  keeps_now c c2 made same history behind inverse keeps =
+  pub acts_now : (c c2 : ConfigParts) (made : Result Kept EditFault) → c2 ≡ c → H2 ≡ history_behind H (head_entry head act) (numbered made) → acts2 ≡ acts_behind acts head made → KeepsInverse c H act made → KeepsActs c H acts → KeepsActs c2 H2 acts2
+  acts_now c c2 made same history behind inverse keeps =
       subst (λ (k : ConfigParts). KeepsActs k H2 acts2) (sym same)
       (subst (λ (xs : List Entry). KeepsActs c xs acts2) (sym history)
       (subst (λ (ks : List KeptAct). KeepsActs c (history_behind H (head_entry head act) (numbered made)) ks) (sym behind)

@@ -5,7 +5,7 @@ ghost use Rattle.session_core.specs.declared.line.Request.{Request};
 ghost use Rattle.session_core.specs.Inner.Kept.{AreHeld, held_at, look_closed};
 ghost use Rattle.session_core.specs.Steps.{session_places, slot};
 ghost use Rattle.session_core.specs.Undos.{latest_of};
-ghost use Rattle.live_book.specs.Commits.{numbered};
+ghost use Rattle.live_book.specs.Inner.Inverses.{numbered};
 ghost use Rattle.session_run.specs.Inner.Orders.{commit_reply};
 ghost use Rattle.session_run.specs.Inner.Taken.{CommitsAct, EditsBook, IsAnsweredAt, IsLookedAt, IsTaken, KeepsActs, UndoesBook, acts_behind, line_of, or_memory};
 

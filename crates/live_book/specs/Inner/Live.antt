@@ -9,7 +9,8 @@ use Rattle.live_book.specs.declared.fault.EditFault.{EditFault}
 use Rattle.live_book.specs.declared.fault.EditFault.TheVariants.{Disk}
 use Rattle.live_book.specs.declared.kept.Kept.{Kept}
 use Rattle.live_book.specs.declared.published.Published.{Published}
-use Rattle.live_book.specs.Commits.{IsAnswer, KeepsInverse, history_behind, numbered}
+use Rattle.live_book.specs.Commits.{IsAnswer, history_behind}
+use Rattle.live_book.specs.Inner.Inverses.{KeepsInverse, numbered}
 use Rattle.live_book.specs.Live.{Opened, Shows}
 
 -- What a share counts: its parts, the edits that were accepted, and the answers that the disk failed

@@ -25,7 +25,8 @@ use Rattle.session_core.specs.Steps.{reply_of, slot}
 use Rattle.session_core.specs.Undos.{kept_act, kept_behind, undo_refusal}
 use Rattle.live_book.specs.declared.fault.EditFault.{EditFault}
 use Rattle.live_book.specs.declared.kept.Kept.{Kept}
-use Rattle.live_book.specs.Commits.{Commits, KeepsInverse, numbered}
+use Rattle.live_book.specs.Commits.{Commits}
+use Rattle.live_book.specs.Inner.Inverses.{KeepsInverse, numbered}
 use Rattle.live_book.specs.Kept.{BookParts}
 use Rattle.session_run.specs.Inner.Orders.{Answers, OrderParts, commit_reply}
 

@@ -3,7 +3,8 @@ use mathlib.Core.List.{IsPrefix}
 use Rattle.version_gate.specs.declared.entry.Entry.{Entry as Numbered}
 use Rattle.version_steps.specs.declared.draft.Draft.{Draft}
 use Rattle.live_book.specs.declared.published.Published.{Published}
-use Rattle.live_book.specs.Commits.{entry_of, numbered}
+use Rattle.live_book.specs.Commits.{entry_of}
+use Rattle.live_book.specs.Inner.Inverses.{numbered}
 use Rattle.live_book.specs.Inner.Drafts.{IsDraftAt}
 use Rattle.live_book.proofs.Configs.{commits_as, draft_in}
 use Rattle.live_book.proofs.Inverses.{keeps_as}

@@ -1,5 +1,6 @@
 use Rattle.live_book.specs.declared.fault.EditFault.TheVariants as edit_faults
-use Rattle.live_book.specs.Commits.{entry_of, numbered}
+use Rattle.live_book.specs.Commits.{entry_of}
+use Rattle.live_book.specs.Inner.Inverses.{numbered}
 use Rattle.live_book.specs.Inner.Kept.{book_of}
 use Rattle.live_book.proofs.Committing.{refused_commits}
 use Rattle.live_book.proofs.Answering.{memory_is_none}

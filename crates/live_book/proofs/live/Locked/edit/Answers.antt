@@ -6,7 +6,8 @@ use Rattle.version_gate.specs.Lists.{Numbered as IsNumbered}
 use Rattle.version_gate.proofs.Numbers.{numbered_once}
 use Rattle.live_book.specs.declared.published.Published.{Published}
 use Rattle.live_book.specs.Kept.{BookParts}
-use Rattle.live_book.specs.Commits.{entry_of, numbered}
+use Rattle.live_book.specs.Commits.{entry_of}
+use Rattle.live_book.specs.Inner.Inverses.{numbered}
 use Rattle.live_book.specs.Live.{HasGrown}
 use Rattle.live_book.specs.Inner.Live.{accepted_behind}
 use Rattle.live_book.proofs.Ahead.{begins_on}
