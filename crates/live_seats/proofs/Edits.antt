@@ -29,8 +29,9 @@ use Rattle.live_book.specs.declared.fault.EditFault.{EditFault}
 use Rattle.live_book.specs.declared.fault.EditFault.TheVariants as faults
 use Rattle.live_book.specs.declared.kept.Kept.{Kept}
 use Rattle.live_book.specs.declared.published.Published.{Published}
-use Rattle.live_book.specs.Commits.{IsAnswer, KeepsInverse, history_behind}
-use Rattle.live_book.specs.Commits.{numbered as number_in}
+use Rattle.live_book.specs.Commits.{IsAnswer, history_behind}
+use Rattle.live_book.specs.Inner.Inverses.{KeepsInverse}
+use Rattle.live_book.specs.Inner.Inverses.{numbered as number_in}
 use Rattle.live_book.specs.Live.{Opened}
 use Rattle.live_book.specs.Inner.Live.{Count}
 use Rattle.session_run.specs.Inner.Orders.{commit_reply}

@@ -12,7 +12,7 @@ ghost use Rattle.session_core.specs.Steps.{session_places, slot};
 ghost use Rattle.session_run.specs.Inner.Orders.{commit_reply};
 ghost use Rattle.session_run.specs.Inner.Taken.{head_of};
 ghost use Rattle.version_gate.specs.Lists.{EndsIn, entry};
-ghost use Rattle.live_book.specs.Commits.{numbered};
+ghost use Rattle.live_book.specs.Inner.Inverses.{numbered};
 ghost use Rattle.live_book.specs.Inner.Live.{Count};
 ghost use Rattle.live_seats.specs.Inner.Notes.{IsHeardFor, noted_of};
 ghost use Rattle.live_seats.specs.Inner.Replies.{Finishes, GoesOn, IsGridRefused, IsQueried, IsTried, LooksAt, RepliesTo, kept_with};

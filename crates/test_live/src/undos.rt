@@ -43,22 +43,86 @@ type Row = (&'static str, &'static str, &'static str);
 /// The replies, session by session. The sessions change other items each, so that each line has one answer, whatever
 /// the others did by then, but for its number.
 static ROWS: [Row; 16] = [
-    ("{\"line\":1,\"n\":", ",\"ok\":\"set_label\"}\n", ",\"line\":1,\"s\":1}\n"),
-    ("{\"line\":5,\"n\":", ",\"ok\":\"set_label\"}\n", ",\"line\":5,\"s\":1}\n"),
-    ("{\"line\":6,\"n\":", ",\"ok\":\"undo\"}\n", ",\"line\":6,\"s\":1}\n"),
-    ("{\"line\":12,\"n\":", ",\"ok\":\"undo\"}\n", ",\"line\":12,\"s\":1}\n"),
-    ("{\"line\":2,\"n\":", ",\"ok\":\"split\"}\n", ",\"line\":2,\"s\":2}\n"),
-    ("{\"line\":7,\"n\":", ",\"ok\":\"undo\"}\n", ",\"line\":7,\"s\":2}\n"),
-    ("{\"line\":3,\"n\":", ",\"ok\":\"merge\"}\n", ",\"line\":3,\"s\":3}\n"),
-    ("{\"line\":8,\"n\":", ",\"ok\":\"undo\"}\n", ",\"line\":8,\"s\":3}\n"),
-    ("{\"line\":13,\"n\":", ",\"ok\":\"undo\"}\n", ",\"line\":13,\"s\":3}\n"),
-    ("{\"line\":14,\"n\":", ",\"ok\":\"undo\"}\n", ",\"line\":14,\"s\":3}\n"),
-    ("{\"line\":4,\"n\":", ",\"ok\":\"remove_item\"}\n", ",\"line\":4,\"s\":4}\n"),
-    ("{\"line\":9,\"n\":", ",\"ok\":\"undo\"}\n", ",\"line\":9,\"s\":4}\n"),
-    ("{\"line\":10,\"n\":", ",\"ok\":\"undo\"}\n", ",\"line\":10,\"s\":4}\n"),
-    ("{\"line\":11,\"n\":", ",\"refused\":{\"id\":5,\"place\":1,\"rule\":\"NoItem\"}}\n", ""),
-    ("", "{\"line\":15,\"refused\":{\"rule\":\"NotAccepted\"}}\n", ""),
-    ("{\"line\":16,\"n\":", ",\"ok\":\"undo\"}\n", ",\"line\":16,\"s\":4}\n"),
+    (
+        "{\"line\":1,\"n\":",
+        ",\"ok\":\"set_label\"}\n",
+        ",\"line\":1,\"s\":1}\n",
+    ),
+    (
+        "{\"line\":5,\"n\":",
+        ",\"ok\":\"set_label\"}\n",
+        ",\"line\":5,\"s\":1}\n",
+    ),
+    (
+        "{\"line\":6,\"n\":",
+        ",\"ok\":\"undo\"}\n",
+        ",\"line\":6,\"s\":1}\n",
+    ),
+    (
+        "{\"line\":12,\"n\":",
+        ",\"ok\":\"undo\"}\n",
+        ",\"line\":12,\"s\":1}\n",
+    ),
+    (
+        "{\"line\":2,\"n\":",
+        ",\"ok\":\"split\"}\n",
+        ",\"line\":2,\"s\":2}\n",
+    ),
+    (
+        "{\"line\":7,\"n\":",
+        ",\"ok\":\"undo\"}\n",
+        ",\"line\":7,\"s\":2}\n",
+    ),
+    (
+        "{\"line\":3,\"n\":",
+        ",\"ok\":\"merge\"}\n",
+        ",\"line\":3,\"s\":3}\n",
+    ),
+    (
+        "{\"line\":8,\"n\":",
+        ",\"ok\":\"undo\"}\n",
+        ",\"line\":8,\"s\":3}\n",
+    ),
+    (
+        "{\"line\":13,\"n\":",
+        ",\"ok\":\"undo\"}\n",
+        ",\"line\":13,\"s\":3}\n",
+    ),
+    (
+        "{\"line\":14,\"n\":",
+        ",\"ok\":\"undo\"}\n",
+        ",\"line\":14,\"s\":3}\n",
+    ),
+    (
+        "{\"line\":4,\"n\":",
+        ",\"ok\":\"remove_item\"}\n",
+        ",\"line\":4,\"s\":4}\n",
+    ),
+    (
+        "{\"line\":9,\"n\":",
+        ",\"ok\":\"undo\"}\n",
+        ",\"line\":9,\"s\":4}\n",
+    ),
+    (
+        "{\"line\":10,\"n\":",
+        ",\"ok\":\"undo\"}\n",
+        ",\"line\":10,\"s\":4}\n",
+    ),
+    (
+        "{\"line\":11,\"n\":",
+        ",\"refused\":{\"id\":5,\"place\":1,\"rule\":\"NoItem\"}}\n",
+        "",
+    ),
+    (
+        "",
+        "{\"line\":15,\"refused\":{\"rule\":\"NotAccepted\"}}\n",
+        "",
+    ),
+    (
+        "{\"line\":16,\"n\":",
+        ",\"ok\":\"undo\"}\n",
+        ",\"line\":16,\"s\":4}\n",
+    ),
 ];
 
 /// The places of the entries that came, behind that of the bundle.
@@ -164,7 +228,13 @@ fn sessions_take_their_changes_back_at_once(rt: HostRuntime) -> Result<(), Fail>
     let before = run(&rt, alloc, &["run", "--store"], &ALL, made.disk.bytes())?;
     let wanted = segments(before.sink.bytes(), "1");
     for _ in 0..TIMES {
-        let ran = run(&rt, alloc, &["live", "--store"], &UNDOING, made.disk.bytes())?;
+        let ran = run(
+            &rt,
+            alloc,
+            &["live", "--store"],
+            &UNDOING,
+            made.disk.bytes(),
+        )?;
         assert!(rt; ran.status == 0 && is_one(ran.sink.bytes()));
         let after = run(&rt, alloc, &["run", "--store"], &ALL, ran.disk.bytes())?;
         let same = wanted.is_some() && segments(after.sink.bytes(), "15") == wanted;

@@ -26,7 +26,7 @@ use Rattle.live_book.specs.declared.fault.EditFault.{EditFault}
 use Rattle.live_book.specs.declared.kept.Kept.{Kept}
 use Rattle.live_book.specs.declared.published.Published.{Published}
 use Rattle.live_book.specs.Commits.{entry_of}
-use Rattle.live_book.specs.Commits.{numbered as number_in}
+use Rattle.live_book.specs.Inner.Inverses.{numbered as number_in}
 use Rattle.live_book.specs.Live.{Opened}
 use Rattle.live_book.specs.Inner.Live.{Count, EditsKept, count_behind}
 use Rattle.session_run.specs.Inner.Taken.{head_of}
