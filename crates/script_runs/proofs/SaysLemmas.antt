@@ -103,7 +103,7 @@ bare_of false stored no_store h s w = absurd (cc)
 bare_of false stored bare_store h s w = absurd h
 bare_of false stored (store_of config history) h s w = absurd h
 
-bare_left : (base : Base) (images : List ℕ → Type 0) → is_stored base ≡ true → wants_by base ≡ true → LeavesStore (is_stored base) (config_by base None) [] (replies_by base (read_from true) []) (history_by base (read_from true) []) images → EachOf images IsBare
+bare_left : (base : Base) (images : List ℕ → Type 0) → is_stored base ≡ true → wants_by base ≡ true → LeavesStore (is_stored base) (config_by base None) (opening_by base) [] [] (history_by base (read_from true) []) images → EachOf images IsBare
 bare_left bare_store images s w h = h
 bare_left no_store images s w h = absurd (cc)
 bare_left (store_of config history) images s w h = absurd (cc)

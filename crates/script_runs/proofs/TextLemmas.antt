@@ -21,15 +21,6 @@ turns_push store st (k ∷ ls) (p ∷ os) l o h =
     let rest : length os ≡ length ls = omega arith in
     ap (λ r. ((one_turn store st k p).0 ∷ r.0, r.1)) (turns_push store (one_turn store st k p).1 ls os l o rest)
 
--- each line has its reply
-pub turns_count : (store : Bool) (st : State) (lines : List Line) (outages : List Outage) → length outages ≡ length lines → length (in_turn store st lines outages).0 ≡ length lines
-turns_count store st [] outages h = refl
-turns_count store st (k ∷ ls) [] h = absurd (omega arith)
-turns_count store st (k ∷ ls) (p ∷ os) h =
-    let rest : length os ≡ length ls = omega arith in
-    let same : length (in_turn store (one_turn store st k p).1 ls os).0 ≡ length ls = turns_count store (one_turn store st k p).1 ls os rest in
-    omega arith
-
 texts_push : (replies : List Reply) (r : Reply) → flat_map reply_text (replies ++ r ∷ []) ≡ flat_map reply_text replies ++ reply_text r
 texts_push [] r = append-nil (reply_text r)
 texts_push (x ∷ xs) r = ap (λ t. reply_text x ++ t) (texts_push xs r) ∙ sym (append_assoc (reply_text x) (flat_map reply_text xs) (reply_text r))
