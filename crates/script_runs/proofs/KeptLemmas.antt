@@ -19,8 +19,7 @@ use Rattle.script_runs.specs.declared.running.Running.{Running}
 use Rattle.script_runs.specs.Scripts.{Parsed, read_from, with_read}
 use Rattle.script_runs.specs.Bases.{Base, is_stored, opening_by, config_by, counted, store_of, WasRefused, IfRefused}
 use Rattle.script_runs.specs.Inner.Bases.{fresh_base}
-use Rattle.script_runs.specs.Runs.{replies_by}
-use Rattle.script_runs.specs.Inner.Runs.{history_by}
+use Rattle.script_runs.specs.Inner.Runs.{history_by, replies_by}
 use Rattle.script_runs.specs.Inner.Taken.{TakesLine}
 use Rattle.script_runs.specs.Inner.Reached.{IsAt, IsKept, KeepsStore, KeepsHistory}
 use Rattle.script_runs.proofs.ReadLemmas.{rose_both}

@@ -18,7 +18,7 @@ use Rattle.program_output.specs.declared.status.Status.TheVariants as statuses
 use Rattle.script_runs.specs.Cuts.{cut}
 use Rattle.script_runs.specs.Scripts.{AskedLine, AreRead, Parsed, read_from, parse, end_behind, end_from, if_over, passes_limit, is_past, lines_of, script_from, script_of, front_of, Stop, limit, at_fault}
 use Rattle.script_runs.specs.Bases.{Base, no_store, bare_store, store_of, wants_by, is_stored, opening_by, config_by, IsBaseOf, EachOf, LeavesStore, AtEach}
-use Rattle.script_runs.specs.Runs.{run_text, run_texts, replies_by, setting_by, IsRunFrom, stop_text}
+use Rattle.script_runs.specs.Runs.{run_text, run_texts, setting_by, IsRunFrom, stop_text}
 use Rattle.script_runs.specs.Inner.Runs.{history_by}
 use Rattle.program_output.specs.Texts.{limit_text}
 use Rattle.script_runs.specs.Says.{Call, Leaves, Moments, Gives, TooLong, ReadFailed, Says, EndedEarly, BrokeOff, DuringOpening, StaysBare}

@@ -8,8 +8,8 @@ use Rattle.session_core.specs.InOrder.{Outage, in_turn, one_turn}
 use Rattle.reply_texts.specs.Texts.{reply_text}
 use Rattle.script_runs.specs.Scripts.{Parsed}
 use Rattle.script_runs.specs.Bases.{Base, is_stored, opening_by, config_by}
-use Rattle.script_runs.specs.Runs.{run_text, replies_by, run_from, history_in, config_text}
-use Rattle.script_runs.specs.Inner.Runs.{history_by}
+use Rattle.script_runs.specs.Runs.{run_text, run_from, history_in, config_text}
+use Rattle.script_runs.specs.Inner.Runs.{history_by, replies_by}
 
 -- a run in order goes on by one line
 pub turns_push : (store : Bool) (st : State) (lines : List Line) (outages : List Outage) (l : Line) (o : Outage) → length outages ≡ length lines →
