@@ -14,7 +14,7 @@ use Rattle.live_book.specs.Commits.{has_journal}
 use Rattle.book_opening.specs.Opens.{DuringNew}
 use Rattle.live_book.proofs.Storing.{images}
 use Rattle.script_runs.specs.Scripts.{Parsed}
-use Rattle.script_runs.specs.Bases.{Base, no_store, bare_store, store_of, is_stored, config_by, counted, EachOf, LeavesStore, AtEach}
+use Rattle.script_runs.specs.Bases.{Base, no_store, bare_store, store_of, is_stored, opening_by, config_by, counted, EachOf, LeavesStore, AtEach}
 use Rattle.script_runs.specs.Inner.Runs.{history_by}
 use Rattle.script_runs.specs.Inner.Reached.{IsKept, IsDone, IsFailed, IsBeginOf, KeepsStore, KeepsHistory, AtMomentOf, DuringStart, IsRunDone, IsRunFailed, IsRunKept, LeavesSince}
 use Rattle.script_runs.specs.Inner.Ran.{HasDisk, BeginsBefore}
