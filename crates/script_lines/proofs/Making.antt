@@ -114,6 +114,7 @@ json_fault faults.NoSuchCommand d number wants earlier n none is = json_none fau
 json_fault faults.ConfigPlace d number wants earlier n none is = json_none faults.ConfigPlace d number wants earlier n (none (λ h. cc)) (is (λ h. cc))
 json_fault (faults.Config c) d number wants earlier n none is = json_none (faults.Config c) d number wants earlier n (none (λ h. cc)) (is (λ h. cc))
 json_fault faults.BadAfter d number wants earlier n none is = json_none faults.BadAfter d number wants earlier n (none (λ h. cc)) (is (λ h. cc))
+json_fault faults.BadUndo d number wants earlier n none is = json_none faults.BadUndo d number wants earlier n (none (λ h. cc)) (is (λ h. cc))
 json_fault faults.Memory d number wants earlier n none is = omega arith
 
 -- the line is no JSON

@@ -140,7 +140,7 @@ pub adds_rise : {A : Type 0} (result : Result A Ended) (reading new : Reading) (
     OnOk result (new.number ≡ reading.number + 1) → OnOk result (new.earlier ≡ reading.earlier ++ earlier_line l ∷ []) → OnOk result (All (λ it. it.line ≤ new.number) new.earlier)
 adds_rise (Ok x) reading new asks l below k number earlier =
     let line : l.line ≡ reading.number + 1 = request_number (reading.number + 1) asks reading.earlier l k in
-    rises_request reading.number new.number (earlier_line l) reading.earlier new.earlier number line earlier below
+    rises_request reading.number new.number (earlier_line l) reading.earlier new.earlier earlier number line below
 adds_rise (Err e) reading new asks l below k number earlier = tt
 
 -- Over all lines.

@@ -17,7 +17,7 @@ below_next n line earlier same low = All-weaker (IsUpTo n) (IsUnder line) (λ it
 pub rises_blank : (n m : ℕ) (earlier : List EarlierLine) → m ≡ n + 1 → All (λ it. it.line ≤ n) earlier → All (λ it. it.line ≤ m) earlier
 rises_blank n m earlier same low = All-weaker (IsUpTo n) (IsUpTo m) (λ it h. omega arith) earlier low
 
-pub rises_request : (n m : ℕ) (line : EarlierLine) (earlier new : List EarlierLine) → m ≡ n + 1 → line.line ≡ n + 1 → new ≡ earlier ++ line ∷ [] →
+pub rises_request : (n m : ℕ) (line : EarlierLine) (earlier new : List EarlierLine) → new ≡ earlier ++ line ∷ [] → m ≡ n + 1 → line.line ≡ n + 1 →
     All (λ it. it.line ≤ n) earlier → All (λ it. it.line ≤ m) new
-rises_request n m line earlier new same here pushed low =
+rises_request n m line earlier new pushed same here low =
     subst (λ xs. All (IsUpTo m) xs) (sym pushed) (All-push (IsUpTo m) earlier line (rises_blank n m earlier same low) (omega arith))

@@ -33,7 +33,7 @@ impl Reading {
     ghost use Rattle.std.specs.Prelude.{◌≡◌, ◌≤◌, ◌<◌, ◌+◌, ◌∷◌, ◌++◌, [], ℕ, Bool, List, All, IfErr, OnErr, OnOk};
     ghost use Rattle.emu_names.specs.declared.limits.TheConstants.{SCRIPT_LINES};
     ghost use Rattle.script_runs.specs.Inner.Reads.{HasRead, IsReading, ReadsLine};
-    ghost use Rattle.script_runs.specs.Scripts.{read_from};
+    ghost use Rattle.script_runs.specs.Scripts.{earlier_line, read_from};
     ghost use Rattle.script_runs.specs.Inner.Turns.{IsUnreadFor};
     ghost use Rattle.program_output.specs.declared.ended.Ended.TheVariants.{Memory as OutOfMemory};
 

@@ -92,6 +92,7 @@ enum Why {
     Overlap,
     TooManyBundles,
     LabelTooLong,
+    TooManyEdits,
 }
 
 /// The refusal by a rule, with the place of the edit that breaks it.
@@ -111,11 +112,12 @@ fn refusal(alloc: Global, why: Why) -> Result<Refusal, Memory> {
         Why::Overlap => broken(Broken::Overlap(ItemId(1)), Some(3)),
         Why::TooManyBundles => broken(Broken::TooMany(What::Bundles), None),
         Why::LabelTooLong => broken(Broken::LabelTooLong, None),
+        Why::TooManyEdits => Refusal::TooManyEdits,
     })
 }
 
 /// The number of edits in a reply, its refusal, and its text.
-static REFUSALS: [(Option<u64>, Why, &str); 9] = [
+static REFUSALS: [(Option<u64>, Why, &str); 10] = [
     (
         None,
         Why::NoLook,
@@ -160,6 +162,11 @@ static REFUSALS: [(Option<u64>, Why, &str); 9] = [
         Some(9),
         Why::LabelTooLong,
         "{\"line\":7,\"n\":9,\"refused\":{\"rule\":\"LabelTooLong\"}}\n",
+    ),
+    (
+        None,
+        Why::TooManyEdits,
+        "{\"line\":7,\"refused\":{\"rule\":\"TooManyEdits\"}}\n",
     ),
 ];
 
