@@ -17,6 +17,7 @@ use emu_io::{Gate, Moment};
 use eql_model::{MatchFault, SegmentList};
 use eql_resolve::Asked;
 use requery::Reached;
+use segment_list::Listing;
 use std::alloc::Global;
 use std::thread::Threads;
 use version_tree::Version;
@@ -86,7 +87,7 @@ fn walk_all<R: Threads + Sync, G: Gate + Sync>(
     workers: u32,
     line: u32,
     gate: &G,
-) -> Result<SegmentList, MatchFault>
+) -> Result<Listing, MatchFault>
     requires workers { (1 ≤ workers) × (workers ≤ 8) }
     requires asked { IsAskedOf version.now.config question.now }
     ensures { GivesOver result question.now version.now (bundles_of version.now.bundles) }
@@ -122,7 +123,7 @@ pub fn answer<R: Threads + Sync, G: Gate + Sync>(
     workers: u32,
     line: u32,
     gate: &G,
-) -> Result<SegmentList, MatchFault>
+) -> Result<Listing, MatchFault>
     requires workers { (1 ≤ workers) × (workers ≤ 8) }
     requires resolved { IsResolvedBy version.now.config asked.now }
     ensures { ListsRows result version.now.config (bundles_of version.now.bundles) asked.now }
@@ -149,7 +150,7 @@ pub fn answer_requery<R: Threads + Sync, G: Gate + Sync>(
     workers: u32,
     line: u32,
     gate: &G,
-) -> Result<SegmentList, MatchFault>
+) -> Result<Listing, MatchFault>
     requires workers { (1 ≤ workers) × (workers ≤ 8) }
     requires resolved { IsReachedBy version.now.config reached.now }
     ensures { ListsCarried result version.now.config (bundles_of version.now.bundles) reached.now }

@@ -1,5 +1,6 @@
 mod Backwards
 mod Listed
+mod Parted
 mod Plain
 mod Pushed
 mod Rising

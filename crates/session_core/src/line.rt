@@ -1,9 +1,9 @@
 //! The lines of a script as the core takes them, and the replies that it gives.
 use edit_rules::Act;
 use emu_names::{Broken, Series, SessionNo, Text};
-use eql_model::SegmentList;
 use eql_resolve::{AskFault, PrepareFault, Prepared};
 use requery::Requery;
+use segment_list::Listing;
 use textgrid::GridFault;
 
 /// The commands of a script.
@@ -137,7 +137,7 @@ pub enum Answer {
     /// It was done.
     Done(Command),
     /// The segment list of a query.
-    Segments(SegmentList),
+    Segments(Listing),
     /// It was refused.
     Refused(Refusal),
 }

@@ -3,6 +3,7 @@ use emu_names::{Broken, ItemId, Memory, SessionNo, Text, What};
 use eql_model::{Row, SegmentList};
 use eql_resolve::AskFault;
 use script_lines::print_reply;
+use segment_list::Listing;
 use session_core::{Answer, Refusal, Reply};
 use std::alloc::Global;
 use std::process::Abort;
@@ -52,7 +53,7 @@ fn expect_reply(rt: &impl Abort, alloc: Global, reply: Reply, wanted: &str) -> R
 fn segments(alloc: Global, row: Row) -> Result<Answer, Memory> {
     let mut rows = SegmentList::new(alloc);
     rows.push(row)?;
-    Ok(Answer::Segments(rows))
+    Ok(Answer::Segments(Listing::of(alloc, rows)?))
 }
 
 /// A row without times, whose names and labels have escapes.
