@@ -8,10 +8,10 @@ ghost use Rattle.query_workers.specs.Inner.Questions.{IsAskedOf};
 ghost use Rattle.query_workers.specs.Inner.Runs.{GivesRun, IsRun, refusal};
 
 use crate::question::Question;
-use crate::walk::walk;
+use crate::walk::walk_with_text;
 use emu_io::Gate;
 use eql_model::MatchFault;
-use segment_list::{Listing, with_text};
+use segment_list::Listing;
 use std::alloc::Global;
 use std::thread::{Threads, join};
 use version_tree::Version;
@@ -102,7 +102,7 @@ pub(crate) fn halves<R: Threads + Sync, G: Gate + Sync>(
 {
     let workers = workers.min(to - from);
     if workers <= 1 {
-        return with_text(alloc, walk(alloc, version, question, line, gate, from, to));
+        return walk_with_text(alloc, version, question, line, gate, from, to);
     }
     let near = workers / 2;
     let far = workers - near;

@@ -17,7 +17,7 @@ use emu_io::{Gate, Moment};
 use eql_model::{MatchFault, SegmentList};
 use eql_resolve::Asked;
 use requery::Reached;
-use segment_list::Listing;
+use segment_list::{Listing, with_text};
 use std::alloc::Global;
 use std::thread::Threads;
 use version_tree::Version;
@@ -52,7 +52,7 @@ fn add_bundle(
 ///
 /// Before each bundle the gate is told that the line, counted from 1, is at the piece of the bundle's place
 /// in the version.
-pub(crate) fn walk<G: Gate + Sync>(
+fn walk<G: Gate + Sync>(
     alloc: Global,
     version: &Version,
     question: &Question,
@@ -76,6 +76,23 @@ pub(crate) fn walk<G: Gate + Sync>(
         }
     }
     Ok(list)
+}
+
+/// The same rows with their text, which the thread makes that goes through the bundles.
+pub(crate) fn walk_with_text<G: Gate + Sync>(
+    alloc: Global,
+    version: &Version,
+    question: &Question,
+    line: u32,
+    gate: &G,
+    from: usize,
+    to: usize,
+) -> Result<Listing, MatchFault>
+    requires asked { IsAskedOf version.now.config question.now }
+    requires run { IsRun version.now from to }
+    ensures { GivesRun result question.now version.now from to }
+{
+    with_text(alloc, walk(alloc, version, question, line, gate, from, to))
 }
 
 /// The rows that are asked for over a version, one bundle after another in the order of their keys.

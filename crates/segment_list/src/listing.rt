@@ -198,7 +198,10 @@ fn push_parts(out: &mut String, parts: &[Printed]) -> Result<(), Memory>
 }
 
 /// The rows that were made for a query, with their text. The only refusal of its own is want of memory.
-pub fn with_text(alloc: Global, made: Result<SegmentList, MatchFault>) -> Result<Listing, MatchFault>
+pub fn with_text(
+    alloc: Global,
+    made: Result<SegmentList, MatchFault>,
+) -> Result<Listing, MatchFault>
     ensures { (rows : List Row) (many : Bool) → GivesRows made rows many → GivesRows result rows many }
 {
     match made {
