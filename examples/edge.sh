@@ -1,8 +1,9 @@
 #!/usr/bin/env bash
 # edge.sh [BINARY [TIMES]]: what happens at the edge of the program, and that no acknowledged edit is lost there: standard streams
 # that are closed or full, two programs on one store (TIMES times, 200 where the number is not given), a file system that is full, no
-# right to write, a folder or a dead link with the store's name, and `kill -9`. BINARY is crates/emu/out/emu where it is not given.
-# What cannot be tried on this machine is said. The last line says how many agreed; the status is 0 where all did.
+# right to write, a folder or a dead link with the store's name, and `kill -9`: for `run`, `live`, `load` and `import`. BINARY is
+# crates/emu/out/emu where it is not given. What cannot be tried on this machine is said. The last line says how many agreed; the status
+# is 0 where all did.
 here=$(realpath -- "$(dirname "$0")")
 binary=$(realpath -- "${1:-$here/../crates/emu/out/emu}" 2>/dev/null)
 times=${2:-200}
@@ -42,13 +43,27 @@ edits many 100 >many.jsonl
 { echo "$config" && cat one.jsonl; } >new-one.jsonl
 { echo "$config" && cat two.jsonl; } >new-two.jsonl
 { echo "$config" && cat many.jsonl; } >new-many.jsonl
+# A database of 100 bundles of that size, which come in the order of their numbers from 100 on; and a TextGrid of some 3,000 bytes.
+mkdir -p many_emuDB/s1_ses
+echo '{"name":"many","levelDefinitions":[{"name":"Phonetic","type":"SEGMENT","attributeDefinitions":[{"name":"Phonetic"}]}]}' \
+    >many_emuDB/many_DBconfig.json
+for ((k = 100; k < 200; k++)); do
+    mkdir "many_emuDB/s1_ses/b${k}_bndl"
+    echo '{"name":"b'"$k"'","annotates":"'"$long"'","sampleRate":20000}' >"many_emuDB/s1_ses/b${k}_bndl/b${k}_annot.json"
+done
+echo '"ooTextFile" "TextGrid" 0 1 <exists> 1 "IntervalTier" "Phonetic" 0 1 1 0 1 "'"$long$long$long"'"' >long.TextGrid
 
 # Goes to an empty folder of this name, with a database and a TextGrid in it.
 fresh() {
     cd "$room" && rm -rf "$1" && mkdir "$1" && cd "$1" && cp -r "$here/t_emuDB" "$here/a.TextGrid" .
 }
-entries() { "$binary" history | grep -c '"at":'; }
+entries() { "$binary" history | grep -c '"do":'; }
 acknowledged() { grep -c '"ok":"add_bundle"}$'; }
+# Whether the store has so many of the bundles of the database `many`: the last of them is there, and the one behind it is not.
+has_first() {
+    { [ "$1" = 0 ] || "$binary" export s1 "b$((99 + $1))" | grep -q '"sampleRate":20000'; } &&
+        [ "$("$binary" export s1 "b$((100 + $1))")" = '{"cause":"NoBundle","status":10}' ]
+}
 
 # Standard output is closed: the status is 5, what was stored before is as it was, and at most the command's own entries came.
 closed_output() {
@@ -196,33 +211,52 @@ exec 3>&-
 agree "entries after the kill" "$(entries)" 1
 
 # A file system that is full: a small one of its own where that may be mounted, and a limit on the size of files. A pipe has no such
-# limit, so the replies go through one. `run` goes on to the end, and the store has just what was acknowledged.
-# filled NAME STATUS REPLIES: looks at what such a run left in the store of this folder.
-filled() {
-    agree "$1: status" "$2" 0
-    grep -q '"rule":"Disk"' "$3"
-    agree "$1: an edit is refused" $? 0
-    [ "$(acknowledged <"$3")" -gt 0 ]
-    agree "$1: an edit is accepted" $? 0
-    agree "$1: entries" "$(entries)" "$(acknowledged <"$3")"
+# limit, so what is written goes through one.
+limited() { (trap '' XFSZ && ulimit -f 64 && exec "$@"); }
+# no_room NAME RUNNER..: what the folder has no room for, each begun by the runner. `load` ends with 6 and writes nothing, and the store
+# has the first bundles of the database. `live` and `run` go on to the end, and the store has just what was acknowledged. `import` ends
+# with 6, writes nothing and adds nothing.
+no_room() {
+    name=$1
+    shift
+    ln -s "$room/many_emuDB" "$room/long.TextGrid" .
+    wrote=$("$@" "$binary" load many)
+    agree "$name, load" "$?$wrote" 6
+    count=$(entries)
+    [ "$count" -gt 0 ] && [ "$count" -lt 100 ] && has_first "$count"
+    agree "$name, load: the first $count bundles" $? 0
+    for mode in live run; do
+        rm -f emu.store
+        replies=$("$@" "$binary" "$mode" --store <"$room/new-many.jsonl")
+        agree "$name, $mode" $? 0
+        grep -q '"rule":"Disk"' <<<"$replies"
+        agree "$name, $mode: an edit is refused" $? 0
+        count=$(acknowledged <<<"$replies")
+        [ "$count" -gt 0 ]
+        agree "$name, $mode: an edit is accepted" $? 0
+        agree "$name, $mode: entries" "$(entries)" "$count"
+    done
+    wrote=$("$@" "$binary" import s1 long 20000 long.TextGrid)
+    agree "$name, import" "$?$wrote" 6
+    agree "$name, import: entries" "$(entries)" "$count"
 }
 fresh limit
-(trap '' XFSZ && ulimit -f 64 && "$binary" run --store <../new-many.jsonl; echo "status $?") | cat >said
-grep -v '^status' said >replies
-filled "a limit on the file" "$(sed -n 's/^status //p' said)" replies
+no_room "a limit on the file" limited
+agree "an import behind the limit" "$("$binary" import s1 long 20000 long.TextGrid)" '{"n":'$((count + 1))',"ok":"import"}'
 fresh nothing
-wrote=$(trap '' XFSZ && ulimit -f 0 && "$binary" run --store <../new-many.jsonl)
-agree "a limit of no byte" "$?$wrote" 6
+for words in 'run --store' 'live --store' 'load t'; do
+    # shellcheck disable=SC2086
+    wrote=$(trap '' XFSZ && ulimit -f 0 && "$binary" $words <../new-many.jsonl)
+    agree "$words, a limit of no byte" "$?$wrote" 6
+done
 fresh full
 mkdir small
 if mount -t tmpfs -o size=64k tmpfs small 2>/dev/null; then
     full=$PWD/small
     cd small || exit 2
-    ("$binary" run --store <../../new-many.jsonl; echo "status $?") >../said
-    grep -v '^status' ../said >../replies
-    filled "a full file system" "$(sed -n 's/^status //p' ../said)" ../replies
+    no_room "a full file system" env
     cp emu.store .. && cd .. && umount "$full" && full=
-    filled "a copy of a full file system" "$(sed -n 's/^status //p' said)" replies
+    agree "a copy of a full file system" "$(entries)" "$count"
 else
     echo "edge.sh: a small file system can't be mounted here; the limit on files stands for it"
 fi
@@ -237,7 +271,7 @@ if "${as[@]}" "$binary" fly >/dev/null 2>&1; [ $? = 2 ]; then
     "$binary" load t >/dev/null
     chmod 444 emu.store
     cp emu.store before
-    for words in 'ask Phonetic==m' 'history' 'run --store'; do
+    for words in 'ask Phonetic==m' 'history' 'run --store' 'live --store' 'load t' 'import s1 b9 20000 a.TextGrid'; do
         # shellcheck disable=SC2086
         wrote=$("${as[@]}" "$binary" $words <../one.jsonl)
         agree "$words, no right to write the store" "$?$wrote" 6
@@ -246,8 +280,11 @@ if "${as[@]}" "$binary" fly >/dev/null 2>&1; [ $? = 2 ]; then
     agree "no right to write the store: the store" $? 0
     rm emu.store
     chmod 555 .
-    wrote=$("${as[@]}" "$binary" run --store <../new-one.jsonl)
-    agree "no right to write the folder" "$?$wrote" 6
+    for words in 'run --store' 'live --store' 'load t'; do
+        # shellcheck disable=SC2086
+        wrote=$("${as[@]}" "$binary" $words <../new-one.jsonl)
+        agree "$words, no right to write the folder" "$?$wrote" 6
+    done
     chmod 755 .
     [ ! -e emu.store ]
     agree "no right to write the folder: no store" $? 0
@@ -271,6 +308,51 @@ agree "a link to nothing named emu.store: nothing is made" $? 0
 # The program is killed in the midst.
 agree "kill -9 of run" "$(bash "$here/kill-store.sh" "$binary" 10 | tail -n 1)" "10 of 10"
 agree "kill -9 of live" "$(bash "$here/kill-live.sh" "$binary" 5 | tail -n 1)" "5 of 5"
+# killed MILLISECONDS WORDS..: begins the program on these words, and kills it at a random moment within this time. What it wrote stands
+# in the file wrote.
+killed() {
+    within=$1
+    shift
+    "$binary" "$@" >wrote &
+    sleep "0.$(printf '%03d' $((RANDOM % within)))"
+    kill -9 $! 2>/dev/null
+    wait $! 2>/dev/null
+}
+# A `load` leaves the first bundles of the database, all where it wrote its line; or no configuration.
+fresh killed-load
+ln -s "$room/many_emuDB" .
+right=0
+for ((round = 1; round <= 10; round++)); do
+    rm -f emu.store
+    killed 100 load many
+    "$binary" history >history
+    status=$?
+    count=$(grep -c '"do":' history)
+    if [ -s wrote ] && [ "$count" != 100 ]; then
+        echo "a load that was killed had written its line: $count bundles"
+    elif [ "$status" = 10 ] || { [ "$status" = 0 ] && has_first "$count"; }; then
+        right=$((right + 1))
+    else
+        echo "a load that was killed: status $status, $count bundles"
+    fi
+done
+agree "kill -9 of load" "$right of 10" "10 of 10"
+# An `import` leaves what was there, and its own bundle or not; surely where it wrote its line.
+fresh killed-import
+"$binary" load t >/dev/null
+right=0
+count=1
+for ((round = 1; round <= 10; round++)); do
+    before=$count
+    killed 20 import s1 "n$round" 20000 a.TextGrid
+    count=$(entries)
+    if [ "$count" -le $((before + 1)) ] && [ "$count" -ge $((before + $(grep -c '"ok":"import"' wrote))) ]; then
+        right=$((right + 1))
+    else
+        echo "an import that was killed: $count entries, $before before, wrote $(cat wrote)"
+    fi
+done
+agree "kill -9 of import" "$right of 10" "10 of 10"
 
 echo "$passed agree, $failed do not"
 [ "$failed" = 0 ] && [ "$passed" != 0 ]

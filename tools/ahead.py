@@ -4,13 +4,15 @@
     tools/ahead.py CRATE [--only PATH].. [FLAG..]      from the top of the repository
 
 A library that is built is read as it is. Each other one below is read as source, from a copy in which a hole stands in the place of
-every proof: what is above takes such a function by its contract. So nothing of these libraries is proved here, and no verdict is
-given; what a macro writes and a closure are still proved where they are called. PATH is a function, a type or a module, as for
+every proof, and unreachable!() in that of the body: what is above takes such a function by its contract. So nothing of these libraries
+is proved here, and no verdict is given; what a macro writes is still proved where it is called. PATH is a function, a type or a module, as for
 `rt check --only`; without one it is every module of the crate. FLAG goes to the check, which has --allow-holes. Copies and kept work stand in
 CRATE/out/ahead. The first run reads all these sources, some minutes of a processor where many are above one another.
 """
+import functools
 import importlib.machinery
 import importlib.util
+import inspect
 import os
 import re
 import shutil
@@ -35,6 +37,17 @@ def toolchain():
     sys.modules["rt"] = made
     loader.exec_module(made)
     return made, os.path.dirname(os.path.dirname(path))
+
+
+def crates_of(rt, root):
+    """The repository's crates, lowest first. An older `rt` sums up a library by each way down to each crate: here each is summed up once."""
+    rt.Crate.allowed = rt.handles_of(root)
+    if "aside" not in inspect.signature(rt.crates_of).parameters:
+        return rt.crates_of(root)
+    rt.rtlib.Crate = rt.Crate
+    rt.Crate.stamp = functools.cache(rt.Crate.stamp)
+    rt.Crate.below = functools.cache(rt.Crate.below)
+    return rt.rtlib.crates_below(root)
 
 
 def is_proof(folder, names):
@@ -63,11 +76,30 @@ def owner(head):
 
 
 def modules_of(folder):
-    """The modules of a library, each with the lines of its source."""
-    for at, _, names in os.walk(f"{folder}/src"):
-        for name in (it for it in names if it.endswith(".rt")):
-            module = os.path.relpath(f"{at}/{name[:-3]}", f"{folder}/src").split("/")
-            yield "/".join([] if module == ["lib"] else module[:-1] if module[-1] == "mod" else module), lines_of(f"{at}/{name}")
+    """The files of a library, each with its lines. Beside a line stand the name of the function that begins there, or None, and the folder
+    that its proof has below proofs/, or None where that does not go by its name."""
+    files = [f"{at}/{name}" for at, _, names in os.walk(f"{folder}/src") for name in names if name.endswith(".rt")]
+    sources = {it: lines_of(it) for it in files}
+    modules, homes = {}, {}
+    for file, lines in sources.items():
+        module = os.path.relpath(file[:-3], f"{folder}/src").split("/")
+        modules[file] = "/".join([] if module == ["lib"] else module[:-1] if module[-1] == "mod" else module)
+        homes.update({found[1]: modules[file] for it in lines if (found := re.match(r"(?:pub(?:\([a-z ]+\))? )?(?:struct|enum) (\w+)", it))})
+    for file, lines in sources.items():
+        made, inside = [], []
+        for line in lines:
+            name = path = None
+            if begun := re.match(r"(?:unsafe )?impl\b(.*)", line):
+                inside = [owner(begun[1].strip())]
+            elif line.startswith("}"):
+                inside = []
+            elif begun := re.match(r"( {4})?(?:pub(?:\([a-z ]+\))? )?(?:const )?(?:unsafe )?fn (\w+)", line):
+                name = begun[2]
+                if bool(begun[1]) == bool(inside) and all(re.fullmatch(r"\w+", it) for it in inside):
+                    home = homes.get(inside[0], modules[file]) if inside else modules[file]
+                    path = "/".join(it for it in [home, *inside, name] if it)
+            made.append((line, name, path))
+        yield file, made
 
 
 def in_a_cycle(name, calls):
@@ -85,32 +117,56 @@ def in_a_cycle(name, calls):
 
 def functions_of(folder):
     """The functions of a library that are in no cycle, each as the folder that its proof has below proofs/."""
-    modules = list(modules_of(folder))
-    homes = {found[1]: module for module, lines in modules for line in lines if (found := re.match(r"(?:pub(?:\([a-z ]+\))? )?(?:struct|enum) (\w+)", line))}
     found, calls, name = [], {}, None
-    for module, lines in modules:
-        inside = []
-        for line in lines:
-            if begun := re.match(r"(?:unsafe )?impl\b(.*)", line):
-                inside = [owner(begun[1].strip())]
-            elif line.startswith("}"):
-                inside = []
-            elif begun := re.match(r"( {4})?(?:pub(?:\([a-z ]+\))? )?(?:const )?(?:unsafe )?fn (\w+)", line):
-                name = begun[2]
+    for _, lines in modules_of(folder):
+        for line, begun, path in lines:
+            if begun:
+                name = begun
                 calls.setdefault(name, set())
-                if bool(begun[1]) == bool(inside) and all(re.fullmatch(r"\w+", it) for it in inside):
-                    home = homes.get(inside[0], module) if inside else module
-                    found.append(("/".join(it for it in [home, *inside, name] if it), name))
-                continue
-            if name:
+                found += [(path, name)] if path else []
+            elif name:
                 called = re.findall(r"(\.|::)?\b(\w+)\(", line)
                 calls[name].update(it for how, it in called if how != "::" and not (how and it in OF_STD))
     return [path for path, name in found if not in_a_cycle(name, calls)]
 
 
+def body_of(lines, at):
+    """The first line of the body of the function that begins at a line, and the line behind it, or None where its form is another."""
+    indent, is_stated = re.match(" *", lines[at])[0], False
+    for begin in range(at, len(lines)):
+        line = lines[begin].rstrip()
+        is_clause = bool(re.match(r" *(requires|ensures|ghost)\b", line))
+        is_stated = is_stated or is_clause
+        if line == f"{indent}{{" or not is_stated and line.endswith(" {"):
+            end = next((it for it in range(begin + 1, len(lines)) if lines[it].rstrip() == f"{indent}}}"), None)
+            return end and (begin + 1, end)
+        if line == f"{indent}}}" or not is_stated and line.endswith(("}", ";")):
+            return None
+    return None
+
+
+def without_bodies(folder, holes):
+    """Puts unreachable!() in the place of the body of each function that has a hole for its proof: three quarters of a first run's time and
+    memory went into bodies. A constant's function and one of a cycle keep theirs."""
+    for file, lines in modules_of(folder):
+        with open(file, encoding="utf-8") as it:
+            text = it.read().split("\n")
+        stripped, found = [line for line, _, _ in lines], []
+        for at, (line, _, path) in enumerate(lines):
+            if path in holes and "const fn" not in line and not any("#[cycle" in it for it in stripped[max(at - 4, 0) : at]):
+                body = body_of(stripped, at)
+                if body and "-> impl" not in " ".join(stripped[at : body[0]]):
+                    found.append(body)
+        for begin, end in reversed(found):
+            indent = re.match(" *", text[end])[0]
+            text[begin:end] = [f"{indent}    unreachable!()"]
+        with open(file, "w", encoding="utf-8") as it:
+            it.write("\n".join(text))
+
+
 def refused_in(output):
-    """The files with a hole that the check does not take, since their functions call one another in a circle."""
-    return set(re.findall(r"^(\S+/proofs/\S+/Proof\.antt): error\[", output, re.M))
+    """The files with a hole that the check does not take: their functions call one another in a circle, or have another folder."""
+    return set(re.findall(r"^(\S+/proofs/\S+/Proof\.antt): error\b", output, re.M))
 
 
 def run(call, folder):
@@ -131,10 +187,10 @@ def with_holes(crate, to, refused):
     folders = {os.path.relpath(at, f"{new}/proofs"): names for at, _, names in os.walk(f"{new}/proofs")}
     in_cycles = {os.path.dirname(it) for it in folders if os.path.basename(it).startswith("+")}
     alone = {it for it in functions_of(new) if os.path.dirname(it) not in in_cycles}
-    for folder in sorted({*(it for it in folders if is_proof(it, folders[it])), *alone}):
+    holes = {it for it in {*(it for it in folders if is_proof(it, folders[it])), *alone} if f"{to}/proofs/{it}/Proof.antt" not in refused}
+    without_bodies(new, holes)
+    for folder in sorted(holes):
         at = f"{new}/proofs/{folder}"
-        if f"{to}/proofs/{folder}/Proof.antt" in refused:
-            continue
         os.makedirs(at, exist_ok=True)
         for name in ("Answers.antt", "Invariants.antt"):
             if name in folders.get(folder, []):
@@ -155,8 +211,7 @@ def main(words):
         sys.exit(__doc__)
     rt, kit = toolchain()
     root = os.getcwd()
-    rt.Crate.allowed = rt.handles_of(root)
-    crate = next((it for it in rt.crates_of(root) if it.name == words[0]), None) or sys.exit(f"there is no crate {words[0]}")
+    crate = next((it for it in crates_of(rt, root) if it.name == words[0]), None) or sys.exit(f"there is no crate {words[0]}")
     ahead, flags = f"{crate.folder}/out/ahead", words[1:]
     os.makedirs(ahead, exist_ok=True)
     refused = set()
@@ -184,7 +239,8 @@ def main(words):
     if "--only" not in flags and not any(it.startswith("--only=") for it in flags):
         with open(f"{crate.folder}/{call[4]}", encoding="utf-8") as file:
             modules = re.findall(r"^(?:pub(?:\(\w+\))? )?mod (\w+);", file.read(), re.M)
-        flags += [word for it in modules for word in ("--only", f"{crate.name}::{it}")]
+        run_there = {os.path.relpath(file, f"{crate.folder}/src").split("/")[0].removesuffix(".rt") for file, lines in modules_of(crate.folder) if any(it for _, it, _ in lines)}
+        flags += [word for it in modules if it in run_there for word in ("--only", f"{crate.name}::{it}")]
     status, output = run([*call, *flags], crate.folder)
     new = refused_in(output) - refused
     if not new or not all(it.startswith(f"{os.path.abspath(ahead)}/") for it in new):

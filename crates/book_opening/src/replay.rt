@@ -19,8 +19,8 @@ use edit_journal::Body;
 use edit_rules::{ChangeFault, Entries, Entry};
 use emu_names::limits::HISTORY_EDITS;
 use emu_names::{Memory, Shared};
+use live_book::next_version;
 use std::alloc::Global;
-use version_steps::next_version;
 use version_tree::Version;
 
 /// Entries that were read, the configuration before them, and the version after them.

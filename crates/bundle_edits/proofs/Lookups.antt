@@ -7,6 +7,9 @@ use Rattle.std.proofs.lemmas.List.Quantifiers.{position-Some}
 use Rattle.emu_names.specs.declared.kinds.ItemId.{ItemId}
 use Rattle.emu_names.specs.declared.rules.Broken.{Broken}
 use Rattle.emu_names.specs.declared.rules.Broken.TheVariants as rules
+use Rattle.emu_names.specs.declared.rules.Fault.{Fault}
+use Rattle.emu_names.specs.declared.rules.Fault.TheVariants as faults
+use Rattle.emu_names.specs.Inner.Gives.{IsFaultOf, broken_in}
 use Rattle.level_items.specs.declared.annot.AnnotItem.{AnnotItem}
 use Rattle.level_items.specs.Levels.{Level}
 use Rattle.db_config.specs.declared.attributes.AttributeDef.{AttributeDef}
@@ -23,8 +26,18 @@ use Rattle.bundle_state.proofs.ChangedKept.{place_within}
 use Rattle.bundle_state.proofs.IdLevels.{IsAt, place_found, place_none}
 use Rattle.bundle_edits.specs.declared.bundle_change.Counts.{Counts}
 use Rattle.bundle_edits.specs.Changes.{id_fault, numbered, level_found, NumberedLevel, put_on, item_put, attribute_found, NumberedAttribute, attribute_of, labelled, label_given}
+use Rattle.bundle_edits.specs.Inner.Given.{IsRule}
 use Rattle.bundle_edits.proofs.Spans.{some_same}
 use Rattle.bundle_edits.proofs.Next.{IsLevelFor, level_fitting}
+
+-- A call that ends with a rule, or without memory.
+
+pub breaks : {A : Type 0} {there : Result A Broken} (rule : Broken) (fault : Fault) → IsRule rule fault → there ≡ Err rule → IsFaultOf (broken_in fault) there
+breaks {A} rule (faults.Broken r) is stops = stops ∙ ap failed (sym is)
+  where
+    failed : Broken → Result A Broken
+    failed x = Err x
+breaks rule faults.Memory is stops = tt
 
 -- Ids.
 

@@ -1,6 +1,6 @@
 -- What links from times add to the links of a bundle.
-use Rattle.std.proofs.Common.{◌≡◌, ℕ, zero, suc, ◌+◌, Bool, true, false, cond, not, ◌&&◌, ◌||◌, List, [], ◌∷◌, ◌++◌, length, map, Option, Some, None, is_some, ok_or, option_map, Result, Ok, Err, nat_eq, refl, sym, ◌∙◌, ap, subst, append_assoc, append-nil, eq-eqb, eqb-true, arith}
-use Rattle.std.specs.List.{filter, flat_map, list_any, position, slice_get, AllByRecursion, IsDistinct}
+use Rattle.std.proofs.Common.{◌≡◌, ℕ, zero, suc, ◌+◌, Bool, true, false, cond, not, ◌&&◌, ◌||◌, List, [], ◌∷◌, ◌++◌, map, Option, Some, None, is_some, ok_or, option_map, Ok, nat_eq, refl, sym, ◌∙◌, ap, subst, append_assoc, append-nil, eq-eqb, eqb-true, arith}
+use Rattle.std.specs.List.{filter, list_any, position, slice_get, AllByRecursion, IsDistinct}
 use Rattle.std.specs.Option.{option_and_then, option_map_or, option_or}
 use Rattle.std.proofs.lemmas.Bool.{and_parts, or_from, not-true}
 use Rattle.std.proofs.lemmas.List.Folds.{list_any-append}
@@ -8,12 +8,11 @@ use Rattle.std.proofs.lemmas.Map.Keys.{IsDistinct-head, IsDistinct-tail}
 use Rattle.emu_names.specs.declared.kinds.ItemId.{ItemId}
 use Rattle.emu_names.specs.declared.kinds.LevelKind.{LevelKind}
 use Rattle.emu_names.specs.declared.kinds.LevelKind.TheVariants as kinds
-use Rattle.emu_names.specs.declared.rules.Broken.{Broken}
 use Rattle.emu_names.specs.declared.rules.Broken.TheVariants as rules
 use Rattle.emu_names.specs.Steps.{onward}
 use Rattle.level_items.specs.declared.annot.AnnotLink.{AnnotLink}
 use Rattle.level_items.specs.declared.items.Item.{Item}
-use Rattle.level_items.specs.Levels.{Level, KeepsLevelRule, are_different, are_in_order, are_apart, ids_of, items_at}
+use Rattle.level_items.specs.Levels.{Level, KeepsLevelRule, are_different, are_apart, ids_of, items_at}
 use Rattle.link_builder.specs.Timed.{pair_with, timed_pairs}
 use Rattle.link_builder.proofs.Single.{have_one_lower, one_segment, in_order_apart}
 use Rattle.link_graph.specs.declared.link.Link.{Link}
@@ -31,7 +30,7 @@ use Rattle.bundle_state.proofs.Tests.{any_append, or_none}
 use Rattle.bundle_state.proofs.LinksKept.{goes_on, ok_same, fine_value}
 use Rattle.bundle_state.proofs.BuiltKept.{unbroken}
 use Rattle.bundle_state.proofs.ChangedLevels.{rule_at}
-use Rattle.bundle_edits.specs.Changes.{NumberedLevel, numbered, level_found, timed_kinds_fault, definition_fault, linked_fault, timed_fault, is_linked, pair_linked, pairs_linked, levels_linked, times_linked}
+use Rattle.bundle_edits.specs.Changes.{NumberedLevel, numbered, level_found, timed_kinds_fault, definition_fault, linked_fault, timed_fault, is_linked, pair_linked, pairs_linked, levels_linked}
 use Rattle.bundle_edits.specs.Laws.{link_for, HasTimedLinks, TimesLinkExactly}
 use Rattle.bundle_edits.proofs.Next.{IsLevelFor, level_fitting, level_there}
 use Rattle.bundle_edits.proofs.Spans.{some_same}

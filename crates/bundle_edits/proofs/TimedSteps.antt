@@ -1,7 +1,7 @@
 -- The tests of links from times, one after another, against the definition of the edit.
-use Rattle.std.proofs.Common.{◌≡◌, ◌≢◌, ◌<◌, ℕ, List, [], ◌∷◌, length, get_or, Option, Some, None, option_map, ok_or, Result, Ok, Err, refl, sym, ◌∙◌, ap, arith}
+use Rattle.std.proofs.Common.{◌≡◌, ◌≢◌, ◌<◌, ℕ, List, [], ◌∷◌, length, get_or, Option, Some, None, Result, Err, refl, sym, ◌∙◌, ap, arith}
 use Rattle.std.specs.List.{slice_get}
-use Rattle.std.specs.Option.{option_and_then, option_or}
+use Rattle.std.specs.Option.{option_or}
 use Rattle.std.proofs.lemmas.List.Quantifiers.{position-Some}
 use Rattle.std.proofs.lemmas.Option.{slice_get-get_or, slice_get_within}
 use Rattle.emu_names.specs.declared.kinds.LevelKind.{LevelKind}
@@ -26,7 +26,7 @@ use Rattle.bundle_edits.specs.Changes.{NumberedLevel, level_found, timed_kinds_f
 use Rattle.bundle_edits.proofs.Lookups.{level_is, no_level_is}
 use Rattle.bundle_edits.proofs.Next.{IsLevelFor, level_count, level_fitting}
 use Rattle.bundle_edits.proofs.Spans.{some_same}
-use Rattle.bundle_edits.proofs.TimedLinks.{from_segments, items_there}
+use Rattle.bundle_edits.proofs.TimedLinks.{items_there}
 
 -- ---- the levels of a bundle
 

@@ -31,6 +31,7 @@ fn unless_too_many(counts: Counts, new: Bundle) -> Result<Option<Bundle>, Fault>
     ensures { GivesOrBroken result (unless_too_many counts new) }
 {
     if counts.items as usize + new.item_count() > ALL_ITEMS {
+        drop(new);
         return Err(Fault::Broken(Broken::TooMany(What::AllItems)));
     }
     Ok(Some(new))
@@ -81,7 +82,10 @@ pub fn change_own(
     ensures { GivesOrBroken result (bundle_changed config.now counts edit.now bundle) }
 {
     match edit {
-        Edit::AddBundle { .. } => Err(Fault::Broken(Broken::BundleTaken)),
+        Edit::AddBundle { .. } => {
+            drop(bundle);
+            Err(Fault::Broken(Broken::BundleTaken))
+        }
         Edit::DropBundle { .. } => Ok(bundle),
         Edit::AddItem {
             level,

@@ -1,17 +1,18 @@
 //! Edits of one item or link of a bundle.
-ghost use Rattle.std.specs.Prelude.{◌≡◌, ◌<◌, length, IfSome, IsTrue, Some};
+ghost use Rattle.std.specs.Prelude.{◌≡◌, ◌<◌, length, IfOk, IfSome, IsTrue, Some};
 ghost use Rattle.std.specs.List.{slice_get};
 ghost use Rattle.emu_names.specs.Inner.Gives.{GivesOrBroken, FindsFault};
 ghost use Rattle.emu_names.specs.declared.limits.TheConstants.{BUNDLE_ITEMS};
-ghost use Rattle.level_items.specs.Levels.{are_labels_for};
+ghost use Rattle.level_items.specs.Levels.{are_labels_for, is_short};
 ghost use Rattle.bundle_state.specs.Bundle.{item_count};
 ghost use Rattle.bundle_state.specs.Built.{FitsConfig};
-ghost use Rattle.bundle_state.specs.Changed.{item_added, item_removed, item_retimed, link_added, link_inserted, link_removed};
+ghost use Rattle.bundle_state.specs.Changed.{item_added, item_removed, item_retimed, label_set, link_added, link_inserted, link_removed};
 ghost use Rattle.bundle_state.specs.Inner.Changed.{attributes_with};
+ghost use Rattle.bundle_state.specs.Made.{made_item};
 ghost use Rattle.bundle_edits.specs.Changes.{room_fault, id_fault, given_item_fault, put_on, item_put, labelled, label_given};
 
 use crate::bundle_change::Counts;
-use crate::labels::{label_passes, made_item, new_labels_pass};
+use crate::labels::{label_passed, made_item, new_labels_pass, no_attribute, no_level};
 use bundle_state::Bundle;
 use db_config::{AttributeDef, Config, LevelDef};
 use emu_names::limits::{ALL_ITEMS, BUNDLE_ITEMS};
@@ -65,6 +66,24 @@ fn given_item_passes(
     )
 }
 
+/// A new item as a level of this definition has it, its position and its neighbours aside.
+fn item_passed(
+    alloc: Global,
+    counts: Counts,
+    bundle: &Bundle,
+    def: &LevelDef,
+    item: &AnnotItem,
+    is_tested: bool,
+) -> Result<Item, Fault>
+    ensures passed { FindsFault result
+        (given_item_fault is_tested counts bundle.now.levels def.now item.now) }
+    ensures made { IfOk result (λ made. made ≡ made_item def.now.attributes item.now) }
+{
+    given_item_passes(alloc, counts, bundle, def, item, is_tested)?;
+    let made = made_item(alloc, def.attributes.as_slice(), item)?;
+    Ok(made)
+}
+
 /// This bundle with an item put on the level of a number.
 pub(crate) fn with_item(
     config: &Config,
@@ -80,8 +99,13 @@ pub(crate) fn with_item(
     requires room { item_count next.levels < BUNDLE_ITEMS }
     ensures { GivesOrBroken result (item_added number position item next) }
 {
-    next.add_item(config, number, position, item)?;
-    Ok(next)
+    match next.add_item(config, number, position, item) {
+        Ok(()) => Ok(next),
+        Err(fault) => {
+            drop(next);
+            Err(fault)
+        }
+    }
 }
 
 /// The bundle with a new item on the level of this number, which has this definition.
@@ -101,9 +125,13 @@ fn put_on(
     ensures { GivesOrBroken result
         (put_on is_tested counts position item.now bundle (number, def.now)) }
 {
-    given_item_passes(alloc, counts, &bundle, def, item, is_tested)?;
-    let made = made_item(alloc, def.attributes.as_slice(), item)?;
-    with_item(config, bundle, number, position, made)
+    match item_passed(alloc, counts, &bundle, def, item, is_tested) {
+        Ok(made) => with_item(config, bundle, number, position, made),
+        Err(fault) => {
+            drop(bundle);
+            Err(fault)
+        }
+    }
 }
 
 /// The bundle with a new item on the level of this name. Whether its labels are legal counts where
@@ -129,7 +157,10 @@ pub(crate) fn put_item(
                 alloc, config, counts, bundle, number, def, position, item, is_tested,
             )
         }
-        None => Err(Fault::Broken(Broken::NoLevel(level.copy(alloc)?))),
+        None => {
+            drop(bundle);
+            Err(no_level(alloc, level))
+        }
     }
 }
 
@@ -137,28 +168,51 @@ pub(crate) fn put_item(
 pub(crate) fn take_item(mut next: Bundle, id: ItemId) -> Result<Bundle, Fault>
     ensures { GivesOrBroken result (item_removed id next) }
 {
-    next.remove_item(id)?;
-    Ok(next)
+    match next.remove_item(id) {
+        Ok(()) => Ok(next),
+        Err(fault) => {
+            drop(next);
+            Err(fault)
+        }
+    }
+}
+
+/// This bundle with another label of an item, for the attribute of this number on its level.
+fn with_label(mut next: Bundle, id: ItemId, number: usize, label: Text) -> Result<Bundle, Fault>
+    requires attribute { IfSome (attributes_with id.0 next.levels) (λ count. number < count) }
+    requires label { IsTrue (is_short label) }
+    ensures { GivesOrBroken result (label_set id number label next) }
+{
+    match next.set_label(id, number, label) {
+        Ok(()) => Ok(next),
+        Err(fault) => {
+            drop(next);
+            Err(fault)
+        }
+    }
 }
 
 /// The bundle with another label of an item, for the attribute of this number on its level, which has
 /// this definition.
 fn label_item(
     alloc: Global,
-    mut next: Bundle,
+    bundle: Bundle,
     id: ItemId,
     number: usize,
     def: &AttributeDef,
     label: &Text,
     is_tested: bool,
 ) -> Result<Bundle, Fault>
-    requires { IfSome (attributes_with id.0 next.levels) (λ count. number < count) }
-    ensures { GivesOrBroken result (labelled is_tested id label.now next (number, def.now)) }
+    requires { IfSome (attributes_with id.0 bundle.levels) (λ count. number < count) }
+    ensures { GivesOrBroken result (labelled is_tested id label.now bundle (number, def.now)) }
 {
-    label_passes(def, label, is_tested)?;
-    let label = label.copy(alloc)?;
-    next.set_label(id, number, label)?;
-    Ok(next)
+    match label_passed(alloc, def, label, is_tested) {
+        Ok(own) => with_label(bundle, id, number, own),
+        Err(fault) => {
+            drop(bundle);
+            Err(fault)
+        }
+    }
 }
 
 /// The bundle with another label of an item for the attribute of a name. Whether it is legal counts where
@@ -177,6 +231,7 @@ pub(crate) fn give_label(
         (label_given is_tested config.now id attribute.now label.now bundle) }
 {
     let Some((level, _position)) = bundle.place(id) else {
+        drop(bundle);
         return Err(Fault::Broken(Broken::NoItem(id)));
     };
     let def = config.parts().levels.get(level);
@@ -185,7 +240,10 @@ pub(crate) fn give_label(
             let own = def.attributes.get(number);
             label_item(alloc, bundle, id, number, own, label, is_tested)
         }
-        None => Err(Fault::Broken(Broken::NoAttribute(attribute.copy(alloc)?))),
+        None => {
+            drop(bundle);
+            Err(no_attribute(alloc, attribute))
+        }
     }
 }
 
@@ -193,8 +251,13 @@ pub(crate) fn give_label(
 pub(crate) fn with_time(mut next: Bundle, id: ItemId, time: Time) -> Result<Bundle, Fault>
     ensures { GivesOrBroken result (item_retimed id time next) }
 {
-    next.retime(id, time)?;
-    Ok(next)
+    match next.retime(id, time) {
+        Ok(()) => Ok(next),
+        Err(fault) => {
+            drop(next);
+            Err(fault)
+        }
+    }
 }
 
 /// The bundle with a link more, put last.
@@ -207,8 +270,13 @@ pub(crate) fn link(
     requires { FitsConfig config.now next }
     ensures { GivesOrBroken result (link_added from to next) }
 {
-    next.add_link(config, from, to)?;
-    Ok(next)
+    match next.add_link(config, from, to) {
+        Ok(()) => Ok(next),
+        Err(fault) => {
+            drop(next);
+            Err(fault)
+        }
+    }
 }
 
 /// The bundle with a link more, put at a place.
@@ -222,14 +290,24 @@ pub(crate) fn link_at(
     requires { FitsConfig config.now next }
     ensures { GivesOrBroken result (link_inserted place from to next) }
 {
-    next.add_link_at(config, place, from, to)?;
-    Ok(next)
+    match next.add_link_at(config, place, from, to) {
+        Ok(()) => Ok(next),
+        Err(fault) => {
+            drop(next);
+            Err(fault)
+        }
+    }
 }
 
 /// The bundle without a link.
 pub(crate) fn unlink(mut next: Bundle, from: ItemId, to: ItemId) -> Result<Bundle, Fault>
     ensures { GivesOrBroken result (link_removed from to next) }
 {
-    next.remove_link(from, to)?;
-    Ok(next)
+    match next.remove_link(from, to) {
+        Ok(()) => Ok(next),
+        Err(fault) => {
+            drop(next);
+            Err(fault)
+        }
+    }
 }

@@ -5,7 +5,8 @@ ghost use Rattle.emu_names.specs.Inner.Gives.{FindsFault};
 ghost use Rattle.emu_names.specs.Texts.{same_text};
 ghost use Rattle.bundle_state.specs.Made.{label_named, made_labels, made_item};
 ghost use Rattle.bundle_edits.specs.Changes.{label_fault, given_label_fault, new_labels_fault};
-ghost use Rattle.bundle_edits.specs.Inner.Given.{names_of};
+ghost use Rattle.bundle_edits.specs.Inner.Given.{IsRule, names_of};
+ghost use Rattle.emu_names.specs.declared.rules.Broken.TheVariants as rules;
 
 use db_config::AttributeDef;
 use emu_names::limits::LABEL_BYTES;
@@ -24,6 +25,41 @@ pub(crate) fn label_passes(def: &AttributeDef, label: &Text, is_tested: bool) ->
         Ok(())
     } else {
         Err(Fault::Broken(Broken::IllegalLabel))
+    }
+}
+
+/// A copy of a label for an attribute, which is tested first.
+pub(crate) fn label_passed(
+    alloc: Global,
+    def: &AttributeDef,
+    label: &Text,
+    is_tested: bool,
+) -> Result<Text, Fault>
+    ensures passed { FindsFault result (label_fault is_tested def.now label.now) }
+    ensures copied { IfOk result (λ own. own ≡ label.now) }
+{
+    label_passes(def, label, is_tested)?;
+    let own = label.copy(alloc)?;
+    Ok(own)
+}
+
+/// The fault of a name that no level has.
+pub(crate) fn no_level(alloc: Global, name: &Text) -> Fault
+    ensures { IsRule (rules.NoLevel name.now) result }
+{
+    match name.copy(alloc) {
+        Ok(own) => Fault::Broken(Broken::NoLevel(own)),
+        Err(_memory) => Fault::Memory,
+    }
+}
+
+/// The fault of a name that no attribute of the level has.
+pub(crate) fn no_attribute(alloc: Global, name: &Text) -> Fault
+    ensures { IsRule (rules.NoAttribute name.now) result }
+{
+    match name.copy(alloc) {
+        Ok(own) => Fault::Broken(Broken::NoAttribute(own)),
+        Err(_memory) => Fault::Memory,
     }
 }
 

@@ -9,6 +9,7 @@ ghost use Rattle.bundle_state.specs.Built.{FitsConfig};
 ghost use Rattle.emu_names.specs.Steps.{onward};
 ghost use Rattle.bundle_state.specs.Changed.{item_added, item_removed, item_retimed};
 ghost use Rattle.bundle_edits.specs.Changes.{segment_at, segment_of, next_of, cut_fault, last_of, boundary_moved, segment_split, segments_merged};
+ghost use Rattle.bundle_edits.specs.Inner.Given.{LeadsTo};
 
 use crate::bundle_change::Counts;
 use crate::item_changes::{id_passes, room_passes, take_item, with_item, with_time};
@@ -134,14 +135,19 @@ fn with_times(
     with_time(next, second.0, second.1)
 }
 
-/// Moves the boundary between a segment and the one that follows it at once: the one that becomes
-/// shorter is changed first.
-pub(crate) fn move_boundary(bundle: Bundle, id: ItemId, start: u64) -> Result<Bundle, Fault>
-    ensures { GivesOrBroken result (boundary_moved id start bundle) }
+/// The new times of a segment and of the one that follows it at once, where their boundary moves: first that
+/// of the one that becomes shorter.
+fn moved_times(
+    bundle: &Bundle,
+    id: ItemId,
+    start: u64,
+) -> Result<((ItemId, Time), (ItemId, Time)), Fault>
+    ensures { LeadsTo result (λ times. onward (item_retimed times.0.0 times.0.1 bundle.now)
+        (item_retimed times.1.0 times.1.1)) (boundary_moved id start bundle.now) }
 {
     let _count = bundle.item_count();
-    let s = segment_of(&bundle, id)?;
-    let next = next_of(&bundle, s)?;
+    let s = segment_of(bundle, id)?;
+    let next = next_of(bundle, s)?;
     let last = next.last();
     cut_passes(s, last, start)?;
     let before = Time::Span {
@@ -153,29 +159,101 @@ pub(crate) fn move_boundary(bundle: Bundle, id: ItemId, start: u64) -> Result<Bu
         dur: last - start,
     };
     if start <= next.start {
-        return with_times(bundle, (s.id, before), (next.id, behind));
+        return Ok(((s.id, before), (next.id, behind)));
     }
-    with_times(bundle, (next.id, behind), (s.id, before))
+    Ok(((next.id, behind), (s.id, before)))
+}
+
+/// Moves the boundary between a segment and the one that follows it at once.
+pub(crate) fn move_boundary(bundle: Bundle, id: ItemId, start: u64) -> Result<Bundle, Fault>
+    ensures { GivesOrBroken result (boundary_moved id start bundle) }
+{
+    match moved_times(&bundle, id, start) {
+        Ok((first, second)) => with_times(bundle, first, second),
+        Err(fault) => {
+            drop(bundle);
+            Err(fault)
+        }
+    }
+}
+
+/// How a segment is cut in two.
+#[derive(Drop)]
+struct Pieces {
+    /// The number of its level.
+    level: usize,
+    /// Its id.
+    id: ItemId,
+    /// Its time, which ends earlier.
+    before: Time,
+    /// The new item behind it.
+    behind: Item,
 }
 
 /// Ends a segment before the first sample of a new item, which is put behind it.
 fn cut(
     config: &Config,
     bundle: Bundle,
-    s: Segment,
+    level: usize,
+    id: ItemId,
     before: Time,
     behind: Item,
 ) -> Result<Bundle, Fault>
     requires fits { FitsConfig config.now bundle }
-    requires level { s.level < length config.now.levels }
-    requires labels { IfSome (slice_get bundle.levels s.level)
+    requires level { level < length config.now.levels }
+    requires labels { IfSome (slice_get bundle.levels level)
         (λ l. IsTrue (are_labels_for l.attributes behind.labels)) }
     requires room { item_count bundle.levels < BUNDLE_ITEMS }
-    ensures { GivesOrBroken result (onward (item_retimed s.id before bundle)
-        (item_added s.level None behind)) }
+    ensures { GivesOrBroken result (onward (item_retimed id before bundle)
+        (item_added level None behind)) }
 {
-    let next = with_time(bundle, s.id, before)?;
-    with_item(config, next, s.level, None, behind)
+    let next = with_time(bundle, id, before)?;
+    with_item(config, next, level, None, behind)
+}
+
+/// How the segment with an id is cut in two; the second part is a new item without labels.
+fn pieces_of(
+    alloc: Global,
+    config: &Config,
+    counts: Counts,
+    bundle: &Bundle,
+    id: ItemId,
+    new_id: ItemId,
+    start: u64,
+) -> Result<Pieces, Fault>
+    requires { FitsConfig config.now bundle.now }
+    ensures parts { LeadsTo result (λ c. onward (item_retimed c.id c.before bundle.now)
+        (item_added c.level None c.behind)) (segment_split counts id new_id start bundle.now) }
+    ensures level { IfOk result (λ c. c.level < length config.now.levels) }
+    ensures labels { IfOk result (λ c. IfSome (slice_get bundle.now.levels c.level)
+        (λ l. IsTrue (are_labels_for l.attributes c.behind.labels))) }
+    ensures room { IfOk result (λ _. item_count bundle.now.levels < BUNDLE_ITEMS) }
+{
+    let _count = bundle.item_count();
+    let s = segment_of(bundle, id)?;
+    let last = s.last();
+    room_passes(counts, bundle)?;
+    id_passes(bundle, new_id)?;
+    cut_passes(s, last, start)?;
+    let labels = empty_labels(alloc, config.attribute_count(s.level))?;
+    let before = Time::Span {
+        start: s.start,
+        dur: start - 1 - s.start,
+    };
+    let behind = Time::Span {
+        start,
+        dur: last - start,
+    };
+    Ok(Pieces {
+        level: s.level,
+        id: s.id,
+        before,
+        behind: Item {
+            id: new_id,
+            time: behind,
+            labels,
+        },
+    })
 }
 
 /// Cuts a segment in two; the second part is a new item without labels.
@@ -191,27 +269,20 @@ pub(crate) fn split(
     requires { FitsConfig config.now bundle }
     ensures { GivesOrBroken result (segment_split counts id new_id start bundle) }
 {
-    let _count = bundle.item_count();
-    let s = segment_of(&bundle, id)?;
-    let last = s.last();
-    room_passes(counts, &bundle)?;
-    id_passes(&bundle, new_id)?;
-    cut_passes(s, last, start)?;
-    let labels = empty_labels(alloc, config.attribute_count(s.level))?;
-    let before = Time::Span {
-        start: s.start,
-        dur: start - 1 - s.start,
-    };
-    let behind = Time::Span {
-        start,
-        dur: last - start,
-    };
-    let part = Item {
-        id: new_id,
-        time: behind,
-        labels,
-    };
-    cut(config, bundle, s, before, part)
+    match pieces_of(alloc, config, counts, &bundle, id, new_id, start) {
+        Ok(
+            Pieces {
+                level,
+                id,
+                before,
+                behind,
+            },
+        ) => cut(config, bundle, level, id, before, behind),
+        Err(fault) => {
+            drop(bundle);
+            Err(fault)
+        }
+    }
 }
 
 /// Takes one item out of the bundle, and gives another one another time.
@@ -222,16 +293,31 @@ fn taken_and_retimed(bundle: Bundle, taken: ItemId, id: ItemId, time: Time) -> R
     with_time(next, id, time)
 }
 
-/// Joins a segment with the one that follows it at once, which is taken out with its links.
-pub(crate) fn merge(bundle: Bundle, id: ItemId) -> Result<Bundle, Fault>
-    ensures { GivesOrBroken result (segments_merged id bundle) }
+/// The item that is taken out where a segment is joined with the one that follows it at once, and the
+/// time of the first one then.
+fn joined_time(bundle: &Bundle, id: ItemId) -> Result<(ItemId, (ItemId, Time)), Fault>
+    ensures { LeadsTo result (λ given. onward (item_removed given.0 bundle.now)
+        (item_retimed given.1.0 given.1.1)) (segments_merged id bundle.now) }
 {
     let _count = bundle.item_count();
-    let s = segment_of(&bundle, id)?;
-    let next = next_of(&bundle, s)?;
+    let s = segment_of(bundle, id)?;
+    let next = next_of(bundle, s)?;
     let time = Time::Span {
         start: s.start,
         dur: next.last() - s.start,
     };
-    taken_and_retimed(bundle, next.id, s.id, time)
+    Ok((next.id, (s.id, time)))
+}
+
+/// Joins a segment with the one that follows it at once, which is taken out with its links.
+pub(crate) fn merge(bundle: Bundle, id: ItemId) -> Result<Bundle, Fault>
+    ensures { GivesOrBroken result (segments_merged id bundle) }
+{
+    match joined_time(&bundle, id) {
+        Ok((taken, (id, time))) => taken_and_retimed(bundle, taken, id, time),
+        Err(fault) => {
+            drop(bundle);
+            Err(fault)
+        }
+    }
 }

@@ -1,16 +1,18 @@
 //! Links that times give.
-ghost use Rattle.std.specs.Prelude.{◌≡◌, Some};
+ghost use Rattle.std.specs.Prelude.{◌≡◌, IfOk, Some};
 ghost use Rattle.std.specs.List.{slice_get};
 ghost use Rattle.emu_names.specs.Inner.Gives.{GivesOrBroken, FindsFault};
 ghost use Rattle.bundle_state.specs.Built.{FitsConfig};
+ghost use Rattle.bundle_edits.specs.Inner.Given.{LeadsTo};
 ghost use Rattle.bundle_edits.specs.Changes.{timed_kinds_fault, definition_fault, linked_fault, pair_linked, pairs_linked, levels_linked, times_linked};
 
 use crate::item_changes::link;
+use crate::labels::no_level;
 use bundle_state::Bundle;
 use db_config::{Config, LevelDef};
 use emu_names::{Broken, Fault, LevelKind, Text};
 use level_items::AnnotLink;
-use link_builder::timed_pairs;
+use link_builder::{Pairs, timed_pairs};
 use link_graph::Links;
 use std::alloc::Global;
 
@@ -72,6 +74,30 @@ fn link_pairs(config: &Config, bundle: Bundle, pairs: &[AnnotLink]) -> Result<Bu
     Ok(next)
 }
 
+/// The pairs of items that the times of two levels give, which have these numbers and definitions; one of
+/// them is no link yet.
+fn pairs_of(
+    alloc: Global,
+    config: &Config,
+    bundle: &Bundle,
+    upper: usize,
+    one: &LevelDef,
+    lower: usize,
+    other: &LevelDef,
+) -> Result<Pairs, Fault>
+    requires fits { FitsConfig config.now bundle.now }
+    requires upper { slice_get config.now.levels upper ≡ Some one.now }
+    requires lower { slice_get config.now.levels lower ≡ Some other.now }
+    ensures { LeadsTo result (λ pairs. pairs_linked pairs bundle.now)
+        (levels_linked bundle.now (upper, one.now) (lower, other.now)) }
+{
+    kinds_pass(one.kind, other.kind)?;
+    definition_passes(config, upper, lower)?;
+    let pairs = timed_pairs(alloc, bundle.level(upper), bundle.level(lower))?;
+    pairs_pass(bundle.links(), pairs.as_slice())?;
+    Ok(pairs)
+}
+
 /// The bundle with the links that the times of two levels give, which have these numbers and definitions.
 fn link_levels(
     alloc: Global,
@@ -87,11 +113,13 @@ fn link_levels(
     requires lower { slice_get config.now.levels lower ≡ Some other.now }
     ensures { GivesOrBroken result (levels_linked bundle (upper, one.now) (lower, other.now)) }
 {
-    kinds_pass(one.kind, other.kind)?;
-    definition_passes(config, upper, lower)?;
-    let pairs = timed_pairs(alloc, bundle.level(upper), bundle.level(lower))?;
-    pairs_pass(bundle.links(), pairs.as_slice())?;
-    link_pairs(config, bundle, pairs.as_slice())
+    match pairs_of(alloc, config, &bundle, upper, one, lower, other) {
+        Ok(pairs) => link_pairs(config, bundle, pairs.as_slice()),
+        Err(fault) => {
+            drop(bundle);
+            Err(fault)
+        }
+    }
 }
 
 /// The bundle with a link from each segment of the upper level to each item of the lower one that it holds.
@@ -106,10 +134,12 @@ pub(crate) fn link_times(
     ensures { GivesOrBroken result (times_linked config.now upper.now lower.now bundle) }
 {
     let Some(one) = config.level_named(upper.as_str()) else {
-        return Err(Fault::Broken(Broken::NoLevel(upper.copy(alloc)?)));
+        drop(bundle);
+        return Err(no_level(alloc, upper));
     };
     let Some(other) = config.level_named(lower.as_str()) else {
-        return Err(Fault::Broken(Broken::NoLevel(lower.copy(alloc)?)));
+        drop(bundle);
+        return Err(no_level(alloc, lower));
     };
     let defs = &config.parts().levels;
     link_levels(

@@ -1,10 +1,10 @@
 //! The text of a configuration.
-ghost use Rattle.std.specs.Prelude.{◌≡◌, ◌≤◌, IfOk, Some, map, false};
-ghost use Rattle.serde_json.specs.Data.{depth};
+ghost use Rattle.std.specs.Prelude.{◌≡◌, ◌≤◌, IfOk, OnOk, Some, false};
+ghost use Rattle.serde_json.specs.Data.{depth, no_members, object};
 ghost use Rattle.serde_json.specs.Read.{read, max_depth};
-ghost use Rattle.serde_json.specs.View.{view};
+ghost use Rattle.serde_json.specs.View.{view, members_view};
 ghost use Rattle.serde_json.specs.Written.{compact_text, has_float};
-ghost use Rattle.config_json.specs.Texts.{config_data, groups_data, level_data, link_data, list_data, printed, track_data};
+ghost use Rattle.config_json.specs.Texts.{config_data, printed};
 ghost use Rattle.config_json.specs.Inner.Texts.{reread};
 
 use crate::values::{groups_value, levels_value, links_value, tracks_value};
@@ -13,56 +13,45 @@ use emu_names::{Memory, Text};
 use serde_json::{Map, Value, json};
 use std::alloc::Global;
 
-// The values of the lists of a configuration.
-#[derive(Drop)]
-struct ListValues {
-    groups: Value,
-    levels: Value,
-    links: Value,
-    tracks: Value,
-}
-
-// The values of the lists.
-fn list_values(alloc: Global, config: &Config) -> Result<ListValues, Memory>
-    ensures groups { IfOk result (λ v. view v.groups ≡ groups_data config.now.groups) }
-    ensures levels { IfOk result (λ v.
-        view v.levels ≡ list_data (map level_data config.now.levels)) }
-    ensures links { IfOk result (λ v.
-        view v.links ≡ list_data (map (link_data config.now.levels) config.now.links)) }
-    ensures tracks { IfOk result (λ v.
-        view v.tracks ≡ list_data (map track_data config.now.tracks)) }
+// Puts the members of a configuration.
+fn put_members(
+    members: &mut Map<String, Value>,
+    alloc: Global,
+    config: &Config,
+) -> Result<(), Memory>
+    requires { members_view members.old.entries ≡ no_members }
+    ensures { OnOk result (object (members_view members.new.entries) ≡ config_data config.now) }
 {
     let parts = config.parts();
+    let uuid = json!(in alloc; parts.uuid.as_str())?;
+    serde_json::put(members, alloc, "UUID", uuid)?;
     let groups = groups_value(alloc, parts.groups.as_slice())?;
+    serde_json::put(members, alloc, "labelGroups", groups)?;
     let levels = levels_value(alloc, parts.levels.as_slice())?;
+    serde_json::put(members, alloc, "levelDefinitions", levels)?;
     let links = links_value(alloc, parts.levels.as_slice(), parts.links.as_slice())?;
+    serde_json::put(members, alloc, "linkDefinitions", links)?;
+    let extension = json!(in alloc; parts.extension.as_str())?;
+    serde_json::put(members, alloc, "mediafileExtension", extension)?;
+    let name = json!(in alloc; parts.name.as_str())?;
+    serde_json::put(members, alloc, "name", name)?;
     let tracks = tracks_value(alloc, parts.tracks.as_slice())?;
-    Ok(ListValues {
-        groups,
-        levels,
-        links,
-        tracks,
-    })
+    serde_json::put(members, alloc, "ssffTrackDefinitions", tracks)?;
+    Ok(())
 }
 
 // The configuration.
 fn config_value(alloc: Global, config: &Config) -> Result<Value, Memory>
     ensures { IfOk result (λ v. view v ≡ config_data config.now) }
 {
-    let parts = config.parts();
-    let lists = list_values(alloc, config)?;
-    let uuid = json!(in alloc; parts.uuid.as_str())?;
-    let extension = json!(in alloc; parts.extension.as_str())?;
-    let name = json!(in alloc; parts.name.as_str())?;
     let mut members = Map::new(alloc);
-    serde_json::put(&mut members, alloc, "UUID", uuid)?;
-    serde_json::put(&mut members, alloc, "labelGroups", lists.groups)?;
-    serde_json::put(&mut members, alloc, "levelDefinitions", lists.levels)?;
-    serde_json::put(&mut members, alloc, "linkDefinitions", lists.links)?;
-    serde_json::put(&mut members, alloc, "mediafileExtension", extension)?;
-    serde_json::put(&mut members, alloc, "name", name)?;
-    serde_json::put(&mut members, alloc, "ssffTrackDefinitions", lists.tracks)?;
-    Ok(Value::from(members))
+    match put_members(&mut members, alloc, config) {
+        Ok(()) => Ok(Value::from(members)),
+        Err(memory) => {
+            drop(members);
+            Err(memory)
+        }
+    }
 }
 
 // The text of a value, compact.

@@ -1,12 +1,12 @@
 //! Parts of a configuration to which a level, an attribute or a link definition is added.
-ghost use Rattle.std.specs.Prelude.{◌≡◌, ◌<◌, ◌≤◌, length, IfOk};
+ghost use Rattle.std.specs.Prelude.{◌≡◌, ◌<◌, ◌≤◌, ◌++◌, ◌∷◌, [], length, IfOk, OnOk};
 ghost use Rattle.emu_names.specs.declared.limits.TheConstants.{ATTRIBUTES, LEVELS};
 ghost use Rattle.emu_names.specs.Inner.Gives.{GivesOrBroken};
 ghost use Rattle.db_config.specs.Added.{level_added, attribute_added, attribute_put, definition_between, definition_put, with_attribute, end_named};
 
-use crate::attributes::AttributeDef;
+use crate::attributes::{AttributeDef, AttributeDefs};
 use crate::names::{double_of_attribute, double_of_level};
-use crate::parts::{ConfigParts, LevelDef, LinkDef};
+use crate::parts::{ConfigParts, LevelDef, LevelDefs, LinkDef};
 use crate::places::level_named;
 use crate::rules::has_levels;
 use emu_names::limits::{ATTRIBUTES, LEVELS, LINK_DEFINITIONS};
@@ -28,8 +28,22 @@ pub(crate) fn level_added(
         return Err(Fault::Broken(Broken::DoubleName(name)));
     }
     let mut next = parts.copy(alloc)?;
-    next.levels.push(def.copy(alloc)?)?;
-    Ok(next)
+    match push_level(alloc, &mut next.levels, def) {
+        Ok(()) => Ok(next),
+        Err(_memory) => {
+            drop(next);
+            Err(Fault::Memory)
+        }
+    }
+}
+
+/// Puts a copy of a level last. The only refusal is want of memory.
+fn push_level(alloc: Global, levels: &mut LevelDefs, def: &LevelDef) -> Result<(), Memory>
+    ensures { OnOk result (levels.new ≡ levels.old ++ def.now ∷ []) }
+{
+    let own = def.copy(alloc)?;
+    levels.push(own)?;
+    Ok(())
 }
 
 /// The parts with an attribute put last on the level of a name, or the rule that it breaks first, or want
@@ -71,10 +85,17 @@ fn attribute_put(
     if let Some(name) = double_of_attribute(alloc, levels, def, attribute.name.as_str())? {
         return Err(Fault::Broken(Broken::DoubleName(name)));
     }
-    let wider = with_attribute(alloc, def, attribute)?;
     let mut next = parts.copy(alloc)?;
-    next.levels.set(number, wider);
-    Ok(next)
+    match with_attribute(alloc, def, attribute) {
+        Ok(wider) => {
+            next.levels.set(number, wider);
+            Ok(next)
+        }
+        Err(_memory) => {
+            drop(next);
+            Err(Fault::Memory)
+        }
+    }
 }
 
 /// The level with an attribute put last. The only refusal is want of memory.
@@ -87,8 +108,27 @@ fn with_attribute(
     ensures { IfOk result (λ made. made ≡ with_attribute attribute.now def.now) }
 {
     let mut made = def.copy(alloc)?;
-    made.attributes.push(attribute.copy(alloc)?)?;
-    Ok(made)
+    match push_attribute(alloc, &mut made.attributes, attribute) {
+        Ok(()) => Ok(made),
+        Err(memory) => {
+            drop(made);
+            Err(memory)
+        }
+    }
+}
+
+/// Puts a copy of an attribute last. The only refusal is want of memory.
+fn push_attribute(
+    alloc: Global,
+    attributes: &mut AttributeDefs,
+    attribute: &AttributeDef,
+) -> Result<(), Memory>
+    requires { length attributes.old < ATTRIBUTES }
+    ensures { OnOk result (attributes.new ≡ attributes.old ++ attribute.now ∷ []) }
+{
+    let own = attribute.copy(alloc)?;
+    attributes.push(own)?;
+    Ok(())
 }
 
 /// The parts with a link definition from the level of the one name to that of the other put last, or the
@@ -137,6 +177,11 @@ fn definition_put(alloc: Global, parts: &ConfigParts, def: LinkDef) -> Result<Co
         return Err(Fault::Broken(Broken::DoubleLink));
     }
     let mut next = parts.copy(alloc)?;
-    next.links.push(def)?;
-    Ok(next)
+    match next.links.push(def) {
+        Ok(()) => Ok(next),
+        Err(_memory) => {
+            drop(next);
+            Err(Fault::Memory)
+        }
+    }
 }

@@ -11,7 +11,7 @@ use Rattle.db_config.specs.Valid.{is_valid}
 use Rattle.bundle_state.specs.Bundle.{BundleParts, item_count}
 use Rattle.bundle_state.specs.Built.{FitsConfig}
 use Rattle.bundle_state.specs.Valid.{KeepsBundleRules}
-use Rattle.bundle_edits.specs.declared.bundle_change.Counts.{Counts}
+pub use Rattle.bundle_edits.specs.declared.bundle_change.Counts.{Counts}
 
 -- a configuration, and bundles in the order of their keys
 pub record DatabaseParts : Type 0 where

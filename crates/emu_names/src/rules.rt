@@ -23,12 +23,11 @@ pub enum What {
     AllItems,
     /// The links of one bundle, of which there are at most 262,144.
     BundleLinks,
-    /// The levels of the configuration, of which there are at most 64. No edit counts them yet.
+    /// The levels of the configuration, of which there are at most 64.
     Levels,
-    /// The attributes of a level, of which there are at most 16. No edit counts them yet.
+    /// The attributes of a level, of which there are at most 16.
     Attributes,
-    /// The link definitions of the configuration, of which there are at most 64. No edit counts them
-    /// yet.
+    /// The link definitions of the configuration, of which there are at most 64.
     LinkDefinitions,
 }
 
@@ -110,18 +109,15 @@ pub enum Broken {
     OneParent(ItemId),
     /// Rule 25: the upper item has this child, and may have one only.
     OneChild(ItemId),
-    /// Rule 53: a level or an attribute of the configuration has this name already. No edit breaks
-    /// it yet.
+    /// Rule 53: a level or an attribute of the configuration has this name already.
     DoubleName(Text),
-    /// Rule 54: a link definition names this level, which the configuration does not have. No edit
-    /// breaks it yet.
+    /// Rule 54: a link definition names this level, which the configuration does not have.
     UnknownLevel(Text),
-    /// Rule 55: a link definition of the same two levels is there already. No edit breaks it yet.
+    /// Rule 55: a link definition of the same two levels is there already.
     DoubleLink,
-    /// Rule 56: a path of link definitions would lead from a level to itself. No edit breaks it
-    /// yet.
+    /// Rule 56: a path of link definitions would lead from a level to itself.
     LevelCycle,
-    /// Rule 57: each pair of items that was to be linked is linked already. No edit breaks it yet.
+    /// Rule 57: each pair of items that was to be linked is linked already.
     NothingToLink,
 }
 

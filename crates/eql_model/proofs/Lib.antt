@@ -14,5 +14,6 @@ mod Opposite
 pub mod Places
 pub mod Ranges
 mod Rising
+mod SharedTexts
 pub mod Shown
 pub mod Walk

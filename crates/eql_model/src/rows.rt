@@ -97,11 +97,55 @@ fn joined_labels(alloc: Global, attribute: usize, items: &[Item]) -> Result<Text
     Text::from_string(text)
 }
 
-/// The row of a result. The only refusal is want of memory.
+/// The names that a row shows of the place of its items.
+#[derive(Drop)]
+struct RowNames {
+    session: Text,
+    bundle: Text,
+    level: Text,
+    attribute: Text,
+}
+
+/// The names of the row of a result. The only refusal is want of memory.
+fn names_of(
+    alloc: Global,
+    config: &Config,
+    bundle: &Bundle,
+    span: Span,
+) -> Result<RowNames, Memory> {
+    let session = Text::new(alloc, bundle.key().session.as_str())?;
+    let name = Text::new(alloc, bundle.key().bundle.as_str())?;
+    let level = Text::new(alloc, level_name(config, span.level as usize))?;
+    let attribute = Text::new(
+        alloc,
+        attribute_name(config, span.level as usize, span.attribute as usize),
+    )?;
+    Ok(RowNames {
+        session,
+        bundle: name,
+        level,
+        attribute,
+    })
+}
+
+/// A text, which shares its bytes with another one where the two are the same. The only refusal is want of memory.
+#[tactic(auto, using(crate::proofs::SharedTexts::copied_alike))]
+fn shared(alloc: Global, near: &Text, text: &str) -> Result<Text, Memory>
+    ensures { IfOk result (λ made. made ≡ text.now) }
+{
+    if near.as_str() == text {
+        near.copy(alloc)
+    } else {
+        Text::new(alloc, text)
+    }
+}
+
+/// The row of a result, which shares those of the names that are its own. The only refusal is want of memory.
 fn row(
     alloc: Global,
     config: &Config,
     bundle: &Bundle,
+    names: &RowNames,
     below: &Option<Below>,
     span: Span,
 ) -> Result<Row, Memory>
@@ -115,11 +159,12 @@ fn row(
     let kind = kind_of(config, span.level as usize);
     let times = times_of(kind, bundle.rate(), samples_of(bundle, kind, below, span));
     let items = items_at(bundle, span.level as usize);
-    let session = Text::new(alloc, bundle.key().session.as_str())?;
-    let name = Text::new(alloc, bundle.key().bundle.as_str())?;
-    let level = Text::new(alloc, level_name(config, span.level as usize))?;
-    let attribute = Text::new(
+    let session = shared(alloc, &names.session, bundle.key().session.as_str())?;
+    let name = shared(alloc, &names.bundle, bundle.key().bundle.as_str())?;
+    let level = shared(alloc, &names.level, level_name(config, span.level as usize))?;
+    let attribute = shared(
         alloc,
+        &names.attribute,
         attribute_name(config, span.level as usize, span.attribute as usize),
     )?;
     let labels = joined_labels(alloc, span.attribute as usize, items_of(bundle, span))?;
@@ -157,8 +202,12 @@ fn rows_below(
         ≡ map (row_of config.now bundle.now (option_map (λ b. b.time) below.now)) spans.now) }
 {
     let mut rows = Series::new(alloc);
+    let Some(first) = spans.first() else {
+        return Ok(rows);
+    };
+    let names = names_of(alloc, config, bundle, *first)?;
     for span in spans {
-        rows.push(row(alloc, config, bundle, below, *span)?)?;
+        rows.push(row(alloc, config, bundle, &names, below, *span)?)?;
     }
     Ok(rows)
 }

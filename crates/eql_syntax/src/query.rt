@@ -287,9 +287,14 @@ impl Terms {
     pub fn with(self, term: Term) -> Result<Terms, Memory>
         ensures { IfOk result (λ terms. terms ≡ self ++ term ∷ []) }
     {
-        let mut list = self.list;
-        list.push(term)?;
-        Ok(Terms { list })
+        let mut terms = self;
+        match terms.push(term) {
+            Ok(()) => Ok(terms),
+            Err(memory) => {
+                drop(terms);
+                Err(memory)
+            }
+        }
     }
 
     /// The conditions.

@@ -151,10 +151,25 @@ impl LevelList {
         ensures inserted { IfOk result (λ place. self.new ≡ with_items self.old (insert self.old.items place item)) }
         ensures kept { OnErr result (self.new ≡ self.old) }
     {
-        let place = place_for(self.kind, &self.items, self.marks.as_ref(), position, &item)?;
-        self.items.reserve(1)?;
-        let marks = Arc::make_mut(&mut self.marks)?;
-        marks.put(item.id, mark_of(place, item.time))?;
+        let place = match place_for(self.kind, &self.items, self.marks.as_ref(), position, &item) {
+            Ok(place) => place,
+            Err(fault) => {
+                drop(item);
+                return Err(fault);
+            }
+        };
+        let Ok(()) = self.items.reserve(1) else {
+            drop(item);
+            return Err(Fault::Memory);
+        };
+        let Ok(marks) = Arc::make_mut(&mut self.marks) else {
+            drop(item);
+            return Err(Fault::Memory);
+        };
+        let Ok(()) = marks.put(item.id, mark_of(place, item.time)) else {
+            drop(item);
+            return Err(Fault::Memory);
+        };
         put_in(&mut self.items, place, item);
         self.far = note_moved(
             marks,

@@ -7,9 +7,10 @@ use Rattle.version_gate.specs.Lists.{Numbered as IsNumbered}
 use Rattle.version_gate.proofs.Beginnings.{prefix_self}
 use Rattle.version_gate.proofs.Numbers.{same_start}
 use Rattle.live_book.specs.declared.fault.EditFault.{EditFault}
+use Rattle.live_book.specs.declared.kept.Kept.{Kept}
 use Rattle.live_book.specs.declared.published.Published.{Published}
 use Rattle.live_book.specs.Live.{Opened}
-use Rattle.live_book.specs.Inner.Live.{EditsLive}
+use Rattle.live_book.specs.Inner.Live.{EditsKept}
 use Rattle.live_book.proofs.Lists.{prefix_length}
 
 pub begins_on : {A : Type 0} (xs ys zs : List A) → IsPrefix xs ys → IsPrefix ys zs → IsPrefix xs zs
@@ -23,12 +24,15 @@ begins_low k m xs ys a b p =
     omega (arith, start, a.2, b.2, prefix_length xs ys p)
 
 -- what an edit promises of a pass, it promises of the pass before a look too
-pub lives_from : (o : Opened) (next : Entry) (old mid new : List (Numbered Published)) (result : Result ℕ EditFault) (m : ℕ) → IsNumbered m mid → IsPrefix old mid → EditsLive o next mid new result → EditsLive o next old new result
-lives_from o next old mid new result m numbered p is = record {
-  history = is.history;
-  right = is.right;
-  goes_on = is.goes_on;
-  seen = λ k low. let first = begins_low k m old mid low numbered p in let second = is.seen m numbered in omega (arith, first, second);
-  learnt = begins_on old mid new p is.learnt;
-  shown = is.shown;
+pub kept_from : (o : Opened) (next : Entry) (old mid new : List (Numbered Published)) (result : Result Kept EditFault) (m : ℕ) → IsNumbered m mid → IsPrefix old mid → EditsKept o next mid new result → EditsKept o next old new result
+kept_from o next old mid new result m numbered p is = record {
+  edits = record {
+    history = is.edits.history;
+    right = is.edits.right;
+    goes_on = is.edits.goes_on;
+    seen = λ k low. let first = begins_low k m old mid low numbered p in let second = is.edits.seen m numbered in omega (arith, first, second);
+    learnt = begins_on old mid new p is.edits.learnt;
+    shown = is.edits.shown;
+  };
+  inverse = is.inverse;
 }

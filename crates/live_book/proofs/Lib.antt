@@ -4,7 +4,8 @@ pub mod Configs
 mod Ahead
 pub mod Storing
 mod Showing
-mod Committing
-mod Answering
+mod Inverses
+pub mod Committing
+pub mod Answering
 pub mod Lists
 pub mod Living

@@ -10,12 +10,14 @@ use Rattle.version_gate.specs.declared.entry.Entry.{Entry as Numbered}
 use Rattle.version_gate.specs.Lists.{Numbered as IsNumbered}
 use Rattle.live_book.specs.declared.fault.EditFault.{EditFault}
 use Rattle.live_book.specs.declared.fault.EditFault.TheVariants as edit_faults
+use Rattle.live_book.specs.declared.kept.Kept.{Kept}
 use Rattle.live_book.specs.declared.published.Published.{Published}
 use Rattle.live_book.specs.Published.{AreShown}
 use Rattle.live_book.specs.Kept.{BookParts, KeepsIn, faults_in}
 use Rattle.live_book.specs.Commits.{IsAnswer, LeavesKept, history_behind, Commits}
+use Rattle.live_book.specs.Inner.Inverses.{KeepsInverse, numbered}
 use Rattle.live_book.specs.Live.{Opened, HasGrown, Shows, opening_of}
-use Rattle.live_book.specs.Inner.Live.{EditsLive, accepted_behind, refused_behind}
+use Rattle.live_book.specs.Inner.Live.{EditsKept, EditsLive, accepted_behind, refused_behind}
 use Rattle.live_book.specs.Laws.{BooksShow, OpeningsShow}
 
 -- the new entries behind an answer
@@ -120,15 +122,28 @@ module _ {D : Type 0} (may_leave : D → List ℕ → Type 0) (faults : D → �
 
     -- and the answer
     pub edits_live : (before after : List (Numbered Published)) → ((k : ℕ) → IsNumbered k before → k ≤ length old.history) → IsPrefix before after → after ≡ new.list
-        → AreShown new.config (take new.opened new.history) (drop new.opened new.history) new.list → EditsLive o next before after result
-    edits_live before after seen learnt is shown = record {
-      history = old.history;
-      right =
-          subst (λ (c : ConfigParts). IsAnswer o.stored c old.history next result) has.config
-          (subst (λ (s : _). IsAnswer s old.config old.history next result) has.stored commits.right);
-      goes_on = (has.more, sym has.history);
-      seen = seen;
-      learnt = learnt;
-      shown = subst (λ (h : List Entry). Shows o h after) commits.history
-          (subst (λ (l : List (Numbered Published)). Shows o new.history l) (sym is) (books_show o (accepted_behind accepted result) (refused_behind refused result) new grows shown));
-    }
+        → AreShown new.config (take new.opened new.history) (drop new.opened new.history) new.list → (live : EditsLive o next before after result) × (live.history ≡ old.history)
+    edits_live before after seen learnt is shown = (
+      record {
+        history = old.history;
+        right =
+            subst (λ (c : ConfigParts). IsAnswer o.stored c old.history next result) has.config
+            (subst (λ (s : _). IsAnswer s old.config old.history next result) has.stored commits.right);
+        goes_on = (has.more, sym has.history);
+        seen = seen;
+        learnt = learnt;
+        shown = subst (λ (h : List Entry). Shows o h after) commits.history
+            (subst (λ (l : List (Numbered Published)). Shows o new.history l) (sym is) (books_show o (accepted_behind accepted result) (refused_behind refused result) new grows shown));
+      },
+      refl,
+    )
+
+-- and what takes the act back, over the entries of that moment
+pub edits_kept : (o : Opened) (next : Entry) (before after : List (Numbered Published)) (result : Result Kept EditFault) (config : ConfigParts) (history : List Entry)
+    → (live : EditsLive o next before after (numbered result)) × (live.history ≡ history) → config ≡ o.config → KeepsInverse config history next.act result → EditsKept o next before after result
+edits_kept o next before after result config history live same keeps = record {
+  edits = live.0;
+  inverse =
+      subst (λ (h : List Entry). KeepsInverse o.config h next.act result) (sym live.1)
+      (subst (λ (c : ConfigParts). KeepsInverse c history next.act result) same keeps);
+}

@@ -1,4 +1,5 @@
 pub mod Drafts
+pub mod Inverses
 pub mod Kept
 pub mod Live
 pub mod Prepared

@@ -7,10 +7,12 @@ ghost use Rattle.live_book.specs.Histories.{IsHistory};
 ghost use Rattle.live_book.specs.Published.{IsStateAfter, AreShown};
 ghost use Rattle.live_book.specs.Inner.Kept.{IsBook, book_of, Holding};
 ghost use Rattle.live_book.specs.Commits.{entry_of, Commits};
+ghost use Rattle.live_book.specs.Inner.Inverses.{numbered, KeepsInverse};
 ghost use Rattle.live_book.specs.Inner.Drafts.{IsDraftIn};
 
-use crate::commit::{commit_in, own_entry, serving};
+use crate::commit::{commit_in, commit_kept_in, own_entry, serving};
 use crate::fault::EditFault;
+use crate::kept::Kept;
 use crate::parts::Parts;
 use crate::published::Published;
 use edit_journal::Journal;
@@ -72,20 +74,43 @@ impl<D: Disk> Book<D> {
     {
         match own_entry(alloc, session, line, act) {
             Err(Memory) => Err(EditFault::Memory),
-            Ok(entry) => commit_in(rt, alloc, &mut self.parts, entry, None),
+            Ok(entry) => commit_in(rt, alloc, &mut self.parts, entry),
         }
     }
 
-    /// Accepts the act of a draft, or says why not, as [`Book::commit`] does. What was made ahead is taken where the
+    /// Accepts an act of a line of a session, or says why not, as [`Book::commit`] does, with its refusals. `Ok` also
+    /// gives the act that takes this one back over the entries that stood before it, or why there is none. That act is
+    /// made behind the test of the rules and before anything is written; want of memory for it leaves all as before.
+    pub fn commit_kept<R: Wait>(
+        &mut self,
+        rt: &R,
+        alloc: Global,
+        session: SessionNo,
+        line: u32,
+        act: &Act,
+    ) -> Result<Kept, EditFault>
+        ensures commits { Commits D.may_leave D.moment D.left_since D.faults self.old
+            (entry_of session line act.now) (numbered result) self.new }
+        ensures inverse { KeepsInverse self.old.config self.old.history act.now result }
+    {
+        match own_entry(alloc, session, line, act) {
+            Err(Memory) => Err(EditFault::Memory),
+            Ok(entry) => commit_kept_in(rt, alloc, &mut self.parts, entry, None),
+        }
+    }
+
+    /// Accepts the act of a draft, or says why not, as [`Book::commit_kept`] does. What was made ahead is taken where the
     /// configuration under which it was made is still in force, and is made anew else.
     pub(crate) fn commit_draft<R: Wait>(
         &mut self,
         rt: &R,
         alloc: Global,
         draft: Draft,
-    ) -> Result<u64, EditFault>
+    ) -> Result<Kept, EditFault>
         requires { IsDraftIn self.old draft.entry draft }
-        ensures { Commits D.may_leave D.moment D.left_since D.faults self.old draft.entry result self.new }
+        ensures commits { Commits D.may_leave D.moment D.left_since D.faults self.old draft.entry
+            (numbered result) self.new }
+        ensures inverse { KeepsInverse self.old.config self.old.history draft.entry.act result }
     {
         let Draft {
             entry,
@@ -93,7 +118,7 @@ impl<D: Disk> Book<D> {
             added,
         } = draft;
         let added = serving(&self.parts, number, added);
-        commit_in(rt, alloc, &mut self.parts, entry, added)
+        commit_kept_in(rt, alloc, &mut self.parts, entry, added)
     }
 
     /// All entries, in order.

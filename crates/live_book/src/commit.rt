@@ -13,11 +13,14 @@ ghost use Rattle.live_book.specs.Published.{IsStateAfter};
 ghost use Rattle.live_book.specs.Kept.{KeepsIn, IsAsBefore, CrashLeaves, faults_in};
 ghost use Rattle.live_book.specs.Inner.Kept.{IsBook, book_of, config_in, present_in, since_behind};
 ghost use Rattle.live_book.specs.Commits.{entry_of, has_journal, IsAnswer, IsWelcome, DuringCommit, Commits};
+ghost use Rattle.live_book.specs.Inner.Inverses.{numbered, KeepsInverse};
 ghost use Rattle.version_steps.specs.Inner.Drafts.{MayServe};
 ghost use Rattle.live_book.specs.Inner.Drafts.{serving};
 ghost use Rattle.live_book.specs.Inner.Prepared.{IsFrameOf, IsReady, IsTest, HasRoomFor, HoldsSome, ForStoreIn, refusal_of, entries_behind};
 
 use crate::fault::EditFault;
+use crate::inverse::inverse_over;
+use crate::kept::Kept;
 use crate::parts::Parts;
 use crate::published::Published;
 use crate::store::{append_in, is_too_much};
@@ -25,6 +28,7 @@ use bundle_index::Indexed;
 use edit_code::{entry_len, write_entry};
 use edit_journal::{Frame, Journal};
 use edit_rules::{Act, ChangeFault, Entries, Entry};
+use edit_undo::NoUndo;
 use emu_disk::{Disk, Failed};
 use emu_names::limits::HISTORY_EDITS;
 use emu_names::{Fault, Memory, SessionNo};
@@ -319,28 +323,117 @@ fn put<D: Disk, R: Wait>(rt: &R, parts: &mut Parts<D>, ready: Ready) -> Result<u
     }
 }
 
-/// Accepts an entry, or says why not, with what was made ahead for it, if anything was.
+/// Stores and publishes an entry that was tested, with the version behind it. Where memory is wanting or the disk
+/// fails, all is as before.
+fn put_tested<D: Disk, R: Wait>(
+    rt: &R,
+    alloc: Global,
+    parts: &mut Parts<D>,
+    entry: Entry,
+    version: Version,
+) -> Result<u64, EditFault>
+    requires book { IsBook D.may_leave parts.old }
+    requires welcome { IsWelcome (has_journal parts.old.journal) (config_in parts.old)
+        parts.old.entries entry }
+    requires state { IsStateAfter (config_in parts.old) (parts.old.entries ++ entry ∷ []) version }
+    ensures book { IsBook D.may_leave parts.new }
+    ensures commits { Commits D.may_leave D.moment D.left_since D.faults (book_of parts.old) entry
+        result (book_of parts.new) }
+{
+    match make_ready(alloc, &parts.journal, version, entry) {
+        Err(Memory) => Err(EditFault::Memory),
+        Ok(ready) => put(rt, parts, ready),
+    }
+}
+
+/// Accepts an entry, or says why not.
 pub(crate) fn commit_in<D: Disk, R: Wait>(
     rt: &R,
     alloc: Global,
     parts: &mut Parts<D>,
     entry: Entry,
-    added: Option<Result<Indexed, Fault>>,
 ) -> Result<u64, EditFault>
+    requires book { IsBook D.may_leave parts.old }
+    ensures book { IsBook D.may_leave parts.new }
+    ensures commits { Commits D.may_leave D.moment D.left_since D.faults (book_of parts.old) entry
+        result (book_of parts.new) }
+{
+    match tested(alloc, parts, &entry, None) {
+        Err(fault) => {
+            drop(entry);
+            Err(fault)
+        }
+        Ok(version) => put_tested(rt, alloc, parts, entry, version),
+    }
+}
+
+/// An answer with what takes the act back, where it was accepted.
+fn with_inverse(
+    made: Result<u64, EditFault>,
+    inverse: Result<Act, NoUndo>,
+) -> Result<Kept, EditFault>
+    ensures number { numbered result ≡ made }
+    ensures inverse { IfOk result (λ kept. kept.inverse ≡ inverse) }
+{
+    match made {
+        Ok(n) => Ok(Kept { n, inverse }),
+        Err(fault) => {
+            drop(inverse);
+            Err(fault)
+        }
+    }
+}
+
+/// Stores and publishes an entry that was tested, with what takes it back over the version before it.
+fn keep_tested<D: Disk, R: Wait>(
+    rt: &R,
+    alloc: Global,
+    parts: &mut Parts<D>,
+    entry: Entry,
+    version: Version,
+) -> Result<Kept, EditFault>
+    requires book { IsBook D.may_leave parts.old }
+    requires welcome { IsWelcome (has_journal parts.old.journal) (config_in parts.old)
+        parts.old.entries entry }
+    requires state { IsStateAfter (config_in parts.old) (parts.old.entries ++ entry ∷ []) version }
+    ensures book { IsBook D.may_leave parts.new }
+    ensures commits { Commits D.may_leave D.moment D.left_since D.faults (book_of parts.old) entry
+        (numbered result) (book_of parts.new) }
+    ensures inverse { KeepsInverse (config_in parts.old) parts.old.entries entry.act result }
+{
+    match inverse_over(alloc, &parts.current.version, &entry.act) {
+        Err(Memory) => {
+            drop(version);
+            drop(entry);
+            Err(EditFault::Memory)
+        }
+        Ok(inverse) => {
+            let made = put_tested(rt, alloc, parts, entry, version);
+            with_inverse(made, inverse)
+        }
+    }
+}
+
+/// Accepts an entry, or says why not, with what was made ahead for it, if anything was; and what takes it back.
+pub(crate) fn commit_kept_in<D: Disk, R: Wait>(
+    rt: &R,
+    alloc: Global,
+    parts: &mut Parts<D>,
+    entry: Entry,
+    added: Option<Result<Indexed, Fault>>,
+) -> Result<Kept, EditFault>
     requires book { IsBook D.may_leave parts.old }
     requires added { MayServe (present_in parts.old) entry.act added }
     ensures book { IsBook D.may_leave parts.new }
     ensures commits { Commits D.may_leave D.moment D.left_since D.faults (book_of parts.old) entry
-        result (book_of parts.new) }
+        (numbered result) (book_of parts.new) }
+    ensures inverse { KeepsInverse (config_in parts.old) parts.old.entries entry.act result }
 {
     match tested(alloc, parts, &entry, added) {
         Err(fault) => {
             drop(entry);
             Err(fault)
         }
-        Ok(version) => match make_ready(alloc, &parts.journal, version, entry) {
-            Err(Memory) => Err(EditFault::Memory),
-            Ok(ready) => put(rt, parts, ready),
-        },
+        Ok(version) => keep_tested(rt, alloc, parts, entry, version),
     }
 }

@@ -5,6 +5,8 @@
 mod book;
 mod commit;
 mod fault;
+mod inverse;
+mod kept;
 pub mod law;
 mod live;
 mod parts;
@@ -13,6 +15,8 @@ mod store;
 
 pub use book::Book;
 pub use fault::EditFault;
+pub use kept::Kept;
 pub use live::{Live, MadeLive, Opening, Share};
 pub use parts::Parts;
 pub use published::Published;
+pub use version_steps::next_version;

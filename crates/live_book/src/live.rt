@@ -2,17 +2,19 @@
 ghost use Rattle.std.specs.Prelude.{◌≡◌, ◌<◌, ◌≤◌, ℕ, IfSome, None, drop, length, take};
 ghost use mathlib.Core.List.{IsPrefix};
 ghost use Rattle.live_book.specs.Commits.{Commits, entry_of};
+ghost use Rattle.live_book.specs.Inner.Inverses.{KeepsInverse, numbered};
 ghost use Rattle.live_book.specs.Inner.Drafts.{IsDraftAt};
 ghost use Rattle.version_steps.specs.Inner.Drafts.{IsDraftOf};
 ghost use Rattle.live_book.specs.Kept.{KeepsIn};
 ghost use Rattle.live_book.specs.Inner.Kept.{Holding};
 ghost use Rattle.live_book.specs.Live.{HasGrown, Opened, opening_of};
-ghost use Rattle.live_book.specs.Inner.Live.{EditsLive, accepted_behind, all_parts, count_behind, merged, no_opening, one_part, refused_behind, whole_share, without_part};
+ghost use Rattle.live_book.specs.Inner.Live.{EditsKept, EditsLive, accepted_behind, all_parts, count_behind, merged, no_opening, one_part, refused_behind, whole_share, without_part};
 ghost use Rattle.live_book.specs.Published.{AreShown};
 ghost use Rattle.version_gate.specs.Lists.{Numbered as IsNumbered};
 
 use crate::book::Book;
 use crate::fault::EditFault;
+use crate::kept::Kept;
 use crate::published::Published;
 use edit_rules::Act;
 use emu_disk::Disk;
@@ -112,17 +114,27 @@ fn count<K: Opening, N: Ledger>(
     accepted: &mut ledger::Book<K>,
     refused: &mut ledger::Book<N>,
     share: &mut Share<K, N>,
-    answer: &Result<u64, EditFault>,
+    answer: &Result<Kept, EditFault>,
 )
     requires { 0 < share.old.parts }
-    ensures share { share.new ≡ count_behind share.old answer.now }
-    ensures accepted { accepted.new.total ≡ accepted_behind accepted.old.total answer.now }
-    ensures refused { refused.new.total ≡ refused_behind refused.old.total answer.now }
+    ensures share { share.new ≡ count_behind share.old (numbered answer.now) }
+    ensures accepted { accepted.new.total ≡ accepted_behind accepted.old.total (numbered answer.now) }
+    ensures refused { refused.new.total ≡ refused_behind refused.old.total (numbered answer.now) }
 {
     match answer {
         Ok(_) => accepted.add(&mut share.accepted, 1),
         Err(EditFault::Disk) => refused.add(&mut share.refused, 1),
         Err(_) => {}
+    }
+}
+
+/// The number of an answer; what takes the act back is let go of.
+fn number_of(made: Result<Kept, EditFault>) -> Result<u64, EditFault>
+    ensures { result ≡ numbered made }
+{
+    match made {
+        Ok(kept) => Ok(kept.n),
+        Err(fault) => Err(fault),
     }
 }
 
@@ -188,12 +200,13 @@ fn commit_drafted<D: Disk, R: Wait>(
     session: SessionNo,
     line: u32,
     act: &Act,
-) -> Result<u64, EditFault>
+) -> Result<Kept, EditFault>
     requires gate { pass.old.gate ≡ book.old.gate }
     requires seen { (k : ℕ) → IsNumbered k pass.old.list → k ≤ length book.old.history }
     requires draft { IfSome draft (IsDraftAt pass.old.list (entry_of session line act.now)) }
     ensures commits { Commits D.may_leave D.moment D.left_since D.faults book.old
-        (entry_of session line act.now) result book.new }
+        (entry_of session line act.now) (numbered result) book.new }
+    ensures inverse { KeepsInverse book.old.config book.old.history act.now result }
     ensures gate { pass.new.gate ≡ pass.old.gate }
     ensures own { IsPrefix pass.old.list pass.new.list }
     ensures whole { pass.new.list ≡ book.old.list }
@@ -202,7 +215,7 @@ fn commit_drafted<D: Disk, R: Wait>(
     learn_all(book, pass);
     match draft {
         Some(draft) => book.commit_draft(rt, alloc, draft),
-        None => book.commit(rt, alloc, session, line, act),
+        None => book.commit_kept(rt, alloc, session, line, act),
     }
 }
 
@@ -218,14 +231,14 @@ impl<K: Opening, N: Ledger, D: Disk> Locked<K, N, D> {
         session: SessionNo,
         line: u32,
         act: &Act,
-    ) -> Result<u64, EditFault>
+    ) -> Result<Kept, EditFault>
         requires gate { pass.old.gate ≡ K.opened.gate }
         requires part { 0 < share.old.parts }
         requires draft { IfSome draft (IsDraftAt pass.old.list (entry_of session line act.now)) }
         requires seen { (k : ℕ) → IsNumbered k pass.old.list → k ≤ length self.old.history }
         ensures gate { pass.new.gate ≡ pass.old.gate }
-        ensures edits { EditsLive K.opened (entry_of session line act.now) pass.old.list pass.new.list result }
-        ensures counted { share.new ≡ count_behind share.old result }
+        ensures edits { EditsKept K.opened (entry_of session line act.now) pass.old.list pass.new.list result }
+        ensures counted { share.new ≡ count_behind share.old (numbered result) }
     {
         let result = commit_drafted(rt, alloc, &mut self.book, pass, draft, session, line, act);
         let _seen = pass.seen();
@@ -263,11 +276,8 @@ impl<K: Opening, N: Ledger, D: Disk> Live<K, N, D> {
         }
     }
 
-    /// Accepts an act of a line of a session, or says why not, as [`Book::commit`] does, when the lock is free. The
-    /// answer is right for the entries that stood at that moment. The pass is one of the book's gate, and has then seen
-    /// the number in the answer or more. What depends on the configuration alone is made before it
-    /// waits for the lock, and made anew under it where another configuration has come into force.
-    /// Where the pass has seen more than the book has, it lets go and tries again: it keeps its promise if it returns.
+    /// Accepts an act of a line of a session, or says why not, as [`Live::edit_kept`] does, and lets go of what takes it
+    /// back.
     pub fn edit<R: Wait>(
         &self,
         rt: &R,
@@ -283,6 +293,31 @@ impl<K: Opening, N: Ledger, D: Disk> Live<K, N, D> {
         ensures gate { pass.new.gate ≡ pass.old.gate }
         ensures edits { EditsLive K.opened (entry_of session line act.now) pass.old.list pass.new.list result }
         ensures counted { share.new ≡ count_behind share.old result }
+    {
+        number_of(self.edit_kept(rt, alloc, pass, share, session, line, act))
+    }
+
+    /// Accepts an act of a line of a session, or says why not, as [`Book::commit_kept`] does, when the lock is free. The
+    /// answer is right for the entries that stood at that moment, and what takes the act back is made over them. The
+    /// pass is one of the book's gate, and has then seen the number in the answer or more. What depends on the
+    /// configuration alone is made before it waits for the lock, and made anew under it where another configuration has
+    /// come into force.
+    /// Where the pass has seen more than the book has, it lets go and tries again: it keeps its promise if it returns.
+    pub fn edit_kept<R: Wait>(
+        &self,
+        rt: &R,
+        alloc: Global,
+        pass: &mut Pass<Published>,
+        share: &mut Share<K, N>,
+        session: SessionNo,
+        line: u32,
+        act: &Act,
+    ) -> Result<Kept, EditFault>
+        requires gate { pass.old.gate ≡ K.opened.gate }
+        requires part { 0 < share.old.parts }
+        ensures gate { pass.new.gate ≡ pass.old.gate }
+        ensures edits { EditsKept K.opened (entry_of session line act.now) pass.old.list pass.new.list result }
+        ensures counted { share.new ≡ count_behind share.old (numbered result) }
     {
         let draft = draft_ahead(alloc, pass, session, line, act);
         let _seen = pass.seen();
@@ -300,13 +335,13 @@ impl<K: Opening, N: Ledger, D: Disk> Live<K, N, D> {
         session: SessionNo,
         line: u32,
         act: &Act,
-    ) -> Result<u64, EditFault>
+    ) -> Result<Kept, EditFault>
         requires gate { pass.old.gate ≡ K.opened.gate }
         requires part { 0 < share.old.parts }
         requires draft { IfSome draft (IsDraftAt pass.old.list (entry_of session line act.now)) }
         ensures gate { pass.new.gate ≡ pass.old.gate }
-        ensures edits { EditsLive K.opened (entry_of session line act.now) pass.old.list pass.new.list result }
-        ensures counted { share.new ≡ count_behind share.old result }
+        ensures edits { EditsKept K.opened (entry_of session line act.now) pass.old.list pass.new.list result }
+        ensures counted { share.new ≡ count_behind share.old (numbered result) }
     {
         for _ in rt.forever() {
             let mut guard = self.lock.lock(rt);

@@ -156,6 +156,7 @@ module _ (c : ConfigParts) (m : ℕ) (store : Bool) (H : List Entry) (script : L
   has_seen (requests.After earlier) (Some n) None from has agrees = absurd has
   has_seen (requests.After earlier) None heard from has agrees = tt
   has_seen (requests.Edit given) n heard from has agrees = tt
+  has_seen (requests.Undo earlier) n heard from has agrees = tt
   has_seen (requests.Query ask) n heard from has agrees = tt
   has_seen (requests.Look ask) n heard from has agrees = tt
   has_seen requests.Finish n heard from has agrees = tt

@@ -8,7 +8,7 @@ use Rattle.session_core.specs.declared.line.Line.{Line}
 use Rattle.session_core.specs.InOrder.{ComeInOrder}
 use Rattle.session_core.specs.Steps.{session_places}
 use Rattle.session_core.specs.Worlds.{Turn, Each}
-use Rattle.session_core.specs.Legal.{HasSeenTurn, IsNamed, IsRightTurn, KeepsSession, Legal, LooksFit, NeverFalls, accepted, accepting, disk_replies, is_line_of, of_session, replies_in}
+use Rattle.session_core.specs.Legal.{HasSeenTurn, IsNamed, IsRightTurn, KeepsSession, Legal, LooksFit, NeverFalls, UndosFit, accepted, accepting, disk_replies, is_line_of, of_session, replies_in}
 use Rattle.session_core.proofs.Turns.{each_map, each_of_map, each_to_map}
 use Rattle.live_laws.specs.Lanes.{Agrees, AreLanes, HasHeardStep, IsPast, Step, accepts, all_steps, all_turns, grouped, turns_of}
 use Rattle.live_laws.specs.Laws.{LanesAreLegal}
@@ -51,13 +51,14 @@ module _ (c : ConfigParts) (opening more : List Entry) (script : List Line) (lan
       home_same c (length opening) store (opening ++ more) script lane_of value (all_turns ran) (grouped (all_turns ran)) s
       (of_grouped s (all_turns ran) placed) (home_of s)
 
-  session_kept : (s : ℕ) → KeepsSession c (length opening) (opening ++ more) script (grouped (all_turns ran)) s
+  session_kept : (s : ℕ) → KeepsSession c (length opening) (opening ++ more) store script (grouped (all_turns ran)) s
   session_kept s =
       let own : HasHome c (length opening) store (opening ++ more) script lane_of value (grouped (all_turns ran)) s = grouped_home s in
       record {
         in_order = in_order c (length opening) store (opening ++ more) script lane_of value (grouped (all_turns ran)) s own;
         never_falls = subst (λ (ts : List Turn). NeverFalls (length opening) ts) (sym own.same) (own.lane.sessions s).never_falls;
         looks = subst (λ (ts : List Turn). LooksFit c (opening ++ more) None ts) (sym own.same) (own.lane.sessions s).looks;
+        undos = subst (λ (ts : List Turn). UndosFit c (opening ++ more) store [] ts) (sym own.same) (own.lane.sessions s).undos;
       }
 
   own_apart : (s : ℕ) → TurnsApart (of_session s (all_turns ran))

@@ -11,9 +11,10 @@ use Rattle.session_core.specs.declared.line.Request.{Request}
 use Rattle.session_core.specs.declared.line.Request.TheVariants as requests
 use Rattle.session_core.specs.Steps.{Opened, session_places, slot}
 use Rattle.session_core.specs.Worlds.{Turn, Each}
-use Rattle.session_core.specs.Legal.{IsNamed, IsRight, IsRightTurn, KeepsUp, Look, NumberedEntry, ReplyFits, accepted, accepting, is_of, lines_in, low_behind, of_session, open_behind}
+use Rattle.session_core.specs.Legal.{IsNamed, IsRight, IsRightTurn, KeepsUp, Look, Mark, ReplyFits, accepted, accepting, is_of, lines_in, low_behind, of_session, open_behind}
 use Rattle.session_core.proofs.Turns.{IsTo, accepted_push, each_filter, each_push, held_of, low_of, turns_other, turns_own}
 use Rattle.session_core.proofs.Places.{slot_none}
+use Rattle.session_core.proofs.Undoing.{as_own, undoes_same}
 use Rattle.session_core.proofs.Seats.{IsIn, Seat, rights_more, rights_to, seat_more, seat_told}
 use Rattle.session_core.proofs.Seats.{look_of as core_look}
 use Rattle.live_laws.specs.Lanes.{AreNoted, HasHeardStep, IsLane, IsLookIn, IsPast, IsSession, IsStep, IsUpTo, Step, look_after, look_of, low_after, turns_of}
@@ -44,8 +45,8 @@ to_up : (high : ℕ) (n : Option ℕ) → IsTo high n → IsUpTo high n
 to_up high None to = tt
 to_up high (Some n) to = to
 
-module _ (c : ConfigParts) (m : ℕ) (H : List Entry) (s : ℕ) (ts : List Turn) (look : Option Opened) where
-  to_seat : IsSession c m H ts look → Seat c m H s ts (lines_in ts) look None
+module _ (c : ConfigParts) (m : ℕ) (store : Bool) (H : List Entry) (s : ℕ) (ts : List Turn) (look : Option Opened) where
+  to_seat : IsSession c m store H ts look → Seat store c m H s ts (lines_in ts) look None
   to_seat is = record {
     lines = sym (append-nil (lines_in ts));
     falls = is.never_falls;
@@ -54,10 +55,11 @@ module _ (c : ConfigParts) (m : ℕ) (H : List Entry) (s : ℕ) (ts : List Turn)
     looks = is.looks;
     held = sym (held_same None ts) ∙ is.held ∙ look_same look;
     look_in = to_in m H look is.look_in;
+    undos = is.undos;
     waits = tt;
   }
 
-  from_seat : (ls : List Line) → Seat c m H s ts ls look None → IsSession c m H ts look
+  from_seat : (ls : List Line) → Seat store c m H s ts ls look None → IsSession c m store H ts look
   from_seat ls seat = record {
     never_falls = seat.falls;
     from = subst (λ (k : ℕ). m ≤ k) (sym (low_same m ts)) seat.from;
@@ -65,6 +67,7 @@ module _ (c : ConfigParts) (m : ℕ) (H : List Entry) (s : ℕ) (ts : List Turn)
     looks = seat.looks;
     held = held_same None ts ∙ seat.held ∙ sym (look_same look);
     look_in = from_in m H look seat.look_in;
+    undos = seat.undos;
   }
 
 -- The numbers that are noted.
@@ -100,13 +103,14 @@ begins c m store H from = record {
   noted = from;
   heard = tt;
   places = length-replicate {A = Option Opened} session_places None;
-  sessions = λ s. subst (λ (look : Option Opened). IsSession c m H [] look) (sym (slot_none session_places s)) (record {
+  sessions = λ s. subst (λ (look : Option Opened). IsSession c m store H [] look) (sym (slot_none session_places s)) (record {
     never_falls = tt;
     from = let same : m ≤ m = omega arith in same;
     low = from;
     looks = tt;
     held = refl;
     look_in = tt;
+    undos = tt;
   });
 }
 
@@ -116,14 +120,14 @@ module _ (c : ConfigParts) (m : ℕ) (store : Bool) (old new : List Entry) (look
   numbers_to : IsLane c m store old looks steps → Each (λ (t : Turn). IsTo (length old) t.reply.n) (turns_of steps)
   numbers_to lane = rights_to store c m old new (turns_of steps) lane.right
 
-  session_more : IsLane c m store old looks steps → (s : ℕ) → IsSession c m (old ++ new) (of_session s (turns_of steps)) (slot looks s)
+  session_more : IsLane c m store old looks steps → (s : ℕ) → IsSession c m store (old ++ new) (of_session s (turns_of steps)) (slot looks s)
   session_more lane s =
       let ts : List Turn = of_session s (turns_of steps) in
       let look : Option Opened = slot looks s in
-      from_seat c m (old ++ new) s ts look (lines_in ts)
-      (seat_more c m old new s ts (lines_in ts) look None
+      from_seat c m store (old ++ new) s ts look (lines_in ts)
+      (seat_more store c m old new s ts (lines_in ts) look None
       (each_filter (λ (t : Turn). IsTo (length old) t.reply.n) (is_of s) (turns_of steps) (numbers_to lane))
-      (to_seat c m old s ts look (lane.sessions s)))
+      (to_seat c m store old s ts look (lane.sessions s)))
 
   lane_more : IsLane c m store old looks steps → IsLane c m store (old ++ new) looks steps
   lane_more lane = record {
@@ -153,6 +157,7 @@ keeps_low : (low high : ℕ) (r : Request) (n : Option ℕ) → low ≤ high →
 keeps_low low high r None le keeps = tt
 keeps_low low high requests.Finish (Some n) le keeps = tt
 keeps_low low high (requests.Edit given) (Some n) le keeps = let up : high ≤ n = keeps in omega arith
+keeps_low low high (requests.Undo earlier) (Some n) le keeps = let up : high ≤ n = keeps in omega arith
 keeps_low low high (requests.Query ask) (Some n) le keeps = let up : high ≤ n = keeps in omega arith
 keeps_low low high (requests.Look ask) (Some n) le keeps = let up : high ≤ n = keeps in omega arith
 keeps_low low high (requests.After earlier) (Some n) le keeps = let up : high ≤ n = keeps in omega arith
@@ -163,6 +168,7 @@ module _ (c : ConfigParts) (m : ℕ) (H : List Entry) (store : Bool) (l : Line) 
   low_from r None le right = le
   low_from requests.Finish (Some n) le right = le
   low_from (requests.Edit given) (Some n) le right = right.0
+  low_from (requests.Undo earlier) (Some n) le right = right.0
   low_from (requests.Query ask) (Some n) le right = right.0
   low_from (requests.Look ask) (Some n) le right = right.0
   low_from (requests.After earlier) (Some n) le right = right.0
@@ -171,12 +177,13 @@ module _ (c : ConfigParts) (m : ℕ) (H : List Entry) (store : Bool) (l : Line) 
   low_to r None le right = le
   low_to requests.Finish (Some n) le right = le
   low_to (requests.Edit given) (Some n) le right = right.1
+  low_to (requests.Undo earlier) (Some n) le right = right.1
   low_to (requests.Query ask) (Some n) le right = right.1
   low_to (requests.Look ask) (Some n) le right = right.1
   low_to (requests.After earlier) (Some n) le right = right.1
 
 module _ (c : ConfigParts) (m : ℕ) (store : Bool) (old H : List Entry) (looks new : List (Option Opened)) (steps : List Step) (st : Step)
-    (lane : IsLane c m store old looks steps) (step : IsStep c m store old H looks new st.turn.line st) where
+    (lane : IsLane c m store old looks steps) (step : IsStep c m store old H looks new (accepted (turns_of steps)) st.turn.line st) where
   lane_now : IsLane c m store H looks steps
   lane_now = sees_more c m store old H looks steps lane step.goes_on
 
@@ -184,36 +191,37 @@ module _ (c : ConfigParts) (m : ℕ) (store : Bool) (old H : List Entry) (looks 
   old_high = begins_length old H step.goes_on
 
   abbrev NowIs : ℕ → Type 0
-  NowIs s = IsSession c m H (of_session s (turns_of steps ++ st.turn ∷ [])) (slot new s)
+  NowIs s = IsSession c m store H (of_session s (turns_of steps ++ st.turn ∷ [])) (slot new s)
 
   -- the session of the line
-  own_session : IsSession c m H (of_session st.turn.line.session.0 (turns_of steps) ++ st.turn ∷ []) (slot new st.turn.line.session.0)
+  own_session : IsSession c m store H (of_session st.turn.line.session.0 (turns_of steps) ++ st.turn ∷ []) (slot new st.turn.line.session.0)
   own_session =
       let s : ℕ = st.turn.line.session.0 in
       let ts : List Turn = of_session s (turns_of steps) in
       let r : Request = st.turn.line.request in
       let n : Option ℕ = st.turn.reply.n in
       let low : ℕ = low_of m ts in
-      let seat : Seat c m H s ts (lines_in ts) (slot looks s) None = to_seat c m H s ts (slot looks s) (lane_now.sessions s) in
+      let seat : Seat store c m H s ts (lines_in ts) (slot looks s) None = to_seat c m store H s ts (slot looks s) (lane_now.sessions s) in
       let was : low ≤ length old = subst (λ (k : ℕ). k ≤ length old) (low_same m ts) (lane.sessions s).low in
-      from_seat c m H s (ts ++ st.turn ∷ []) (slot new s) (lines_in ts ++ st.turn.line ∷ [])
-      (seat_told c m H s ts (lines_in ts) (slot looks s) None seat st.turn (lines_in ts ++ st.turn.line ∷ []) (slot new s)
+      from_seat c m store H s (ts ++ st.turn ∷ []) (slot new s) (lines_in ts ++ st.turn.line ∷ [])
+      (seat_told store c m H s ts (lines_in ts) (slot looks s) None seat st.turn (lines_in ts ++ st.turn.line ∷ []) (slot new s)
       (keeps_low low (length old) r n was step.keeps)
       (low_from c m H store st.turn.line st.turn.reply.answer low r n seat.from step.right)
       (low_to c m H store st.turn.line st.turn.reply.answer low r n seat.low step.right)
       (subst (λ (held : Option Look). ReplyFits c H held r n st.turn.reply.answer) (look_same (slot looks s)) step.fits)
       (ap (λ (held : Option Look). open_behind held r n) (sym (look_same (slot looks s))) ∙ step.opens ∙ look_same (slot new s))
       (to_in m H (slot new s) step.look_in)
+      (undoes_same c H store (accepted (turns_of steps)) (accepted ts) st.turn.line r n st.turn.reply.answer (λ line. as_own s line (turns_of steps)) step.undoes)
       refl)
 
   same_session : (s : ℕ) → st.turn.line.session.0 ≡ s → NowIs s
   same_session s e = subst NowIs e
-      (subst (λ (ts : List Turn). IsSession c m H ts (slot new st.turn.line.session.0)) (sym (turns_own st.turn.line.session.0 (turns_of steps) st.turn refl)) own_session)
+      (subst (λ (ts : List Turn). IsSession c m store H ts (slot new st.turn.line.session.0)) (sym (turns_own st.turn.line.session.0 (turns_of steps) st.turn refl)) own_session)
 
   other_session : (s : ℕ) → st.turn.line.session.0 ≢ s → NowIs s
   other_session s ne =
-      subst (λ (ts : List Turn). IsSession c m H ts (slot new s)) (sym (turns_other s (turns_of steps) st.turn ne))
-      (subst (λ (look : Option Opened). IsSession c m H (of_session s (turns_of steps)) look) (sym (step.others s ne)) (lane_now.sessions s))
+      subst (λ (ts : List Turn). IsSession c m store H ts (slot new s)) (sym (turns_other s (turns_of steps) st.turn ne))
+      (subst (λ (look : Option Opened). IsSession c m store H (of_session s (turns_of steps)) look) (sym (step.others s ne)) (lane_now.sessions s))
 
   session_now : (s : ℕ) → NowIs s
   session_now s = ⊎_elim (λ e. same_session s e) (λ ne. other_session s ne) (cases_eq st.turn.line.session.0 s)
@@ -231,7 +239,7 @@ module _ (c : ConfigParts) (m : ℕ) (store : Bool) (old H : List Entry) (looks 
 
   fresh_now : Each (IsPast m) (accepted (turns_of steps ++ st.turn ∷ []))
   fresh_now =
-      subst (λ (ms : List NumberedEntry). Each (IsPast m) ms) (sym (accepted_push (turns_of steps) st.turn))
+      subst (λ (ms : List Mark). Each (IsPast m) ms) (sym (accepted_push (turns_of steps) st.turn))
       (each_join (IsPast m) (accepted (turns_of steps)) (accepting st.turn.line st.turn.line.request st.turn.reply.n st.turn.reply.answer) lane.fresh step.fresh)
 
   lane_push : IsLane c m store H new (steps ++ st ∷ [])
@@ -246,10 +254,10 @@ module _ (c : ConfigParts) (m : ℕ) (store : Bool) (old H : List Entry) (looks 
         noted = noted_now;
         heard = each_push HasHeardStep steps st lane.heard step.heard;
         places = step.places ∙ lane.places;
-        sessions = λ s. subst (λ (ts : List Turn). IsSession c m H (of_session s ts) (slot new s)) turns (session_now s);
+        sessions = λ s. subst (λ (ts : List Turn). IsSession c m store H (of_session s ts) (slot new s)) turns (session_now s);
       }
 
 pub takes_step : (c : ConfigParts) (m : ℕ) (store : Bool) (old H : List Entry) (looks new : List (Option Opened)) (steps : List Step) (l : Line) (st : Step)
-    → IsLane c m store old looks steps → IsStep c m store old H looks new l st → IsLane c m store H new (steps ++ st ∷ [])
+    → IsLane c m store old looks steps → IsStep c m store old H looks new (accepted (turns_of steps)) l st → IsLane c m store H new (steps ++ st ∷ [])
 takes_step c m store old H looks new steps l st lane step =
-    lane_push c m store old H looks new steps st lane (subst (λ (k : Line). IsStep c m store old H looks new k st) (sym step.line) step)
+    lane_push c m store old H looks new steps st lane (subst (λ (k : Line). IsStep c m store old H looks new (accepted (turns_of steps)) k st) (sym step.line) step)

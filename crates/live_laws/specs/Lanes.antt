@@ -9,7 +9,7 @@ use Rattle.session_core.specs.declared.line.Request.{Request}
 use Rattle.session_core.specs.declared.line.Request.TheVariants as requests
 use Rattle.session_core.specs.Steps.{Opened, session_places, slot}
 use Rattle.session_core.specs.Worlds.{Turn, Each}
-use Rattle.session_core.specs.Legal.{IsNamed, IsRightTurn, KeepsUp, Look, LooksFit, NeverFalls, NumberedEntry, ReplyFits, accepted, accepting, lines_in, low_behind, of_session, open_behind}
+use Rattle.session_core.specs.Legal.{IsNamed, IsRightTurn, KeepsUp, Look, LooksFit, Mark, NeverFalls, ReplyFits, ReplyUndoes, UndosFit, accepted, accepting, lines_in, low_behind, of_session, open_behind}
 
 -- A line that was answered: its turn; the number of entries that its lane had seen then, which is noted for the line;
 -- and for an `after` the number that was noted for the line that it names
@@ -39,6 +39,7 @@ HasHeard (requests.After earlier) (Some n) (Some noted) = noted ≤ n
 HasHeard (requests.After earlier) (Some n) None = ⊥
 HasHeard (requests.After earlier) None heard = Unit {0}
 HasHeard (requests.Edit given) n heard = Unit {0}
+HasHeard (requests.Undo earlier) n heard = Unit {0}
 HasHeard (requests.Query ask) n heard = Unit {0}
 HasHeard (requests.Look ask) n heard = Unit {0}
 HasHeard requests.Finish n heard = Unit {0}
@@ -48,7 +49,7 @@ abbrev pub HasHeardStep : Step → Type 0
 HasHeardStep st = HasHeard st.turn.line.request st.turn.reply.n st.heard
 
 -- an entry's number is past this one
-abbrev pub IsPast : ℕ → NumberedEntry → Type 0
+abbrev pub IsPast : ℕ → Mark → Type 0
 IsPast low mark = low < mark.n
 
 -- the number and the query of an open look
@@ -72,14 +73,15 @@ look_after held [] = held
 look_after held (t ∷ ts) = look_after (open_behind held t.line.request t.reply.n) ts
 
 -- What holds of a session in its lane: m entries stood before the run, and the lane has seen H
-pub record IsSession (c : ConfigParts) (m : ℕ) (H : List Entry) (turns : List Turn) (look : Option Opened)
-    : Type 0 where
+pub record IsSession (c : ConfigParts) (m : ℕ) (store : Bool) (H : List Entry) (turns : List Turn)
+    (look : Option Opened) : Type 0 where
   pub never_falls : NeverFalls m turns
   pub from : m ≤ low_after m turns
   pub low : low_after m turns ≤ length H
   pub looks : LooksFit c H None turns
   pub held : look_after None turns ≡ look_of look
   pub look_in : IsLookIn m (length H) look
+  pub undos : UndosFit c H store [] turns
 
 -- What a lane keeps of the lines that it answered: m entries stood before the run, the lane has seen H, and these
 -- looks are open. An accepted edit's entry is one that came in the run
@@ -92,11 +94,12 @@ pub record IsLane (c : ConfigParts) (m : ℕ) (store : Bool) (H : List Entry) (l
   pub noted : AreNoted m (length H) steps
   pub heard : Each HasHeardStep steps
   pub places : length looks ≡ session_places
-  pub sessions : (s : ℕ) → IsSession c m H (of_session s (turns_of steps)) (slot looks s)
+  pub sessions : (s : ℕ) → IsSession c m store H (of_session s (turns_of steps)) (slot looks s)
 
--- One line more is answered. The lane had seen one history, and has now seen one that goes on from it
+-- One line more is answered. The lane had seen one history, and has now seen one that goes on from it; these are the
+-- marks of what it accepted before
 pub record IsStep (c : ConfigParts) (m : ℕ) (store : Bool) (old H : List Entry) (looks new : List (Option Opened))
-    (l : Line) (st : Step) : Type 0 where
+    (marks : List Mark) (l : Line) (st : Step) : Type 0 where
   pub goes_on : IsPrefix old H
   pub line : st.turn.line ≡ l
   pub place : l.session.0 < session_places
@@ -107,6 +110,7 @@ pub record IsStep (c : ConfigParts) (m : ℕ) (store : Bool) (old H : List Entry
   pub fits : ReplyFits c H (look_of (slot looks l.session.0)) l.request st.turn.reply.n st.turn.reply.answer
   pub opens : open_behind (look_of (slot looks l.session.0)) l.request st.turn.reply.n ≡ look_of (slot new l.session.0)
   pub look_in : IsLookIn m (length H) (slot new l.session.0)
+  pub undoes : ReplyUndoes c H store marks l l.request st.turn.reply.n st.turn.reply.answer
   pub others : (s : ℕ) → l.session.0 ≢ s → slot new s ≡ slot looks s
   pub places : length new ≡ length looks
   pub noted : st.noted ≡ length H

@@ -8,10 +8,10 @@ use Rattle.edit_rules.specs.declared.acts.Entry.{Entry}
 use Rattle.edit_rules.specs.Effects.{IsLegal}
 use Rattle.session_core.specs.declared.line.Line.{Line}
 use Rattle.session_core.specs.InOrder.{ComeInOrder}
-use Rattle.session_core.specs.Legal.{Legal, disk_replies, replies_in}
+use Rattle.session_core.specs.Legal.{Legal, accepted, disk_replies, replies_in}
 use Rattle.session_core.specs.Steps.{Opened, session_places}
 use Rattle.session_core.specs.Worlds.{Each}
-use Rattle.live_laws.specs.Lanes.{Agrees, AreLanes, HasKept, IsLane, IsStep, Step, accepts, all_steps, all_turns, grouped}
+use Rattle.live_laws.specs.Lanes.{Agrees, AreLanes, HasKept, IsLane, IsStep, Step, accepts, all_steps, all_turns, grouped, turns_of}
 
 -- a lane begins with no line answered and no look open
 abbrev pub LanesBegin : Type 0
@@ -27,7 +27,7 @@ LanesSeeMore = (c : ConfigParts) (m : ℕ) (store : Bool) (old H : List Entry) (
 abbrev pub LanesTakeSteps : Type 0
 LanesTakeSteps = (c : ConfigParts) (m : ℕ) (store : Bool) (old H : List Entry) (looks new : List (Option Opened))
     (steps : List Step) (l : Line) (st : Step) → IsLane c m store old looks steps
-    → IsStep c m store old H looks new l st → IsLane c m store H new (steps ++ st ∷ [])
+    → IsStep c m store old H looks new (accepted (turns_of steps)) l st → IsLane c m store H new (steps ++ st ∷ [])
 
 -- Lanes that have ended make a legal run: each of them kept what a lane keeps, beside a beginning of the book's
 -- history; each line was answered in the lane of its session; what was noted for a line was heard; as many edits were

@@ -41,7 +41,7 @@ kept_seat : (o : Opened) (H : List Entry) (list : List (Numbered Published)) →
 kept_seat o H list shown steps ended =
     let part : ShowsBeginning o H ended.seat.list ended.is.number =
     lists_begin o H ended.seat.list list ended.is.number shown ended.begins ended.is.numbered ended.is.past in
-    let keeps : KeepsLane o part.beginning ended.seat.looks ended.seat.steps = ended.is.keeps part.beginning part.shown in
+    let keeps : KeepsLane o part.beginning ended.seat.looks ended.seat.acts ended.seat.steps = ended.is.keeps part.beginning part.shown in
     subst (λ (l : List Step). HasKept o.config (length o.entries) o.stored H l) ended.lines
     (record { seen = part.beginning; begins = part.begins; looks = opened_in ended.seat.looks; lane = keeps.lane })
 

@@ -82,6 +82,7 @@ under_any cells earlier (l ∷ before) any low =
 named_cell : (cells : ℕ) (before : List Line) (r : Request) → NamesEarlier before r → Each (IsUnder cells) before → NamesCell cells r
 named_cell cells before (requests.After earlier) named low = under_any cells earlier before named low
 named_cell cells before (requests.Edit given) named low = tt
+named_cell cells before (requests.Undo earlier) named low = tt
 named_cell cells before (requests.Query ask) named low = tt
 named_cell cells before (requests.Look ask) named low = tt
 named_cell cells before requests.Finish named low = tt

@@ -1,5 +1,5 @@
 -- What holds of the lines and turns of all lanes together.
-use Rattle.std.proofs.Common.{◌≡◌, ℕ, zero, suc, ◌+◌, ◌<◌, ◌≤◌, Bool, List, [], ◌∷◌, ◌++◌, length, Option, Some, None, Ok, Err, refl, sym, ◌∙◌, ap, subst, arith, append_assoc, length-append}
+use Rattle.std.proofs.Common.{◌≡◌, ℕ, zero, suc, ◌+◌, ◌<◌, ◌≤◌, Bool, true, false, List, [], ◌∷◌, ◌++◌, length, Option, Some, None, refl, sym, ◌∙◌, ap, subst, arith, append_assoc, length-append}
 use Rattle.std.proofs.lemmas.List.{map-append}
 use Rattle.std.proofs.lemmas.List.Sums.{sum_by-append}
 use Rattle.db_config.specs.declared.parts.ConfigParts.{ConfigParts}
@@ -9,11 +9,10 @@ use Rattle.session_core.specs.declared.line.Answer.TheVariants.{Done, Refused, S
 use Rattle.session_core.specs.declared.line.Line.{Line}
 use Rattle.session_core.specs.declared.line.Reply.{Reply}
 use Rattle.session_core.specs.declared.line.Request.{Request}
-use Rattle.session_core.specs.declared.line.Request.TheVariants as requests
 use Rattle.session_core.specs.InOrder.{ComeInOrder}
 use Rattle.session_core.specs.Steps.{session_places}
 use Rattle.session_core.specs.Worlds.{Each, Turn}
-use Rattle.session_core.specs.Legal.{IsNamed, NumberedEntry, accepted, accepting, disk_replies, lines_in, lines_of_session, of_session, replies_in}
+use Rattle.session_core.specs.Legal.{IsNamed, Mark, accepted, accepting, disk_replies, lines_in, lines_of_session, makes_entry, of_session, replies_in, told_mark}
 use Rattle.session_core.proofs.Turns.{disk_of, each_filter, each_map, each_of_map}
 use Rattle.live_laws.specs.Lanes.{Agrees, AreLanes, Step, accepts, all_steps, all_turns, grouped, grouped_from, is_in_lane, turns_of}
 use Rattle.live_laws.proofs.Eaches.{each_append}
@@ -55,11 +54,11 @@ all_placed lane_of script ran come lanes =
 accepted_append : (xs ys : List Turn) → accepted (xs ++ ys) ≡ accepted xs ++ accepted ys
 accepted_append [] ys = refl
 accepted_append (x ∷ xs) ys =
-    ap (λ (l : List NumberedEntry). accepting x.line x.line.request x.reply.n x.reply.answer ++ l) (accepted_append xs ys)
+    ap (λ (l : List Mark). accepting x.line x.line.request x.reply.n x.reply.answer ++ l) (accepted_append xs ys)
     ∙ sym (append_assoc (accepting x.line x.line.request x.reply.n x.reply.answer) (accepted xs) (accepted ys))
 
 accepts_append : (xs ys : List Turn) → accepts (xs ++ ys) ≡ accepts xs + accepts ys
-accepts_append xs ys = ap (λ (l : List NumberedEntry). length l) (accepted_append xs ys) ∙ length-append (accepted xs) (accepted ys)
+accepts_append xs ys = ap (λ (l : List Mark). length l) (accepted_append xs ys) ∙ length-append (accepted xs) (accepted ys)
 
 disks_append : (xs ys : List Turn) → disk_replies (replies_in (xs ++ ys)) ≡ disk_replies (replies_in xs) + disk_replies (replies_in ys)
 disks_append xs ys =
@@ -81,16 +80,15 @@ all_refused (steps ∷ ran) =
     ∙ ap (λ (n : ℕ). disk_replies (replies_in (turns_of steps)) + n) (all_refused ran)
 
 -- a line has one acceptance at most
+told_few : (l : Line) (makes : Bool) (n : Option ℕ) (answer : Answer) → length (told_mark l makes n answer) ≤ 1
+told_few l true (Some n) (Done command) = omega arith
+told_few l true (Some n) (Segments rows) = omega arith
+told_few l true (Some n) (Refused refusal) = omega arith
+told_few l true None answer = omega arith
+told_few l false n answer = omega arith
+
 accepting_few : (l : Line) (r : Request) (n : Option ℕ) (answer : Answer) → length (accepting l r n answer) ≤ 1
-accepting_few l (requests.Edit (Ok act)) (Some n) (Done command) = omega arith
-accepting_few l (requests.Edit (Ok act)) (Some n) (Segments rows) = omega arith
-accepting_few l (requests.Edit (Ok act)) (Some n) (Refused refusal) = omega arith
-accepting_few l (requests.Edit (Ok act)) None answer = omega arith
-accepting_few l (requests.Edit (Err fault)) n answer = omega arith
-accepting_few l (requests.Query ask) n answer = omega arith
-accepting_few l (requests.Look ask) n answer = omega arith
-accepting_few l requests.Finish n answer = omega arith
-accepting_few l (requests.After earlier) n answer = omega arith
+accepting_few l r n answer = told_few l (makes_entry r) n answer
 
 accepts_few : (ts : List Turn) → accepts ts ≤ length ts
 accepts_few [] = omega arith

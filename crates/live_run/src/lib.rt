@@ -9,4 +9,5 @@ mod places;
 mod room;
 mod run;
 
+pub use live_seats::Marks;
 pub use run::{Ended, LiveEnd, run_live};

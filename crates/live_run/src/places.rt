@@ -7,18 +7,19 @@ use emu_disk::Disk;
 use emu_names::Memory;
 use live_book::{Book, Opening, Published, Share};
 use live_seats::{Answered, Lane, Look, Row, Seat};
-use session_core::{Lines, Slots};
+use session_core::{KeptActs, Lines, Slots};
 use std::alloc::Global;
 use std::marker::Model;
 use std::sync::ledger::Ledger;
 use version_gate::{Pass, Passes};
 
-/// A seat without its share: a pass, the looks of its sessions, of which none is open, and room for lines. Contracts
-/// see for how many lines there is room.
+/// A seat without its share: a pass, the looks of its sessions, of which none is open, room for what takes changes
+/// back, and room for lines. Contracts see for how many lines there is room.
 #[derive(Drop)]
 pub(crate) struct Place<'a, K: Opening + Row> {
     pass: Pass<Published>,
     looks: Slots<Look<'a>>,
+    kept: KeptActs,
     steps: Vec<Answered<'a, K>>,
 }
 
@@ -32,19 +33,30 @@ impl<'a, K: Opening + Row> Model for Place<'a, K> {
     ghost view = { λ p. vec_capacity p.steps };
 
     ghost invariant = { λ p. (p.pass.gate ≡ K.opened.gate) × HasSeen (length K.opened.entries) p.pass.list
-        × (p.looks ≡ replicate session_places None) × (p.steps.items ≡ []) };
+        × (p.looks ≡ replicate session_places None) × (p.kept.acts ≡ []) × (p.steps.items ≡ []) };
 }
 
 impl<'a, K: Opening + Row> Place<'a, K> {
-    /// A place with room for so many lines. The only refusal is want of memory.
-    fn new(alloc: Global, pass: Pass<Published>, lines: usize) -> Result<Place<'a, K>, Memory>
+    /// A place with room for so many lines, of which so many ask for a change. The only refusal is want of memory.
+    fn new(
+        alloc: Global,
+        pass: Pass<Published>,
+        lines: usize,
+        changes: usize,
+    ) -> Result<Place<'a, K>, Memory>
         requires gate { pass.gate ≡ K.opened.gate }
         requires seen { HasSeen (length K.opened.entries) pass.list }
         ensures { IfOk result (λ place. place ≡ lines) }
     {
         let looks = Slots::new(alloc)?;
+        let kept = KeptActs::with_room(alloc, changes)?;
         let steps = Vec::with_capacity(alloc, lines)?;
-        Ok(Place { pass, looks, steps })
+        Ok(Place {
+            pass,
+            looks,
+            kept,
+            steps,
+        })
     }
 
     /// The seat that has this share.
@@ -54,8 +66,13 @@ impl<'a, K: Opening + Row> Place<'a, K> {
         ensures room { result.room ≡ self.entry }
         ensures parts { result.count.parts ≡ share.parts }
     {
-        let Place { pass, looks, steps } = self;
-        Seat::new(pass, share, looks, steps)
+        let Place {
+            pass,
+            looks,
+            kept,
+            steps,
+        } = self;
+        Seat::new(pass, share, looks, kept, steps)
     }
 }
 
@@ -70,12 +87,14 @@ fn teach<D: Disk>(book: &mut Book<D>, pass: &mut Pass<Published>)
     let _ = pass.seen();
 }
 
-/// A place whose pass has seen all entries of a book, with room for so many lines. The only refusal is want of memory.
+/// A place whose pass has seen all entries of a book, with room for so many lines, of which so many ask for a change.
+/// The only refusal is want of memory.
 fn make_place<'a, K: Opening + Row, D: Disk>(
     alloc: Global,
     book: &mut Book<D>,
     mut pass: Pass<Published>,
     lines: usize,
+    changes: usize,
 ) -> Result<Place<'a, K>, Memory>
     requires gate { pass.gate ≡ K.opened.gate }
     requires opening { (book.old.gate ≡ K.opened.gate) × (book.old.history ≡ K.opened.entries) }
@@ -83,7 +102,7 @@ fn make_place<'a, K: Opening + Row, D: Disk>(
     ensures room { IfOk result (λ place. place ≡ lines) }
 {
     teach(book, &mut pass);
-    Place::new(alloc, pass, lines)
+    Place::new(alloc, pass, lines, changes)
 }
 
 /// The last of passes of one gate, of which there is one.
@@ -125,7 +144,8 @@ pub(crate) fn make_places<'a, K: Opening + Row, D: Disk>(
             seat: seats - 1 - at,
         };
         let pass = take_pass::<K>(passes);
-        let place = make_place(alloc, book, pass, lane.count(lines))?;
+        let count = lane.count(lines);
+        let place = make_place(alloc, book, pass, count, lane.count_changes(lines))?;
         places.push_reserved(place);
     }
     Ok(places)
@@ -145,7 +165,8 @@ pub(crate) fn make_last<'a, K: Opening + Row, D: Disk>(
     ensures room { IfOk result (λ place. place ≡ length lines.now) }
 {
     let pass = take_pass::<K>(passes);
-    make_place(alloc, book, pass, lines.len())
+    let all = Lane::Rest { seats: 1, made: 0 };
+    make_place(alloc, book, pass, lines.len(), all.count_changes(lines))
 }
 
 /// The seats of places, in their order, each with one part of a share.

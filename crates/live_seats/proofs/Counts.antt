@@ -2,7 +2,8 @@
 use Rattle.std.proofs.Common.{◌≡◌, ℕ, suc, ◌+◌, Bool, true, false, List, [], ◌++◌, length, Option, Some, None, Result, Ok, Err, cond, refl, ap, ◌∙◌, arith}
 use Rattle.textgrid.specs.declared.fault.GridFault.{GridFault}
 use Rattle.edit_rules.specs.Database.{DatabaseParts}
-use Rattle.edit_rules.specs.declared.acts.Act.{Act}
+use Rattle.edit_undo.specs.declared.faults.NoUndo.{NoUndo}
+use Rattle.edit_undo.specs.declared.faults.NoUndo.TheVariants as reasons
 use Rattle.eql_resolve.specs.declared.faults.AskFault.{AskFault}
 use Rattle.eql_resolve.specs.declared.faults.PrepareFault.{PrepareFault}
 use Rattle.eql_resolve.specs.Asked.{AskedParts}
@@ -18,6 +19,7 @@ use Rattle.session_core.specs.declared.line.Answer.{Answer}
 use Rattle.session_core.specs.declared.line.Answer.TheVariants.{Done, Refused}
 use Rattle.session_core.specs.declared.line.Ask.{Ask}
 use Rattle.session_core.specs.declared.line.Line.{Line}
+use Rattle.session_core.specs.declared.line.Refusal.{Refusal}
 use Rattle.session_core.specs.declared.line.Refusal.TheVariants as refusals
 use Rattle.session_core.specs.declared.line.Reply.{Reply}
 use Rattle.session_core.specs.declared.line.Request.{Request}
@@ -25,7 +27,8 @@ use Rattle.session_core.specs.declared.line.Request.TheVariants as requests
 use Rattle.session_core.specs.declared.slots.Held.{Held}
 use Rattle.session_core.specs.Answers.{answer_over, asked_answer, grid_answer, grid_number, listed_answer, memory, prepare_answer, prepared_answer, reached_answer, reply_to, resolved_answer, rule_refusal}
 use Rattle.session_core.specs.Inner.Kept.{held_answer, look_answer, look_closed}
-use Rattle.session_core.specs.Legal.{accepting, is_disk}
+use Rattle.session_core.specs.Legal.{accepting, is_disk, makes_entry, told_mark}
+use Rattle.session_core.specs.Undos.{undo_refusal}
 use Rattle.session_core.specs.Queries.{is_memory_of, lacks_memory}
 use Rattle.session_core.proofs.Turns.{disk_of, disks_push}
 use Rattle.session_core.specs.Worlds.{Turn}
@@ -56,13 +59,21 @@ no_edit : (l : Line) (n : Option ℕ) (answer : Answer) (r : Request) → l.requ
 no_edit l n answer r is none =
     ap (λ (q : Request). length (accepting l q n answer ++ [])) is ∙ ap (λ xs. length (xs ++ [])) none
 
-accepting_none : (l : Line) (r : Request) (answer : Answer) → accepting l r None answer ≡ []
-accepting_none l (requests.Edit (Ok act)) answer = refl
-accepting_none l (requests.Edit (Err fault)) answer = refl
-accepting_none l (requests.Query ask) answer = refl
-accepting_none l (requests.Look ask) answer = refl
-accepting_none l requests.Finish answer = refl
-accepting_none l (requests.After earlier) answer = refl
+told_none : (l : Line) (makes : Bool) (answer : Answer) → told_mark l makes None answer ≡ []
+told_none l true answer = refl
+told_none l false answer = refl
+
+told_refused : (l : Line) (makes : Bool) (n : Option ℕ) (refusal : Refusal) → told_mark l makes n (Refused refusal) ≡ []
+told_refused l true None refusal = refl
+told_refused l true (Some n) refusal = refl
+told_refused l false n refusal = refl
+
+-- a reply without a number, and a refusal, tell no entry
+pub accepting_none : (l : Line) (r : Request) (answer : Answer) → accepting l r None answer ≡ []
+accepting_none l r answer = told_none l (makes_entry r) answer
+
+pub accepting_refused : (l : Line) (r : Request) (n : Option ℕ) (refusal : Refusal) → accepting l r n (Refused refusal) ≡ []
+accepting_refused l r n refusal = told_refused l (makes_entry r) n refusal
 
 -- The disk did not fail.
 
@@ -143,22 +154,34 @@ module _ (count : Count) (l : Line) where
   closed_count looks None is = quiet_none (Refused refusals.NoLook) refl
   closed_count looks (Some held) is = answered_count looks held (lacks_memory held.ask) is
 
-  -- an edit
-  accepts_one : (act : Act) (n : ℕ) → l.request ≡ requests.Edit (Ok act) → accepts_at (turn_of l (reply_to l (Some n) (Done l.command))) ≡ 1
-  accepts_one act n is = ap (λ (q : Request). length (accepting l q (Some n) (Done l.command) ++ [])) is
+  -- an `undo` that wants no act
+  pub not_accepted_count : Same (reply_to l None (Refused refusals.NotAccepted))
+  not_accepted_count = quiet_none (Refused refusals.NotAccepted) refl
 
-  pub edit_count : (act : Act) (made : Result ℕ EditFault) → l.request ≡ requests.Edit (Ok act) → count_behind count made ≡ counted_by count (turn_of l (commit_reply l made))
-  edit_count act (Ok n) is =
-      let t : Turn = turn_of l (commit_reply l (Ok n)) in
-      let one : accepts_at t ≡ 1 = accepts_one act n is in
-      let none : disk_at t ≡ 0 = no_disk l (Some n) (Done l.command) refl in
-      same_count count.parts (suc count.accepted) (count.accepted + accepts_at t) count.refused (count.refused + disk_at t) (omega (arith, one)) (omega (arith, none))
-  edit_count act (Err (faults.HistoryFull n)) is = quiet (Some n) (Refused refusals.HistoryFull) (requests.Edit (Ok act)) is refl refl
-  edit_count act (Err (faults.Broken breach n)) is = quiet (Some n) (Refused (rule_refusal l.command breach)) (requests.Edit (Ok act)) is refl refl
-  edit_count act (Err (faults.StoreFull n)) is = quiet (Some n) (Refused refusals.StoreFull) (requests.Edit (Ok act)) is refl refl
-  edit_count act (Err faults.Disk) is =
-      let t : Turn = turn_of l (commit_reply l (Err faults.Disk)) in
-      let none : accepts_at t ≡ 0 = no_edit l None (Refused refusals.Disk) l.request refl (accepting_none l l.request (Refused refusals.Disk)) in
-      let one : disk_at t ≡ 1 = disk_at_is t in
-      same_count count.parts count.accepted (count.accepted + accepts_at t) (suc count.refused) (count.refused + disk_at t) (omega (arith, none)) (omega (arith, one))
-  edit_count act (Err faults.Memory) is = memory_count
+  pub no_undo_count : (reason : NoUndo) → Same (reply_to l None (Refused (undo_refusal reason)))
+  no_undo_count reasons.NoInverse = quiet_none (Refused refusals.NoInverse) refl
+  no_undo_count reasons.TooManyEdits = quiet_none (Refused refusals.TooManyEdits) refl
+
+  -- an act
+  module _ (makes : makes_entry l.request ≡ true) where
+    refused_count : (n : ℕ) (refusal : Refusal) → is_disk (Refused refusal) ≡ false → Same (reply_to l (Some n) (Refused refusal))
+    refused_count n refusal calm = quiet (Some n) (Refused refusal) l.request refl (accepting_refused l l.request (Some n) refusal) calm
+
+    accepts_one : (n : ℕ) → accepts_at (turn_of l (reply_to l (Some n) (Done l.command))) ≡ 1
+    accepts_one n = ap (λ (b : Bool). length (told_mark l b (Some n) (Done l.command) ++ [])) makes
+
+    pub act_count : (made : Result ℕ EditFault) → count_behind count made ≡ counted_by count (turn_of l (commit_reply l made))
+    act_count (Ok n) =
+        let t : Turn = turn_of l (commit_reply l (Ok n)) in
+        let one : accepts_at t ≡ 1 = accepts_one n in
+        let none : disk_at t ≡ 0 = no_disk l (Some n) (Done l.command) refl in
+        same_count count.parts (suc count.accepted) (count.accepted + accepts_at t) count.refused (count.refused + disk_at t) (omega (arith, one)) (omega (arith, none))
+    act_count (Err (faults.HistoryFull n)) = refused_count n refusals.HistoryFull refl
+    act_count (Err (faults.Broken breach n)) = refused_count n (rule_refusal l.command breach) refl
+    act_count (Err (faults.StoreFull n)) = refused_count n refusals.StoreFull refl
+    act_count (Err faults.Disk) =
+        let t : Turn = turn_of l (commit_reply l (Err faults.Disk)) in
+        let none : accepts_at t ≡ 0 = no_edit l None (Refused refusals.Disk) l.request refl (accepting_none l l.request (Refused refusals.Disk)) in
+        let one : disk_at t ≡ 1 = disk_at_is t in
+        same_count count.parts count.accepted (count.accepted + accepts_at t) (suc count.refused) (count.refused + disk_at t) (omega (arith, none)) (omega (arith, one))
+    act_count (Err faults.Memory) = memory_count

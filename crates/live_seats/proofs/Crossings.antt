@@ -16,7 +16,8 @@ use Rattle.requery.proofs.target.Requery.TheSendSync as requery
 use Rattle.version_gate.proofs.pass.Pass.TheSendSync as pass
 use Rattle.live_book.proofs.live.Share.TheSendSync as share
 use Rattle.live_book.proofs.published.Published.TheSendSync as published
-use Rattle.session_core.proofs.line.Reply.TheSendSync as reply
+use Rattle.session_core.proofs.kept_acts.KeptActs.TheSendSync as kept_acts
+use Rattle.session_core.proofs.Threads.{reply_send}
 use Rattle.session_core.proofs.slots.Slots.TheSendSync as slots
 use Rattle.session_core.specs.contracts.line.Ask as ask
 use Rattle.session_core.specs.contracts.line.Request as request
@@ -43,8 +44,11 @@ request_choice =
     enum_sync (shape request.the_type) (
       (search (act.the_sync, fault.the_sync, crosses, sendable) depth 30, tt),
       (
-        (search (ask_field_sync, crosses, sendable) depth 20, tt),
-        ((search (ask_field_sync, crosses, sendable) depth 20, tt), (tt, ((search (crosses, sendable) depth 20, tt), tt))),
+        (search (crosses, sendable) depth 20, tt),
+        (
+          (search (ask_field_sync, crosses, sendable) depth 20, tt),
+          ((search (ask_field_sync, crosses, sendable) depth 20, tt), (tt, ((search (crosses, sendable) depth 20, tt), tt))),
+        ),
       ),
     )
 
@@ -76,7 +80,7 @@ answered_send a K r =
     view_send (answered.TheInside.the_row a K r) _ _ _ _ (declared_send (answered.TheInside.the_type a K r) (
       search (line_sync, sendable) depth 20,
       (
-        search (reply.the_send, sendable) depth 20,
+        search (reply_send, sendable) depth 20,
         (told_send a K r, (search (told_send, option.the_send, option.the_field_send, sendable) depth 30, tt)),
       ),
     ))
@@ -89,7 +93,7 @@ seat_send a K N o l r n =
         search (share.the_send, sendable) depth 20,
         (
           search (slots.the_send, look_send, sendable) depth 20,
-          (search (answered_send, Vec-send, sendable) depth 20, tt),
+          (search (kept_acts.the_send, sendable) depth 20, (search (answered_send, Vec-send, sendable) depth 20, tt)),
         ),
       ),
     ))

@@ -1,8 +1,9 @@
 //! Which lines a lane answers.
 ghost use Rattle.std.specs.Prelude.{◌≡◌, ◌%◌, length};
-ghost use Rattle.live_seats.specs.Inner.Seats.{lines_of, takes};
+ghost use Rattle.session_core.specs.Legal.{makes_entry};
+ghost use Rattle.live_seats.specs.Inner.Seats.{changes_of, lines_of, takes};
 
-use session_core::{Line, Lines};
+use session_core::{Line, Lines, Request};
 
 /// Which lines a lane answers.
 #[derive(Clone, Copy)]
@@ -30,6 +31,16 @@ fn left(number: u32, by: u32) -> u32
     if by == 0 { number } else { number % by }
 }
 
+/// Whether a request asks for a change that may be accepted.
+fn asks_change(request: &Request) -> bool
+    ensures { result ≡ makes_entry request.now }
+{
+    match request {
+        Request::Edit(Ok(_)) | Request::Undo(_) => true,
+        _ => false,
+    }
+}
+
 impl Lane {
     /// Whether a line is one of the lane.
     pub fn takes(&self, line: &Line) -> bool
@@ -48,6 +59,19 @@ impl Lane {
         let mut count = 0;
         for line in lines.as_slice() {
             if self.takes(line) {
+                count += 1;
+            }
+        }
+        count
+    }
+
+    /// How many of these lines are of the lane and ask for a change.
+    pub fn count_changes(&self, lines: &Lines) -> usize
+        ensures { result ≡ length (changes_of self.now lines.now) }
+    {
+        let mut count = 0;
+        for line in lines.as_slice() {
+            if self.takes(line) && asks_change(&line.request) {
                 count += 1;
             }
         }

@@ -4,15 +4,18 @@ ghost use Rattle.std.specs.Arc.{arc_value};
 ghost use Rattle.std.specs.Option.{option_map};
 ghost use mathlib.Core.List.{IsPrefix};
 ghost use Rattle.version_tree.specs.Version.{state_of};
+ghost use Rattle.session_core.specs.declared.kept_acts.KeptAct.{KeptAct};
 ghost use Rattle.session_core.specs.declared.line.Request.TheVariants as requests;
 ghost use Rattle.session_core.specs.declared.slots.Held.{Held};
 ghost use Rattle.session_core.specs.Answers.{answer_over, reply_to};
 ghost use Rattle.session_core.specs.Steps.{session_places, slot};
+ghost use Rattle.session_run.specs.Inner.Orders.{commit_reply};
 ghost use Rattle.session_run.specs.Inner.Taken.{head_of};
 ghost use Rattle.version_gate.specs.Lists.{EndsIn, entry};
+ghost use Rattle.live_book.specs.Inner.Inverses.{numbered};
 ghost use Rattle.live_book.specs.Inner.Live.{Count};
 ghost use Rattle.live_seats.specs.Inner.Notes.{IsHeardFor, noted_of};
-ghost use Rattle.live_seats.specs.Inner.Replies.{Finishes, GoesOn, IsEdited, IsGridRefused, IsQueried, LooksAt, RepliesTo};
+ghost use Rattle.live_seats.specs.Inner.Replies.{Finishes, GoesOn, IsGridRefused, IsQueried, IsTried, LooksAt, RepliesTo, kept_with};
 ghost use Rattle.live_seats.specs.Inner.Seats.{IsAsked, TakesLine};
 
 use crate::answered::Answered;
@@ -23,13 +26,12 @@ use edit_rules::Act;
 use emu_disk::Disk;
 use emu_io::{Gate, Moment};
 use emu_names::Memory;
-use live_book::{Opening, Published, Share};
-use query_workers::answer_over;
+use live_book::{EditFault, Kept, Opening, Published, Share};
 use session_core::{
-    Answer, Ask, Head, Line, Refusal, Reply, Request, Slots, lacks_memory, memory_reply,
-    refuse_grid,
+    Answer, Ask, Head, KeptActs, Line, Refusal, Reply, Request, Slots, lacks_memory, memory_reply,
+    refuse_grid, refuse_undo,
 };
-use session_run::{commit_reply, or_memory};
+use session_run::{answer_over, commit_reply, or_memory};
 use std::sync::Wait;
 use std::sync::ledger::Ledger;
 use std::thread::Threads;
@@ -72,23 +74,48 @@ fn head(line: &Line) -> Head
     }
 }
 
-/// Answers an edit, when the lock is free: the reply.
-fn answer_edit<R: Wait, K: Opening + Row, N: Ledger, D: Disk, G: Gate>(
+/// Tries an act for a line, when the lock is free.
+fn try_act<R: Wait, K: Opening + Row, N: Ledger, D: Disk, G: Gate>(
     rt: &R,
     around: &Around<'_, '_, K, N, D, G>,
     pass: &mut Pass<Published>,
     share: &mut Share<K, N>,
     line: &Line,
     act: &Act,
-) -> Reply
+) -> Result<Kept, EditFault>
     requires gate { pass.old.gate ≡ K.opened.gate }
     requires part { 0 < share.old.parts }
     ensures gate { pass.new.gate ≡ pass.old.gate }
-    ensures edited { IsEdited K.opened pass.old.list pass.new.list share.old share.new line.now act.now result }
+    ensures tried { IsTried K.opened pass.old.list pass.new.list share.old share.new line.now act.now result }
 {
     let _seen = pass.seen();
-    let made = around.live.edit(rt, around.alloc, pass, share, line.session, line.line, act);
-    commit_reply(head(line), made)
+    around.live.edit_kept(rt, around.alloc, pass, share, line.session, line.line, act)
+}
+
+/// Keeps what takes an accepted act back, in room that was made for it: the number of the answer.
+fn keep(kept: &mut KeptActs, line: &Line, made: Result<Kept, EditFault>) -> Result<u64, EditFault>
+    requires { 0 < kept.old.room }
+    ensures number { result ≡ numbered made }
+    ensures kept { kept.new.acts ≡ kept_with kept.old.acts line.now made }
+{
+    match made {
+        Ok(accepted) => {
+            kept.keep(line.session, line.line, accepted.inverse);
+            Ok(accepted.n)
+        }
+        Err(fault) => Err(fault),
+    }
+}
+
+/// The reply to a line whose act was tried with this answer; what takes an accepted act back is kept, in room that was
+/// made for it.
+fn reply_to_act(kept: &mut KeptActs, line: &Line, made: Result<Kept, EditFault>) -> Reply
+    requires { 0 < kept.old.room }
+    ensures told { result ≡ commit_reply line.now (numbered made) }
+    ensures kept { kept.new.acts ≡ kept_with kept.old.acts line.now made }
+{
+    let number = keep(kept, line, made);
+    commit_reply(head(line), number)
 }
 
 /// Refuses a TextGrid with a fault, over a version that the pass looks at: the reply. The only refusal is want of
@@ -230,12 +257,41 @@ fn go_on<R: Wait>(
     Ok(head(line).reply(Some(number), Answer::Done(line.command)))
 }
 
+/// Answers the act of a line: the reply. Room to keep what takes it back is made before; for want of it the line is
+/// answered want of memory.
+fn take_act<R: Wait, K: Opening + Row, N: Ledger, D: Disk, G: Gate>(
+    rt: &R,
+    around: &Around<'_, '_, K, N, D, G>,
+    pass: &mut Pass<Published>,
+    share: &mut Share<K, N>,
+    kept: &mut KeptActs,
+    line: &Line,
+    act: &Act,
+) -> Reply
+    requires gate { pass.old.gate ≡ K.opened.gate }
+    requires part { 0 < share.old.parts }
+    requires place { line.now.session.0 < session_places }
+    requires asks { line.now.request ≡ requests.Edit (Ok act.now) }
+    ensures gate { pass.new.gate ≡ pass.old.gate }
+    ensures replies { (looks : List (Option Held)) → RepliesTo K.opened pass.old.list pass.new.list share.old share.new
+        looks looks kept.old.acts kept.new.acts line.now result None }
+{
+    match kept.make_room() {
+        Ok(()) => {
+            let made = try_act(rt, around, pass, share, line, act);
+            reply_to_act(kept, line, made)
+        }
+        Err(Memory) => memory_reply(line.line, line.session),
+    }
+}
+
 /// Answers an edit, or refuses the fault of its TextGrid: the reply.
 fn take_edit<R: Wait, K: Opening + Row, N: Ledger, D: Disk, G: Gate>(
     rt: &R,
     around: &Around<'_, '_, K, N, D, G>,
     pass: &mut Pass<Published>,
     share: &mut Share<K, N>,
+    kept: &mut KeptActs,
     line: &Line,
     given: &Result<Act, GridFault>,
 ) -> Reply
@@ -245,11 +301,66 @@ fn take_edit<R: Wait, K: Opening + Row, N: Ledger, D: Disk, G: Gate>(
     requires asks { line.now.request ≡ requests.Edit given.now }
     ensures gate { pass.new.gate ≡ pass.old.gate }
     ensures replies { (looks : List (Option Held)) → RepliesTo K.opened pass.old.list pass.new.list share.old share.new
-        looks looks line.now result None }
+        looks looks kept.old.acts kept.new.acts line.now result None }
 {
     match given {
-        Ok(act) => answer_edit(rt, around, pass, share, line, act),
+        Ok(act) => take_act(rt, around, pass, share, kept, line, act),
         Err(fault) => or_memory(head(line), answer_grid(rt, pass, line, *fault)),
+    }
+}
+
+/// Answers an `undo` of an earlier line by what is kept of that, where there is room to keep what takes the `undo`
+/// back: the reply.
+fn answer_undo<R: Wait, K: Opening + Row, N: Ledger, D: Disk, G: Gate>(
+    rt: &R,
+    around: &Around<'_, '_, K, N, D, G>,
+    pass: &mut Pass<Published>,
+    share: &mut Share<K, N>,
+    kept: &mut KeptActs,
+    line: &Line,
+    earlier: u32,
+) -> Reply
+    requires gate { pass.old.gate ≡ K.opened.gate }
+    requires part { 0 < share.old.parts }
+    requires room { 0 < kept.old.room }
+    requires place { line.now.session.0 < session_places }
+    requires asks { line.now.request ≡ requests.Undo earlier }
+    ensures gate { pass.new.gate ≡ pass.old.gate }
+    ensures replies { (looks : List (Option Held)) → RepliesTo K.opened pass.old.list pass.new.list share.old share.new
+        looks looks kept.old.acts kept.new.acts line.now result None }
+{
+    match kept.find(line.session, earlier) {
+        None => head(line).reply(None, Answer::Refused(Refusal::NotAccepted)),
+        Some(Err(reason)) => head(line).reply(None, Answer::Refused(refuse_undo(*reason))),
+        Some(Ok(act)) => {
+            let made = try_act(rt, around, pass, share, line, act);
+            reply_to_act(kept, line, made)
+        }
+    }
+}
+
+/// Answers an `undo` of an earlier line: the reply. Room to keep what takes it back is made before; for want of it the
+/// line is answered want of memory.
+fn take_undo<R: Wait, K: Opening + Row, N: Ledger, D: Disk, G: Gate>(
+    rt: &R,
+    around: &Around<'_, '_, K, N, D, G>,
+    pass: &mut Pass<Published>,
+    share: &mut Share<K, N>,
+    kept: &mut KeptActs,
+    line: &Line,
+    earlier: u32,
+) -> Reply
+    requires gate { pass.old.gate ≡ K.opened.gate }
+    requires part { 0 < share.old.parts }
+    requires place { line.now.session.0 < session_places }
+    requires asks { line.now.request ≡ requests.Undo earlier }
+    ensures gate { pass.new.gate ≡ pass.old.gate }
+    ensures replies { (looks : List (Option Held)) → RepliesTo K.opened pass.old.list pass.new.list share.old share.new
+        looks looks kept.old.acts kept.new.acts line.now result None }
+{
+    match kept.make_room() {
+        Ok(()) => answer_undo(rt, around, pass, share, kept, line, earlier),
+        Err(Memory) => memory_reply(line.line, line.session),
     }
 }
 
@@ -266,8 +377,9 @@ fn take_after<'a, R: Wait, K: Opening + Row, N: Ledger, D: Disk, G: Gate>(
     requires asks { line.now.request ≡ requests.After earlier }
     ensures gate { pass.new.gate ≡ pass.old.gate }
     ensures named { result.1.line ≡ earlier }
-    ensures replies { (count : Count) (looks : List (Option Held)) → RepliesTo K.opened pass.old.list pass.new.list
-        count count looks looks line.now result.0 (Some result.1.noted) }
+    ensures replies { (count : Count) (looks : List (Option Held)) (acts : List KeptAct) →
+        RepliesTo K.opened pass.old.list pass.new.list count count looks looks acts acts line.now result.0
+        (Some result.1.noted) }
 {
     let (told, heard) = hear(rt, around.cells, earlier);
     let reply = or_memory(head(line), go_on(rt, pass, line, heard));
@@ -288,6 +400,7 @@ fn reply_to_line<
     pass: &mut Pass<Published>,
     share: &mut Share<K, N>,
     looks: &mut Slots<Look<'a>>,
+    kept: &mut KeptActs,
     line: &'a Line,
 ) -> (Reply, Option<Told<'a, K>>)
     requires gate { pass.old.gate ≡ K.opened.gate }
@@ -297,10 +410,17 @@ fn reply_to_line<
     ensures gate { pass.new.gate ≡ pass.old.gate }
     ensures heard { IsHeardFor line.entry.now.request result.1 }
     ensures replies { RepliesTo K.opened pass.old.list pass.new.list share.old share.new looks.old looks.new
-        line.entry.now result.0 (option_map noted_of result.1) }
+        kept.old.acts kept.new.acts line.entry.now result.0 (option_map noted_of result.1) }
 {
     match &line.request {
-        Request::Edit(given) => (take_edit(rt, around, pass, share, line, given), None),
+        Request::Edit(given) => {
+            let reply = take_edit(rt, around, pass, share, kept, line, given);
+            (reply, None)
+        }
+        Request::Undo(earlier) => {
+            let reply = take_undo(rt, around, pass, share, kept, line, *earlier);
+            (reply, None)
+        }
         Request::Query(ask) => {
             let made = answer_query(rt, around, pass, line, ask);
             (or_memory(head(line), made), None)
@@ -322,8 +442,8 @@ fn reply_to_line<
 
 /// Answers a line of a session of the lane: what its reply is right for is told beside each history that the pass's
 /// lists show. Then it notes how many entries the pass has seen, and only then tells the gate. Where the pass's look is
-/// refused it looks again, an `after` waits for the line that it names, and an edit waits for the lock: it keeps its
-/// promise if it returns.
+/// refused it looks again, an `after` waits for the line that it names, and an edit or an `undo` waits for the lock: it
+/// keeps its promise if it returns.
 pub(crate) fn take_line<
     'a,
     R: Threads + Wait + Sync,
@@ -337,6 +457,7 @@ pub(crate) fn take_line<
     pass: &mut Pass<Published>,
     share: &mut Share<K, N>,
     looks: &mut Slots<Look<'a>>,
+    kept: &mut KeptActs,
     line: &'a Line,
 ) -> Answered<'a, K>
     requires gate { pass.old.gate ≡ K.opened.gate }
@@ -345,9 +466,9 @@ pub(crate) fn take_line<
     requires places { length looks.old ≡ session_places }
     ensures gate { pass.new.gate ≡ pass.old.gate }
     ensures taken { TakesLine K.opened pass.old.list pass.new.list share.old share.new looks.old looks.new
-        line.entry.now result }
+        kept.old.acts kept.new.acts line.entry.now result }
 {
-    let (reply, heard) = reply_to_line(rt, around, pass, share, looks, line);
+    let (reply, heard) = reply_to_line(rt, around, pass, share, looks, kept, line);
     let told = tell(rt, around.cells, line.line, pass.seen());
     around.gate.at(line.line, Moment::Answered);
     Answered::new(line, reply, told, heard)

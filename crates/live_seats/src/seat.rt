@@ -1,4 +1,5 @@
-//! A seat: a pass, a share, the looks that are open in its sessions, and the lines that it answered.
+//! A seat: a pass, a share, the looks that are open in its sessions, what takes back the changes that it accepted, and
+//! the lines that it answered.
 ghost use Rattle.std.specs.Prelude.{◌≡◌, ℕ, ◌<◌, ◌≤◌, [], length, replicate, vec_capacity, None};
 ghost use Rattle.version_gate.specs.Lists.{Numbered};
 ghost use Rattle.live_laws.specs.Lanes.{turns_of};
@@ -16,19 +17,21 @@ use crate::notes::Row;
 use emu_disk::Disk;
 use emu_io::Gate;
 use live_book::{Opening, Published, Share};
-use session_core::{Line, Lines, Slots};
+use session_core::{KeptActs, Line, Lines, Slots};
 use std::marker::Model;
 use std::sync::Wait;
 use std::sync::ledger::Ledger;
 use std::thread::Threads;
 use version_gate::Pass;
 
-/// A pass, a share, the looks that are open in some sessions, and the lines of these that were answered.
+/// A pass, a share, the looks that are open in some sessions, what takes back the changes that these made, and their
+/// lines that were answered.
 #[derive(Drop)]
 pub struct Seat<'a, K: Opening + Row, N: Ledger> {
     pass: Pass<Published>,
     share: Share<K, N>,
     looks: Slots<Look<'a>>,
+    kept: KeptActs,
     steps: Vec<Answered<'a, K>>,
 }
 
@@ -42,10 +45,11 @@ impl<'a, K: Opening + Row, N: Ledger> Model for Seat<'a, K, N> {
 
     ghost coded = { Prim.hlevel (codes, tree_code) };
 
-    ghost view = { λ s. seat_of s.pass.list s.share s.looks s.steps.items (vec_capacity s.steps - vec_len s.steps) };
+    ghost view = { λ s. seat_of s.pass.list s.share s.looks s.kept.acts s.steps.items
+        (vec_capacity s.steps - vec_len s.steps) };
 
     ghost invariant = { λ s. (s.pass.gate ≡ K.opened.gate) × IsSeat K.opened
-        (seat_of s.pass.list s.share s.looks s.steps.items (vec_capacity s.steps - vec_len s.steps)) };
+        (seat_of s.pass.list s.share s.looks s.kept.acts s.steps.items (vec_capacity s.steps - vec_len s.steps)) };
 }
 
 /// The parts of a seat whose lines are answered.
@@ -65,12 +69,14 @@ impl<'a, K: Opening + Row, N: Ledger> Seat<'a, K, N> {
         pass: Pass<Published>,
         share: Share<K, N>,
         looks: Slots<Look<'a>>,
+        kept: KeptActs,
         steps: Vec<Answered<'a, K>>,
     ) -> Seat<'a, K, N>
         requires gate { pass.gate ≡ K.opened.gate }
         requires seen { (k : ℕ) × Numbered k pass.list × (length K.opened.entries ≤ k) }
         requires share { (0 < share.parts) × (share.accepted ≡ 0) × (share.refused ≡ 0) }
         requires looks { looks ≡ replicate session_places None }
+        requires kept { kept.acts ≡ [] }
         requires steps { steps.items ≡ [] }
         ensures steps { result.steps ≡ [] }
         ensures room { result.room ≡ vec_capacity steps.entry }
@@ -81,6 +87,7 @@ impl<'a, K: Opening + Row, N: Ledger> Seat<'a, K, N> {
             pass,
             share,
             looks,
+            kept,
             steps,
         }
     }
@@ -102,6 +109,7 @@ impl<'a, K: Opening + Row, N: Ledger> Seat<'a, K, N> {
             &mut self.pass,
             &mut self.share,
             &mut self.looks,
+            &mut self.kept,
             line,
         );
         let _seen = self.pass.seen();
@@ -141,6 +149,7 @@ impl<'a, K: Opening + Row, N: Ledger> Seat<'a, K, N> {
             pass,
             share,
             looks: _,
+            kept: _,
             steps,
         } = self;
         SeatEnd { pass, share, steps }

@@ -4,6 +4,7 @@ use Rattle.serde_json.specs.Data.{Data}
 use Rattle.session_core.specs.declared.line.Command.TheVariants as commands
 use Rattle.session_core.specs.declared.line.Answer.TheVariants.{Done}
 use Rattle.session_core.specs.declared.line.Reply.{Reply}
+pub use Rattle.store_texts.specs.Texts.{damaged_text, from_text, mark_text}
 use Rattle.reply_texts.specs.Members.{Named, line_text, object_of}
 use Rattle.reply_texts.specs.Refusals.{config_members, number_at, plain, shape_members}
 use Rattle.script_lines.specs.declared.faults.LineFault.{LineFault}
@@ -39,6 +40,7 @@ fault_members (faults.Config fault) = config_members (codes "cause") fault
 fault_members faults.NoSuchCommand = plain (codes "cause") (codes "NoSuchCommand")
 fault_members faults.ConfigPlace = plain (codes "cause") (codes "ConfigPlace")
 fault_members faults.BadAfter = plain (codes "cause") (codes "BadAfter")
+fault_members faults.BadUndo = plain (codes "cause") (codes "BadUndo")
 fault_members faults.Memory = plain (codes "cause") (codes "Memory")
 
 -- the object

@@ -13,3 +13,4 @@ pub use ending::Ending;
 pub use last::{close_run, damaged, finish, usage};
 pub use output::{write_config, write_reply, write_text};
 pub use status::{Status, code};
+pub use store_texts::{print_from, print_mark};

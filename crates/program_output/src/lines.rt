@@ -26,6 +26,7 @@ fn put_fault(
         LineFault::NoSuchCommand => put_text(members, alloc, "cause", "NoSuchCommand"),
         LineFault::ConfigPlace => put_text(members, alloc, "cause", "ConfigPlace"),
         LineFault::BadAfter => put_text(members, alloc, "cause", "BadAfter"),
+        LineFault::BadUndo => put_text(members, alloc, "cause", "BadUndo"),
         LineFault::Memory => put_text(members, alloc, "cause", "Memory"),
     }
 }

@@ -8,15 +8,27 @@ ghost use Rattle.query_workers.specs.Inner.Questions.{IsAskedOf};
 ghost use Rattle.query_workers.specs.Inner.Runs.{GivesRun, IsRun, refusal};
 
 use crate::question::Question;
-use crate::walk::walk;
+use crate::walk::walk_with_text;
 use emu_io::Gate;
-use eql_model::{MatchFault, SegmentList};
+use eql_model::MatchFault;
+use segment_list::Listing;
 use std::alloc::Global;
 use std::thread::{Threads, join};
 use version_tree::Version;
 
 /// The most workers that a query may have.
 const WORKERS: usize = 8;
+
+/// The fewest bundles that pay for a thread of their own.
+const PART: usize = 32;
+
+/// How many runs so many bundles are cut into for so many workers: two, which are matched side by side in any case,
+/// and more where each of them has [`PART`] bundles at least.
+pub(crate) fn runs_for(workers: usize, bundles: usize) -> usize
+    ensures { result ≤ workers }
+{
+    workers.min((bundles / PART).max(2))
+}
 
 /// The place that cuts the places from one to before another, so that the first part has as large a share of
 /// them as `near` is of all workers.
@@ -34,7 +46,7 @@ fn middle(from: usize, to: usize, near: usize, workers: usize) -> usize
 
 /// The refusal of two runs of which the first one found no memory: too many tuples, where the second one has
 /// them.
-fn fault_beside(right: &Result<SegmentList, MatchFault>) -> MatchFault
+fn fault_beside(right: &Result<Listing, MatchFault>) -> MatchFault
     ensures { (more : List Row) (many : Bool) → GivesRows right.now more many
         → (rows : List Row) (other : Bool)
         → GivesRows (refusal result) rows (other || many) }
@@ -46,17 +58,14 @@ fn fault_beside(right: &Result<SegmentList, MatchFault>) -> MatchFault
 }
 
 /// The rows of a second run, behind those of the first one.
-fn behind(
-    mut list: SegmentList,
-    right: Result<SegmentList, MatchFault>,
-) -> Result<SegmentList, MatchFault>
+fn behind(list: Listing, right: Result<Listing, MatchFault>) -> Result<Listing, MatchFault>
     ensures { (more : List Row) (many : Bool) → GivesRows right more many
         → GivesRows result (list ++ more) many }
 {
     match right {
         Err(fault) => Err(fault),
         Ok(more) => match list.append(more) {
-            Ok(()) => Ok(list),
+            Ok(whole) => Ok(whole),
             Err(_) => Err(MatchFault::Memory),
         },
     }
@@ -64,9 +73,9 @@ fn behind(
 
 /// The rows of two runs, one behind the other. Where either has too many tuples, that is answered.
 fn both(
-    left: Result<SegmentList, MatchFault>,
-    right: Result<SegmentList, MatchFault>,
-) -> Result<SegmentList, MatchFault>
+    left: Result<Listing, MatchFault>,
+    right: Result<Listing, MatchFault>,
+) -> Result<Listing, MatchFault>
     ensures { (rows more : List Row) (some many : Bool)
         → GivesRows left rows some → GivesRows right more many
         → GivesRows result (rows ++ more) (some || many) }
@@ -83,8 +92,8 @@ fn both(
 /// memory.
 ///
 /// There are 1 to 8 workers: the places are cut in two, and each part is matched by its share of the workers,
-/// the one beside the other. A part of one worker, or of one bundle, is gone through by one thread. Where no
-/// thread can be made the caller does that work.
+/// the one beside the other, which also makes the rows and their text. A part of one worker, or of one bundle,
+/// is gone through by one thread. Where no thread can be made the caller does that work.
 #[cycle(cut)]
 pub(crate) fn halves<R: Threads + Sync, G: Gate + Sync>(
     rt: &R,
@@ -96,7 +105,7 @@ pub(crate) fn halves<R: Threads + Sync, G: Gate + Sync>(
     workers: usize,
     from: usize,
     to: usize,
-) -> Result<SegmentList, MatchFault>
+) -> Result<Listing, MatchFault>
     requires asked { IsAskedOf version.now.config question.now }
     requires run { IsRun version.now from to }
     requires few { workers ≤ WORKERS }
@@ -104,17 +113,17 @@ pub(crate) fn halves<R: Threads + Sync, G: Gate + Sync>(
 {
     let workers = workers.min(to - from);
     if workers <= 1 {
-        return walk(alloc, version, question, line, gate, from, to);
+        return walk_with_text(alloc, version, question, line, gate, from, to);
     }
     let near = workers / 2;
     let far = workers - near;
     let cut = middle(from, to, near, workers);
-    let left = move || -> Result<SegmentList, MatchFault>
+    let left = move || -> Result<Listing, MatchFault>
         requires { IsSync R.row × IsSync G.row × IsAskedOf version.now.config question.now
             × IsRun version.now from cut × (near ≤ WORKERS) }
         ensures { GivesRun result question.entry.now version.entry.now from cut }
     { halves(rt, alloc, version, question, line, gate, near, from, cut) };
-    let right = move || -> Result<SegmentList, MatchFault>
+    let right = move || -> Result<Listing, MatchFault>
         requires { IsSync R.row × IsSync G.row × IsAskedOf version.now.config question.now
             × IsRun version.now cut to × (far ≤ WORKERS) }
         ensures { GivesRun result question.entry.now version.entry.now cut to }

@@ -9,7 +9,7 @@ ghost use Rattle.version_tree.specs.Version.{bundles_of};
 ghost use Rattle.query_workers.specs.Inner.Questions.{IsAskedOf, rows_for, too_many_for};
 ghost use Rattle.query_workers.specs.Inner.Runs.{GivesRun, GivesOver, IsRun};
 
-use crate::halves::halves;
+use crate::halves::{halves, runs_for};
 use crate::question::Question;
 use bundle_index::Indexed;
 use db_config::Config;
@@ -17,6 +17,7 @@ use emu_io::{Gate, Moment};
 use eql_model::{MatchFault, SegmentList};
 use eql_resolve::Asked;
 use requery::Reached;
+use segment_list::{Listing, with_text};
 use std::alloc::Global;
 use std::thread::Threads;
 use version_tree::Version;
@@ -51,7 +52,7 @@ fn add_bundle(
 ///
 /// Before each bundle the gate is told that the line, counted from 1, is at the piece of the bundle's place
 /// in the version.
-pub(crate) fn walk<G: Gate + Sync>(
+fn walk<G: Gate + Sync>(
     alloc: Global,
     version: &Version,
     question: &Question,
@@ -77,6 +78,23 @@ pub(crate) fn walk<G: Gate + Sync>(
     Ok(list)
 }
 
+/// The same rows as their text, which the thread makes that goes through the bundles.
+pub(crate) fn walk_with_text<G: Gate + Sync>(
+    alloc: Global,
+    version: &Version,
+    question: &Question,
+    line: u32,
+    gate: &G,
+    from: usize,
+    to: usize,
+) -> Result<Listing, MatchFault>
+    requires asked { IsAskedOf version.now.config question.now }
+    requires run { IsRun version.now from to }
+    ensures { GivesRun result question.now version.now from to }
+{
+    with_text(alloc, walk(alloc, version, question, line, gate, from, to))
+}
+
 /// The rows that are asked for over a version, one bundle after another in the order of their keys.
 fn walk_all<R: Threads + Sync, G: Gate + Sync>(
     rt: &R,
@@ -86,23 +104,14 @@ fn walk_all<R: Threads + Sync, G: Gate + Sync>(
     workers: u32,
     line: u32,
     gate: &G,
-) -> Result<SegmentList, MatchFault>
+) -> Result<Listing, MatchFault>
     requires workers { (1 ≤ workers) × (workers ≤ 8) }
     requires asked { IsAskedOf version.now.config question.now }
     ensures { GivesOver result question.now version.now (bundles_of version.now.bundles) }
 {
     let count = version.len();
-    halves(
-        rt,
-        alloc,
-        version,
-        question,
-        line,
-        gate,
-        workers as usize,
-        0,
-        count,
-    )
+    let runs = runs_for(workers as usize, count);
+    halves(rt, alloc, version, question, line, gate, runs, 0, count)
 }
 
 /// The segment list of a query over a version: the rows of one bundle after another in the order of their
@@ -113,7 +122,8 @@ fn walk_all<R: Threads + Sync, G: Gate + Sync>(
 /// Before each bundle the gate is told that the line, counted from 1, is at the piece of the bundle's place
 /// in the version, by the thread that matches the bundle. The query was resolved by the version's
 /// configuration. There are 1 to 8 workers, which match the bundles beside one another, and the list is the
-/// same for every number of them. Where no thread can be made the calling thread does the work.
+/// same for every number of them. A version of few bundles is cut into fewer runs than there are workers. Where no
+/// thread can be made the calling thread does the work.
 pub fn answer<R: Threads + Sync, G: Gate + Sync>(
     rt: &R,
     alloc: Global,
@@ -122,7 +132,7 @@ pub fn answer<R: Threads + Sync, G: Gate + Sync>(
     workers: u32,
     line: u32,
     gate: &G,
-) -> Result<SegmentList, MatchFault>
+) -> Result<Listing, MatchFault>
     requires workers { (1 ≤ workers) × (workers ≤ 8) }
     requires resolved { IsResolvedBy version.now.config asked.now }
     ensures { ListsRows result version.now.config (bundles_of version.now.bundles) asked.now }
@@ -149,7 +159,7 @@ pub fn answer_requery<R: Threads + Sync, G: Gate + Sync>(
     workers: u32,
     line: u32,
     gate: &G,
-) -> Result<SegmentList, MatchFault>
+) -> Result<Listing, MatchFault>
     requires workers { (1 ≤ workers) × (workers ≤ 8) }
     requires resolved { IsReachedBy version.now.config reached.now }
     ensures { ListsCarried result version.now.config (bundles_of version.now.bundles) reached.now }

@@ -6,9 +6,8 @@ ghost use Rattle.reply_texts.specs.Texts.{command_word};
 
 use crate::print::refusal_value;
 use emu_names::Memory;
-use eql_model::SegmentList;
 use itoa::Buffer;
-use segment_list::print_rows;
+use segment_list::Listing;
 use session_core::{Answer, Command, Refusal};
 use std::alloc::Global;
 
@@ -36,6 +35,7 @@ fn word_of_command(command: Command) -> &'static str
         Command::AddLevel => "add_level",
         Command::AddAttribute => "add_attribute",
         Command::AddLinkDefinition => "add_link_definition",
+        Command::Undo => "undo",
         Command::Query => "query",
         Command::Look => "look",
         Command::Finish => "finish",
@@ -84,13 +84,12 @@ fn push_done(out: &mut String, command: Command) -> Result<(), Memory>
 }
 
 /// Writes the rows of a segment list. The only refusal is want of memory.
-fn push_segments(out: &mut String, alloc: Global, rows: &SegmentList) -> Result<(), Memory>
+fn push_segments(out: &mut String, rows: &Listing) -> Result<(), Memory>
     ensures { OnOk result (string_bytes out.new
         ≡ string_bytes out.old ++ (codes ",\"segments\":" ++ rows_text rows.now)) }
 {
-    let rows = print_rows(alloc, rows)?;
     out.push_str(",\"segments\":")?;
-    out.push_str(rows.as_str())?;
+    rows.push_text(out)?;
     Ok(())
 }
 
@@ -111,7 +110,7 @@ pub(crate) fn push_answer(out: &mut String, alloc: Global, answer: &Answer) -> R
 {
     match answer {
         Answer::Done(command) => push_done(out, *command),
-        Answer::Segments(rows) => push_segments(out, alloc, rows),
+        Answer::Segments(rows) => push_segments(out, rows),
         Answer::Refused(refusal) => push_refused(out, alloc, refusal),
     }
 }

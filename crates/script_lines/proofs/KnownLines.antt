@@ -44,7 +44,9 @@ use Rattle.script_lines.specs.Values.{is_blank, json_of, word_of_line}
 use Rattle.script_lines.specs.Requeries.{requery_at}
 use Rattle.script_lines.specs.Questions.{Question, question_at, question_command, time_name_at}
 use Rattle.eql_resolve.specs.Made.{Made}
-use Rattle.script_lines.specs.Lines.{request_of, blank_line, json_line, value_line, told_line, asking_line, question_request, placed_line, config_line, line_in, members_of, after_request, if_earlier}
+use Rattle.script_lines.specs.Lines.{request_of, blank_line, json_line, value_line, told_line, asking_line, question_request, placed_line, config_line, line_in, members_of, after_request, undo_request, if_earlier, if_change}
+use Rattle.script_lines.specs.declared.line_set.EarlierLine.{EarlierLine}
+use Rattle.script_lines.specs.Earlier.{is_change_of, is_line}
 use Rattle.script_lines.specs.Known.{Known, NamesOneOf}
 use Rattle.script_lines.proofs.Listed.{all_listed, edit_made}
 use Rattle.script_lines.proofs.Taken.{taken}
@@ -131,23 +133,28 @@ session_place s session h = member_place (member_of (codes "s") wanted.Session s
 
 -- members
 
-record IsRequestOf (word : Command) (earlier : List ℕ) (r : Request) : Type 0 where
+-- the session of a line, and the lines before it
+record Before : Type 0 where
+  session : ℕ
+  lines : List EarlierLine
+
+record IsRequestOf (word : Command) (earlier : Before) (r : Request) : Type 0 where
   command : is_command_of word r ≡ true
-  names : NamesOneOf earlier r
+  names : NamesOneOf earlier.lines earlier.session r
 
 -- each request that a reading gives is one of the command
-abbrev Makes : Command → List ℕ → Result Request Shape → Type 0
+abbrev Makes : Command → Before → Result Request Shape → Type 0
 Makes word earlier r = (q : Request) → r ≡ Ok q → IsRequestOf word earlier q
 
-goes_on : {A : Type 0} (word : Command) (earlier : List ℕ) (first : Result A Shape) (rest : A → Result Request Shape)
+goes_on : {A : Type 0} (word : Command) (earlier : Before) (first : Result A Shape) (rest : A → Result Request Shape)
     → ((x : A) → Makes word earlier (rest x)) → Makes word earlier (first >>= rest)
 goes_on word earlier (Ok x) rest each = each x
 goes_on word earlier (Err e) rest each = λ q h. absurd (cc)
 
-ends : (word : Command) (earlier : List ℕ) (x : Request) → IsRequestOf word earlier x → Makes word earlier (Ok x)
+ends : (word : Command) (earlier : Before) (x : Request) → IsRequestOf word earlier x → Makes word earlier (Ok x)
 ends word earlier x made = λ q h. let same : x ≡ q = ok_is h in subst (λ r. IsRequestOf word earlier r) same made
 
-bundle_made : (earlier : List ℕ) (s : Seen) → Makes commands.AddBundle earlier (bundle_request s)
+bundle_made : (earlier : Before) (s : Seen) → Makes commands.AddBundle earlier (bundle_request s)
 unfolding bundle_request
 bundle_made earlier s =
     goes_on commands.AddBundle earlier (key_at s) _ (λ key.
@@ -155,11 +162,11 @@ bundle_made earlier s =
     goes_on commands.AddBundle earlier (annot_of member) _ (λ annot.
     ends commands.AddBundle earlier (asks (alone (edits.AddBundle key annot))) (record { command = refl; names = tt }))))
 
-grid_made : (earlier : List ℕ) (key : BundleKey) (annot : Result Annot GridFault) → IsRequestOf commands.AddTextgrid earlier (requests.Edit (grid_act key annot))
+grid_made : (earlier : Before) (key : BundleKey) (annot : Result Annot GridFault) → IsRequestOf commands.AddTextgrid earlier (requests.Edit (grid_act key annot))
 grid_made earlier key (Ok annot) = record { command = refl; names = tt }
 grid_made earlier key (Err fault) = record { command = refl; names = tt }
 
-textgrid_made : (earlier : List ℕ) (s : Seen) → Makes commands.AddTextgrid earlier (textgrid_request s)
+textgrid_made : (earlier : Before) (s : Seen) → Makes commands.AddTextgrid earlier (textgrid_request s)
 unfolding textgrid_request
 textgrid_made earlier s =
     goes_on commands.AddTextgrid earlier (key_at s) _ (λ key.
@@ -167,13 +174,13 @@ textgrid_made earlier s =
     goes_on commands.AddTextgrid earlier (text_member (codes "text") s) _ (λ text.
     ends commands.AddTextgrid earlier (requests.Edit (grid_act key (grid_annot rate text))) (grid_made earlier key (grid_annot rate text)))))
 
-drop_made : (earlier : List ℕ) (s : Seen) → Makes commands.DropBundle earlier (drop_request s)
+drop_made : (earlier : Before) (s : Seen) → Makes commands.DropBundle earlier (drop_request s)
 unfolding drop_request
 drop_made earlier s =
     goes_on commands.DropBundle earlier (key_at s) _ (λ key.
     ends commands.DropBundle earlier (asks (alone (edits.DropBundle key))) (record { command = refl; names = tt }))
 
-times_made : (earlier : List ℕ) (s : Seen) → Makes commands.LinkTimes earlier (times_request s)
+times_made : (earlier : Before) (s : Seen) → Makes commands.LinkTimes earlier (times_request s)
 unfolding times_request
 times_made earlier s =
     goes_on commands.LinkTimes earlier (key_at s) _ (λ key.
@@ -204,12 +211,13 @@ one_does commands.Edits key s e h = absurd (cc)
 one_does commands.AddLevel key s e h = absurd (cc)
 one_does commands.AddAttribute key s e h = absurd (cc)
 one_does commands.AddLinkDefinition key s e h = absurd (cc)
+one_does commands.Undo key s e h = absurd (cc)
 one_does commands.Query key s e h = absurd (cc)
 one_does commands.Look key s e h = absurd (cc)
 one_does commands.Finish key s e h = absurd (cc)
 one_does commands.After key s e h = absurd (cc)
 
-one_made : (command : Command) (earlier : List ℕ) (s : Seen) (r : Request) → one_request command s ≡ Ok r → IsRequestOf command earlier r
+one_made : (command : Command) (earlier : Before) (s : Seen) (r : Request) → one_request command s ≡ Ok r → IsRequestOf command earlier r
 unfolding one_request
 one_made command earlier s r h =
     let key : _ = taken (form (key_at s)) _ r h in
@@ -217,7 +225,7 @@ one_made command earlier s r h =
     subst (λ q. IsRequestOf command earlier q) (line_ok_is edit.rest_is)
     (record { command = one_does command key.value s edit.value edit.first_is; names = tt })
 
-edits_made : (earlier : List ℕ) (s : Seen) (r : Request) → edits_request s ≡ Ok r → IsRequestOf commands.Edits earlier r
+edits_made : (earlier : Before) (s : Seen) (r : Request) → edits_request s ≡ Ok r → IsRequestOf commands.Edits earlier r
 unfolding edits_request
 edits_made earlier s r h =
     let key : _ = taken (form (key_at s)) _ r h in
@@ -228,14 +236,14 @@ edits_made earlier s r h =
 
 -- Additions to the configuration.
 
-level_made : (earlier : List ℕ) (s : Seen) (r : Request) → level_request s ≡ Ok r → IsRequestOf commands.AddLevel earlier r
+level_made : (earlier : Before) (s : Seen) (r : Request) → level_request s ≡ Ok r → IsRequestOf commands.AddLevel earlier r
 unfolding level_request
 level_made earlier s r h =
     let member : _ = taken (form (member_of (codes "level") wanted.Object s)) _ r h in
     let level : _ = taken (config_form (level_in member.value)) _ r member.rest_is in
     subst (λ q. IsRequestOf commands.AddLevel earlier q) (line_ok_is level.rest_is) (record { command = refl; names = tt })
 
-attribute_made : (earlier : List ℕ) (s : Seen) (r : Request) → attribute_request s ≡ Ok r → IsRequestOf commands.AddAttribute earlier r
+attribute_made : (earlier : Before) (s : Seen) (r : Request) → attribute_request s ≡ Ok r → IsRequestOf commands.AddAttribute earlier r
 unfolding attribute_request
 attribute_made earlier s r h =
     let level : _ = taken (form (text_member (codes "level") s)) _ r h in
@@ -243,26 +251,38 @@ attribute_made earlier s r h =
     let attribute : _ = taken (config_form (attribute_in member.value)) _ r member.rest_is in
     subst (λ q. IsRequestOf commands.AddAttribute earlier q) (line_ok_is attribute.rest_is) (record { command = refl; names = tt })
 
-definition_made : (earlier : List ℕ) (s : Seen) (r : Request) → definition_request s ≡ Ok r → IsRequestOf commands.AddLinkDefinition earlier r
+definition_made : (earlier : Before) (s : Seen) (r : Request) → definition_request s ≡ Ok r → IsRequestOf commands.AddLinkDefinition earlier r
 unfolding definition_request
 definition_made earlier s r h =
     let member : _ = taken (form (member_of (codes "definition") wanted.Object s)) _ r h in
     let link : _ = taken (config_form (link_in member.value)) _ r member.rest_is in
     subst (λ q. IsRequestOf commands.AddLinkDefinition earlier q) (line_ok_is link.rest_is) (record { command = refl; names = tt })
 
-earlier_made : (earlier : List ℕ) (line : ℕ) (b : Bool) (r : Request) → list_any (nat_eq line) earlier ≡ b → cond b (Ok (requests.After line)) (Err faults.BadAfter) ≡ ok_line r → IsRequestOf commands.After earlier r
+earlier_made : (earlier : Before) (line : ℕ) (b : Bool) (r : Request) → list_any (is_line line) earlier.lines ≡ b → cond b (Ok (requests.After line)) (Err faults.BadAfter) ≡ ok_line r → IsRequestOf commands.After earlier r
 earlier_made earlier line true r any h = let same : requests.After line ≡ r = line_ok_is h in subst (λ q. IsRequestOf commands.After earlier q) same (record { command = refl; names = any })
 earlier_made earlier line false r any h = absurd (cc)
 
-line_made : (earlier : List ℕ) (line : Result ℕ LineFault) (r : Request) → (line >>= if_earlier earlier) ≡ Ok r → IsRequestOf commands.After earlier r
-line_made earlier (Ok line) r h = earlier_made earlier line (list_any (nat_eq line) earlier) r refl h
+line_made : (earlier : Before) (line : Result ℕ LineFault) (r : Request) → (line >>= if_earlier earlier.lines) ≡ Ok r → IsRequestOf commands.After earlier r
+line_made earlier (Ok line) r h = earlier_made earlier line (list_any (is_line line) earlier.lines) r refl h
 line_made earlier (Err e) r h = absurd (cc)
 
-after_made : (earlier : List ℕ) (s : Seen) (r : Request) → after_request earlier s ≡ Ok r → IsRequestOf commands.After earlier r
+after_made : (earlier : Before) (s : Seen) (r : Request) → after_request earlier.lines s ≡ Ok r → IsRequestOf commands.After earlier r
 unfolding after_request
 after_made earlier s r h = line_made earlier (form (whole_member (codes "line") TOP_ID s)) r h
 
-members_made : (command : Command) (earlier : List ℕ) (s : Seen) (r : Request) → members_of command earlier s ≡ Ok r → IsRequestOf command earlier r
+change_made : (earlier : Before) (line : ℕ) (b : Bool) (r : Request) → list_any (is_change_of earlier.session line) earlier.lines ≡ b → cond b (Ok (requests.Undo line)) (Err faults.BadUndo) ≡ ok_line r → IsRequestOf commands.Undo earlier r
+change_made earlier line true r any h = let same : requests.Undo line ≡ r = line_ok_is h in subst (λ q. IsRequestOf commands.Undo earlier q) same (record { command = refl; names = any })
+change_made earlier line false r any h = absurd (cc)
+
+change_line_made : (earlier : Before) (line : Result ℕ LineFault) (r : Request) → (line >>= if_change earlier.lines earlier.session) ≡ Ok r → IsRequestOf commands.Undo earlier r
+change_line_made earlier (Ok line) r h = change_made earlier line (list_any (is_change_of earlier.session line) earlier.lines) r refl h
+change_line_made earlier (Err e) r h = absurd (cc)
+
+undo_made : (earlier : Before) (s : Seen) (r : Request) → undo_request earlier.lines earlier.session s ≡ Ok r → IsRequestOf commands.Undo earlier r
+unfolding undo_request
+undo_made earlier s r h = change_line_made earlier (form (whole_member (codes "line") TOP_ID s)) r h
+
+members_made : (command : Command) (earlier : Before) (s : Seen) (r : Request) → members_of command earlier.lines earlier.session s ≡ Ok r → IsRequestOf command earlier r
 members_made commands.AddBundle earlier s r h = bundle_made earlier s r (form_ok (bundle_request s) r h)
 members_made commands.AddTextgrid earlier s r h = textgrid_made earlier s r (form_ok (textgrid_request s) r h)
 members_made commands.DropBundle earlier s r h = drop_made earlier s r (form_ok (drop_request s) r h)
@@ -285,6 +305,7 @@ members_made commands.Query earlier s r h = absurd (cc)
 members_made commands.Look earlier s r h = absurd (cc)
 members_made commands.Finish earlier s r h = let same : requests.Finish ≡ r = line_ok_is h in subst (λ q. IsRequestOf commands.Finish earlier q) same (record { command = refl; names = tt })
 members_made commands.After earlier s r h = after_made earlier s r h
+members_made commands.Undo earlier s r h = undo_made earlier s r h
 members_made commands.Config earlier s r h = absurd (cc)
 
 -- lines
@@ -292,22 +313,26 @@ members_made commands.Config earlier s r h = absurd (cc)
 abbrev request_line : ℕ → SessionNo → Command → Request → Line
 request_line number session command request = record { line = number; session = session; command = command; request = request }
 
-requested : (number : ℕ) (earlier : List ℕ) (command : Command) (session : SessionNo) (request : Result Request LineFault) (read : ReadLine) → ((r : Request) → request ≡ Ok r → IsRequestOf command earlier r) → session.0 < session_places → (request >>= λ r. Ok (reads.Request (request_line number session command r))) ≡ Ok read → Known number false earlier read
+-- the session of a line, and the lines before it
+abbrev before : SessionNo → List EarlierLine → Before
+before session earlier = record { session = session.0; lines = earlier }
+
+requested : (number : ℕ) (earlier : List EarlierLine) (command : Command) (session : SessionNo) (request : Result Request LineFault) (read : ReadLine) → ((r : Request) → request ≡ Ok r → IsRequestOf command (before session earlier) r) → session.0 < session_places → (request >>= λ r. Ok (reads.Request (request_line number session command r))) ≡ Ok read → Known number false earlier read
 requested number earlier command session (Ok r) read made place h =
     let same : reads.Request (request_line number session command r) ≡ read = read_is h in
-    let ours : IsRequestOf command earlier r = made r refl in
+    let ours : IsRequestOf command (before session earlier) r = made r refl in
     subst (λ q. Known number false earlier q) same (record { number = refl; place = place; command = ours.command; names = ours.names })
 requested number earlier command session (Err e) read made place h = absurd (cc)
 
-in_session : (number : ℕ) (earlier : List ℕ) (command : Command) (s : Seen) (session : Result SessionNo LineFault) (read : ReadLine) → ((n : SessionNo) → session ≡ Ok n → n.0 < session_places) → (session >>= λ n. members_of command earlier s >>= λ r. Ok (reads.Request (request_line number n command r))) ≡ Ok read → Known number false earlier read
-in_session number earlier command s (Ok n) read place h = requested number earlier command n (members_of command earlier s) read (members_made command earlier s) (place n refl) h
+in_session : (number : ℕ) (earlier : List EarlierLine) (command : Command) (s : Seen) (session : Result SessionNo LineFault) (read : ReadLine) → ((n : SessionNo) → session ≡ Ok n → n.0 < session_places) → (session >>= λ n. members_of command earlier n.0 s >>= λ r. Ok (reads.Request (request_line number n command r))) ≡ Ok read → Known number false earlier read
+in_session number earlier command s (Ok n) read place h = requested number earlier command n (members_of command earlier n.0 s) read (members_made command (before n earlier) s) (place n refl) h
 in_session number earlier command s (Err e) read place h = absurd (cc)
 
-commanded : (number : ℕ) (earlier : List ℕ) (s : Seen) (command : Result Command LineFault) (read : ReadLine) → (command >>= λ c. form (session_at s) >>= λ n. members_of c earlier s >>= λ r. Ok (reads.Request (request_line number n c r))) ≡ Ok read → Known number false earlier read
+commanded : (number : ℕ) (earlier : List EarlierLine) (s : Seen) (command : Result Command LineFault) (read : ReadLine) → (command >>= λ c. form (session_at s) >>= λ n. members_of c earlier n.0 s >>= λ r. Ok (reads.Request (request_line number n c r))) ≡ Ok read → Known number false earlier read
 commanded number earlier s (Ok c) read h = in_session number earlier c s (form (session_at s)) read (λ n e. session_place s n (form_ok (session_at s) n e)) h
 commanded number earlier s (Err e) read h = absurd (cc)
 
-request_known : (number : ℕ) (earlier word : List ℕ) (s : Seen) (read : ReadLine) → line_in number earlier word s ≡ Ok read → Known number false earlier read
+request_known : (number : ℕ) (earlier : List EarlierLine) (word : List ℕ) (s : Seen) (read : ReadLine) → line_in number earlier word s ≡ Ok read → Known number false earlier read
 unfolding line_in
 request_known number earlier word s read h = commanded number earlier s (if_command (command_named word)) read h
 
@@ -315,7 +340,7 @@ config_form_ok : {A : Type 0} (r : Result A ConfigFault) (x : A) → config_form
 config_form_ok (Ok y) x h = cc
 config_form_ok (Err e) x h = absurd (cc)
 
-config_known : (number : ℕ) (earlier : List ℕ) (s : Seen) (read : ReadLine) → config_line s ≡ Ok read → Known number true earlier read
+config_known : (number : ℕ) (earlier : List EarlierLine) (s : Seen) (read : ReadLine) → config_line s ≡ Ok read → Known number true earlier read
 unfolding config_line
 config_known number earlier s read h =
     let member : _ = taken (form (member_of (codes "config") wanted.Object s)) _ read h in
@@ -323,7 +348,7 @@ config_known number earlier s read h =
     subst (λ q. Known number true earlier q) (read_is config.rest_is)
     (config_valid member.value config.value (config_form_ok (config_of member.value) config.value config.first_is))
 
-placed_known : (wants is_config : Bool) (number : ℕ) (earlier word : List ℕ) (s : Seen) (read : ReadLine) → placed_line wants is_config number earlier word s ≡ Ok read → Known number wants earlier read
+placed_known : (wants is_config : Bool) (number : ℕ) (earlier : List EarlierLine) (word : List ℕ) (s : Seen) (read : ReadLine) → placed_line wants is_config number earlier word s ≡ Ok read → Known number wants earlier read
 placed_known true true number earlier word s read h = config_known number earlier s read h
 placed_known true false number earlier word s read h = absurd (cc)
 placed_known false true number earlier word s read h = absurd (cc)
@@ -348,50 +373,50 @@ question_place s q h =
     (session_place s session.value session.first_is)
 
 -- a question's command brings the request
-abbrev Asks : Command → List ℕ → Type 0
-Asks command earlier = (ask : Ask) → IsRequestOf command earlier (question_request command ask)
+abbrev Asks : Command → Type 0
+Asks command = (earlier : Before) (ask : Ask) → IsRequestOf command earlier (question_request command ask)
 
-word_asks : (query look : Bool) (earlier : List ℕ) (command : Command) → cond query (Some commands.Query) (cond look (Some commands.Look) None) ≡ Some command → Asks command earlier
-word_asks true look earlier command h = λ ask. subst (λ c. IsRequestOf c earlier (question_request c ask)) (some_is h) (record { command = refl; names = tt })
-word_asks false true earlier command h = λ ask. subst (λ c. IsRequestOf c earlier (question_request c ask)) (some_is h) (record { command = refl; names = tt })
-word_asks false false earlier command h = absurd (cc)
+word_asks : (query look : Bool) (command : Command) → cond query (Some commands.Query) (cond look (Some commands.Look) None) ≡ Some command → Asks command
+word_asks true look command h = λ earlier ask. subst (λ c. IsRequestOf c earlier (question_request c ask)) (some_is h) (record { command = refl; names = tt })
+word_asks false true command h = λ earlier ask. subst (λ c. IsRequestOf c earlier (question_request c ask)) (some_is h) (record { command = refl; names = tt })
+word_asks false false command h = absurd (cc)
 
-asked_known : (number : ℕ) (earlier : List ℕ) (command : Command) (made : Made) (question : Result Question Shape) (read : ReadLine) → Asks command earlier → ((q : Question) → question ≡ Ok q → q.session.0 < session_places) → asking_line false number command made question ≡ Ok read → Known number false earlier read
+asked_known : (number : ℕ) (earlier : List EarlierLine) (command : Command) (made : Made) (question : Result Question Shape) (read : ReadLine) → Asks command → ((q : Question) → question ≡ Ok q → q.session.0 < session_places) → asking_line false number command made question ≡ Ok read → Known number false earlier read
 asked_known number earlier command made (Ok q) read asks place h =
-    let ours : IsRequestOf command earlier (question_request command (record { prepared = made; time = q.time; requery = q.requery })) = asks _ in
+    let ours : IsRequestOf command (before q.session earlier) (question_request command (record { prepared = made; time = q.time; requery = q.requery })) = asks _ _ in
     subst (λ r. Known number false earlier r) (read_is h) (record { number = refl; place = place q refl; command = ours.command; names = ours.names })
 asked_known number earlier command made (Err fault) read asks place h = absurd (cc)
 
-asking_known : (number : ℕ) (wants : Bool) (earlier : List ℕ) (command : Command) (made : Made) (s : Seen) (read : ReadLine) → Asks command earlier → asking_line wants number command made (question_at s) ≡ Ok read → Known number wants earlier read
+asking_known : (number : ℕ) (wants : Bool) (earlier : List EarlierLine) (command : Command) (made : Made) (s : Seen) (read : ReadLine) → Asks command → asking_line wants number command made (question_at s) ≡ Ok read → Known number wants earlier read
 asking_known number true earlier command made s read asks h = absurd (cc)
 asking_known number false earlier command made s read asks h = asked_known number earlier command made (question_at s) read asks (question_place s) h
 
-told_known : (number : ℕ) (wants : Bool) (earlier : List ℕ) (made : Made) (word : List ℕ) (s : Seen) (o : Option Command) (read : ReadLine) → question_command word ≡ o → told_line o number wants earlier made word s ≡ Ok read → Known number wants earlier read
+told_known : (number : ℕ) (wants : Bool) (earlier : List EarlierLine) (made : Made) (word : List ℕ) (s : Seen) (o : Option Command) (read : ReadLine) → question_command word ≡ o → told_line o number wants earlier made word s ≡ Ok read → Known number wants earlier read
 told_known number wants earlier made word s None read is h = placed_known wants (same_text word (codes "config")) number earlier word s read h
 told_known number wants earlier made word s (Some command) read is h =
-    asking_known number wants earlier command made s read (word_asks (same_text word (codes "query")) (same_text word (codes "look")) earlier command is) h
+    asking_known number wants earlier command made s read (word_asks (same_text word (codes "query")) (same_text word (codes "look")) command is) h
 
-word_known : (number : ℕ) (wants : Bool) (earlier : List ℕ) (made : Made) (s : Seen) (word : Result (List ℕ) LineFault) (read : ReadLine) → (word >>= λ w. told_line (question_command w) number wants earlier made w s) ≡ Ok read → Known number wants earlier read
+word_known : (number : ℕ) (wants : Bool) (earlier : List EarlierLine) (made : Made) (s : Seen) (word : Result (List ℕ) LineFault) (read : ReadLine) → (word >>= λ w. told_line (question_command w) number wants earlier made w s) ≡ Ok read → Known number wants earlier read
 word_known number wants earlier made s (Ok w) read h = told_known number wants earlier made w s (question_command w) read refl h
 word_known number wants earlier made s (Err e) read h = absurd (cc)
 
-value_known : (number : ℕ) (wants : Bool) (earlier : List ℕ) (made : Made) (s : Seen) (read : ReadLine) → value_line number wants earlier made s ≡ Ok read → Known number wants earlier read
+value_known : (number : ℕ) (wants : Bool) (earlier : List EarlierLine) (made : Made) (s : Seen) (read : ReadLine) → value_line number wants earlier made s ≡ Ok read → Known number wants earlier read
 unfolding value_line
 value_known number wants earlier made s read h = word_known number wants earlier made s (form (word_of_line s)) read h
 
-json_known : (number : ℕ) (wants : Bool) (earlier : List ℕ) (made : Made) (d : Option Data) (read : ReadLine) → json_line number wants earlier made d ≡ Ok read → Known number wants earlier read
+json_known : (number : ℕ) (wants : Bool) (earlier : List EarlierLine) (made : Made) (d : Option Data) (read : ReadLine) → json_line number wants earlier made d ≡ Ok read → Known number wants earlier read
 json_known number wants earlier made None read h = absurd (cc)
 json_known number wants earlier made (Some d) read h = value_known number wants earlier made (seen d root_path) read h
 
-blank_known : (number : ℕ) (wants : Bool) (earlier : List ℕ) (read : ReadLine) → blank_line wants ≡ Ok read → Known number wants earlier read
+blank_known : (number : ℕ) (wants : Bool) (earlier : List EarlierLine) (read : ReadLine) → blank_line wants ≡ Ok read → Known number wants earlier read
 blank_known number true earlier read h = absurd (cc)
 blank_known number false earlier read h = let same : reads.Blank ≡ read = read_is h in subst (λ q. Known number false earlier q) same tt
 
-either_known : (number : ℕ) (wants blank : Bool) (earlier : List ℕ) (made : Made) (line : List ℕ) (read : ReadLine) → cond blank (blank_line wants) (json_line number wants earlier made (json_of line)) ≡ Ok read → Known number wants earlier read
+either_known : (number : ℕ) (wants blank : Bool) (earlier : List EarlierLine) (made : Made) (line : List ℕ) (read : ReadLine) → cond blank (blank_line wants) (json_line number wants earlier made (json_of line)) ≡ Ok read → Known number wants earlier read
 either_known number wants true earlier made line read h = blank_known number wants earlier read h
 either_known number wants false earlier made line read h = json_known number wants earlier made (json_of line) read h
 
 -- a line that was read is of the kind that was wanted, and a request can be taken by the core
-pub known : (line : List ℕ) (number : ℕ) (wants : Bool) (earlier : List ℕ) (made : Made) (read : ReadLine) → request_of line number wants earlier made ≡ Ok read → Known number wants earlier read
+pub known : (line : List ℕ) (number : ℕ) (wants : Bool) (earlier : List EarlierLine) (made : Made) (read : ReadLine) → request_of line number wants earlier made ≡ Ok read → Known number wants earlier read
 unfolding request_of
 known line number wants earlier made read h = either_known number wants (is_blank line) earlier made line read h

@@ -22,6 +22,7 @@ use Rattle.script_lines.specs.Questions.{Question, question_command}
 use Rattle.script_lines.specs.Made.{eql_read, eql_told, eql_in, eql_of}
 use Rattle.eql_resolve.specs.Made.{Made}
 use Rattle.script_lines.specs.Inner.Made.{no_question}
+use Rattle.script_lines.specs.declared.line_set.EarlierLine.{EarlierLine}
 use Rattle.script_lines.specs.Lines.{asking_line, told_line, placed_line, value_line, json_line, request_of}
 use Rattle.script_lines.specs.Inner.Lines.{ReadsBy, ReadsMade}
 
@@ -35,6 +36,7 @@ reads_made (Err faults.NoSuchCommand) asked there before now later by = by
 reads_made (Err faults.ConfigPlace) asked there before now later by = by
 reads_made (Err (faults.Config e)) asked there before now later by = by
 reads_made (Err faults.BadAfter) asked there before now later by = by
+reads_made (Err faults.BadUndo) asked there before now later by = by
 reads_made (Err faults.Memory) asked there before now later by = later
 
 no_refusal : (n : ℕ) → RoseBy 0 n n
@@ -57,7 +59,7 @@ word_stops (views.Shape x) word s rest n tells =
 word_stops views.Memory word s rest n tells = omega arith
 
 -- the word of a line is none
-pub value_stops : (answer : Result ReadLine LineFault) (v : ViewFault) (number : ℕ) (wants : Bool) (earlier : List ℕ) (s : Seen) (n : ℕ)
+pub value_stops : (answer : Result ReadLine LineFault) (v : ViewFault) (number : ℕ) (wants : Bool) (earlier : List EarlierLine) (s : Seen) (n : ℕ)
     → IsErrAnd answer (λ e. e ≡ as_line_fault v)
     → ((there : Shape) → v ≡ views.Shape there → word_of_line s ≡ Err there)
     → ReadsMade answer (eql_told (word_of_line s) s) (λ made. value_line number wants earlier made s) n n
@@ -66,7 +68,7 @@ value_stops (Ok r) v number wants earlier s n is tells = absurd is
 value_stops (Err e) v number wants earlier s n is tells =
     rw is (word_stops v (word_of_line s) s (λ made word. told_line (question_command word) number wants earlier made word s) n tells)
 
-told_nothing : (answer : Result ReadLine LineFault) (word : Result (List ℕ) Shape) (w : List ℕ) (number : ℕ) (wants : Bool) (earlier : List ℕ) (s : Seen) (n : ℕ)
+told_nothing : (answer : Result ReadLine LineFault) (word : Result (List ℕ) Shape) (w : List ℕ) (number : ℕ) (wants : Bool) (earlier : List EarlierLine) (s : Seen) (n : ℕ)
     → word ≡ Ok w → question_command w ≡ None
     → Reads answer (placed_line wants (same_text w (codes "config")) number earlier w s)
     → ReadsMade answer (eql_told word s) (λ made. form word >>= λ x. told_line (question_command x) number wants earlier made x s) n n
@@ -74,7 +76,7 @@ told_nothing answer word w number wants earlier s n is none reads =
     rw (is, none) (asks_nothing answer (λ made. placed_line wants (same_text w (codes "config")) number earlier w s) n reads)
 
 -- the word of a line is no question's
-pub value_none : (answer : Result ReadLine LineFault) (w : List ℕ) (is_config : Bool) (number : ℕ) (wants : Bool) (earlier : List ℕ) (s : Seen) (n : ℕ)
+pub value_none : (answer : Result ReadLine LineFault) (w : List ℕ) (is_config : Bool) (number : ℕ) (wants : Bool) (earlier : List EarlierLine) (s : Seen) (n : ℕ)
     → word_of_line s ≡ Ok w → question_command w ≡ None → is_config ≡ same_text w (codes "config")
     → Reads answer (placed_line wants is_config number earlier w s)
     → ReadsMade answer (eql_told (word_of_line s) s) (λ made. value_line number wants earlier made s) n n
@@ -98,12 +100,12 @@ pub asking_stops : (e : LineFault) (v : ViewFault) (wants : Bool) (number : ℕ)
     → ReadsMade (Err e) (eql_read question) (λ made. asking_line wants number command made question) n n
 asking_stops e v wants number command question n is tells = rw is (asking_none v wants number command question n tells)
 
-json_none : (e : LineFault) (d : Option Data) (number : ℕ) (wants : Bool) (earlier : List ℕ) (n : ℕ)
+json_none : (e : LineFault) (d : Option Data) (number : ℕ) (wants : Bool) (earlier : List EarlierLine) (n : ℕ)
     → d ≡ None → e ≡ faults.NotJson → ReadsMade (Err e) (eql_in d) (λ made. json_line number wants earlier made d) n n
 json_none e d number wants earlier n none is =
     rw (none, is) (asks_nothing (Err faults.NotJson) (λ made. Err faults.NotJson) n (λ other. refl))
 
-json_fault : (e : LineFault) (d : Option Data) (number : ℕ) (wants : Bool) (earlier : List ℕ) (n : ℕ)
+json_fault : (e : LineFault) (d : Option Data) (number : ℕ) (wants : Bool) (earlier : List EarlierLine) (n : ℕ)
     → (e ≢ faults.Memory → d ≡ None) → (e ≢ faults.Memory → e ≡ faults.NotJson)
     → ReadsMade (Err e) (eql_in d) (λ made. json_line number wants earlier made d) n n
 json_fault faults.NotJson d number wants earlier n none is = json_none faults.NotJson d number wants earlier n (none (λ h. cc)) refl
@@ -112,10 +114,11 @@ json_fault faults.NoSuchCommand d number wants earlier n none is = json_none fau
 json_fault faults.ConfigPlace d number wants earlier n none is = json_none faults.ConfigPlace d number wants earlier n (none (λ h. cc)) (is (λ h. cc))
 json_fault (faults.Config c) d number wants earlier n none is = json_none (faults.Config c) d number wants earlier n (none (λ h. cc)) (is (λ h. cc))
 json_fault faults.BadAfter d number wants earlier n none is = json_none faults.BadAfter d number wants earlier n (none (λ h. cc)) (is (λ h. cc))
+json_fault faults.BadUndo d number wants earlier n none is = json_none faults.BadUndo d number wants earlier n (none (λ h. cc)) (is (λ h. cc))
 json_fault faults.Memory d number wants earlier n none is = omega arith
 
 -- the line is no JSON
-pub json_stops : (answer : Result ReadLine LineFault) (e : LineFault) (d : Option Data) (number : ℕ) (wants : Bool) (earlier : List ℕ) (n : ℕ)
+pub json_stops : (answer : Result ReadLine LineFault) (e : LineFault) (d : Option Data) (number : ℕ) (wants : Bool) (earlier : List EarlierLine) (n : ℕ)
     → IsErrAnd answer (λ x. x ≡ e) → (e ≢ faults.Memory → d ≡ None) → (e ≢ faults.Memory → e ≡ faults.NotJson)
     → ReadsMade answer (eql_in d) (λ made. json_line number wants earlier made d) n n
 json_stops (Ok r) e d number wants earlier n same none is = absurd same
@@ -123,13 +126,13 @@ json_stops (Err x) e d number wants earlier n same none is = rw same (json_fault
 
 -- white space alone
 
-pub blank_wanted : (line : List ℕ) (number : ℕ) (wants : Bool) (earlier : List ℕ) (n : ℕ) → is_blank line ≡ true → wants ≡ true
+pub blank_wanted : (line : List ℕ) (number : ℕ) (wants : Bool) (earlier : List EarlierLine) (n : ℕ) → is_blank line ≡ true → wants ≡ true
     → ReadsMade (Err faults.ConfigPlace) (eql_of line) (λ made. request_of line number wants earlier made) n n
 unfolding eql_of request_of
 blank_wanted line number wants earlier n blank wanted =
     rw (blank, wanted) (asks_nothing (Err faults.ConfigPlace) (λ made. Err faults.ConfigPlace) n (λ other. refl))
 
-pub blank_passed : (line : List ℕ) (number : ℕ) (wants : Bool) (earlier : List ℕ) (n : ℕ) → is_blank line ≡ true → wants ≡ false
+pub blank_passed : (line : List ℕ) (number : ℕ) (wants : Bool) (earlier : List EarlierLine) (n : ℕ) → is_blank line ≡ true → wants ≡ false
     → ReadsMade (Ok reads.Blank) (eql_of line) (λ made. request_of line number wants earlier made) n n
 unfolding eql_of request_of
 blank_passed line number wants earlier n blank wanted =

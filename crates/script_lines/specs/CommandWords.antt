@@ -27,6 +27,7 @@ command_named word =
     else if same_text word (codes "add_level") then Some commands.AddLevel
     else if same_text word (codes "add_attribute") then Some commands.AddAttribute
     else if same_text word (codes "add_link_definition") then Some commands.AddLinkDefinition
+    else if same_text word (codes "undo") then Some commands.Undo
     else if same_text word (codes "finish") then Some commands.Finish
     else if same_text word (codes "after") then Some commands.After
     else None

@@ -8,5 +8,6 @@ pub mod Requeries
 pub mod Questions
 pub mod Made
 pub mod Lines
+pub mod Earlier
 pub mod Known
 pub mod Inner

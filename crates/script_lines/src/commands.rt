@@ -27,6 +27,7 @@ pub(crate) fn command_named(word: &str) -> Option<Command>
         "add_level" => Some(Command::AddLevel),
         "add_attribute" => Some(Command::AddAttribute),
         "add_link_definition" => Some(Command::AddLinkDefinition),
+        "undo" => Some(Command::Undo),
         "finish" => Some(Command::Finish),
         "after" => Some(Command::After),
         _ => None,

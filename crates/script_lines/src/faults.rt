@@ -32,6 +32,8 @@ pub enum LineFault {
     Config(ConfigFault),
     /// An `after` names no earlier request.
     BadAfter,
+    /// An `undo` names no earlier request of its session that asked for a change.
+    BadUndo,
     /// Memory ran out.
     Memory,
 }

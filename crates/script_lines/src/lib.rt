@@ -20,5 +20,5 @@ mod requests;
 
 pub use faults::{LineFault, ReadLine};
 pub use law::read_lines_are_known;
-pub use line_set::LineSet;
+pub use line_set::{EarlierLine, LineSet};
 pub use read::read_line;

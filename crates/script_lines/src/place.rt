@@ -8,6 +8,6 @@ pub(crate) struct Place<'a> {
     pub(crate) number: u32,
     /// Whether the configuration has to stand here.
     pub(crate) wants_config: bool,
-    /// The numbers of the request lines before it.
+    /// The request lines before it.
     pub(crate) earlier: &'a LineSet,
 }

@@ -68,7 +68,7 @@ fn line_in(alloc: Global, place: &Place, word: &str, view: &View) -> Result<Read
         return Err(LineFault::NoSuchCommand);
     };
     let session = session_at(view)?;
-    let request = members_of(alloc, command, place.earlier, view)?;
+    let request = members_of(alloc, command, place.earlier, session, view)?;
     Ok(ReadLine::Request(Line {
         line: place.number,
         session,
@@ -142,7 +142,7 @@ fn json_line<P: PatternMaker>(
 
 /// The request of a line of a script, or the first fault, or want of memory. `number` is the line's,
 /// counted from 1; `wants_config` says that the configuration has to stand here; `earlier` are the
-/// numbers of the request lines before it.
+/// request lines before it.
 ///
 /// The query of a `query` or a `look` whose members are read well is prepared by the maker of patterns,
 /// wherever the line stands. A fault of the query's text or of a pattern is no fault of the line: the

@@ -1,7 +1,7 @@
 //! The members of a request, by its command.
 ghost use Rattle.json_view.specs.Inner.Seen.{seen_at};
 ghost use Rattle.script_lines.specs.Inner.Faults.{Reads};
-ghost use Rattle.script_lines.specs.Lines.{after_request, members_of};
+ghost use Rattle.script_lines.specs.Lines.{after_request, members_of, undo_request};
 
 use crate::additions::{attribute_request, definition_request, level_request};
 use crate::edits::{bundle_request, drop_request, times_request};
@@ -10,6 +10,7 @@ use crate::forms::whole_member;
 use crate::grids::textgrid_request;
 use crate::line_set::LineSet;
 use crate::lists::{edits_request, one_request};
+use emu_names::SessionNo;
 use emu_names::limits::TOP_ID;
 use json_view::View;
 use session_core::{Command, Request};
@@ -27,14 +28,27 @@ fn after_request(view: &View, earlier: &LineSet) -> Result<Request, LineFault>
     Ok(Request::After(line))
 }
 
-/// What the members of a request ask for, or the first fault.
+// `undo`: the number of an earlier line of its session that asked for a change.
+#[tactic(auto, unfolding(crate::specs::Lines::undo_request))]
+fn undo_request(view: &View, earlier: &LineSet, session: SessionNo) -> Result<Request, LineFault>
+    ensures { Reads result (undo_request earlier.now session.0 (seen_at view.now)) }
+{
+    let line = whole_member(view, "line", TOP_ID)? as u32;
+    if !earlier.has_change(session, line) {
+        return Err(LineFault::BadUndo);
+    }
+    Ok(Request::Undo(line))
+}
+
+/// What the members of a request of this session ask for, or the first fault.
 pub(crate) fn members_of(
     alloc: Global,
     command: Command,
     earlier: &LineSet,
+    session: SessionNo,
     view: &View,
 ) -> Result<Request, LineFault>
-    ensures { Reads result (members_of command earlier.now (seen_at view.now)) }
+    ensures { Reads result (members_of command earlier.now session.0 (seen_at view.now)) }
 {
     match command {
         Command::AddBundle => Ok(bundle_request(alloc, view)?),
@@ -57,6 +71,7 @@ pub(crate) fn members_of(
         Command::AddLinkDefinition => definition_request(alloc, view),
         Command::Finish => Ok(Request::Finish),
         Command::After => after_request(view, earlier),
+        Command::Undo => undo_request(view, earlier, session),
         Command::Query | Command::Look | Command::Config => Err(LineFault::NoSuchCommand),
     }
 }

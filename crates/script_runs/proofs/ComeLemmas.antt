@@ -1,37 +1,45 @@
 -- What is known of the requests that were read of a script: they come in order.
-use Rattle.std.proofs.Common.{◌≡◌, ℕ, ◌+◌, Bool, true, false, List, [], ◌∷◌, ◌++◌, Option, Some, Result, Ok, Err, refl, sym, ◌∙◌, subst, arith, nat_eq, append-nil, append_assoc}
+use Rattle.std.proofs.Common.{◌≡◌, ℕ, ◌+◌, Bool, true, false, List, [], ◌∷◌, ◌++◌, Option, Some, Result, Ok, Err, refl, sym, ◌∙◌, subst, arith, append-nil, append_assoc}
 use Rattle.std.specs.List.{list_any}
 use Rattle.db_config.specs.declared.parts.ConfigParts.{ConfigParts}
 use Rattle.db_config.specs.Valid.{is_valid}
 use Rattle.session_core.specs.declared.line.Line.{Line}
 use Rattle.session_core.specs.declared.line.Request.{Request}
 use Rattle.session_core.specs.declared.line.Request.TheVariants as requests
-use Rattle.session_core.specs.Worlds.{Each}
+use Rattle.session_core.specs.Worlds.{Each, NamesChange}
 use Rattle.session_core.specs.InOrder.{ComeInOrder, ComesNext, NamesEarlier, IsBelow}
 use Rattle.session_core.proofs.Turns.{each_push, each_map}
 use Rattle.script_lines.specs.declared.faults.LineFault.{LineFault}
 use Rattle.script_lines.specs.declared.faults.ReadLine.{ReadLine}
 use Rattle.script_lines.specs.declared.faults.ReadLine.TheVariants as reads
 use Rattle.script_lines.specs.Lines.{request_of}
+use Rattle.script_lines.specs.declared.line_set.EarlierLine.{EarlierLine}
+use Rattle.script_lines.specs.Earlier.{is_change_of, is_line}
 use Rattle.script_lines.specs.Known.{Known, NamesOneOf}
 use Rattle.script_lines.proofs.KnownLines.{known}
-use Rattle.script_runs.specs.Scripts.{AskedLine, Parsed, read_from, with_read, parse, parse_line, line_at, unless_over, as_stop, passes_limit, numbers_of, Stop, ◌>>=◌}
+use Rattle.script_runs.specs.Scripts.{AskedLine, Parsed, read_from, with_read, parse, parse_line, line_at, unless_over, as_stop, passes_limit, earlier_line, earlier_of, Stop, ◌>>=◌}
 use Rattle.script_runs.specs.Inner.Reads.{GivesConfig}
 
--- an `after` among the numbers is one among the lines
-same_number : (a b : ℕ) → nat_eq a b ≡ nat_eq b a
-same_number a b = grind arith
+-- an `after` or an `undo` that names one of the earlier lines names one of the lines
+any_earlier : (test : EarlierLine → Bool) (ls : List Line) → list_any test (earlier_of ls) ≡ list_any (λ (l : Line). test (earlier_line l)) ls
+any_earlier test [] = refl
+any_earlier test (l ∷ ls) = rw (any_earlier test ls) refl
 
-any_number : (line : ℕ) (ls : List Line) → list_any (nat_eq line) (numbers_of ls) ≡ list_any (λ (l : Line). nat_eq l.line line) ls
-any_number line [] = refl
-any_number line (l ∷ ls) = rw (same_number line l.line, any_number line ls) refl
+pub names_earlier : (ls : List Line) (session : ℕ) (r : Request) → NamesOneOf (earlier_of ls) session r → NamesEarlier ls r
+names_earlier ls session (requests.After line) h = sym (any_earlier (is_line line) ls) ∙ h
+names_earlier ls session (requests.Edit act) h = tt
+names_earlier ls session (requests.Undo line) h = tt
+names_earlier ls session (requests.Query ask) h = tt
+names_earlier ls session (requests.Look ask) h = tt
+names_earlier ls session requests.Finish h = tt
 
-pub names_earlier : (ls : List Line) (r : Request) → NamesOneOf (numbers_of ls) r → NamesEarlier ls r
-names_earlier ls (requests.After line) h = sym (any_number line ls) ∙ h
-names_earlier ls (requests.Edit act) h = tt
-names_earlier ls (requests.Query ask) h = tt
-names_earlier ls (requests.Look ask) h = tt
-names_earlier ls requests.Finish h = tt
+pub names_change : (ls : List Line) (session : ℕ) (r : Request) → NamesOneOf (earlier_of ls) session r → NamesChange ls session r
+names_change ls session (requests.Undo line) h = sym (any_earlier (is_change_of session line) ls) ∙ h
+names_change ls session (requests.After line) h = tt
+names_change ls session (requests.Edit act) h = tt
+names_change ls session (requests.Query ask) h = tt
+names_change ls session (requests.Look ask) h = tt
+names_change ls session requests.Finish h = tt
 
 pub come_push : (before ls : List Line) (l : Line) → ComeInOrder before ls → ComesNext (before ++ ls) l → ComeInOrder before (ls ++ l ∷ [])
 come_push before [] l h next = (subst (λ ks. ComesNext ks l) (append-nil before) next, tt)
@@ -60,15 +68,15 @@ over_ok true number r read h = absurd (cc)
 over_ok false number (Ok x) read h = stop_same h
 over_ok false number (Err f) read h = absurd (cc)
 
-module _ (P : Parsed → Type 0) (more : (p : Parsed) (read : ReadLine) → P p → Known (p.number + 1) p.wants (numbers_of p.requests) read → P (with_read p read)) where
-  keeps_step : (p q : Parsed) (r : Result ReadLine Stop) → P p → ((read : ReadLine) → r ≡ Ok read → Known (p.number + 1) p.wants (numbers_of p.requests) read) → (r >>= λ x. Ok (with_read p x)) ≡ Ok q → P q
+module _ (P : Parsed → Type 0) (more : (p : Parsed) (read : ReadLine) → P p → Known (p.number + 1) p.wants (earlier_of p.requests) read → P (with_read p read)) where
+  keeps_step : (p q : Parsed) (r : Result ReadLine Stop) → P p → ((read : ReadLine) → r ≡ Ok read → Known (p.number + 1) p.wants (earlier_of p.requests) read) → (r >>= λ x. Ok (with_read p x)) ≡ Ok q → P q
   keeps_step p q (Ok read) o k h = let same : with_read p read ≡ q = parsed_same h in subst P same (more p read o (k read refl))
   keeps_step p q (Err stop) o k h = absurd (cc)
 
   keeps_line : (p q : Parsed) (line : AskedLine) → P p → parse_line p line ≡ Ok q → P q
   keeps_line p q line o h =
-      keeps_step p q (line_at (p.number + 1) p.wants (numbers_of p.requests) line) o
-      (λ read e. known line.line (p.number + 1) p.wants (numbers_of p.requests) line.made read (over_ok (passes_limit (p.number + 1) line.line) (p.number + 1) (request_of line.line (p.number + 1) p.wants (numbers_of p.requests) line.made) read e)) h
+      keeps_step p q (line_at (p.number + 1) p.wants (earlier_of p.requests) line) o
+      (λ read e. known line.line (p.number + 1) p.wants (earlier_of p.requests) line.made read (over_ok (passes_limit (p.number + 1) line.line) (p.number + 1) (request_of line.line (p.number + 1) p.wants (earlier_of p.requests) line.made) read e)) h
 
   keeps_first : (first : Result Parsed Stop) (lines : List AskedLine) (q : Parsed) → ((n : Parsed) → first ≡ Ok n → P n) → ((n : Parsed) → P n → parse n lines ≡ Ok q → P q) → (first >>= λ n. parse n lines) ≡ Ok q → P q
   keeps_first (Ok n) lines q this later h = later n (this n refl) h
@@ -97,7 +105,7 @@ gives_now : (wants : Bool) (given : Option ConfigParts) (config : ConfigParts) �
 gives_now true given config g h = h
 gives_now false given config g h = absurd g
 
-comes_more : (wants : Bool) (p : Parsed) (asks : Bool) (read : ReadLine) → p.wants ≡ asks → Comes wants p → Known (p.number + 1) asks (numbers_of p.requests) read → Comes wants (with_read p read)
+comes_more : (wants : Bool) (p : Parsed) (asks : Bool) (read : ReadLine) → p.wants ≡ asks → Comes wants p → Known (p.number + 1) asks (earlier_of p.requests) read → Comes wants (with_read p read)
 comes_more wants p true (reads.Config config) e o k = record {
   come = o.come;
   below = each_map (IsBelow (p.number + 1)) (IsBelow (p.number + 1 + 1)) (λ l h. omega arith) p.requests o.below;
@@ -116,7 +124,8 @@ comes_more wants p false (reads.Request l) e o k = record {
     rises = each_map (IsBelow (p.number + 1)) (IsBelow l.line) (λ m h. let here : l.line ≡ p.number + 1 = k.number in omega arith) p.requests o.below;
     place = k.place;
     command = k.command;
-    earlier = names_earlier p.requests l.request k.names;
+    earlier = names_earlier p.requests l.session.0 l.request k.names;
+    names = names_change p.requests l.session.0 l.request k.names;
   });
   below = each_push (IsBelow (p.number + 1 + 1)) p.requests l (each_map (IsBelow (p.number + 1)) (IsBelow (p.number + 1 + 1)) (λ m h. omega arith) p.requests o.below) (let here : l.line ≡ p.number + 1 = k.number in omega arith);
   gives = o.gives;

@@ -4,7 +4,6 @@ use Rattle.emu_names.specs.Count.{Rose, RoseBy}
 use Rattle.db_config.specs.declared.parts.ConfigParts.{ConfigParts}
 use Rattle.edit_rules.specs.declared.acts.Entry.{Entry}
 use Rattle.session_core.specs.declared.line.Line.{Line}
-use Rattle.session_core.specs.declared.line.Reply.{Reply}
 use Rattle.session_core.specs.InOrder.{Outage, disk_outages}
 use Rattle.emu_disk.specs.declared.disk.Disk as disks
 use Rattle.edit_journal.specs.declared.journal.Journal.{Journal}
@@ -15,8 +14,7 @@ use Rattle.live_book.specs.Commits.{has_journal}
 use Rattle.book_opening.specs.Opens.{DuringNew}
 use Rattle.live_book.proofs.Storing.{images}
 use Rattle.script_runs.specs.Scripts.{Parsed}
-use Rattle.script_runs.specs.Bases.{Base, no_store, bare_store, store_of, is_stored, config_by, counted, EachOf, LeavesStore, AtEach}
-use Rattle.script_runs.specs.Runs.{replies_by}
+use Rattle.script_runs.specs.Bases.{Base, no_store, bare_store, store_of, is_stored, opening_by, config_by, counted, EachOf, LeavesStore, AtEach}
 use Rattle.script_runs.specs.Inner.Runs.{history_by}
 use Rattle.script_runs.specs.Inner.Reached.{IsKept, IsDone, IsFailed, IsBeginOf, KeepsStore, KeepsHistory, AtMomentOf, DuringStart, IsRunDone, IsRunFailed, IsRunKept, LeavesSince}
 use Rattle.script_runs.specs.Inner.Ran.{HasDisk, BeginsBefore}
@@ -35,25 +33,25 @@ module _ {D : Type 0} (may_leave : D → List ℕ → Type 0) (faults : D → �
   counted_is bare_store None disk s h = absurd (cc)
   counted_is (store_of config history) None disk s h = absurd (cc)
 
-  history_left : (config : ConfigParts) (lines : List Line) (replies : List Reply) (history : List Entry) (journal : Journal D) → KeepsHistory may_leave config lines replies history (Some journal) → LeavesStore true (Some config) lines replies history (may_leave (disk_of journal))
-  history_left config lines replies history journal k = record { lost = k.lost; why = k.why; each = λ c image. images may_leave config history k.lost journal k.keeps c image }
+  history_left : (config : ConfigParts) (opening : List Entry) (lines : List Line) (outages : List Outage) (history : List Entry) (journal : Journal D) → KeepsHistory may_leave true config opening lines outages history (Some journal) → LeavesStore true (Some config) opening lines outages history (may_leave (disk_of journal))
+  history_left config opening lines outages history journal k = record { lost = k.lost; why = k.why; each = λ c image. images may_leave config history k.lost journal k.keeps c image }
 
-  store_left : (config : Option ConfigParts) (lines : List Line) (replies : List Reply) (history : List Entry) (journal : Journal D) → KeepsStore may_leave config lines replies history (Some journal) → LeavesStore true config lines replies history (may_leave (disk_of journal))
-  store_left None lines replies history journal k = λ c image. stands_may may_leave [] None journal k c image
-  store_left (Some config) lines replies history journal k = history_left config lines replies history journal k
+  store_left : (config : Option ConfigParts) (opening : List Entry) (lines : List Line) (outages : List Outage) (history : List Entry) (journal : Journal D) → KeepsStore may_leave true config opening lines outages history (Some journal) → LeavesStore true config opening lines outages history (may_leave (disk_of journal))
+  store_left None opening lines outages history journal k = λ c image. stands_may may_leave [] None journal k c image
+  store_left (Some config) opening lines outages history journal k = history_left config opening lines outages history journal k
 
-  leaves_store : (stored : Bool) (config : Option ConfigParts) (lines : List Line) (replies : List Reply) (history : List Entry) (journal : Option (Journal D)) (disk : D) → has_journal journal ≡ stored → HasDisk journal disk → KeepsStore may_leave config lines replies history journal →
-      LeavesStore stored config lines replies history (may_leave disk)
-  leaves_store false config lines replies history journal disk s h k = tt
-  leaves_store true config lines replies history (Some journal) disk s h k = subst (λ d. LeavesStore true config lines replies history (may_leave d)) (sym h) (store_left config lines replies history journal k)
-  leaves_store true config lines replies history None disk s h k = absurd (cc)
+  leaves_store : (stored : Bool) (config : Option ConfigParts) (opening : List Entry) (lines : List Line) (outages : List Outage) (history : List Entry) (journal : Option (Journal D)) (disk : D) → has_journal journal ≡ stored → HasDisk journal disk → KeepsStore may_leave stored config opening lines outages history journal →
+      LeavesStore stored config opening lines outages history (may_leave disk)
+  leaves_store false config opening lines outages history journal disk s h k = tt
+  leaves_store true config opening lines outages history (Some journal) disk s h k = subst (λ d. LeavesStore true config opening lines outages history (may_leave d)) (sym h) (store_left config opening lines outages history journal k)
+  leaves_store true config opening lines outages history None disk s h k = absurd (cc)
 
   -- what the journal keeps, of its disk
   pub done_of : (base : Base) (begin : ℕ) (journal : Option (Journal D)) (disk : D) → HasDisk journal disk → (p : Parsed) (outages : List Outage) → IsKept may_leave faults base begin journal p outages → IsDone base begin (faults disk) (may_leave disk) p outages
   done_of base begin journal disk h p outages k = record {
     each = k.each;
     rose = subst (λ n. RoseBy (disk_outages (is_stored base) outages) (counted base begin) n) (sym (counted_is base journal disk k.stored h)) k.rose;
-    left = leaves_store (is_stored base) (config_by base p.config) p.requests (replies_by base p outages) (history_by base p outages) journal disk k.stored h k.kept;
+    left = leaves_store (is_stored base) (config_by base p.config) (opening_by base) p.requests outages (history_by base p outages) journal disk k.stored h k.kept;
   }
 
   pub failed_of : (begin : ℕ) (journal : Option (Journal D)) (disk : D) → has_journal journal ≡ true → HasDisk journal disk → (config : ConfigParts) → IsFailed may_leave faults begin journal config → FailedBy begin (faults disk) (may_leave disk) config

@@ -11,7 +11,7 @@ use Rattle.book_opening.specs.declared.fault.OpenFault.{OpenFault}
 use Rattle.book_opening.specs.declared.fault.OpenFault.TheVariants as opens
 use Rattle.live_book.specs.Kept.{faults_in}
 use Rattle.book_opening.specs.Inner.Opens.{IsNoStoreFor}
-use Rattle.store_texts.specs.Texts.{damaged_text}
+use Rattle.program_output.specs.Texts.{damaged_text}
 use Rattle.program_output.specs.declared.ended.Ended.{Ended}
 use Rattle.program_output.specs.declared.ended.Ended.TheVariants as ends
 use Rattle.program_output.specs.declared.status.Status.{Status}

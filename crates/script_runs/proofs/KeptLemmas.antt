@@ -7,7 +7,7 @@ use Rattle.edit_rules.specs.declared.acts.Entry.{Entry}
 use Rattle.session_core.specs.declared.line.Line.{Line}
 use Rattle.session_core.specs.declared.line.Reply.{Reply}
 use Rattle.session_core.specs.Steps.{State, start}
-use Rattle.session_core.specs.InOrder.{Outage, is_disk_outage, disk_outages, one_turn}
+use Rattle.session_core.specs.InOrder.{Outage, is_disk_outage, disk_outages, in_turn, one_turn}
 use Rattle.edit_journal.specs.declared.journal.Journal.{Journal}
 use Rattle.live_book.specs.Kept.{KeepsIn, faults_in}
 use Rattle.live_book.specs.Commits.{has_journal}
@@ -19,37 +19,47 @@ use Rattle.script_runs.specs.declared.running.Running.{Running}
 use Rattle.script_runs.specs.Scripts.{Parsed, read_from, with_read}
 use Rattle.script_runs.specs.Bases.{Base, is_stored, opening_by, config_by, counted, store_of, WasRefused, IfRefused}
 use Rattle.script_runs.specs.Inner.Bases.{fresh_base}
-use Rattle.script_runs.specs.Runs.{replies_by}
-use Rattle.script_runs.specs.Inner.Runs.{history_by}
+use Rattle.script_runs.specs.Inner.Runs.{history_by, replies_by}
 use Rattle.script_runs.specs.Inner.Taken.{TakesLine}
 use Rattle.script_runs.specs.Inner.Reached.{IsAt, IsKept, KeepsStore, KeepsHistory}
 use Rattle.script_runs.proofs.ReadLemmas.{rose_both}
-use Rattle.script_runs.proofs.TextLemmas.{turns_push, turns_count, begun_in, replies_begun, history_begun}
+use Rattle.script_runs.proofs.TextLemmas.{turns_push, begun_in, replies_begun, history_begun}
 
 -- The edits that the disk refused.
 
-refused_more : (lines : List Line) (replies : List Reply) (l : Line) (reply : Reply) (next : Entry) → WasRefused lines replies next → WasRefused (lines ++ l ∷ []) (replies ++ reply ∷ []) next
-refused_more [] replies l reply next h = absurd h
-refused_more (k ∷ lines) [] l reply next h = absurd h
-refused_more (k ∷ lines) (r ∷ replies) l reply next (inl h) = inl h
-refused_more (k ∷ lines) (r ∷ replies) l reply next (inr h) = inr (refused_more lines replies l reply next h)
+refused_more : (store : Bool) (st : State) (lines : List Line) (outages : List Outage) (l : Line) (o : Outage) (next : Entry) → WasRefused store st lines outages next → WasRefused store st (lines ++ l ∷ []) (outages ++ o ∷ []) next
+refused_more store st [] outages l o next h = absurd h
+refused_more store st (k ∷ lines) [] l o next h = absurd h
+refused_more store st (k ∷ lines) (p ∷ outages) l o next (inl h) = inl h
+refused_more store st (k ∷ lines) (p ∷ outages) l o next (inr h) = inr (refused_more store (one_turn store st k p).1 lines outages l o next h)
 
-pub refused_last : (lines : List Line) (replies : List Reply) (l : Line) (reply : Reply) (next : Entry) → length replies ≡ length lines → IsDiskRefused l reply next → WasRefused (lines ++ l ∷ []) (replies ++ reply ∷ []) next
-refused_last [] [] l reply next same h = inl h
-refused_last [] (r ∷ replies) l reply next same h = absurd (omega arith)
-refused_last (k ∷ lines) [] l reply next same h = absurd (omega arith)
-refused_last (k ∷ lines) (r ∷ replies) l reply next same h = let rest : length replies ≡ length lines = omega arith in inr (refused_last lines replies l reply next rest h)
+pub refused_last : (store : Bool) (st : State) (lines : List Line) (outages : List Outage) (l : Line) (o : Outage) (next : Entry) → length outages ≡ length lines →
+    IsDiskRefused (in_turn store st lines outages).1 l (one_turn store (in_turn store st lines outages).1 l o).0 next → WasRefused store st (lines ++ l ∷ []) (outages ++ o ∷ []) next
+refused_last store st [] [] l o next same h = inl h
+refused_last store st [] (p ∷ outages) l o next same h = absurd (omega arith)
+refused_last store st (k ∷ lines) [] l o next same h = absurd (omega arith)
+refused_last store st (k ∷ lines) (p ∷ outages) l o next same h =
+    let rest : length outages ≡ length lines = omega arith in
+    inr (refused_last store (one_turn store st k p).1 lines outages l o next rest h)
 
-pub if_more : (lines : List Line) (replies : List Reply) (l : Line) (reply : Reply) (lost : Option Entry) → IfRefused lines replies lost → IfRefused (lines ++ l ∷ []) (replies ++ reply ∷ []) lost
-if_more lines replies l reply None h = tt
-if_more lines replies l reply (Some next) h = refused_more lines replies l reply next h
+pub if_more : (store : Bool) (st : State) (lines : List Line) (outages : List Outage) (l : Line) (o : Outage) (lost : Option Entry) → IfRefused store st lines outages lost → IfRefused store st (lines ++ l ∷ []) (outages ++ o ∷ []) lost
+if_more store st lines outages l o None h = tt
+if_more store st lines outages l o (Some next) h = refused_more store st lines outages l o next h
+
+-- the disk refused a line over the state where the run stands
+pub refused_there : (store : Bool) (st mid after : State) (l : Line) (o : Outage) (reply : Reply) (next : Entry) → mid ≡ st → one_turn store st l o ≡ (reply, after) → IsDiskRefused mid l reply next → IsDiskRefused st l (one_turn store st l o).0 next
+refused_there store st mid after l o reply next same turn h =
+    subst (λ r. IsDiskRefused st l r next) (sym (ap (λ r. r.0) turn)) (subst (λ s. IsDiskRefused s l reply next) same h)
 
 -- a line leaves in doubt nothing, or what was in doubt before, or its own entry
-left_refused : (lines : List Line) (replies : List Reply) (l : Line) (reply : Reply) (lost left : Option Entry) → length replies ≡ length lines → IfRefused lines replies lost →
-    (left ≡ None) ⊎ (left ≡ lost) ⊎ ((next : Entry) × (left ≡ Some next) × IsDiskRefused l reply next) → IfRefused (lines ++ l ∷ []) (replies ++ reply ∷ []) left
-left_refused lines replies l reply lost left same why (inl h) = subst (λ x. IfRefused (lines ++ l ∷ []) (replies ++ reply ∷ []) x) (sym h) tt
-left_refused lines replies l reply lost left same why (inr (inl h)) = subst (λ x. IfRefused (lines ++ l ∷ []) (replies ++ reply ∷ []) x) (sym h) (if_more lines replies l reply lost why)
-left_refused lines replies l reply lost left same why (inr (inr h)) = subst (λ x. IfRefused (lines ++ l ∷ []) (replies ++ reply ∷ []) x) (sym h.1) (refused_last lines replies l reply h.0 same h.2)
+left_refused : (store : Bool) (st mid after : State) (lines : List Line) (outages : List Outage) (l : Line) (o : Outage) (reply : Reply) (lost left : Option Entry) → length outages ≡ length lines →
+    mid ≡ (in_turn store st lines outages).1 → one_turn store (in_turn store st lines outages).1 l o ≡ (reply, after) → IfRefused store st lines outages lost →
+    (left ≡ None) ⊎ (left ≡ lost) ⊎ ((next : Entry) × (left ≡ Some next) × IsDiskRefused mid l reply next) → IfRefused store st (lines ++ l ∷ []) (outages ++ o ∷ []) left
+left_refused store st mid after lines outages l o reply lost left each same turn why (inl h) = subst (λ x. IfRefused store st (lines ++ l ∷ []) (outages ++ o ∷ []) x) (sym h) tt
+left_refused store st mid after lines outages l o reply lost left each same turn why (inr (inl h)) = subst (λ x. IfRefused store st (lines ++ l ∷ []) (outages ++ o ∷ []) x) (sym h) (if_more store st lines outages l o lost why)
+left_refused store st mid after lines outages l o reply lost left each same turn why (inr (inr h)) =
+    subst (λ x. IfRefused store st (lines ++ l ∷ []) (outages ++ o ∷ []) x) (sym h.1)
+    (refused_last store st lines outages l o h.0 each (refused_there store (in_turn store st lines outages).1 mid after l o reply h.0 same turn h.2))
 
 -- The count of the disk.
 
@@ -71,7 +81,7 @@ module _ {D : Type 0} (may_leave : D → List ℕ → Type 0) (faults : D → �
     each = d.each;
     stored = ap (λ j. has_journal j) same ∙ d.stored;
     rose = subst (λ j. RoseBy (disk_outages (is_stored base) outages) (counted base begin) (faults_in faults j)) (sym same) d.rose;
-    kept = subst (λ j. KeepsStore may_leave (config_by base p.config) p.requests (replies_by base p outages) (history_by base p outages) j) (sym same) d.kept;
+    kept = subst (λ j. KeepsStore may_leave (is_stored base) (config_by base p.config) (opening_by base) p.requests outages (history_by base p outages) j) (sym same) d.kept;
   }
 
   module _ (moment : D → ℕ) (left_since : D → ℕ → List ℕ → Type 0) (config : ConfigParts) (p : Parsed) (outages : List Outage) (running new : Running D) (l : Line) (reply : Reply)
@@ -109,26 +119,21 @@ module _ {D : Type 0} (may_leave : D → List ℕ → Type 0) (faults : D → �
     new_config : new.core.book.config ≡ config
     new_config = t.answers.same.config ∙ at.book
 
-    pub before : KeepsHistory may_leave config p.requests (replies_by base p outages) (history_by base p outages) running.core.book.journal
-    before = subst (λ c. KeepsStore may_leave c p.requests (replies_by base p outages) (history_by base p outages) running.core.book.journal) at.begun d.kept
+    pub before : KeepsHistory may_leave (is_stored base) config (opening_by base) p.requests outages (history_by base p outages) running.core.book.journal
+    before = subst (λ c. KeepsStore may_leave (is_stored base) c (opening_by base) p.requests outages (history_by base p outages) running.core.book.journal) at.begun d.kept
 
     pub before_keeps : KeepsIn may_leave running.core.book.config running.core.book.history before.lost running.core.book.journal
     before_keeps =
         subst (λ c. KeepsIn may_leave c running.core.book.history before.lost running.core.book.journal) (sym at.book)
         (subst (λ h. KeepsIn may_leave config h before.lost running.core.book.journal) old_history before.keeps)
 
-    left : LeftBehind may_leave l reply before.lost new.core.book
+    left : LeftBehind may_leave (state_of running.core) l reply before.lost new.core.book
     left = t.answers.kept before.lost before_keeps
 
-    pub counts : length (replies_by base p outages) ≡ length p.requests
-    counts = ap length (replies_begun base p config outages at.begun) ∙ turns_count (is_stored base) (start config (opening_by base)) p.requests outages d.each
-
-    behind : KeepsHistory may_leave config next.requests (replies_by base next (outages ++ o ∷ [])) (history_by base next (outages ++ o ∷ [])) new.core.book.journal
+    behind : KeepsHistory may_leave (is_stored base) config (opening_by base) next.requests (outages ++ o ∷ []) (history_by base next (outages ++ o ∷ [])) new.core.book.journal
     behind = record {
       lost = left.left;
-      why =
-          subst (λ rs. IfRefused (p.requests ++ l ∷ []) rs left.left) (sym replies_are)
-          (left_refused p.requests (replies_by base p outages) l reply before.lost left.left counts before.why left.which);
+      why = left_refused (is_stored base) (start config (opening_by base)) (state_of running.core) (state_of new.core) p.requests outages l o reply before.lost left.left d.each at.state here before.why left.which;
       keeps =
           subst (λ h. KeepsIn may_leave config h left.left new.core.book.journal) (sym new_history)
           (subst (λ c. KeepsIn may_leave c new.core.book.history left.left new.core.book.journal) new_config left.keeps);
@@ -139,7 +144,7 @@ module _ {D : Type 0} (may_leave : D → List ℕ → Type 0) (faults : D → �
       each = one_more outages p.requests o l d.each;
       stored = t.answers.same.stored ∙ d.stored;
       rose = rose_push (is_stored base) (has_journal running.core.book.journal) outages o (counted base begin) (faults_in faults running.core.book.journal) (faults_in faults new.core.book.journal) d.stored d.rose t.answers.rose;
-      kept = subst (λ c. KeepsStore may_leave c next.requests (replies_by base next (outages ++ o ∷ [])) (history_by base next (outages ++ o ∷ [])) new.core.book.journal) (sym at.begun) behind;
+      kept = subst (λ c. KeepsStore may_leave (is_stored base) c (opening_by base) next.requests (outages ++ o ∷ []) (history_by base next (outages ++ o ∷ [])) new.core.book.journal) (sym at.begun) behind;
     }
 
 -- Before the first request.

@@ -11,7 +11,8 @@ use Rattle.reply_texts.specs.Texts.{reply_text}
 use Rattle.program_output.specs.Texts.{config_reply}
 use Rattle.script_runs.specs.Scripts.{Parsed}
 use Rattle.script_runs.specs.Bases.{Base}
-use Rattle.script_runs.specs.Runs.{WritesToLast, config_text, config_texts, flat, replies_by, run_text, run_texts}
+use Rattle.script_runs.specs.Runs.{WritesToLast, config_text, config_texts, flat, run_text, run_texts}
+use Rattle.script_runs.specs.Inner.Runs.{replies_by}
 use Rattle.std.specs.Prelude.{flat_map}
 
 -- The texts of a run as one.

@@ -20,7 +20,7 @@ use Rattle.live_book.specs.Commits.{has_journal}
 use Rattle.book_opening.specs.Opens.{IsNoBookFor, DuringNew, DuringNoBook}
 use Rattle.book_opening.specs.Inner.Opens.{IsEmpty, IsNoStoreFor, IsNew}
 use Rattle.script_lines.specs.declared.faults.ReadLine.TheVariants as reads
-use Rattle.store_texts.specs.Texts.{damaged_text}
+use Rattle.program_output.specs.Texts.{damaged_text}
 use Rattle.program_output.specs.declared.ended.Ended.{Ended}
 use Rattle.program_output.specs.declared.status.Status.{Status}
 use Rattle.program_output.specs.declared.status.Status.TheVariants as statuses
@@ -64,7 +64,7 @@ bare_fresh : (store : Bool) (stored : Option (List ℕ)) → store ≡ true → 
 bare_fresh true stored is h = h
 bare_fresh false stored is h = absurd (cc)
 
-bare_left : (store : Bool) (images : List ℕ → Type 0) → store ≡ true → LeavesStore (is_stored (fresh_base store)) (config_by (fresh_base store) None) [] [] (opening_by (fresh_base store)) images → EachOf images IsBare
+bare_left : (store : Bool) (images : List ℕ → Type 0) → store ≡ true → LeavesStore (is_stored (fresh_base store)) (config_by (fresh_base store) None) (opening_by (fresh_base store)) [] [] (opening_by (fresh_base store)) images → EachOf images IsBare
 bare_left true images is h = h
 bare_left false images is h = absurd (cc)
 

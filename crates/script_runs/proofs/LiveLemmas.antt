@@ -31,7 +31,7 @@ use Rattle.script_lines.proofs.KnownLines.{known}
 use Rattle.program_output.specs.declared.status.Status.{Status}
 use Rattle.script_runs.specs.declared.reading.Reading.{Reading}
 use Rattle.script_runs.specs.Cuts.{cut}
-use Rattle.script_runs.specs.Scripts.{AskedLine, IsAnswered, AreRead, too_large_in, Parsed, read_from, with_read, parse, parse_line, line_at, unless_over, as_stop, passes_limit, numbers_of, if_configured, end_behind, end_from, is_past, lines_of, Stop, ◌>>=◌}
+use Rattle.script_runs.specs.Scripts.{AskedLine, IsAnswered, AreRead, too_large_in, Parsed, read_from, with_read, parse, parse_line, line_at, unless_over, as_stop, passes_limit, earlier_of, if_configured, end_behind, end_from, is_past, lines_of, Stop, ◌>>=◌}
 use Rattle.script_runs.specs.Inner.Turns.{IsUnreadFor}
 use Rattle.program_output.specs.Inner.Written.{IsTold}
 use Rattle.program_output.specs.declared.ended.Ended.{Ended}
@@ -167,7 +167,7 @@ config_line l p h =
 abbrev Still : ConfigParts → Parsed → Type 0
 Still c p = (p.config ≡ Some c) × (p.wants ≡ false)
 
-still_more : (c : ConfigParts) (p : Parsed) (asks : Bool) (read : ReadLine) → asks ≡ false → Still c p → Known (p.number + 1) asks (numbers_of p.requests) read → Still c (with_read p read)
+still_more : (c : ConfigParts) (p : Parsed) (asks : Bool) (read : ReadLine) → asks ≡ false → Still c p → Known (p.number + 1) asks (earlier_of p.requests) read → Still c (with_read p read)
 still_more c p true read e o k = absurd (cc)
 still_more c p false (reads.Config config) e o k = absurd k
 still_more c p false reads.Blank e o k = o

@@ -43,7 +43,7 @@ use Rattle.script_runs.proofs.SaysLemmas.{script_read, script_is, read_all, read
 use Rattle.script_runs.proofs.LiveLemmas.{first_read}
 
 -- nothing was done
-pub left_none : (base : Base) (f fs : ℕ) (images : List ℕ → Type 0) → IsDone base f fs images (read_from (wants_by base)) [] → LeavesStore (is_stored base) (config_by base None) [] [] (opening_by base) images
+pub left_none : (base : Base) (f fs : ℕ) (images : List ℕ → Type 0) → IsDone base f fs images (read_from (wants_by base)) [] → LeavesStore (is_stored base) (config_by base None) (opening_by base) [] [] (opening_by base) images
 left_none no_store f fs images d = tt
 left_none bare_store f fs images d = d.left
 left_none (store_of config history) f fs images d = d.left

@@ -7,10 +7,10 @@ use Rattle.edit_rules.specs.declared.acts.Act.{Act}
 use Rattle.edit_rules.specs.declared.acts.Entry.{Entry}
 use Rattle.session_core.specs.declared.line.Line.{Line}
 use Rattle.session_core.specs.declared.line.Reply.{Reply}
-use Rattle.session_core.specs.declared.line.Request.{Request}
-use Rattle.session_core.specs.declared.line.Request.TheVariants as requests
+use Rattle.session_core.specs.Steps.{State, start}
+use Rattle.session_core.specs.Worlds.{act_wanted}
 use Rattle.session_core.specs.Answers.{entry_of}
-use Rattle.session_core.specs.InOrder.{Outage}
+use Rattle.session_core.specs.InOrder.{Outage, in_turn, one_turn}
 use Rattle.emu_disk.specs.declared.disk.Disk as disks
 use Rattle.emu_disk.proofs.Moments.{joined, weaker}
 use Rattle.edit_journal.specs.declared.journal.Journal.{Journal}
@@ -27,12 +27,11 @@ use Rattle.script_lines.specs.declared.faults.ReadLine.TheVariants as reads
 use Rattle.script_runs.specs.declared.running.Running.{Running}
 use Rattle.script_runs.specs.Scripts.{Parsed, read_from, with_read}
 use Rattle.script_runs.specs.Bases.{AtMoment, Base, IfRefused, IsOfRun, IsOfRunIn, config_by, is_stored, opening_by, store_of, counted}
-use Rattle.script_runs.specs.Runs.{replies_by}
 use Rattle.script_runs.specs.Inner.Bases.{fresh_base}
 use Rattle.script_runs.specs.Inner.Runs.{history_by}
 use Rattle.script_runs.specs.Inner.Taken.{TakesLine}
 use Rattle.script_runs.specs.Inner.Reached.{AtMomentOf, DuringStart, IsAt, IsBeginOf, IsKept, IsRunKept, LeavesSince}
-use Rattle.script_runs.proofs.KeptLemmas.{before, before_keeps, counts, if_more, kept_blank, kept_config, kept_none, kept_request, kept_store, new_history, old_history, refused_last, replies_are}
+use Rattle.script_runs.proofs.KeptLemmas.{before, before_keeps, here, if_more, kept_blank, kept_config, kept_none, kept_request, kept_store, new_history, old_history, refused_last, refused_there}
 
 -- What a crash leaves, from call to call.
 
@@ -54,18 +53,18 @@ module _ {D : Type 0} (disk : disks.Ghosts D) (begin : D) where
 -- One line.
 
 -- during a line a crash leaves the history from before, or also what was in doubt; or the history behind the line; or
--- the line's edit behind the history from before, where the disk refused it
-abbrev pub DuringLine : ConfigParts → List Entry → List Entry → Line → Reply → Option Entry → List ℕ → Type 0
-DuringLine config history more l reply lost c =
+-- the line's change behind the history from before, where the disk refused it
+abbrev pub DuringLine : ConfigParts → List Entry → List Entry → State → Line → Reply → Option Entry → List ℕ → Type 0
+DuringLine config history more st l reply lost c =
     StandsOrLost config history lost c
     ⊎ (Stands config (history ++ more) c
-    ⊎ ((next : Entry) × IsDiskRefused l reply next × Stands config (history ++ next ∷ []) c))
+    ⊎ ((next : Entry) × IsDiskRefused st l reply next × Stands config (history ++ next ∷ []) c))
 
 -- what a line does to a book: the history goes on, and a crash leaves what it may
-pub record Goes {D : Type 0} (disk : disks.Ghosts D) (old new : BookParts D) (l : Line) (reply : Reply) (lost : Option Entry) : Type 0 where
+pub record Goes {D : Type 0} (disk : disks.Ghosts D) (old new : BookParts D) (st : State) (l : Line) (reply : Reply) (lost : Option Entry) : Type 0 where
   pub more : List Entry
   pub grew : new.history ≡ old.history ++ more
-  pub crash : (new.journal ≡ old.journal) ⊎ CrashLeaves disk.moment disk.left_since old.journal new.journal (DuringLine old.config old.history more l reply lost)
+  pub crash : (new.journal ≡ old.journal) ⊎ CrashLeaves disk.moment disk.left_since old.journal new.journal (DuringLine old.config old.history more st l reply lost)
 
 crash_weaker : {D : Type 0} (moment : D → ℕ) (left_since : D → ℕ → List ℕ → Type 0) (old new : Option (Journal D)) (P Q : List ℕ → Type 0) → ((c : List ℕ) → P c → Q c) → CrashLeaves moment left_since old new P → CrashLeaves moment left_since old new Q
 crash_weaker moment left_since None None P Q change h = tt
@@ -77,77 +76,74 @@ not_reached : (A B : Type 0) → A ⊎ (⊥ × B) → A
 not_reached A B (inl h) = h
 not_reached A B (inr h) = absurd h.0
 
-module _ {D : Type 0} (disk : disks.Ghosts D) (old new : BookParts D) (l : Line) (reply : Reply) (lost : Option Entry) where
+module _ {D : Type 0} (disk : disks.Ghosts D) (old new : BookParts D) (st : State) (l : Line) (reply : Reply) (lost : Option Entry) where
   -- a line that is no edit
-  goes_not : new ≡ old → Goes disk old new l reply lost
+  goes_not : new ≡ old → Goes disk old new st l reply lost
   goes_not same = record { more = []; grew = ap (λ b. b.history) same ∙ sym (append-nil old.history); crash = inl (ap (λ b. b.journal) same) }
 
-  module _ (act : Act) (is : l.request ≡ requests.Edit (Ok act)) (keeps : KeepsIn disk.may_leave old.config old.history lost old.journal) where
+  module _ (act : Act) (is : act_wanted st l.session.0 l.request ≡ Some act) (keeps : KeepsIn disk.may_leave old.config old.history lost old.journal) where
     abbrev next : Entry
     next = entry_of l act
 
-    refused_here : reply ≡ commit_reply l (Err faults.Disk) → IsDiskRefused l reply next
+    refused_here : reply ≡ commit_reply l (Err faults.Disk) → IsDiskRefused st l reply next
     refused_here told = record { act = act; asks = is; entry = refl; refused = ap (λ r. r.answer) told }
 
-    accepted : (n : ℕ) (c : List ℕ) → DuringCommit (Ok n) old.config old.history lost next c → DuringLine old.config old.history (next ∷ []) l reply lost c
+    accepted : (n : ℕ) (c : List ℕ) → DuringCommit (Ok n) old.config old.history lost next c → DuringLine old.config old.history (next ∷ []) st l reply lost c
     accepted n c (inl h) = inl h
     accepted n c (inr h) = inr (inl h.1)
 
-    refused : reply ≡ commit_reply l (Err faults.Disk) → (c : List ℕ) → DuringCommit {T = ℕ} (Err faults.Disk) old.config old.history lost next c → DuringLine old.config old.history [] l reply lost c
+    refused : reply ≡ commit_reply l (Err faults.Disk) → (c : List ℕ) → DuringCommit {T = ℕ} (Err faults.Disk) old.config old.history lost next c → DuringLine old.config old.history [] st l reply lost c
     refused told c (inl h) = inl h
     refused told c (inr h) = inr (inr (next, refused_here told, h.1))
 
     -- the disk was not called
     unreached : (made : Result ℕ EditFault) → Commits disk.may_leave disk.moment disk.left_since disk.faults old next made new → new.history ≡ old.history
-        → ((c : List ℕ) → DuringCommit made old.config old.history lost next c → StandsOrLost old.config old.history lost c) → Goes disk old new l reply lost
+        → ((c : List ℕ) → DuringCommit made old.config old.history lost next c → StandsOrLost old.config old.history lost c) → Goes disk old new st l reply lost
     unreached made did same only = record {
       more = [];
       grew = same ∙ sym (append-nil old.history);
-      crash = inr (crash_weaker disk.moment disk.left_since old.journal new.journal (DuringCommit made old.config old.history lost next) (DuringLine old.config old.history [] l reply lost) (λ c h. inl (only c h)) (did.any_moment lost keeps));
+      crash = inr (crash_weaker disk.moment disk.left_since old.journal new.journal (DuringCommit made old.config old.history lost next) (DuringLine old.config old.history [] st l reply lost) (λ c h. inl (only c h)) (did.any_moment lost keeps));
     }
 
-    goes_edit : (made : Result ℕ EditFault) → reply ≡ commit_reply l made → Commits disk.may_leave disk.moment disk.left_since disk.faults old next made new → Goes disk old new l reply lost
+    goes_edit : (made : Result ℕ EditFault) → reply ≡ commit_reply l made → Commits disk.may_leave disk.moment disk.left_since disk.faults old next made new → Goes disk old new st l reply lost
     goes_edit (Ok n) told did = record {
       more = next ∷ [];
       grew = did.history;
-      crash = inr (crash_weaker disk.moment disk.left_since old.journal new.journal (DuringCommit (Ok n) old.config old.history lost next) (DuringLine old.config old.history (next ∷ []) l reply lost) (accepted n) (did.any_moment lost keeps));
+      crash = inr (crash_weaker disk.moment disk.left_since old.journal new.journal (DuringCommit (Ok n) old.config old.history lost next) (DuringLine old.config old.history (next ∷ []) st l reply lost) (accepted n) (did.any_moment lost keeps));
     }
     goes_edit (Err faults.Disk) told did = record {
       more = [];
       grew = did.history ∙ sym (append-nil old.history);
-      crash = inr (crash_weaker disk.moment disk.left_since old.journal new.journal (DuringCommit {T = ℕ} (Err faults.Disk) old.config old.history lost next) (DuringLine old.config old.history [] l reply lost) (refused told) (did.any_moment lost keeps));
+      crash = inr (crash_weaker disk.moment disk.left_since old.journal new.journal (DuringCommit {T = ℕ} (Err faults.Disk) old.config old.history lost next) (DuringLine old.config old.history [] st l reply lost) (refused told) (did.any_moment lost keeps));
     }
     goes_edit (Err (faults.HistoryFull n)) told did = unreached (Err (faults.HistoryFull n)) did did.history (λ c h. not_reached (StandsOrLost old.config old.history lost c) (Stands old.config (old.history ++ next ∷ []) c) h)
     goes_edit (Err (faults.Broken breach n)) told did = unreached (Err (faults.Broken breach n)) did did.history (λ c h. not_reached (StandsOrLost old.config old.history lost c) (Stands old.config (old.history ++ next ∷ []) c) h)
     goes_edit (Err (faults.StoreFull n)) told did = unreached (Err (faults.StoreFull n)) did did.history (λ c h. not_reached (StandsOrLost old.config old.history lost c) (Stands old.config (old.history ++ next ∷ []) c) h)
     goes_edit (Err faults.Memory) told did = unreached (Err faults.Memory) did did.history (λ c h. not_reached (StandsOrLost old.config old.history lost c) (Stands old.config (old.history ++ next ∷ []) c) h)
 
-  pub goes : KeepsIn disk.may_leave old.config old.history lost old.journal → (request : Request) → l.request ≡ request → ChangesBook disk.may_leave disk.moment disk.left_since disk.faults old l request reply new → Goes disk old new l reply lost
-  goes keeps (requests.Edit (Ok act)) is change = goes_edit act is keeps change.made change.told change.commits
-  goes keeps (requests.Edit (Err fault)) is change = goes_not change
-  goes keeps (requests.Query ask) is change = goes_not change
-  goes keeps (requests.Look ask) is change = goes_not change
-  goes keeps requests.Finish is change = goes_not change
-  goes keeps (requests.After earlier) is change = goes_not change
+  pub goes : KeepsIn disk.may_leave old.config old.history lost old.journal → (wanted : Option Act) → act_wanted st l.session.0 l.request ≡ wanted → ChangesBook disk.may_leave disk.moment disk.left_since disk.faults old l wanted reply new → Goes disk old new st l reply lost
+  goes keeps (Some act) is change = goes_edit act is keeps change.made change.told change.commits
+  goes keeps None is change = goes_not change
 
 -- What an image is of, one line more.
 
-module _ (opening : List Entry) (lines : List Line) (replies : List Reply) (history more later : List Entry) (l : Line) (reply : Reply) (all : List Reply) (c : List ℕ) (all_is : all ≡ replies ++ reply ∷ []) (later_is : later ≡ history ++ more) where
-  of_more : (config : ConfigParts) → IsOfRun config opening lines replies history c → IsOfRun config opening (lines ++ l ∷ []) all later c
+module _ (store : Bool) (opening : List Entry) (lines : List Line) (outages : List Outage) (history more later : List Entry) (l : Line) (o : Outage) (c : List ℕ) (later_is : later ≡ history ++ more) where
+  of_more : (config : ConfigParts) → IsOfRun store config opening lines outages history c → IsOfRun store config opening (lines ++ l ∷ []) (outages ++ o ∷ []) later c
   of_more config r = record {
     count = r.count;
     from = r.from;
     to = let long : length later ≡ length history + length more = ap length later_is ∙ length-append history more in omega (arith, long, r.to);
     lost = r.lost;
-    why = subst (λ rs. IfRefused (lines ++ l ∷ []) rs r.lost) (sym all_is) (if_more lines replies l reply r.lost r.why);
+    why = if_more store (start config opening) lines outages l o r.lost r.why;
     stands = subst (λ h. StandsOrLost config h r.lost c) (sym (ap (λ h. take r.count h) later_is ∙ take-append-le r.count history more r.to)) r.stands;
   }
 
-  pub of_more_in : (given : Option ConfigParts) → IsOfRunIn given opening lines replies history c → IsOfRunIn given opening (lines ++ l ∷ []) all later c
+  pub of_more_in : (given : Option ConfigParts) → IsOfRunIn store given opening lines outages history c → IsOfRunIn store given opening (lines ++ l ∷ []) (outages ++ o ∷ []) later c
   of_more_in None h = h
   of_more_in (Some config) h = of_more config h
 
-  module _ (config : ConfigParts) (counted_all : length replies ≡ length lines) (longer : length opening ≤ length history) where
+  module _ (config : ConfigParts) (st after : State) (reply : Reply) (each : length outages ≡ length lines) (stands_at : st ≡ (in_turn store (start config opening) lines outages).1)
+      (turn : one_turn store (in_turn store (start config opening) lines outages).1 l o ≡ (reply, after)) (longer : length opening ≤ length history) where
     -- the history from before
     front_is : take (length history) later ≡ history
     front_is = ap (λ h. take (length history) h) later_is ∙ take-append_seam history more
@@ -155,13 +151,13 @@ module _ (opening : List Entry) (lines : List Line) (replies : List Reply) (hist
     front_fits : length history ≤ length later
     front_fits = let long : length later ≡ length history + length more = ap length later_is ∙ length-append history more in omega (arith, long)
 
-    pub of_line : (lost : Option Entry) → IfRefused lines replies lost → DuringLine config history more l reply lost c → IsOfRun config opening (lines ++ l ∷ []) all later c
+    pub of_line : (lost : Option Entry) → IfRefused store (start config opening) lines outages lost → DuringLine config history more st l reply lost c → IsOfRun store config opening (lines ++ l ∷ []) (outages ++ o ∷ []) later c
     of_line lost why (inl h) = record {
       count = length history;
       from = longer;
       to = front_fits;
       lost = lost;
-      why = subst (λ rs. IfRefused (lines ++ l ∷ []) rs lost) (sym all_is) (if_more lines replies l reply lost why);
+      why = if_more store (start config opening) lines outages l o lost why;
       stands = subst (λ h. StandsOrLost config h lost c) (sym front_is) h;
     }
     of_line lost why (inr (inl h)) = record {
@@ -177,7 +173,7 @@ module _ (opening : List Entry) (lines : List Line) (replies : List Reply) (hist
       from = longer;
       to = front_fits;
       lost = Some h.0;
-      why = subst (λ rs. IfRefused (lines ++ l ∷ []) rs (Some h.0)) (sym all_is) (refused_last lines replies l reply h.0 counted_all h.1);
+      why = refused_last store (start config opening) lines outages l o h.0 each (refused_there store (in_turn store (start config opening) lines outages).1 st after l o reply h.0 stands_at turn h.1);
       stands = subst (λ t. StandsOrLost config t (Some h.0) c) (sym front_is) (inr h.2);
     }
 
@@ -209,8 +205,11 @@ module _ {D : Type 0} (disk : disks.Ghosts D) (base : Base) (begin : D) where
     abbrev lost : Option Entry
     lost = (before disk.may_leave disk.faults base (disk.faults begin) disk.moment disk.left_since config p outages running new l reply t at d.kept).lost
 
-    went : Goes disk running.core.book new.core.book l reply lost
-    went = goes disk running.core.book new.core.book l reply lost (before_keeps disk.may_leave disk.faults base (disk.faults begin) disk.moment disk.left_since config p outages running new l reply t at d.kept) l.request refl t.answers.change
+    abbrev there : State
+    there = state_of running.core
+
+    went : Goes disk running.core.book new.core.book there l reply lost
+    went = goes disk running.core.book new.core.book there l reply lost (before_keeps disk.may_leave disk.faults base (disk.faults begin) disk.moment disk.left_since config p outages running new l reply t at d.kept) (act_wanted there l.session.0 l.request) refl t.answers.change
 
     old_is : was ≡ running.core.book.history
     old_is = old_history disk.may_leave disk.faults base (disk.faults begin) disk.moment disk.left_since config p outages running new l reply t at d.kept
@@ -218,8 +217,8 @@ module _ {D : Type 0} (disk : disks.Ghosts D) (base : Base) (begin : D) where
     now_is : is_now ≡ was ++ went.more
     now_is = new_history disk.may_leave disk.faults base (disk.faults begin) disk.moment disk.left_since config p outages running new l reply t at d.kept ∙ went.grew ∙ ap (λ h. h ++ went.more) (sym old_is)
 
-    replies_now : replies_by base behind (outages ++ o ∷ []) ≡ replies_by base p outages ++ reply ∷ []
-    replies_now = replies_are disk.may_leave disk.faults base (disk.faults begin) disk.moment disk.left_since config p outages running new l reply t at d.kept
+    turn : one_turn (is_stored base) (in_turn (is_stored base) (start config (opening_by base)) p.requests outages).1 l o ≡ (reply, state_of new.core)
+    turn = here disk.may_leave disk.faults base (disk.faults begin) disk.moment disk.left_since config p outages running new l reply t at d.kept
 
     abbrev P : List ℕ → Type 0
     P = AtMomentOf (disk.may_leave begin) base p outages
@@ -230,20 +229,19 @@ module _ {D : Type 0} (disk : disks.Ghosts D) (base : Base) (begin : D) where
     earlier : (c : List ℕ) → P c → Q c
     earlier c (inl h) = inl h
     earlier c (inr (inl h)) = inr (inl h)
-    earlier c (inr (inr h)) = inr (inr (of_more_in (opening_by base) p.requests (replies_by base p outages) was went.more is_now l reply (replies_by base behind (outages ++ o ∷ [])) c replies_now now_is (config_by base p.config) h))
+    earlier c (inr (inr h)) = inr (inr (of_more_in (is_stored base) (opening_by base) p.requests outages was went.more is_now l o c now_is (config_by base p.config) h))
 
-    of_this : (c : List ℕ) → DuringLine config was went.more l reply lost c → Q c
-    of_this c h = inr (inr (subst (λ given. IsOfRunIn given (opening_by base) (p.requests ++ l ∷ []) (replies_by base behind (outages ++ o ∷ [])) is_now c) (sym at.begun)
-        (of_line (opening_by base) p.requests (replies_by base p outages) was went.more is_now l reply (replies_by base behind (outages ++ o ∷ [])) c replies_now now_is config
-        (counts disk.may_leave disk.faults base (disk.faults begin) disk.moment disk.left_since config p outages running new l reply t at d.kept) d.longer lost
+    of_this : (c : List ℕ) → DuringLine config was went.more there l reply lost c → Q c
+    of_this c h = inr (inr (subst (λ given. IsOfRunIn (is_stored base) given (opening_by base) (p.requests ++ l ∷ []) (outages ++ o ∷ []) is_now c) (sym at.begun)
+        (of_line (is_stored base) (opening_by base) p.requests outages was went.more is_now l o c now_is config there (state_of new.core) reply d.kept.each at.state turn d.longer lost
         (before disk.may_leave disk.faults base (disk.faults begin) disk.moment disk.left_since config p outages running new l reply t at d.kept).why h)))
 
-    this : (c : List ℕ) → DuringLine running.core.book.config running.core.book.history went.more l reply lost c → Q c
-    this c h = of_this c (subst (λ s. DuringLine s was went.more l reply lost c) at.book (subst (λ hs. DuringLine running.core.book.config hs went.more l reply lost c) (sym old_is) h))
+    this : (c : List ℕ) → DuringLine running.core.book.config running.core.book.history went.more there l reply lost c → Q c
+    this c h = of_this c (subst (λ s. DuringLine s was went.more there l reply lost c) at.book (subst (λ hs. DuringLine running.core.book.config hs went.more there l reply lost c) (sym old_is) h))
 
-    joins : (new.core.book.journal ≡ running.core.book.journal) ⊎ CrashLeaves disk.moment disk.left_since running.core.book.journal new.core.book.journal (DuringLine running.core.book.config running.core.book.history went.more l reply lost) → LeavesSince disk begin new.core.book.journal Q
+    joins : (new.core.book.journal ≡ running.core.book.journal) ⊎ CrashLeaves disk.moment disk.left_since running.core.book.journal new.core.book.journal (DuringLine running.core.book.config running.core.book.history went.more there l reply lost) → LeavesSince disk begin new.core.book.journal Q
     joins (inl same) = since_same disk begin running.core.book.journal new.core.book.journal P Q same earlier d.moments
-    joins (inr crash) = since_joined disk begin running.core.book.journal new.core.book.journal P (DuringLine running.core.book.config running.core.book.history went.more l reply lost) Q earlier this d.moments crash
+    joins (inr crash) = since_joined disk begin running.core.book.journal new.core.book.journal P (DuringLine running.core.book.config running.core.book.history went.more there l reply lost) Q earlier this d.moments crash
 
     pub run_request : IsRunKept disk base begin new.core.book.journal (with_read p (reads.Request l)) (outages ++ o ∷ [])
     run_request = record {

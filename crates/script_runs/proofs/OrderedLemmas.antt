@@ -19,12 +19,12 @@ use Rattle.live_book.specs.Histories.{Stands}
 use Rattle.script_lines.specs.declared.faults.ReadLine.{ReadLine}
 use Rattle.script_lines.specs.declared.faults.ReadLine.TheVariants as reads
 use Rattle.script_lines.specs.Known.{Known}
-use Rattle.script_runs.specs.Scripts.{AskedLine, Parsed, read_from, with_read, parse, numbers_of}
+use Rattle.script_runs.specs.Scripts.{AskedLine, Parsed, read_from, with_read, parse, earlier_of}
 use Rattle.script_runs.specs.Bases.{Base, no_store, bare_store, store_of, wants_by, opening_by, config_by, IsBaseOf}
 use Rattle.script_runs.specs.Runs.{Setting, setting_by, IsRunFrom, Runs, run_from, history_in}
 use Rattle.script_runs.specs.Inner.Runs.{history_by}
 use Rattle.script_runs.specs.Inner.Reached.{IsDone}
-use Rattle.script_runs.proofs.ComeLemmas.{come_push, names_earlier, parse_keeps}
+use Rattle.script_runs.proofs.ComeLemmas.{come_push, names_change, names_earlier, parse_keeps}
 
 -- a configuration that was given keeps its rules
 abbrev IsValidGiven : Option ConfigParts → Type 0
@@ -55,7 +55,7 @@ gives_own bare_store given c h = refl
 gives_own (store_of own history) given c h = absurd (none_some own (sym h))
 
 -- one more line
-read_more : (base : Base) (p : Parsed) (config : Option ConfigParts) (read : ReadLine) → config_by base p.config ≡ config → Ordered base p → Known (p.number + 1) (is_none config) (numbers_of p.requests) read → Ordered base (with_read p read)
+read_more : (base : Base) (p : Parsed) (config : Option ConfigParts) (read : ReadLine) → config_by base p.config ≡ config → Ordered base p → Known (p.number + 1) (is_none config) (earlier_of p.requests) read → Ordered base (with_read p read)
 read_more base p None (reads.Config config) e o k = record {
   come = o.come;
   below = each_map (IsBelow (p.number + 1)) (IsBelow (p.number + 1 + 1)) (λ l h. omega arith) p.requests o.below;
@@ -78,7 +78,8 @@ read_more base p (Some c) (reads.Request l) e o k = record {
     rises = each_map (IsBelow (p.number + 1)) (IsBelow l.line) (λ m h. let here : l.line ≡ p.number + 1 = k.number in omega arith) p.requests o.below;
     place = k.place;
     command = k.command;
-    earlier = names_earlier p.requests l.request k.names;
+    earlier = names_earlier p.requests l.session.0 l.request k.names;
+    names = names_change p.requests l.session.0 l.request k.names;
   });
   below = each_push (IsBelow (p.number + 1 + 1)) p.requests l (each_map (IsBelow (p.number + 1)) (IsBelow (p.number + 1 + 1)) (λ m h. omega arith) p.requests o.below) (let here : l.line ≡ p.number + 1 = k.number in omega arith);
   wanted = o.wanted;
@@ -88,7 +89,7 @@ read_more base p (Some c) (reads.Request l) e o k = record {
 
 ordered : (base : Base) (lines : List AskedLine) (p q : Parsed) → Ordered base p → parse p lines ≡ Ok q → Ordered base q
 ordered base lines p q o h =
-    parse_keeps (λ p. Ordered base p) (λ p read o k. read_more base p (config_by base p.config) read refl o (subst (λ (b : Bool). Known (p.number + 1) b (numbers_of p.requests) read) o.wanted k)) lines p q o h
+    parse_keeps (λ p. Ordered base p) (λ p read o k. read_more base p (config_by base p.config) read refl o (subst (λ (b : Bool). Known (p.number + 1) b (earlier_of p.requests) read) o.wanted k)) lines p q o h
 
 -- What a run begins with is legal.
 

@@ -1,10 +1,10 @@
 -- A script that is read whole.
 use Rattle.std.proofs.Common.{◌≡◌, ℕ, ◌+◌, ◌≤◌, Bool, true, false, List, [], ◌∷◌, ◌++◌, Some, Result, Ok, Err, All, OnOk, IfErr, refl, sym, ◌∙◌, ap, subst, arith, append_assoc, append-nil}
 use Rattle.std.proofs.lemmas.List.{map-append}
-use Rattle.std.proofs.lemmas.List.Elements.{All-push}
 use Rattle.emu_names.specs.Count.{RoseBy}
 use Rattle.db_config.specs.declared.parts.ConfigParts.{ConfigParts}
 use Rattle.session_core.specs.declared.line.Line.{Line}
+use Rattle.script_lines.specs.declared.line_set.EarlierLine.{EarlierLine}
 use Rattle.script_lines.specs.declared.faults.LineFault.TheVariants as faults
 use Rattle.script_lines.specs.declared.faults.ReadLine.{ReadLine}
 use Rattle.script_lines.specs.declared.faults.ReadLine.TheVariants as reads
@@ -13,12 +13,13 @@ use Rattle.script_lines.specs.Known.{Known}
 use Rattle.program_output.specs.declared.ended.Ended.{Ended}
 use Rattle.program_output.specs.declared.ended.Ended.TheVariants as ends
 use Rattle.script_runs.specs.declared.reading.Reading.{Reading}
-use Rattle.script_runs.specs.Scripts.{AskedLine, AreRead, too_large_in, Parsed, read_from, with_read, parse, parse_line, line_at, numbers_of, passes_limit, end_behind, if_over, if_configured, Stop, limit, at_fault, ◌>>=◌}
+use Rattle.script_runs.specs.Scripts.{AskedLine, AreRead, too_large_in, Parsed, read_from, with_read, parse, parse_line, line_at, earlier_line, earlier_of, passes_limit, end_behind, if_over, if_configured, Stop, limit, at_fault, ◌>>=◌}
 use Rattle.script_runs.specs.Inner.Scripts.{asked_line}
 use Rattle.script_runs.specs.Inner.Turns.{IsLineRead, ReadsNext}
 use Rattle.script_runs.specs.Inner.Reads.{IsReading, HasRead, IsOverNext, IsStoppedNext, ReadsLine, InReading, IsWhole, IsStopped, ReadsScript, ReadsLines, read_end}
 use Rattle.script_runs.proofs.ParseLemmas.{parse_push, parse_stop}
 use Rattle.script_runs.proofs.ReadLemmas.{read_none, read_push, read_later, read_front, script_behind}
+use Rattle.script_runs.proofs.Rises.{rises_request}
 use Rattle.script_runs.proofs.ComeLemmas.{comes, gives_config}
 
 -- nothing is read
@@ -26,7 +27,7 @@ pub has_none : (wants : Bool) (reading : Reading) (m : ℕ) → IsReading readin
 has_none wants reading m same = record { asked = []; read = read_none m m (omega arith); parsed = read_from wants; script = refl; same = same }
 
 -- what the code reads behind so many lines is what the definition reads behind them
-read_there : (reading : Reading) (p : Parsed) (l : AskedLine) → IsReading reading p → line_at (p.number + 1) p.wants (numbers_of p.requests) l ≡ line_at (reading.number + 1) reading.wants reading.earlier l
+read_there : (reading : Reading) (p : Parsed) (l : AskedLine) → IsReading reading p → line_at (p.number + 1) p.wants (earlier_of p.requests) l ≡ line_at (reading.number + 1) reading.wants reading.earlier l
 read_there reading p l s = rw (s.wants, s.number, s.earlier) refl
 
 next_read : (reading : Reading) (p : Parsed) (l : AskedLine) (read : ReadLine) → IsReading reading p → line_at (reading.number + 1) reading.wants reading.earlier l ≡ Ok read → parse_line p l ≡ Ok (with_read p read)
@@ -75,14 +76,14 @@ has_config wants lines line reading new config m n k h l number asks given reque
 -- a request
 has_request : (wants : Bool) (lines : List (List ℕ)) (line : List ℕ) (reading new : Reading) (l : Line) (m n k : ℕ) → HasRead wants lines reading m n →
     IsLineRead line (reading.number + 1) reading.wants reading.earlier n k (Ok (reads.Request l)) →
-    new.number ≡ reading.number + 1 → new.wants ≡ reading.wants → new.config ≡ reading.config → new.lines ≡ reading.lines ++ l ∷ [] → new.earlier ≡ reading.earlier ++ l.line ∷ [] →
+    new.number ≡ reading.number + 1 → new.wants ≡ reading.wants → new.config ≡ reading.config → new.lines ≡ reading.lines ++ l ∷ [] → new.earlier ≡ reading.earlier ++ earlier_line l ∷ [] →
     HasRead wants (lines ++ line ∷ []) new m k
 has_request wants lines line reading new l m n k h read number asks config requests earlier = has_more wants lines line reading new (reads.Request l) m n k h read (record {
   number = number ∙ ap (λ n. n + 1) h.same.number;
   wants = asks ∙ h.same.wants;
   config = config ∙ h.same.config;
   lines = requests ∙ ap (λ ls. ls ++ l ∷ []) h.same.lines;
-  earlier = earlier ∙ ap (λ e. e ++ l.line ∷ []) h.same.earlier ∙ sym (map-append (λ (k : Line). k.line) h.parsed.requests (l ∷ []));
+  earlier = earlier ∙ ap (λ e. e ++ earlier_line l ∷ []) h.same.earlier ∙ sym (map-append earlier_line h.parsed.requests (l ∷ []));
 })
 
 -- the line could not be read, or stops the script
@@ -124,26 +125,22 @@ rose_both i j m n k h g = omega arith
 -- whatever became of a request: it was put last, or memory ran out
 pub adds_request : {A : Type 0} (result : Result A Ended) (wants : Bool) (lines : List (List ℕ)) (line : List ℕ) (reading new : Reading) (l : Line) (m n k : ℕ) → HasRead wants lines reading m n →
     IsLineRead line (reading.number + 1) reading.wants reading.earlier n k (Ok (reads.Request l)) →
-    OnOk result (new.number ≡ reading.number + 1) → OnOk result (new.wants ≡ reading.wants) → OnOk result (new.config ≡ reading.config) → OnOk result (new.lines ≡ reading.lines ++ l ∷ []) → OnOk result (new.earlier ≡ reading.earlier ++ l.line ∷ []) →
+    OnOk result (new.number ≡ reading.number + 1) → OnOk result (new.wants ≡ reading.wants) → OnOk result (new.config ≡ reading.config) → OnOk result (new.lines ≡ reading.lines ++ l ∷ []) → OnOk result (new.earlier ≡ reading.earlier ++ earlier_line l ∷ []) →
     IfErr result (λ end. end ≡ ends.Memory) → ReadsLine result wants lines line new m k
 adds_request (Ok x) wants lines line reading new l m n k h r number asks config requests earlier why = has_request wants lines line reading new l m n k h r number asks config requests earlier
 adds_request {A = A} (Err end) wants lines line reading new l m n k h r number asks config requests earlier why =
     subst (λ e. ReadsLine {A = A} (Err e) wants lines line new m k) (sym why) (rose_both (too_large_in h.asked) (times_too_large r.made) m n k h.read.refused r.rose)
 
 -- the numbers of the requests stay below those to come
-request_number : (number : ℕ) (asks : Bool) (earlier : List ℕ) (l : Line) → Known number asks earlier (reads.Request l) → l.line ≡ number
+request_number : (number : ℕ) (asks : Bool) (earlier : List EarlierLine) (l : Line) → Known number asks earlier (reads.Request l) → l.line ≡ number
 request_number number true earlier l k = absurd k
 request_number number false earlier l k = k.number
 
-one_more : (a b : ℕ) → a ≤ b → a ≤ b + 1
-one_more a b h = omega arith
-
-pub adds_rise : {A : Type 0} (result : Result A Ended) (reading new : Reading) (asks : Bool) (l : Line) → All (λ n. n ≤ reading.number) reading.earlier → Known (reading.number + 1) asks reading.earlier (reads.Request l) →
-    OnOk result (new.number ≡ reading.number + 1) → OnOk result (new.earlier ≡ reading.earlier ++ l.line ∷ []) → OnOk result (All (λ n. n ≤ new.number) new.earlier)
+pub adds_rise : {A : Type 0} (result : Result A Ended) (reading new : Reading) (asks : Bool) (l : Line) → All (λ it. it.line ≤ reading.number) reading.earlier → Known (reading.number + 1) asks reading.earlier (reads.Request l) →
+    OnOk result (new.number ≡ reading.number + 1) → OnOk result (new.earlier ≡ reading.earlier ++ earlier_line l ∷ []) → OnOk result (All (λ it. it.line ≤ new.number) new.earlier)
 adds_rise (Ok x) reading new asks l below k number earlier =
     let line : l.line ≡ reading.number + 1 = request_number (reading.number + 1) asks reading.earlier l k in
-    subst (λ ls. All (λ n. n ≤ new.number) ls) (sym earlier) (subst (λ m. All (λ n. n ≤ m) (reading.earlier ++ l.line ∷ [])) (sym number)
-    (All-push (λ n. n ≤ reading.number + 1) reading.earlier l.line (λ k d low. one_more _ _ (below k d low)) (omega (arith, line))))
+    rises_request reading.number new.number (earlier_line l) reading.earlier new.earlier earlier number line below
 adds_rise (Err e) reading new asks l below k number earlier = tt
 
 -- Over all lines.

@@ -26,7 +26,7 @@ use Rattle.program_output.specs.declared.ended.Ended.{Ended}
 use Rattle.program_output.specs.declared.ended.Ended.TheVariants as ends
 use Rattle.script_runs.specs.declared.running.Running.{Running}
 use Rattle.eql_resolve.specs.Made.{Made}
-use Rattle.script_runs.specs.Scripts.{AskedLine, AreRead, Parsed, read_from, with_read, parse, parse_line, parsed_front, line_at, numbers_of, passes_limit, end_behind, if_over, if_configured, Stop, limit, at_fault, ◌>>=◌}
+use Rattle.script_runs.specs.Scripts.{AskedLine, AreRead, Parsed, read_from, with_read, parse, parse_line, parsed_front, line_at, earlier_line, earlier_of, passes_limit, end_behind, if_over, if_configured, Stop, limit, at_fault, ◌>>=◌}
 use Rattle.script_runs.specs.Inner.Scripts.{asked_line}
 use Rattle.script_runs.specs.Bases.{Base, wants_by, is_stored, opening_by, config_by, counted, store_of}
 use Rattle.script_runs.specs.Inner.Bases.{fresh_base}
@@ -46,7 +46,7 @@ use Rattle.script_runs.proofs.MomentLemmas.{run_blank, run_config, run_none, run
 
 module _ {D : Type 0} (disk : disks.Ghosts D) (base : Base) (begin : D) where
   -- what the code reads behind a run is what the definition reads behind the script so far
-  read_there : (running : Running D) (config : ConfigParts) (p : Parsed) (outages : List Outage) (l : AskedLine) → IsAt base running config p outages → line_at (p.number + 1) p.wants (numbers_of p.requests) l ≡ line_at (running.number + 1) false running.earlier l
+  read_there : (running : Running D) (config : ConfigParts) (p : Parsed) (outages : List Outage) (l : AskedLine) → IsAt base running config p outages → line_at (p.number + 1) p.wants (earlier_of p.requests) l ≡ line_at (running.number + 1) false running.earlier l
   read_there running config p outages l at = rw (at.wants, at.number, at.earlier) refl
 
   next_read : (running : Running D) (config : ConfigParts) (p : Parsed) (outages : List Outage) (l : AskedLine) (read : ReadLine) → IsAt base running config p outages → line_at (running.number + 1) false running.earlier l ≡ Ok read → parse_line p l ≡ Ok (with_read p read)
@@ -95,7 +95,7 @@ module _ {D : Type 0} (disk : disks.Ghosts D) (base : Base) (begin : D) where
       wants = at.wants;
       book = t.answers.same.config ∙ at.book;
       state = sym (ap (λ r. r.1) (pushed disk.may_leave disk.faults base (disk.faults begin) disk.moment disk.left_since config p outages running new l reply t at d.kept));
-      earlier = t.earlier ∙ ap (λ e. e ++ l.line ∷ []) at.earlier ∙ sym (map-append (λ (k : Line). k.line) p.requests (l ∷ []));
+      earlier = t.earlier ∙ ap (λ e. e ++ earlier_line l ∷ []) at.earlier ∙ sym (map-append earlier_line p.requests (l ∷ []));
       number = t.number ∙ ap (λ n. n + 1) at.number;
     };
     done = run_request disk base begin config p outages running new l reply t at d;

@@ -18,7 +18,7 @@ use Rattle.program_output.specs.declared.status.Status.TheVariants as statuses
 use Rattle.script_runs.specs.Cuts.{cut}
 use Rattle.script_runs.specs.Scripts.{AskedLine, AreRead, Parsed, read_from, parse, end_behind, end_from, if_over, passes_limit, is_past, lines_of, script_from, script_of, front_of, Stop, limit, at_fault}
 use Rattle.script_runs.specs.Bases.{Base, no_store, bare_store, store_of, wants_by, is_stored, opening_by, config_by, IsBaseOf, EachOf, LeavesStore, AtEach}
-use Rattle.script_runs.specs.Runs.{run_text, run_texts, replies_by, setting_by, IsRunFrom, stop_text}
+use Rattle.script_runs.specs.Runs.{run_text, run_texts, setting_by, IsRunFrom, stop_text}
 use Rattle.script_runs.specs.Inner.Runs.{history_by}
 use Rattle.program_output.specs.Texts.{limit_text}
 use Rattle.script_runs.specs.Says.{Call, Leaves, Moments, Gives, TooLong, ReadFailed, Says, EndedEarly, BrokeOff, DuringOpening, StaysBare}
@@ -103,7 +103,7 @@ bare_of false stored no_store h s w = absurd (cc)
 bare_of false stored bare_store h s w = absurd h
 bare_of false stored (store_of config history) h s w = absurd h
 
-bare_left : (base : Base) (images : List ℕ → Type 0) → is_stored base ≡ true → wants_by base ≡ true → LeavesStore (is_stored base) (config_by base None) [] (replies_by base (read_from true) []) (history_by base (read_from true) []) images → EachOf images IsBare
+bare_left : (base : Base) (images : List ℕ → Type 0) → is_stored base ≡ true → wants_by base ≡ true → LeavesStore (is_stored base) (config_by base None) (opening_by base) [] [] (history_by base (read_from true) []) images → EachOf images IsBare
 bare_left bare_store images s w h = h
 bare_left no_store images s w h = absurd (cc)
 bare_left (store_of config history) images s w h = absurd (cc)

@@ -8,8 +8,8 @@ use Rattle.session_core.specs.InOrder.{Outage, in_turn, one_turn}
 use Rattle.reply_texts.specs.Texts.{reply_text}
 use Rattle.script_runs.specs.Scripts.{Parsed}
 use Rattle.script_runs.specs.Bases.{Base, is_stored, opening_by, config_by}
-use Rattle.script_runs.specs.Runs.{run_text, replies_by, run_from, history_in, config_text}
-use Rattle.script_runs.specs.Inner.Runs.{history_by}
+use Rattle.script_runs.specs.Runs.{run_text, run_from, history_in, config_text}
+use Rattle.script_runs.specs.Inner.Runs.{history_by, replies_by}
 
 -- a run in order goes on by one line
 pub turns_push : (store : Bool) (st : State) (lines : List Line) (outages : List Outage) (l : Line) (o : Outage) → length outages ≡ length lines →
@@ -20,15 +20,6 @@ turns_push store st (k ∷ ls) [] l o h = absurd (omega arith)
 turns_push store st (k ∷ ls) (p ∷ os) l o h =
     let rest : length os ≡ length ls = omega arith in
     ap (λ r. ((one_turn store st k p).0 ∷ r.0, r.1)) (turns_push store (one_turn store st k p).1 ls os l o rest)
-
--- each line has its reply
-pub turns_count : (store : Bool) (st : State) (lines : List Line) (outages : List Outage) → length outages ≡ length lines → length (in_turn store st lines outages).0 ≡ length lines
-turns_count store st [] outages h = refl
-turns_count store st (k ∷ ls) [] h = absurd (omega arith)
-turns_count store st (k ∷ ls) (p ∷ os) h =
-    let rest : length os ≡ length ls = omega arith in
-    let same : length (in_turn store (one_turn store st k p).1 ls os).0 ≡ length ls = turns_count store (one_turn store st k p).1 ls os rest in
-    omega arith
 
 texts_push : (replies : List Reply) (r : Reply) → flat_map reply_text (replies ++ r ∷ []) ≡ flat_map reply_text replies ++ reply_text r
 texts_push [] r = append-nil (reply_text r)

@@ -3,7 +3,8 @@ use Rattle.std.specs.Prelude.{◌⊎◌, ◌≤◌, ℕ, Bool, true, false, List
 use Rattle.db_config.specs.declared.parts.ConfigParts.{ConfigParts}
 use Rattle.edit_rules.specs.declared.acts.Entry.{Entry}
 use Rattle.session_core.specs.declared.line.Line.{Line}
-use Rattle.session_core.specs.declared.line.Reply.{Reply}
+use Rattle.session_core.specs.InOrder.{Outage, one_turn}
+use Rattle.session_core.specs.Steps.{State, start}
 use Rattle.session_run.specs.Orders.{IsDiskRefused}
 use Rattle.live_book.specs.Histories.{OfRead, Stands, IsBare}
 use Rattle.live_book.specs.Kept.{StandsOrLost}
@@ -58,47 +59,52 @@ IsBaseOf store reads base = ⊥
 abbrev pub EachOf : (List ℕ → Type 0) → (List ℕ → Type 0) → Type 0
 EachOf images P = (c : List ℕ) → images c → P c
 
--- the disk refused the edit of one of these lines, which would have been this entry; each line has its reply
-abbrev pub WasRefused : List Line → List Reply → Entry → Type 0
-WasRefused (l ∷ lines) (reply ∷ replies) next = IsDiskRefused l reply next ⊎ WasRefused lines replies next
-WasRefused _ _ next = ⊥
+-- in a run of these lines from a state, with or without a store, the disk refused the change that one of them wants over
+-- the state that it finds, which would have been this entry; each line has its place among the outages
+abbrev pub WasRefused : Bool → State → List Line → List Outage → Entry → Type 0
+WasRefused store st (l ∷ lines) (outage ∷ outages) next =
+    IsDiskRefused st l (one_turn store st l outage).0 next
+    ⊎ WasRefused store (one_turn store st l outage).1 lines outages next
+WasRefused store st _ _ next = ⊥
 
 -- the same where there is such an entry
-abbrev pub IfRefused : List Line → List Reply → Option Entry → Type 0
-IfRefused lines replies None = Unit {0}
-IfRefused lines replies (Some next) = WasRefused lines replies next
+abbrev pub IfRefused : Bool → State → List Line → List Outage → Option Entry → Type 0
+IfRefused store st lines outages None = Unit {0}
+IfRefused store st lines outages (Some next) = WasRefused store st lines outages next
 
 -- Each image stands for the configuration and the history, or also for these with one entry more, which is the
--- edit of a line that the disk refused
-pub record LeavesHistory (config : ConfigParts) (lines : List Line) (replies : List Reply) (history : List Entry)
-    (images : List ℕ → Type 0) : Type 0 where
+-- change of a line that the disk refused, in a run over a store with the history before it
+pub record LeavesHistory (config : ConfigParts) (opening : List Entry) (lines : List Line) (outages : List Outage)
+    (history : List Entry) (images : List ℕ → Type 0) : Type 0 where
   pub lost : Option Entry
-  pub why : IfRefused lines replies lost
+  pub why : IfRefused true (start config opening) lines outages lost
   pub each : EachOf images (StandsOrLost config history lost)
 
 -- what the store of a run holds: without a configuration it is bare
-abbrev pub LeavesStore : Bool → Option ConfigParts → List Line → List Reply → List Entry → (List ℕ → Type 0) → Type 0
-LeavesStore false config lines replies history images = Unit {0}
-LeavesStore true None lines replies history images = EachOf images IsBare
-LeavesStore true (Some config) lines replies history images = LeavesHistory config lines replies history images
+abbrev pub LeavesStore : Bool → Option ConfigParts → List Entry → List Line → List Outage → List Entry
+    → (List ℕ → Type 0) → Type 0
+LeavesStore false config opening lines outages history images = Unit {0}
+LeavesStore true None opening lines outages history images = EachOf images IsBare
+LeavesStore true (Some config) opening lines outages history images =
+    LeavesHistory config opening lines outages history images
 
 -- Every moment of a run.
 
 -- An image stands for the configuration and a prefix of the history that a run leaves, no shorter than the one before
--- it; or for these with one entry more, which is the edit of a line that the disk refused
-pub record IsOfRun (config : ConfigParts) (opening : List Entry) (lines : List Line) (replies : List Reply)
-    (history : List Entry) (c : List ℕ) : Type 0 where
+-- it; or for these with one entry more, which is the change of a line that the disk refused
+pub record IsOfRun (store : Bool) (config : ConfigParts) (opening : List Entry) (lines : List Line)
+    (outages : List Outage) (history : List Entry) (c : List ℕ) : Type 0 where
   pub count : ℕ
   pub from : length opening ≤ count
   pub to : count ≤ length history
   pub lost : Option Entry
-  pub why : IfRefused lines replies lost
+  pub why : IfRefused store (start config opening) lines outages lost
   pub stands : StandsOrLost config (take count history) lost c
 
 -- the same where the run has a configuration
-abbrev pub IsOfRunIn : Option ConfigParts → List Entry → List Line → List Reply → List Entry → List ℕ → Type 0
-IsOfRunIn None opening lines replies history c = ⊥
-IsOfRunIn (Some config) opening lines replies history c = IsOfRun config opening lines replies history c
+abbrev pub IsOfRunIn : Bool → Option ConfigParts → List Entry → List Line → List Outage → List Entry → List ℕ → Type 0
+IsOfRunIn store None opening lines outages history c = ⊥
+IsOfRunIn store (Some config) opening lines outages history c = IsOfRun store config opening lines outages history c
 
 -- an image is bare, and so was the store before the run
 abbrev pub IsStillBare : Base → List ℕ → Type 0
@@ -107,10 +113,10 @@ IsStillBare base c = ⊥
 
 -- what an image may be that a crash at some moment of a run leaves: it was possible before the run; or it is bare, as
 -- the store was; or it is of the run
-abbrev pub AtMoment : (List ℕ → Type 0) → Base → Option ConfigParts → List Line → List Reply → List Entry → List ℕ
+abbrev pub AtMoment : (List ℕ → Type 0) → Base → Option ConfigParts → List Line → List Outage → List Entry → List ℕ
     → Type 0
-AtMoment before base config lines replies history c =
-    before c ⊎ (IsStillBare base c ⊎ IsOfRunIn config (opening_by base) lines replies history c)
+AtMoment before base config lines outages history c =
+    before c ⊎ (IsStillBare base c ⊎ IsOfRunIn (is_stored base) config (opening_by base) lines outages history c)
 
 -- each image of some moment has P, where there is a store
 abbrev pub AtEach : Bool → (List ℕ → Type 0) → (List ℕ → Type 0) → Type 0

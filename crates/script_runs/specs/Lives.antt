@@ -15,7 +15,7 @@ use Rattle.session_core.specs.Legal.{Legal, disk_replies}
 use Rattle.live_book.specs.Kept.{LostMayFollow, StandsOrLost}
 use Rattle.live_run.specs.declared.run.Ended.{Ended as LiveEnded}
 use Rattle.live_run.specs.Runs.{AreGrouped}
-use Rattle.live_seats.specs.Marks.{marks_from}
+use Rattle.live_run.specs.Marks.{marks_from}
 use Rattle.program_output.specs.declared.status.Status.{Status}
 use Rattle.program_output.specs.declared.status.Status.TheVariants as statuses
 use Rattle.script_runs.specs.LiveTexts.{live_text}
@@ -90,13 +90,13 @@ pub record LivesNot (call : Call) (images : List ℕ → Type 0) : Type 0 where
   pub begins : IsBaseOf call.store call.stored base
   pub given : Option ConfigParts
   pub why : IfGiven call given
-  pub leaves : LeavesStore (is_stored base) (config_by base given) [] [] (opening_by base) images
+  pub leaves : LeavesStore (is_stored base) (config_by base given) (opening_by base) [] [] (opening_by base) images
 
 -- A line at fault, which was read, or a limit ends the script; no line was run
 pub record StoppedFirst (call : Call) (images : List ℕ → Type 0) (stop : Stop) (Writes : List ℕ → Type 0) : Type 0 where
   pub has : HasRead call
   pub script : script_of (wants_by has.base) has.text has.lines ≡ Some (Err stop)
-  pub leaves : LeavesStore (is_stored has.base) (config_by has.base None) [] [] (opening_by has.base) images
+  pub leaves : LeavesStore (is_stored has.base) (config_by has.base None) (opening_by has.base) [] [] (opening_by has.base) images
   pub output : Writes (stop_text stop)
 
 -- a front of what was to be written, after the run or before it

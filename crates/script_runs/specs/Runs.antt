@@ -119,10 +119,6 @@ setting_by base p faults faults_after = record {
   faults_after = counted base faults_after;
 }
 
--- the replies to the requests
-abbrev pub replies_by : Base → Parsed → List Outage → List Reply
-replies_by base p outages = replies_from (setting_by base p 0 0) p outages
-
 -- what a run writes
 abbrev pub run_text : Base → Parsed → List Outage → List ℕ
 run_text base p outages = text_from (setting_by base p 0 0) p outages

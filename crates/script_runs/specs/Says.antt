@@ -10,12 +10,12 @@ use Rattle.script_lines.specs.declared.faults.LineFault.{LineFault}
 use Rattle.script_lines.specs.declared.faults.ReadLine.TheVariants as reads
 use Rattle.live_book.specs.Histories.{OfRead, IsBare, IsDamagedAt, HeadPassesLimit}
 use Rattle.book_opening.specs.Opens.{DuringNew}
-use Rattle.store_texts.specs.Texts.{damaged_text}
+use Rattle.program_output.specs.Texts.{damaged_text}
 use Rattle.program_output.specs.declared.status.Status.{Status}
 use Rattle.program_output.specs.declared.status.Status.TheVariants as statuses
 use Rattle.script_runs.specs.Scripts.{AskedLine, AreRead, Parsed, read_from, with_read, parse, parse_line, lines_of, script_of, front_of, IsSound, Stop, limit, at_fault}
 use Rattle.script_runs.specs.Bases.{Base, wants_by, is_stored, opening_by, config_by, IsBaseOf, EachOf, LeavesStore, AtEach, AtMoment}
-use Rattle.script_runs.specs.Runs.{run_text, run_texts, replies_by, setting_by, IsRunFrom, WritesToLast, stop_text}
+use Rattle.script_runs.specs.Runs.{run_text, run_texts, setting_by, IsRunFrom, WritesToLast, stop_text}
 use Rattle.program_output.specs.Texts.{limit_text}
 
 -- Of a call that runs a script: whether it has a store, and what a read of the disk gives before it; what the source
@@ -41,13 +41,13 @@ pub record Call : Type 0 where
 -- what a crash at the exit may leave of the store of a run
 abbrev pub Leaves : Base → Parsed → List Outage → List Entry → (List ℕ → Type 0) → Type 0
 Leaves base p outages history images =
-    LeavesStore (is_stored base) (config_by base p.config) p.requests (replies_by base p outages) history images
+    LeavesStore (is_stored base) (config_by base p.config) (opening_by base) p.requests outages history images
 
 -- what a crash at some moment of a run may have left of its store
 abbrev pub Moments : Base → Parsed → List Outage → List Entry → (List ℕ → Type 0) → (List ℕ → Type 0) → Type 0
 Moments base p outages history before since =
     AtEach (is_stored base) since
-    (AtMoment before base (config_by base p.config) p.requests (replies_by base p outages) history)
+    (AtMoment before base (config_by base p.config) p.requests outages history)
 
 -- The script of a call was read, or the first of its lines: what the call begins with, the text, and the lines that
 -- were read with what the maker made of their queries

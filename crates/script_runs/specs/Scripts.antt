@@ -4,6 +4,7 @@ use Rattle.emu_names.specs.Count.{RoseBy}
 use Rattle.emu_names.specs.declared.limits.TheConstants.{LINE_BYTES, SCRIPT_BYTES, SCRIPT_LINES}
 use Rattle.db_config.specs.declared.parts.ConfigParts.{ConfigParts}
 use Rattle.session_core.specs.declared.line.Line.{Line}
+use Rattle.script_lines.specs.declared.line_set.EarlierLine.{EarlierLine}
 use Rattle.script_lines.specs.declared.faults.LineFault.{LineFault}
 use Rattle.script_lines.specs.declared.faults.LineFault.TheVariants as faults
 use Rattle.script_lines.specs.declared.faults.ReadLine.{ReadLine}
@@ -68,9 +69,13 @@ with_read p (reads.Config config) =
 with_read p (reads.Request l) =
     record { number = p.number + 1; wants = p.wants; config = p.config; requests = p.requests ++ l ∷ [] }
 
--- the numbers of the lines of these requests
-abbrev pub numbers_of : List Line → List ℕ
-numbers_of requests = map (λ (l : Line). l.line) requests
+-- a request, as the lines behind it may name it
+abbrev pub earlier_line : Line → EarlierLine
+earlier_line l = record { line = l.line; session = l.session; command = l.command }
+
+-- these requests
+abbrev pub earlier_of : List Line → List EarlierLine
+earlier_of requests = map earlier_line requests
 
 -- a line at fault stops the script, by its number
 abbrev pub as_stop : ℕ → Result ReadLine LineFault → Result ReadLine Stop
@@ -84,7 +89,7 @@ unless_over false read = read
 
 -- the line of a number, behind so many lines and these requests, where the configuration is wanted
 -- or not: its limits come first
-abbrev pub line_at : ℕ → Bool → List ℕ → AskedLine → Result ReadLine Stop
+abbrev pub line_at : ℕ → Bool → List EarlierLine → AskedLine → Result ReadLine Stop
 line_at number wants earlier l =
     unless_over (passes_limit number l.line) (as_stop number (request_of l.line number wants earlier l.made))
 
@@ -97,7 +102,7 @@ abbrev pub ◌>>=◌ : {A B : Type 0} → Result A Stop → (A → Result B Stop
 -- a line behind what was read
 abbrev pub parse_line : Parsed → AskedLine → Result Parsed Stop
 parse_line p l =
-    line_at (p.number + 1) p.wants (numbers_of p.requests) l >>= λ read. Ok (with_read p read)
+    line_at (p.number + 1) p.wants (earlier_of p.requests) l >>= λ read. Ok (with_read p read)
 
 -- what is read of these lines behind what was read, or what stops the script first
 abbrev pub parse : Parsed → List AskedLine → Result Parsed Stop

@@ -2,19 +2,19 @@
 ghost use Rattle.std.specs.Prelude.{◌≤◌, IfErr};
 ghost use Rattle.std.specs.List.{flat_map};
 ghost use Rattle.reply_texts.specs.Texts.{reply_text};
-ghost use Rattle.store_texts.specs.Texts.{from_text, mark_text};
+ghost use Rattle.program_output.specs.Texts.{from_text, mark_text};
 ghost use Rattle.program_output.specs.Inner.Written.{EndHasCause, WritesText, WritesTexts};
 ghost use Rattle.script_runs.specs.LiveTexts.{ended_text, entries_text, given_text, live_text, text_of_mark};
 ghost use Rattle.script_runs.specs.Inner.LiveTexts.{AnswersLive};
 
 use emu_io::Sink;
 use emu_names::{Memory, SessionNo};
-use live_run::Ended as LiveEnded;
-use live_seats::Marks;
-use program_output::{Ended, Status, write_config, write_reply, write_text};
+use live_run::{Ended as LiveEnded, Marks};
+use program_output::{
+    Ended, Status, print_from, print_mark, write_config, write_reply, write_text,
+};
 use session_core::Replies;
 use std::alloc::Global;
-use store_texts::{print_from, print_mark};
 
 /// Writes the reply of the configuration, where the script gave one.
 fn write_given<K: Sink>(alloc: Global, given: bool, out: &mut K) -> Result<(), Ended>

@@ -25,7 +25,7 @@ pub(crate) struct Reading {
     pub(crate) config: Option<Config>,
     /// The requests.
     pub(crate) lines: Lines,
-    /// Their numbers.
+    /// The same, as the lines behind them may name them.
     pub(crate) earlier: LineSet,
 }
 
@@ -33,7 +33,7 @@ impl Reading {
     ghost use Rattle.std.specs.Prelude.{◌≡◌, ◌≤◌, ◌<◌, ◌+◌, ◌∷◌, ◌++◌, [], ℕ, Bool, List, All, IfErr, OnErr, OnOk};
     ghost use Rattle.emu_names.specs.declared.limits.TheConstants.{SCRIPT_LINES};
     ghost use Rattle.script_runs.specs.Inner.Reads.{HasRead, IsReading, ReadsLine};
-    ghost use Rattle.script_runs.specs.Scripts.{read_from};
+    ghost use Rattle.script_runs.specs.Scripts.{earlier_line, read_from};
     ghost use Rattle.script_runs.specs.Inner.Turns.{IsUnreadFor};
     ghost use Rattle.program_output.specs.declared.ended.Ended.TheVariants.{Memory as OutOfMemory};
 
@@ -54,15 +54,15 @@ impl Reading {
     /// Puts a request last.
     fn add(&mut self, line: Line) -> Result<(), Ended>
         requires room { self.old.number < SCRIPT_LINES }
-        requires rises { All (λ n. n < line.line) self.old.earlier }
+        requires rises { All (λ it. it.line < line.line) self.old.earlier }
         ensures number { OnOk result (self.new.number ≡ self.old.number + 1) }
         ensures wants { OnOk result (self.new.wants ≡ self.old.wants) }
         ensures config { OnOk result (self.new.config ≡ self.old.config) }
         ensures lines { OnOk result (self.new.lines ≡ self.old.lines ++ line ∷ []) }
-        ensures earlier { OnOk result (self.new.earlier ≡ self.old.earlier ++ line.line ∷ []) }
+        ensures earlier { OnOk result (self.new.earlier ≡ self.old.earlier ++ earlier_line line ∷ []) }
         ensures why { IfErr result (λ end. end ≡ OutOfMemory) }
     {
-        self.earlier.add(line.line)?;
+        self.earlier.add(line.line, line.session, line.command)?;
         self.lines.push(line)?;
         self.number += 1;
         Ok(())
@@ -75,11 +75,11 @@ impl Reading {
         line: &[u8],
         patterns: &mut P,
     ) -> Result<(), Ended>
-        requires { All (λ n. n ≤ self.old.number) self.old.earlier }
+        requires { All (λ it. it.line ≤ self.old.number) self.old.earlier }
         ensures read { (wants : Bool) (lines : List (List ℕ)) (refusals : ℕ) →
             HasRead wants lines self.old refusals (P.refusals patterns.old) →
             ReadsLine result wants lines line.now self.new refusals (P.refusals patterns.new) }
-        ensures rises { OnOk result (All (λ n. n ≤ self.new.number) self.new.earlier) }
+        ensures rises { OnOk result (All (λ it. it.line ≤ self.new.number) self.new.earlier) }
         ensures few { OnOk result (self.new.number ≤ SCRIPT_LINES) }
         ensures why { IfErr result IsUnreadFor }
     {
@@ -115,7 +115,7 @@ fn read_rest<P: PatternMaker>(
     bytes: &[u8],
     patterns: &mut P,
 ) -> Result<(), Ended>
-    requires rises { All (λ n. n ≤ reading.old.number) reading.old.earlier }
+    requires rises { All (λ it. it.line ≤ reading.old.number) reading.old.earlier }
     requires few { reading.old.number ≤ SCRIPT_LINES }
     ensures read { (wants : Bool) (lines : List (List ℕ)) (refusals : ℕ) →
         HasRead wants lines reading.old refusals (P.refusals patterns.old) →

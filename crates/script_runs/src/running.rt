@@ -1,4 +1,4 @@
-//! A run between two lines: the book in order, the numbers of the requests so far, and the line's number.
+//! A run between two lines: the book in order, the requests so far, and the line's number.
 ghost use Rattle.std.specs.Prelude.{◌≡◌, ◌+◌, ◌<◌, [], None, IfOk, IfErr, OnOk};
 ghost use Rattle.emu_names.specs.declared.limits.TheConstants.{SCRIPT_LINES};
 ghost use Rattle.live_book.specs.Kept.{KeepsIn};
@@ -26,7 +26,7 @@ use version_gate::Passes;
 pub struct Running<D: Disk> {
     /// The book in order.
     pub core: InOrder<D>,
-    /// The numbers of the requests so far.
+    /// The requests so far, as the lines behind them may name them.
     pub earlier: LineSet,
     /// The number of the lines so far.
     pub number: u32,
@@ -114,12 +114,12 @@ impl<D: Disk> Running<D> {
     ) -> Result<Reply, Memory>
         requires room { self.old.number < SCRIPT_LINES }
         requires place { line.session.0 < session_places }
-        requires rises { All (λ n. n < line.line) self.old.earlier }
+        requires rises { All (λ it. it.line < line.line) self.old.earlier }
         ensures ok { IfOk result (λ reply. TakesLine D.may_leave D.moment D.left_since D.faults self.old
             line reply self.new) }
         ensures err { OnErr result (self.new ≡ self.old) }
     {
-        self.earlier.add(line.line)?;
+        self.earlier.add(line.line, line.session, line.command)?;
         let reply = self.core.answer(rt, line);
         self.number += 1;
         Ok(reply)

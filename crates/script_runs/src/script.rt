@@ -47,8 +47,8 @@ fn one_line<R: Threads + Wait + Sync, K: Sink, D: Disk, P: PatternMaker>(
     out: &mut K,
     patterns: &mut P,
 ) -> Result<(), Ended>
-    requires { All (λ n. n ≤ running.old.number) running.old.earlier }
-    ensures rises { OnOk result (All (λ n. n ≤ running.new.number) running.new.earlier) }
+    requires { All (λ it. it.line ≤ running.old.number) running.old.earlier }
+    ensures rises { OnOk result (All (λ it. it.line ≤ running.new.number) running.new.earlier) }
     ensures ran { (base : Base) (begin : D) (config : Configuration) (lines : List (List ℕ))
         (refusals : ℕ) (before : Option (List ℕ)) →
         Reached D.Disk base begin config lines running.old refusals
@@ -90,7 +90,7 @@ fn run_rest<R: Threads + Wait + Sync, K: Sink, D: Disk, P: PatternMaker>(
     out: &mut K,
     patterns: &mut P,
 ) -> Result<(), Ended>
-    requires { All (λ n. n ≤ running.old.number) running.old.earlier }
+    requires { All (λ it. it.line ≤ running.old.number) running.old.earlier }
     ensures ran { (base : Base) (begin : D) (config : Configuration) (lines : List (List ℕ))
         (refusals : ℕ) (before : Option (List ℕ)) →
         Reached D.Disk base begin config lines running.old refusals
@@ -127,7 +127,7 @@ fn run_lines<R: Threads + Wait + Sync, K: Sink, D: Disk, P: PatternMaker>(
     out: &mut K,
     patterns: &mut P,
 ) -> Result<(), Ended>
-    requires { All (λ n. n ≤ running.old.number) running.old.earlier }
+    requires { All (λ it. it.line ≤ running.old.number) running.old.earlier }
     ensures ran { (base : Base) (begin : D) (config : Configuration)
         (lines : List (List ℕ)) (refusals : ℕ) (before : Option (List ℕ)) →
         Reached D.Disk base begin config lines running.old refusals
@@ -160,7 +160,7 @@ fn run_begun<R: Threads + Wait + Sync, K: Sink, D: Disk, P: PatternMaker>(
     out: &mut K,
     patterns: &mut P,
 ) -> Result<(), Ended>
-    requires { All (λ n. n ≤ running.old.number) running.old.earlier }
+    requires { All (λ it. it.line ≤ running.old.number) running.old.earlier }
     ensures ran { (base : Base) (begin : D) (config : Configuration)
         (line : List ℕ) (refusals : ℕ) → base ≡ fresh_base (has_journal running.old.core.book.journal) →
         IsBeginOf D.faults base running.old.core.book.journal (D.faults begin) →

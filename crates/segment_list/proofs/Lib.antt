@@ -1,5 +1,7 @@
 mod Backwards
 mod Listed
+mod Parted
 mod Plain
 mod Pushed
 mod Rising
+pub mod Threads

@@ -1,3 +1,4 @@
+pub mod Listing
 pub mod Merged
 pub mod Pieces
 pub mod Texts

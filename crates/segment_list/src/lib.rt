@@ -3,6 +3,7 @@
 #![tactic(auto)]
 
 mod laws;
+mod listing;
 mod merge;
 mod names;
 mod parts;
@@ -11,7 +12,7 @@ mod print;
 mod rows;
 
 pub use laws::merges_are_one;
+pub use listing::{Listing, print_rows, with_text};
 pub use merge::merge_in_order;
 pub use parts::{Part, Parts};
-pub use print::print_rows;
 pub use rows::{rows_at, rows_of};

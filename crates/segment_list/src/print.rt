@@ -1,13 +1,12 @@
-//! The text of a segment list.
+//! The text of rows.
 ghost use Rattle.std.specs.Prelude.{◌≡◌, ◌++◌, IfOk, OnOk, false, string_bytes};
 ghost use Rattle.serde_json.specs.Written.{comma_if};
 ghost use Rattle.segment_list.specs.Inner.Pieces.{back_text, front_text, names_of, row_text, row_texts, samples_text};
-ghost use Rattle.segment_list.specs.Inner.Texts.{rows_text};
 
 use crate::names::NamePieces;
 use crate::pieces::{push_comma, push_number, push_or_null, push_quoted};
 use emu_names::{Memory, Text};
-use eql_model::{Row, SegmentList};
+use eql_model::Row;
 use std::alloc::Global;
 
 /// Writes a row from the brace to the labels. The only refusal is want of memory.
@@ -107,15 +106,11 @@ fn push_rows(out: &mut String, alloc: Global, rows: &[Row]) -> Result<(), Memory
     push_each(out, alloc, &mut pieces, rows)
 }
 
-/// The text of a segment list: a list of JSON objects (RFC 8259), one for each row, with no white space
-/// and no line feed, the members of each in the order of their names. Times are whole microseconds or
-/// `null`. The only refusal is want of memory.
-pub fn print_rows(alloc: Global, list: &SegmentList) -> Result<Text, Memory>
-    ensures { IfOk result (λ text. text ≡ rows_text list.now) }
+/// The text of rows with a comma between each two. The only refusal is want of memory.
+pub(crate) fn text_of_rows(alloc: Global, rows: &[Row]) -> Result<Text, Memory>
+    ensures { IfOk result (λ text. text ≡ row_texts false rows.now) }
 {
     let mut out = String::new(alloc);
-    out.push_str("[")?;
-    push_rows(&mut out, alloc, list.as_slice())?;
-    out.push_str("]")?;
+    push_rows(&mut out, alloc, rows)?;
     Text::from_string(out)
 }

@@ -9,7 +9,7 @@ use Rattle.session_core.specs.declared.line.Answer.TheVariants.{Done, Segments, 
 use Rattle.session_core.specs.declared.line.Line.{Line}
 use Rattle.session_core.specs.declared.line.Reply.{Reply}
 use Rattle.session_core.specs.Worlds.{Turn, Each}
-use Rattle.session_core.specs.Legal.{IsNamed, is_of, of_session, lines_of_session, lines_in, replies_in, NumberedEntry, accepted, numbered, with_number, IsRightTurn, NeverFalls, LooksFit, Legal}
+use Rattle.session_core.specs.Legal.{IsNamed, is_of, of_session, lines_of_session, lines_in, replies_in, Mark, accepted, numbered, with_number, IsRightTurn, NeverFalls, LooksFit, Legal}
 use Rattle.session_core.specs.Example.{example_config, example_history, example_lines, example_replies, replies_with, add_line, no_memory_reply}
 use Rattle.session_core.specs.Laws.{StaleIsNotLegal, AnswerIsExact, AcceptedIsRecorded, RecordedIsAccepted}
 use Rattle.session_core.proofs.Turns.{each_of_map}
@@ -79,7 +79,7 @@ recorded store before now run =
     let high : 1 ≤ 0 = right.0.1 in
     omega arith
 
-abbrev first_number : List NumberedEntry → ℕ
+abbrev first_number : List Mark → ℕ
 first_number [] = 0
 first_number (m ∷ ms) = m.n
 

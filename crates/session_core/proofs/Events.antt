@@ -17,6 +17,7 @@ use Rattle.session_core.specs.declared.line.Command.{Command}
 use Rattle.session_core.specs.declared.line.Command.TheVariants as commands
 use Rattle.session_core.specs.declared.line.Answer.{Answer}
 use Rattle.session_core.specs.declared.line.Answer.TheVariants.{Done, Refused}
+use Rattle.session_core.specs.declared.line.Refusal.{Refusal}
 use Rattle.session_core.specs.declared.line.Refusal.TheVariants as refusals
 use Rattle.session_core.specs.declared.line.Request.{Request}
 use Rattle.session_core.specs.declared.line.Request.TheVariants as requests
@@ -26,14 +27,17 @@ use Rattle.edit_rules.specs.Effects.{IsLegal, edited, database_after}
 use Rattle.edit_rules.proofs.Replay.{replay_goes_on}
 use Rattle.session_core.specs.Answers.{answer_at, memory, is_want_of_memory, grid_number, grid_answer, reply_to, entry_of, rule_refusal}
 use Rattle.session_core.specs.Queries.{lacks_memory}
-use Rattle.session_core.specs.Steps.{Opened, State, slot, put_slot, session_places, is_full, opened_at, edit_step, look_step, finish_step, look_answered, query_step, way_answered, query_fails, Asker, by_look, by_query, by_none, asker_of, finish_by, finish_fails_by}
-use Rattle.session_core.specs.Worlds.{Turn, Trouble, untroubled, no_memory, store_full, disk_failed, is_disk_failed, Occurrence, World, outcome_of, query_line, finish_line, brought_by, brought, query_answered, answered_by, answered, turns_of, happens, Each, IsBehind, IsNext, is_answered, RequestFits, EditFits, LookFits, IsUnderWay, FinishFits, Fits, passes_store, IsOverStore, TroubleFits, OccurrenceFits}
-use Rattle.session_core.specs.Legal.{of_session, lines_of_session, is_of, is_line_of, lines_in, accepting, numbered, IsRight, low_behind, KeepsUp, Look, open_behind, look_behind, finish_behind, LookReplyFits, FinishReplyFits, ReplyFits, session_of, is_disk}
+use Rattle.session_core.specs.Steps.{Opened, State, slot, put_slot, session_places, is_full, opened_at, taking_back, edit_step, act_event, undo_step, look_step, finish_step, look_answered, query_step, way_answered, query_fails, Asker, by_look, by_query, by_none, asker_of, finish_by, finish_fails_by}
+use Rattle.session_core.specs.Worlds.{Turn, Trouble, untroubled, no_memory, store_full, disk_failed, is_disk_failed, Occurrence, World, outcome_of, query_line, finish_line, brought_by, brought, query_answered, answered_by, answered, turns_of, happens, Each, IsBehind, IsNext, is_answered, RequestFits, EditFits, LookFits, IsUnderWay, FinishFits, Fits, passes_store, IsOverStore, act_back, StoreRefusesAct, DiskMayRefuseAct, TroubleFits, OccurrenceFits}
+use Rattle.session_core.specs.Legal.{of_session, lines_of_session, is_of, is_line_of, lines_in, Mark, mark_of, accepted, accepting, numbered, IsRight, IsRightAt, IsRightEdit, IsRightRefusal, IsDiskFor, IsRefusedUnnumbered, low_behind, KeepsUp, Look, open_behind, look_behind, finish_behind, LookReplyFits, FinishReplyFits, ReplyFits, session_of, is_disk, accepted_as, TakesBack, UndoAnswers, ReplyUndoes}
+use Rattle.edit_undo.specs.declared.faults.NoUndo.{NoUndo}
+use Rattle.edit_undo.specs.declared.faults.NoUndo.TheVariants as reasons
 use Rattle.session_core.proofs.Asking.{answers}
+use Rattle.session_core.proofs.Undoing.{slice_get_last, takes_more, history_takes, as_own, undoes_same}
 use Rattle.session_core.proofs.OfCommand.{query_is}
 use Rattle.session_core.proofs.Turns.{each_map, each_passing, each_kept, each_of_map, filter_more, filter_same, low_of, IsPast, HasSeenStill, seen_in_to, disk_of}
 use Rattle.session_core.proofs.Places.{slot_put, slot_other, put_length}
-use Rattle.session_core.proofs.Seats.{slice_get_last, rights_to, session_no, look_of, IsIn, in_more, IsWaiting, Seat, seat_told, Good, world_of, old_seat, added}
+use Rattle.session_core.proofs.Seats.{rights_to, session_no, look_of, IsIn, in_more, IsWaiting, Seat, seat_told, Good, world_of, old_seat, added}
 
 abbrev line_of : ℕ → SessionNo → Command → Request → Line
 line_of line s command r = record { line = line; session = s; command = command; request = r }
@@ -63,6 +67,22 @@ record Once (opening : List Entry) (store : Bool) (faults faults' : ℕ) (w : Wo
   fits : ReplyFits w.state.config H (option_map look_of (slot w.state.looks l.session.0)) l.request n answer
   opens : open_behind (option_map look_of (slot w.state.looks l.session.0)) l.request n ≡ option_map look_of (slot looks l.session.0)
   look_in : IsIn (length opening) H (slot looks l.session.0)
+  undoes : ReplyUndoes w.state.config H store (accepted w.turns) l l.request n answer
+
+-- What an act wants of its line: the line's own act, or the one that takes back what an `undo` names.
+record Wants (opening : List Entry) (store : Bool) (w : World) (l : Line) (act : Act) : Type 0 where
+  told : (n : ℕ) (command : Command) → accepting l l.request (Some n) (Done command) ≡ mark_of l n ∷ []
+  untold : (n : ℕ) (refusal : Refusal) → accepting l l.request (Some n) (Refused refusal) ≡ []
+  alone : (answer : Answer) → accepting l l.request None answer ≡ []
+  right : (H : List Entry) (n : ℕ) (answer : Answer) → IsRightEdit w.state.config H store l act n answer → IsRightAt w.state.config H store l l.request n answer
+  disk : store ≡ true → IsDiskFor store l.request
+  still : (n : Option ℕ) → HasSeenStill (length opening) w.turns l.request n
+  keeps : (low n : ℕ) → low ≤ n → KeepsUp low l.request (Some n)
+  low : (low n : ℕ) → low_behind low l.request (Some n) ≡ n
+  fits : (H : List Entry) (held : Option Look) (n : Option ℕ) (answer : Answer) → ReplyFits w.state.config H held l.request n answer
+  opens : (held : Option Look) (n : Option ℕ) → open_behind held l.request n ≡ held
+  undoes : (H new : List Entry) → H ≡ w.state.entries ++ new → (n : Option ℕ) (answer : Answer) → UndoAnswers w.state.config H store l (Some (Ok act)) n answer
+      → ReplyUndoes w.state.config H store (accepted w.turns) l l.request n answer
 
 module _ (opening : List Entry) (store : Bool) (faults : ℕ) (w : World) (g : Good opening store faults w) where
   -- the opening's history is no longer than the present one
@@ -94,22 +114,23 @@ module _ (opening : List Entry) (store : Bool) (faults : ℕ) (w : World) (g : G
 
   once_seat : (faults' : ℕ) (l : Line) (H : List Entry) (looks : List (Option Opened)) (n : Option ℕ) (answer : Answer) (new : List Entry) → IsNext w l.line l.session.0
       → Once opening store faults faults' w l H looks n answer new
-      → Seat w.state.config (length opening) H l.session.0 (of_session l.session.0 w.turns ++ turn_of l n answer ∷ []) (lines_of_session l.session.0 (w.lines ++ l ∷ [])) (slot looks l.session.0) None
+      → Seat store w.state.config (length opening) H l.session.0 (of_session l.session.0 w.turns ++ turn_of l n answer ∷ []) (lines_of_session l.session.0 (w.lines ++ l ∷ [])) (slot looks l.session.0) None
   once_seat faults' l H looks n answer new next o =
       let low : low_of (length opening) (of_session l.session.0 w.turns) ≤ length w.state.entries = (g.seats l.session.0).low in
       let from : length opening ≤ low_of (length opening) (of_session l.session.0 w.turns) = (g.seats l.session.0).from in
-      seat_told w.state.config (length opening) H l.session.0 (of_session l.session.0 w.turns) (lines_of_session l.session.0 w.lines) (slot w.state.looks l.session.0) (slot w.state.queries l.session.0)
+      seat_told store w.state.config (length opening) H l.session.0 (of_session l.session.0 w.turns) (lines_of_session l.session.0 w.lines) (slot w.state.looks l.session.0) (slot w.state.queries l.session.0)
       (old_seat opening store faults faults' w H looks w.state.queries (l ∷ []) (turn_of l n answer) new g o.grown l.session.0)
       (turn_of l n answer) (lines_of_session l.session.0 (w.lines ++ l ∷ [])) (slot looks l.session.0)
       (o.keeps (low_of (length opening) (of_session l.session.0 w.turns)) low)
       (o.from (low_of (length opening) (of_session l.session.0 w.turns)) from)
       (o.to (low_of (length opening) (of_session l.session.0 w.turns)) low)
       o.fits o.opens o.look_in
+      (undoes_same w.state.config H store (accepted w.turns) (accepted (of_session l.session.0 w.turns)) l l.request n answer (λ line. as_own l.session.0 line w.turns) o.undoes)
       (filter_more (is_line_of l.session.0) w.lines l (eq-eqb l.session.0 l.session.0 refl) ∙ ap (λ (ls : List Line). ls ++ l ∷ []) (next_lines l.session.0 next.idle))
 
   once : (faults' : ℕ) (l : Line) (H : List Entry) (looks : List (Option Opened)) (n : Option ℕ) (answer : Answer) (new : List Entry) → IsNext w l.line l.session.0
       → Once opening store faults faults' w l H looks n answer new
-      → Good opening store faults' (world_of w.state.config H looks w.state.queries (w.lines ++ l ∷ []) (w.turns ++ turn_of l n answer ∷ []))
+      → Good opening store faults' (world_of w.state.config w.state.base H looks w.state.queries (w.lines ++ l ∷ []) (w.turns ++ turn_of l n answer ∷ []))
   once faults' l H looks n answer new next o = added opening store faults faults' w H looks w.state.queries (l ∷ []) (turn_of l n answer) new g (record {
     grown = o.grown;
     most = o.most;
@@ -125,7 +146,7 @@ module _ (opening : List Entry) (store : Bool) (faults : ℕ) (w : World) (g : G
     other_looks = o.other_looks;
     other_queries = λ s ne. refl;
     other_lines = λ s ne. filter_same (is_line_of s) w.lines l (ne_eqb l.session.0 s ne);
-    own = subst (λ (q : Option Opened). Seat w.state.config (length opening) H l.session.0 (of_session l.session.0 w.turns ++ turn_of l n answer ∷ []) (lines_of_session l.session.0 (w.lines ++ l ∷ [])) (slot looks l.session.0) q)
+    own = subst (λ (q : Option Opened). Seat store w.state.config (length opening) H l.session.0 (of_session l.session.0 w.turns ++ turn_of l n answer ∷ []) (lines_of_session l.session.0 (w.lines ++ l ∷ [])) (slot looks l.session.0) q)
         (sym next.idle) (once_seat faults' l H looks n answer new next o);
   })
 
@@ -146,8 +167,9 @@ module _ (opening : List Entry) (store : Bool) (faults : ℕ) (w : World) (g : G
       → ((low : ℕ) → low ≤ length w.state.entries → low_behind low l.request n ≤ length w.state.entries)
       → ReplyFits w.state.config w.state.entries (option_map look_of (slot w.state.looks l.session.0)) l.request n answer
       → open_behind (option_map look_of (slot w.state.looks l.session.0)) l.request n ≡ option_map look_of (slot w.state.looks l.session.0)
-      → Good opening store faults (world_of w.state.config w.state.entries w.state.looks w.state.queries (w.lines ++ l ∷ []) (w.turns ++ turn_of l n answer ∷ []))
-  same l n answer next mark right still no_disk keeps from to fits opens = once faults l w.state.entries w.state.looks n answer [] next (record {
+      → ReplyUndoes w.state.config w.state.entries store (accepted w.turns) l l.request n answer
+      → Good opening store faults (world_of w.state.config w.state.base w.state.entries w.state.looks w.state.queries (w.lines ++ l ∷ []) (w.turns ++ turn_of l n answer ∷ []))
+  same l n answer next mark right still no_disk keeps from to fits opens undoes = once faults l w.state.entries w.state.looks n answer [] next (record {
     grown = sym (append-nil w.state.entries);
     most = g.most;
     legal = g.legal;
@@ -163,13 +185,48 @@ module _ (opening : List Entry) (store : Bool) (faults : ℕ) (w : World) (g : G
     fits = fits;
     opens = opens;
     look_in = (g.seats l.session.0).look_in;
+    undoes = undoes;
   })
+
+  -- What takes a line back.
+
+  -- in this session: what its replies say of the line is what the state says
+  undo_takes : (s line : ℕ) → TakesBack w.state.config w.state.entries (accepted_as s line (accepted w.turns)) (taking_back w.state s line)
+  undo_takes s line =
+      subst (λ (ms : List Mark). TakesBack w.state.config w.state.entries (accepted_as s line ms) (taking_back w.state s line)) (sym g.marks)
+      (history_takes w.state.config opening g.more w.state.entries w.state.base s line g.prefix g.begun)
+
+  -- beside a longer history
+  undo_takes_new : (H new : List Entry) (s line : ℕ) (inverse : Option (Result Act NoUndo)) → H ≡ w.state.entries ++ new → taking_back w.state s line ≡ inverse
+      → TakesBack w.state.config H (accepted_as s line (accepted w.turns)) inverse
+  undo_takes_new H new s line inverse grown is =
+      subst (λ (xs : List Entry). TakesBack w.state.config xs (accepted_as s line (accepted w.turns)) inverse) (sym grown)
+      (takes_more w.state.config w.state.entries new (accepted_as s line (accepted w.turns)) inverse
+      (subst (λ (i : Option (Result Act NoUndo)). TakesBack w.state.config w.state.entries (accepted_as s line (accepted w.turns)) i) is (undo_takes s line)))
+
+  undo_memory : (l : Line) (inverse : Option (Result Act NoUndo)) → UndoAnswers w.state.config w.state.entries store l inverse None memory
+  undo_memory l None = inr refl
+  undo_memory l (Some (Err fault)) = inr refl
+  undo_memory l (Some (Ok act)) = inl refl
+
+  memory_undoes : (l : Line) (r : Request) → ReplyUndoes w.state.config w.state.entries store (accepted w.turns) l r None memory
+  memory_undoes l (requests.Undo earlier) = record {
+    inverse = taking_back w.state l.session.0 earlier;
+    takes = undo_takes l.session.0 earlier;
+    answers = undo_memory l (taking_back w.state l.session.0 earlier);
+  }
+  memory_undoes l (requests.Edit given) = tt
+  memory_undoes l (requests.Query ask) = tt
+  memory_undoes l (requests.Look ask) = tt
+  memory_undoes l requests.Finish = tt
+  memory_undoes l (requests.After earlier) = tt
 
   -- Want of memory.
 
   mark_none : (l : Line) (r : Request) (answer : Answer) → accepting l r None answer ≡ []
   mark_none l (requests.Edit (Ok act)) answer = refl
   mark_none l (requests.Edit (Err fault)) answer = refl
+  mark_none l (requests.Undo earlier) answer = refl
   mark_none l (requests.Query ask) answer = refl
   mark_none l (requests.Look ask) answer = refl
   mark_none l requests.Finish answer = refl
@@ -178,6 +235,7 @@ module _ (opening : List Entry) (store : Bool) (faults : ℕ) (w : World) (g : G
   still_none : (r : Request) → RequestFits w r → HasSeenStill (length opening) w.turns r None
   still_none (requests.After earlier) fits = (fits, tt)
   still_none (requests.Edit given) fits = tt
+  still_none (requests.Undo earlier) fits = tt
   still_none (requests.Query ask) fits = tt
   still_none (requests.Look ask) fits = tt
   still_none requests.Finish fits = tt
@@ -194,6 +252,7 @@ module _ (opening : List Entry) (store : Bool) (faults : ℕ) (w : World) (g : G
   memory_fits held (requests.Look ask) = look_memory held
   memory_fits held requests.Finish = finish_memory held
   memory_fits held (requests.Edit given) = tt
+  memory_fits held (requests.Undo earlier) = tt
   memory_fits held (requests.Query ask) = tt
   memory_fits held (requests.After earlier) = tt
 
@@ -201,88 +260,209 @@ module _ (opening : List Entry) (store : Bool) (faults : ℕ) (w : World) (g : G
   open_none held (requests.Look ask) = refl
   open_none held requests.Finish = refl
   open_none held (requests.Edit given) = refl
+  open_none held (requests.Undo earlier) = refl
   open_none held (requests.Query ask) = refl
   open_none held (requests.After earlier) = refl
 
   no_memory_good : (l : Line) → IsNext w l.line l.session.0 → RequestFits w l.request
-      → Good opening store faults (world_of w.state.config w.state.entries w.state.looks w.state.queries (w.lines ++ l ∷ []) (w.turns ++ turn_of l None memory ∷ []))
+      → Good opening store faults (world_of w.state.config w.state.base w.state.entries w.state.looks w.state.queries (w.lines ++ l ∷ []) (w.turns ++ turn_of l None memory ∷ []))
   no_memory_good l next fits =
       same l None memory next (mark_none l l.request memory) tt (still_none l.request fits) refl
       (λ low high. tt) (λ low above. above) (λ low high. high)
       (memory_fits (option_map look_of (slot w.state.looks l.session.0)) l.request)
       (open_none (option_map look_of (slot w.state.looks l.session.0)) l.request)
+      (memory_undoes l l.request)
 
-  -- An edit.
+  -- An act.
 
-  module _ (line : ℕ) (s : SessionNo) (command : Command) (act : Act) (next : IsNext w line s.0) where
-    abbrev edit_line : Line
-    edit_line = line_of line s command (requests.Edit (Ok act))
+  edit_wants : (line : ℕ) (s : SessionNo) (command : Command) (act : Act) → Wants opening store w (line_of line s command (requests.Edit (Ok act))) act
+  edit_wants line s command act = record {
+    told = λ n done. refl;
+    untold = λ n refusal. refl;
+    alone = λ answer. refl;
+    right = λ H n answer right. right;
+    disk = λ stored. stored;
+    still = λ n. tt;
+    keeps = λ low n high. high;
+    low = λ low n. refl;
+    fits = λ H held n answer. tt;
+    opens = λ held n. refl;
+    undoes = λ H new grown n answer answers. tt;
+  }
+
+  undo_wants : (line : ℕ) (s : SessionNo) (command : Command) (earlier : ℕ) (act : Act) → taking_back w.state s.0 earlier ≡ Some (Ok act)
+      → Wants opening store w (line_of line s command (requests.Undo earlier)) act
+  undo_wants line s command earlier act is = record {
+    told = λ n done. refl;
+    untold = λ n refusal. refl;
+    alone = λ answer. refl;
+    right = λ H n answer right. record { act = act; right = right };
+    disk = λ stored. stored;
+    still = λ n. tt;
+    keeps = λ low n high. high;
+    low = λ low n. refl;
+    fits = λ H held n answer. tt;
+    opens = λ held n. refl;
+    undoes = λ H new grown n answer answers. record {
+      inverse = Some (Ok act);
+      takes = undo_takes_new H new s.0 earlier (Some (Ok act)) grown is;
+      answers = answers;
+    };
+  }
+
+  module _ (l : Line) (act : Act) (next : IsNext w l.line l.session.0) (wants : Wants opening store w l act) where
+    -- a refusal at the present number
+    act_refused : (refusal : Refusal) → IsRightRefusal w.state.config w.state.entries store l act (length w.state.entries) refusal → is_disk (Refused refusal) ≡ false
+        → Good opening store faults (world_of w.state.config w.state.base w.state.entries w.state.looks w.state.queries (w.lines ++ l ∷ []) (w.turns ++ turn_of l (Some (length w.state.entries)) (Refused refusal) ∷ []))
+    act_refused refusal right no_disk =
+        let n : ℕ = length w.state.entries in
+        same l (Some (length w.state.entries)) (Refused refusal) next (wants.untold n refusal) (
+          opening_below,
+          omega arith,
+          wants.right w.state.entries n (Refused refusal) right,
+        ) (wants.still (Some n)) no_disk
+        (λ low high. wants.keeps low n high)
+        (λ low above. subst (λ (k : ℕ). length opening ≤ k) (sym (wants.low low n)) opening_below)
+        (λ low high. subst (λ (k : ℕ). k ≤ length w.state.entries) (sym (wants.low low n)) (omega arith))
+        (wants.fits w.state.entries (option_map look_of (slot w.state.looks l.session.0)) (Some n) (Refused refusal))
+        (wants.opens (option_map look_of (slot w.state.looks l.session.0)) (Some n))
+        (wants.undoes w.state.entries [] (sym (append-nil w.state.entries)) (Some n) (Refused refusal) right)
 
     edit_full : nat_le HISTORY_EDITS (length w.state.entries) ≡ true
-        → Good opening store faults (world_of w.state.config w.state.entries w.state.looks w.state.queries (w.lines ++ edit_line ∷ []) (w.turns ++ turn_of edit_line (Some (length w.state.entries)) (Refused refusals.HistoryFull) ∷ []))
+        → Good opening store faults (world_of w.state.config w.state.base w.state.entries w.state.looks w.state.queries (w.lines ++ l ∷ []) (w.turns ++ turn_of l (Some (length w.state.entries)) (Refused refusals.HistoryFull) ∷ []))
     edit_full full =
         let low : HISTORY_EDITS ≤ length w.state.entries = leb-true HISTORY_EDITS (length w.state.entries) full in
         let high : length w.state.entries ≤ HISTORY_EDITS = g.most in
         let all : length w.state.entries ≡ HISTORY_EDITS = omega arith in
-        same edit_line (Some (length w.state.entries)) (Refused refusals.HistoryFull) next refl (opening_below, omega arith, all) tt refl
-        (λ low high. high) (λ low above. opening_below) (λ low high. omega arith) tt refl
+        act_refused refusals.HistoryFull all refl
 
     edit_refused : (breach : Breach) → nat_le HISTORY_EDITS (length w.state.entries) ≡ false → edited w.state.config w.state.entries act ≡ Err breach
-        → Good opening store faults (world_of w.state.config w.state.entries w.state.looks w.state.queries (w.lines ++ edit_line ∷ []) (w.turns ++ turn_of edit_line (Some (length w.state.entries)) (Refused (rule_refusal command breach)) ∷ []))
+        → Good opening store faults (world_of w.state.config w.state.base w.state.entries w.state.looks w.state.queries (w.lines ++ l ∷ []) (w.turns ++ turn_of l (Some (length w.state.entries)) (Refused (rule_refusal l.command breach)) ∷ []))
     edit_refused breach room broken =
-        same edit_line (Some (length w.state.entries)) (Refused (rule_refusal command breach)) next refl (
-          opening_below,
-          omega arith,
-          record {
-            room = leb-false HISTORY_EDITS (length w.state.entries) room;
-            at = breach.place;
-            broken = ap (λ (xs : List Entry). edited w.state.config xs act) (take-length w.state.entries) ∙ broken;
-            shown = refl;
-          },
-        ) tt refl
-        (λ low high. high) (λ low above. opening_below) (λ low high. omega arith) tt refl
+        act_refused (rule_refusal l.command breach) (record {
+          room = leb-false HISTORY_EDITS (length w.state.entries) room;
+          at = breach.place;
+          broken = ap (λ (xs : List Entry). edited w.state.config xs act) (take-length w.state.entries) ∙ broken;
+          shown = refl;
+        }) refl
 
     edit_done : (database : DatabaseParts) → nat_le HISTORY_EDITS (length w.state.entries) ≡ false → edited w.state.config w.state.entries act ≡ Ok database
-        → Good opening store faults (world_of w.state.config (w.state.entries ++ entry_of edit_line act ∷ []) w.state.looks w.state.queries (w.lines ++ edit_line ∷ []) (w.turns ++ turn_of edit_line (Some (length w.state.entries + 1)) (Done command) ∷ []))
+        → Good opening store faults (world_of w.state.config w.state.base (w.state.entries ++ entry_of l act ∷ []) w.state.looks w.state.queries (w.lines ++ l ∷ []) (w.turns ++ turn_of l (Some (length w.state.entries + 1)) (Done l.command) ∷ []))
     edit_done database room made =
+        let n : ℕ = length w.state.entries + 1 in
         let below : length w.state.entries < HISTORY_EDITS = leb-false HISTORY_EDITS (length w.state.entries) room in
-        let count : length (w.state.entries ++ entry_of edit_line act ∷ []) ≡ length w.state.entries + 1 = length_push w.state.entries (entry_of edit_line act) in
+        let count : length (w.state.entries ++ entry_of l act ∷ []) ≡ length w.state.entries + 1 = length_push w.state.entries (entry_of l act) in
         let opened : length opening ≤ length w.state.entries = opening_below in
-        once faults edit_line (w.state.entries ++ entry_of edit_line act ∷ []) w.state.looks (Some (length w.state.entries + 1)) (Done command) (entry_of edit_line act ∷ []) next (record {
+        let accepts : IsRightEdit w.state.config (w.state.entries ++ entry_of l act ∷ []) store l act (length w.state.entries + 1) (Done l.command) = record {
+          own = refl;
+          before = length w.state.entries;
+          number = refl;
+          room = below;
+          database = database;
+          right = ap (λ (xs : List Entry). edited w.state.config xs act) (take-append_seam w.state.entries (entry_of l act ∷ [])) ∙ made;
+          entry = slice_get_last w.state.entries (entry_of l act);
+        } in
+        once faults l (w.state.entries ++ entry_of l act ∷ []) w.state.looks (Some (length w.state.entries + 1)) (Done l.command) (entry_of l act ∷ []) next (record {
           grown = refl;
           most = omega arith;
-          legal = (database, replay_goes_on w.state.config w.state.entries (entry_of edit_line act) ∙ made);
-          mark = refl;
+          legal = (database, replay_goes_on w.state.config w.state.entries (entry_of l act) ∙ made);
+          mark = wants.told (length w.state.entries + 1) l.command;
           right = (
             omega arith,
             omega arith,
-            record {
-              own = refl;
-              before = length w.state.entries;
-              number = refl;
-              room = below;
-              database = database;
-              right = ap (λ (xs : List Entry). edited w.state.config xs act) (take-append_seam w.state.entries (entry_of edit_line act ∷ [])) ∙ made;
-              entry = slice_get_last w.state.entries (entry_of edit_line act);
-            },
+            wants.right (w.state.entries ++ entry_of l act ∷ []) (length w.state.entries + 1) (Done l.command) accepts,
           );
-          still = tt;
+          still = wants.still (Some (length w.state.entries + 1));
           disks = omega arith;
           looks_count = g.looks_count;
           other_looks = λ k ne. refl;
-          keeps = λ low high. omega arith;
-          from = λ low above. omega arith;
-          to = λ low high. omega arith;
-          fits = tt;
-          opens = refl;
-          look_in = in_more (length opening) w.state.entries (entry_of edit_line act ∷ []) (slot w.state.looks s.0) (g.seats s.0).look_in;
+          keeps = λ low high. wants.keeps low (length w.state.entries + 1) (omega arith);
+          from = λ low above. subst (λ (k : ℕ). length opening ≤ k) (sym (wants.low low (length w.state.entries + 1))) (omega arith);
+          to = λ low high. subst (λ (k : ℕ). k ≤ length (w.state.entries ++ entry_of l act ∷ [])) (sym (wants.low low (length w.state.entries + 1))) (omega arith);
+          fits = wants.fits (w.state.entries ++ entry_of l act ∷ []) (option_map look_of (slot w.state.looks l.session.0)) (Some (length w.state.entries + 1)) (Done l.command);
+          opens = wants.opens (option_map look_of (slot w.state.looks l.session.0)) (Some (length w.state.entries + 1));
+          look_in = in_more (length opening) w.state.entries (entry_of l act ∷ []) (slot w.state.looks l.session.0) (g.seats l.session.0).look_in;
+          undoes = wants.undoes (w.state.entries ++ entry_of l act ∷ []) (entry_of l act ∷ []) refl (Some (length w.state.entries + 1)) (Done l.command) accepts;
         })
 
     edit_good : (full : Bool) (made : Result DatabaseParts Breach) → is_full w.state.entries ≡ full → edited w.state.config w.state.entries act ≡ made
-        → Good opening store faults (told w (edit_line ∷ []) (edit_line ∷ []) (edit_step w.state edit_line act full made))
+        → Good opening store faults (told w (l ∷ []) (l ∷ []) (edit_step w.state l act full made))
     edit_good true made full_is made_is = edit_full full_is
     edit_good false (Err breach) full_is made_is = edit_refused breach full_is made_is
     edit_good false (Ok database) full_is made_is = edit_done database full_is made_is
+
+    -- the act takes its step
+    act_good : Good opening store faults (told w (l ∷ []) (l ∷ []) (act_event w.state l act))
+    act_good = edit_good (is_full w.state.entries) (edited w.state.config w.state.entries act) refl refl
+
+    -- the store has no room
+    over_good : IsOverStore store w.state l act
+        → Good opening store faults (world_of w.state.config w.state.base w.state.entries w.state.looks w.state.queries (w.lines ++ l ∷ []) (w.turns ++ turn_of l (Some (length w.state.entries)) (Refused refusals.StoreFull) ∷ []))
+    over_good over =
+        let whole : take (length w.state.entries) w.state.entries ≡ w.state.entries = take-length w.state.entries in
+        act_refused refusals.StoreFull (record {
+          room = leb-false HISTORY_EDITS (length w.state.entries) over.room;
+          stored = over.stored;
+          database = over.database;
+          right = ap (λ (xs : List Entry). edited w.state.config xs act) whole ∙ over.made;
+          passes = ap (λ (xs : List Entry). passes_store w.state.config xs (entry_of l act)) whole ∙ over.passes;
+        }) refl
+
+    -- the disk failed
+    disk_good : store ≡ true
+        → Good opening store (faults + 1) (world_of w.state.config w.state.base w.state.entries w.state.looks w.state.queries (w.lines ++ l ∷ []) (w.turns ++ turn_of l None (Refused refusals.Disk) ∷ []))
+    disk_good stored = once (faults + 1) l w.state.entries w.state.looks None (Refused refusals.Disk) [] next (record {
+      grown = sym (append-nil w.state.entries);
+      most = g.most;
+      legal = g.legal;
+      mark = wants.alone (Refused refusals.Disk);
+      right = wants.disk stored;
+      still = wants.still None;
+      disks = omega arith;
+      looks_count = g.looks_count;
+      other_looks = λ k ne. refl;
+      keeps = λ low high. tt;
+      from = λ low above. above;
+      to = λ low high. high;
+      fits = wants.fits w.state.entries (option_map look_of (slot w.state.looks l.session.0)) None (Refused refusals.Disk);
+      opens = wants.opens (option_map look_of (slot w.state.looks l.session.0)) None;
+      look_in = (g.seats l.session.0).look_in;
+      undoes = wants.undoes w.state.entries [] (sym (append-nil w.state.entries)) None (Refused refusals.Disk) (inr (stored, refl));
+    })
+
+  -- An `undo`, by what takes its line back.
+  module _ (line : ℕ) (s : SessionNo) (command : Command) (earlier : ℕ) (next : IsNext w line s.0) where
+    abbrev undo_line : Line
+    undo_line = line_of line s command (requests.Undo earlier)
+
+    -- no act is wanted
+    undo_refused : (inverse : Option (Result Act NoUndo)) (refusal : Refusal) → taking_back w.state s.0 earlier ≡ inverse
+        → IsRefusedUnnumbered store (requests.Undo earlier) refusal → is_disk (Refused refusal) ≡ false
+        → UndoAnswers w.state.config w.state.entries store undo_line inverse None (Refused refusal)
+        → Good opening store faults (world_of w.state.config w.state.base w.state.entries w.state.looks w.state.queries (w.lines ++ undo_line ∷ []) (w.turns ++ turn_of undo_line None (Refused refusal) ∷ []))
+    undo_refused inverse refusal is right no_disk answers =
+        same undo_line None (Refused refusal) next refl right tt no_disk
+        (λ low high. tt) (λ low above. above) (λ low high. high) tt refl
+        (record { inverse = inverse; takes = undo_takes_new w.state.entries [] s.0 earlier inverse (sym (append-nil w.state.entries)) is; answers = answers })
+
+    undo_good : (inverse : Option (Result Act NoUndo)) → taking_back w.state s.0 earlier ≡ inverse
+        → Good opening store faults (told w (undo_line ∷ []) (undo_line ∷ []) (undo_step w.state undo_line inverse))
+    undo_good None is = undo_refused None refusals.NotAccepted is tt refl (inl refl)
+    undo_good (Some (Err reasons.NoInverse)) is = undo_refused (Some (Err reasons.NoInverse)) refusals.NoInverse is tt refl (inl refl)
+    undo_good (Some (Err reasons.TooManyEdits)) is = undo_refused (Some (Err reasons.TooManyEdits)) refusals.TooManyEdits is tt refl (inl refl)
+    undo_good (Some (Ok act)) is = act_good undo_line act next (undo_wants line s command earlier act is)
+
+    undo_over : (inverse : Option (Result Act NoUndo)) → taking_back w.state s.0 earlier ≡ inverse → StoreRefusesAct store w.state undo_line (act_back inverse)
+        → Good opening store faults (world_of w.state.config w.state.base w.state.entries w.state.looks w.state.queries (w.lines ++ undo_line ∷ []) (w.turns ++ turn_of undo_line (Some (length w.state.entries)) (Refused refusals.StoreFull) ∷ []))
+    undo_over None is may = absurd may
+    undo_over (Some (Err fault)) is may = absurd may
+    undo_over (Some (Ok act)) is may = over_good undo_line act next (undo_wants line s command earlier act is) may
+
+    undo_disk : (inverse : Option (Result Act NoUndo)) → taking_back w.state s.0 earlier ≡ inverse → DiskMayRefuseAct store (act_back inverse)
+        → Good opening store (faults + 1) (world_of w.state.config w.state.base w.state.entries w.state.looks w.state.queries (w.lines ++ undo_line ∷ []) (w.turns ++ turn_of undo_line None (Refused refusals.Disk) ∷ []))
+    undo_disk None is may = absurd may
+    undo_disk (Some (Err fault)) is may = absurd may
+    undo_disk (Some (Ok act)) is may = disk_good undo_line act next (undo_wants line s command earlier act is) may
 
   -- a line whose TextGrid has a fault
   grid_good : (line : ℕ) (s : SessionNo) (command : Command) (fault : GridFault) → IsNext w line s.0 → (short : Bool) → is_want_of_memory fault ≡ short
@@ -292,7 +472,7 @@ module _ (opening : List Entry) (store : Bool) (faults : ℕ) (w : World) (g : G
   grid_good line s command fault next false is =
       same (line_of line s command (requests.Edit (Err fault))) (Some (length w.state.entries)) (Refused (refusals.Grid fault)) next refl
       (opening_below, omega arith, record { told = refl; is_fault = is }) tt refl
-      (λ low high. high) (λ low above. opening_below) (λ low high. omega arith) tt refl
+      (λ low high. high) (λ low above. opening_below) (λ low high. omega arith) tt refl tt
 
   -- A look, a query, an `after`.
 
@@ -302,7 +482,7 @@ module _ (opening : List Entry) (store : Bool) (faults : ℕ) (w : World) (g : G
       same (line_of line s command (requests.Look ask)) None (Refused refusals.LookOpen) next refl tt tt refl
       (λ low high. tt) (λ low above. above) (λ low high. high)
       (subst (λ (o : Option Opened). LookReplyFits (option_map look_of o) None (Refused refusals.LookOpen)) (sym is) (inl refl))
-      refl
+      refl tt
   look_good line s command ask next None is =
       let l : Line = line_of line s command (requests.Look ask) in
       let new : Option Opened = Some (opened_at w.state l ask) in
@@ -326,24 +506,26 @@ module _ (opening : List Entry) (store : Bool) (faults : ℕ) (w : World) (g : G
         fits = subst (λ (o : Option Opened). LookReplyFits (option_map look_of o) (Some (length w.state.entries)) (Done command)) (sym is) tt;
         opens = ap (λ (o : Option Opened). look_behind (option_map look_of o) ask (Some (length w.state.entries))) is ∙ sym (ap (λ (o : Option Opened). option_map look_of o) there);
         look_in = subst (λ (o : Option Opened). IsIn (length opening) w.state.entries o) (sym there) (opened, omega arith);
+        undoes = tt;
       })
 
   after_good : (line : ℕ) (s : SessionNo) (command : Command) (earlier : ℕ) → IsNext w line s.0 → is_answered earlier w.turns ≡ true
-      → Good opening store faults (world_of w.state.config w.state.entries w.state.looks w.state.queries (w.lines ++ line_of line s command (requests.After earlier) ∷ []) (w.turns ++ turn_of (line_of line s command (requests.After earlier)) (Some (length w.state.entries)) (Done command) ∷ []))
+      → Good opening store faults (world_of w.state.config w.state.base w.state.entries w.state.looks w.state.queries (w.lines ++ line_of line s command (requests.After earlier) ∷ []) (w.turns ++ turn_of (line_of line s command (requests.After earlier)) (Some (length w.state.entries)) (Done command) ∷ []))
   after_good line s command earlier next known =
       same (line_of line s command (requests.After earlier)) (Some (length w.state.entries)) (Done command) next refl
       (opening_below, omega arith, refl)
       (known, seen_in_to (length opening) earlier (length w.state.entries) (session_of earlier w.turns) w.turns opening_below (rights_to store w.state.config (length opening) w.state.entries [] w.turns g.right))
-      refl (λ low high. high) (λ low above. opening_below) (λ low high. omega arith) tt refl
+      refl (λ low high. high) (λ low above. opening_below) (λ low high. omega arith) tt refl tt
 
   -- a query is put under way
   query_good : (line : ℕ) (s : SessionNo) (command : Command) (ask : Ask) → command ≡ commands.Query → IsNext w line s.0
-      → Good opening store faults (world_of w.state.config w.state.entries w.state.looks (put_slot w.state.queries s.0 (Some (opened_at w.state (line_of line s command (requests.Query ask)) ask)))
+      → Good opening store faults (world_of w.state.config w.state.base w.state.entries w.state.looks (put_slot w.state.queries s.0 (Some (opened_at w.state (line_of line s command (requests.Query ask)) ask)))
       (w.lines ++ line_of line s command (requests.Query ask) ∷ []) (w.turns ++ []))
   query_good line s command ask is next =
-      subst (λ (ts : List Turn). Good opening store faults (world_of w.state.config w.state.entries w.state.looks (put_slot w.state.queries s.0 new) (w.lines ++ l ∷ []) ts)) (sym (append-nil w.turns)) (record {
+      subst (λ (ts : List Turn). Good opening store faults (world_of w.state.config w.state.base w.state.entries w.state.looks (put_slot w.state.queries s.0 new) (w.lines ++ l ∷ []) ts)) (sym (append-nil w.turns)) (record {
         more = g.more;
         prefix = g.prefix;
+        begun = g.begun;
         most = g.most;
         legal = g.legal;
         marks = g.marks;
@@ -366,7 +548,7 @@ module _ (opening : List Entry) (store : Bool) (faults : ℕ) (w : World) (g : G
       new = Some held
 
       There : ℕ → Type 0
-      There k = Seat w.state.config (length opening) w.state.entries k (of_session k w.turns) (lines_of_session k (w.lines ++ l ∷ [])) (slot w.state.looks k) (slot (put_slot w.state.queries s.0 new) k)
+      There k = Seat store w.state.config (length opening) w.state.entries k (of_session k w.turns) (lines_of_session k (w.lines ++ l ∷ [])) (slot w.state.looks k) (slot (put_slot w.state.queries s.0 new) k)
 
       there : slot (put_slot w.state.queries s.0 new) s.0 ≡ new
       there =
@@ -375,7 +557,7 @@ module _ (opening : List Entry) (store : Bool) (faults : ℕ) (w : World) (g : G
           slot_put w.state.queries s.0 new (omega arith)
 
       own : There s.0
-      own = subst (λ (q : Option Opened). Seat w.state.config (length opening) w.state.entries s.0 (of_session s.0 w.turns) (lines_of_session s.0 (w.lines ++ l ∷ [])) (slot w.state.looks s.0) q) (sym there) (record {
+      own = subst (λ (q : Option Opened). Seat store w.state.config (length opening) w.state.entries s.0 (of_session s.0 w.turns) (lines_of_session s.0 (w.lines ++ l ∷ [])) (slot w.state.looks s.0) q) (sym there) (record {
         lines =
             filter_more (is_line_of s.0) w.lines l (eq-eqb s.0 s.0 refl)
             ∙ ap (λ (ls : List Line). ls ++ l ∷ []) (next_lines s.0 next.idle)
@@ -386,19 +568,20 @@ module _ (opening : List Entry) (store : Bool) (faults : ℕ) (w : World) (g : G
         looks = (g.seats s.0).looks;
         held = (g.seats s.0).held;
         look_in = (g.seats s.0).look_in;
+        undos = (g.seats s.0).undos;
         waits = ((g.seats s.0).low, omega arith, next_below line s.0 next);
       })
 
       other : (k : ℕ) → s.0 ≢ k → There k
       other k ne =
-          subst (λ (ls : List Line). Seat w.state.config (length opening) w.state.entries k (of_session k w.turns) ls (slot w.state.looks k) (slot (put_slot w.state.queries s.0 new) k)) (sym (filter_same (is_line_of k) w.lines l (ne_eqb s.0 k ne)))
-          (subst (λ (q : Option Opened). Seat w.state.config (length opening) w.state.entries k (of_session k w.turns) (lines_of_session k w.lines) (slot w.state.looks k) q) (sym (slot_other w.state.queries s.0 k new ne)) (g.seats k))
+          subst (λ (ls : List Line). Seat store w.state.config (length opening) w.state.entries k (of_session k w.turns) ls (slot w.state.looks k) (slot (put_slot w.state.queries s.0 new) k)) (sym (filter_same (is_line_of k) w.lines l (ne_eqb s.0 k ne)))
+          (subst (λ (q : Option Opened). Seat store w.state.config (length opening) w.state.entries k (of_session k w.turns) (lines_of_session k w.lines) (slot w.state.looks k) q) (sym (slot_other w.state.queries s.0 k new ne)) (g.seats k))
 
   -- nothing happens
-  piece_good : Good opening store faults (world_of w.state.config w.state.entries w.state.looks w.state.queries (w.lines ++ []) (w.turns ++ []))
+  piece_good : Good opening store faults (world_of w.state.config w.state.base w.state.entries w.state.looks w.state.queries (w.lines ++ []) (w.turns ++ []))
   piece_good =
-      subst (λ (ls : List Line). Good opening store faults (world_of w.state.config w.state.entries w.state.looks w.state.queries ls (w.turns ++ []))) (sym (append-nil w.lines))
-      (subst (λ (ts : List Turn). Good opening store faults (world_of w.state.config w.state.entries w.state.looks w.state.queries w.lines ts)) (sym (append-nil w.turns)) g)
+      subst (λ (ls : List Line). Good opening store faults (world_of w.state.config w.state.base w.state.entries w.state.looks w.state.queries ls (w.turns ++ []))) (sym (append-nil w.lines))
+      (subst (λ (ts : List Turn). Good opening store faults (world_of w.state.config w.state.base w.state.entries w.state.looks w.state.queries w.lines ts)) (sym (append-nil w.turns)) g)
 
   -- The answers of open looks and of queries under way.
 
@@ -432,6 +615,7 @@ module _ (opening : List Entry) (store : Bool) (faults : ℕ) (w : World) (g : G
         fits = subst (λ (o : Option Opened). FinishReplyFits w.state.config w.state.entries (option_map look_of o) (Some held.n) (answer_at w.state.config w.state.entries held.n held.ask)) (sym is) (refl, record { given = refl; is_told = read });
         opens = ap (λ (o : Option Opened). finish_behind (option_map look_of o) (Some held.n)) is ∙ sym (ap (λ (o : Option Opened). option_map look_of o) there);
         look_in = subst (λ (o : Option Opened). IsIn (length opening) w.state.entries o) (sym there) tt;
+        undoes = tt;
       })
 
   finish_good : (line : ℕ) (s : SessionNo) → IsNext w line s.0 → (look : Option Opened) → slot w.state.looks s.0 ≡ look
@@ -440,7 +624,7 @@ module _ (opening : List Entry) (store : Bool) (faults : ℕ) (w : World) (g : G
       same (finish_line line s) None (Refused refusals.NoLook) next refl tt tt refl
       (λ low high. tt) (λ low above. above) (λ low high. high)
       (subst (λ (o : Option Opened). FinishReplyFits w.state.config w.state.entries (option_map look_of o) None (Refused refusals.NoLook)) (sym is) (inl refl))
-      refl
+      refl tt
   finish_good line s next (Some held) is = look_answer_good line s next held (lacks_memory held.ask) is refl
 
   -- the reply to a query under way
@@ -457,7 +641,7 @@ module _ (opening : List Entry) (store : Bool) (faults : ℕ) (w : World) (g : G
         → KeepsUp (low_of (length opening) (of_session s.0 w.turns)) (requests.Query held.ask) n
         → length opening ≤ low_behind (low_of (length opening) (of_session s.0 w.turns)) (requests.Query held.ask) n
         → low_behind (low_of (length opening) (of_session s.0 w.turns)) (requests.Query held.ask) n ≤ length w.state.entries
-        → Good opening store faults (world_of w.state.config w.state.entries w.state.looks (put_slot w.state.queries s.0 None) (w.lines ++ []) (w.turns ++ query_turn n answer ∷ []))
+        → Good opening store faults (world_of w.state.config w.state.base w.state.entries w.state.looks (put_slot w.state.queries s.0 None) (w.lines ++ []) (w.turns ++ query_turn n answer ∷ []))
     query_told n answer right no_disk keeps from to =
         let count : length w.state.queries ≡ 17 = g.queries_count in
         let there : slot (put_slot w.state.queries s.0 None) s.0 ≡ None = slot_put w.state.queries s.0 None (omega arith) in
@@ -476,9 +660,9 @@ module _ (opening : List Entry) (store : Bool) (faults : ℕ) (w : World) (g : G
           other_looks = λ k ne. refl;
           other_queries = λ k ne. slot_other w.state.queries s.0 k None ne;
           other_lines = λ k ne. ap (λ (ls : List Line). lines_of_session k ls) (append-nil w.lines);
-          own = subst (λ (q : Option Opened). Seat w.state.config (length opening) w.state.entries s.0 (of_session s.0 w.turns ++ query_turn n answer ∷ []) (lines_of_session s.0 (w.lines ++ [])) (slot w.state.looks s.0) q) (sym there)
-              (seat_told w.state.config (length opening) w.state.entries s.0 (of_session s.0 w.turns) (lines_of_session s.0 w.lines) (slot w.state.looks s.0) (slot w.state.queries s.0) (g.seats s.0)
-              (query_turn n answer) (lines_of_session s.0 (w.lines ++ [])) (slot w.state.looks s.0) keeps from to tt refl (g.seats s.0).look_in
+          own = subst (λ (q : Option Opened). Seat store w.state.config (length opening) w.state.entries s.0 (of_session s.0 w.turns ++ query_turn n answer ∷ []) (lines_of_session s.0 (w.lines ++ [])) (slot w.state.looks s.0) q) (sym there)
+              (seat_told store w.state.config (length opening) w.state.entries s.0 (of_session s.0 w.turns) (lines_of_session s.0 w.lines) (slot w.state.looks s.0) (slot w.state.queries s.0) (g.seats s.0)
+              (query_turn n answer) (lines_of_session s.0 (w.lines ++ [])) (slot w.state.looks s.0) keeps from to tt refl (g.seats s.0).look_in tt
               (ap (λ (ls : List Line). lines_of_session s.0 ls) (append-nil w.lines) ∙ (g.seats s.0).lines ∙ ap (λ (q : Option Opened). lines_in (of_session s.0 w.turns) ++ query_answered s q) is));
         })
 
@@ -501,51 +685,6 @@ module _ (opening : List Entry) (store : Bool) (faults : ℕ) (w : World) (g : G
   query_case line s None is place under = absurd under
   query_case line s (Some held) is place under = (query_done line s held place is under, query_failed line s held place is under)
 
-  -- What keeps an edit from its step.
-
-  module _ (line : ℕ) (s : SessionNo) (command : Command) (act : Act) (next : IsNext w line s.0) where
-    abbrev kept_line : Line
-    kept_line = line_of line s command (requests.Edit (Ok act))
-
-    -- the store has no room
-    over_good : IsOverStore store w.state kept_line act
-        → Good opening store faults (world_of w.state.config w.state.entries w.state.looks w.state.queries (w.lines ++ kept_line ∷ []) (w.turns ++ turn_of kept_line (Some (length w.state.entries)) (Refused refusals.StoreFull) ∷ []))
-    over_good over =
-        let whole : take (length w.state.entries) w.state.entries ≡ w.state.entries = take-length w.state.entries in
-        same kept_line (Some (length w.state.entries)) (Refused refusals.StoreFull) next refl (
-          opening_below,
-          omega arith,
-          record {
-            room = leb-false HISTORY_EDITS (length w.state.entries) over.room;
-            stored = over.stored;
-            database = over.database;
-            right = ap (λ (xs : List Entry). edited w.state.config xs act) whole ∙ over.made;
-            passes = ap (λ (xs : List Entry). passes_store w.state.config xs (entry_of kept_line act)) whole ∙ over.passes;
-          },
-        ) tt refl
-        (λ low high. high) (λ low above. opening_below) (λ low high. omega arith) tt refl
-
-    -- the disk failed
-    disk_good : store ≡ true
-        → Good opening store (faults + 1) (world_of w.state.config w.state.entries w.state.looks w.state.queries (w.lines ++ kept_line ∷ []) (w.turns ++ turn_of kept_line None (Refused refusals.Disk) ∷ []))
-    disk_good stored = once (faults + 1) kept_line w.state.entries w.state.looks None (Refused refusals.Disk) [] next (record {
-      grown = sym (append-nil w.state.entries);
-      most = g.most;
-      legal = g.legal;
-      mark = refl;
-      right = stored;
-      still = tt;
-      disks = omega arith;
-      looks_count = g.looks_count;
-      other_looks = λ k ne. refl;
-      keeps = λ low high. tt;
-      from = λ low above. above;
-      to = λ low high. high;
-      fits = tt;
-      opens = refl;
-      look_in = (g.seats s.0).look_in;
-    })
-
   -- Events.
 
   -- one failure more where the disk failed
@@ -561,14 +700,20 @@ module _ (opening : List Entry) (store : Bool) (faults : ℕ) (w : World) (g : G
       → Good opening store (faults_with trouble) (told w (line_of line s command r ∷ []) (line_of line s command r ∷ []) (outcome_of w.state (events.Edit (line_of line s command r)) trouble))
   edit_event_good line s command (requests.Edit (Ok act)) no_memory fits may = no_more (no_memory_good (line_of line s command (requests.Edit (Ok act))) fits.next tt)
   edit_event_good line s command (requests.Edit (Ok act)) untroubled fits may =
-      no_more (edit_good line s command act fits.next (is_full w.state.entries) (edited w.state.config w.state.entries act) refl refl)
-  edit_event_good line s command (requests.Edit (Ok act)) store_full fits may = no_more (over_good line s command act fits.next may)
-  edit_event_good line s command (requests.Edit (Ok act)) disk_failed fits may = disk_good line s command act fits.next may
+      no_more (act_good (line_of line s command (requests.Edit (Ok act))) act fits.next (edit_wants line s command act))
+  edit_event_good line s command (requests.Edit (Ok act)) store_full fits may =
+      no_more (over_good (line_of line s command (requests.Edit (Ok act))) act fits.next (edit_wants line s command act) may)
+  edit_event_good line s command (requests.Edit (Ok act)) disk_failed fits may =
+      disk_good (line_of line s command (requests.Edit (Ok act))) act fits.next (edit_wants line s command act) may
   edit_event_good line s command (requests.Edit (Err fault)) no_memory fits may = no_more (no_memory_good (line_of line s command (requests.Edit (Err fault))) fits.next tt)
   edit_event_good line s command (requests.Edit (Err fault)) untroubled fits may =
       no_more (grid_good line s command fault fits.next (is_want_of_memory fault) refl)
   edit_event_good line s command (requests.Edit (Err fault)) store_full fits may = absurd may
   edit_event_good line s command (requests.Edit (Err fault)) disk_failed fits may = absurd may
+  edit_event_good line s command (requests.Undo earlier) no_memory fits may = no_more (no_memory_good (line_of line s command (requests.Undo earlier)) fits.next tt)
+  edit_event_good line s command (requests.Undo earlier) untroubled fits may = no_more (undo_good line s command earlier fits.next (taking_back w.state s.0 earlier) refl)
+  edit_event_good line s command (requests.Undo earlier) store_full fits may = no_more (undo_over line s command earlier fits.next (taking_back w.state s.0 earlier) refl may)
+  edit_event_good line s command (requests.Undo earlier) disk_failed fits may = undo_disk line s command earlier fits.next (taking_back w.state s.0 earlier) refl may
   edit_event_good line s command (requests.Query ask) trouble fits may = absurd (false≢true fits.kind)
   edit_event_good line s command (requests.Look ask) trouble fits may = absurd (false≢true fits.kind)
   edit_event_good line s command requests.Finish trouble fits may = absurd (false≢true fits.kind)
@@ -584,6 +729,7 @@ module _ (opening : List Entry) (store : Bool) (faults : ℕ) (w : World) (g : G
   look_event_good line s command (requests.After earlier) no_memory fits may = no_more (no_memory_good (line_of line s command (requests.After earlier)) fits.next fits.answered)
   look_event_good line s command (requests.After earlier) untroubled fits may = no_more (after_good line s command earlier fits.next fits.answered)
   look_event_good line s command (requests.Edit given) trouble fits may = absurd (false≢true fits.kind)
+  look_event_good line s command (requests.Undo earlier) trouble fits may = absurd (false≢true fits.kind)
   look_event_good line s command requests.Finish trouble fits may = absurd (false≢true fits.kind)
   look_event_good line s command r store_full fits may = absurd may
   look_event_good line s command r disk_failed fits may = absurd may

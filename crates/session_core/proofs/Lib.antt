@@ -1,3 +1,4 @@
+pub mod Undoing
 pub mod Turns
 pub mod Places
 pub mod SlotPlaces
@@ -13,6 +14,8 @@ pub mod Ordered
 pub mod RowLists
 pub mod Keeping
 pub mod Ruled
+pub mod Backs
 pub mod Turning
 pub mod ReadingSteps
 pub mod Readings
+pub mod Threads

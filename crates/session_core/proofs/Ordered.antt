@@ -22,11 +22,16 @@ use Rattle.session_core.specs.declared.line.Line.{Line}
 use Rattle.session_core.specs.declared.line.Reply.{Reply}
 use Rattle.edit_rules.specs.Effects.{IsLegal, edited}
 use Rattle.session_core.specs.Queries.{lacks_memory}
-use Rattle.session_core.specs.Steps.{Opened, State, slot, put_slot, session_places, start, is_full, opened_at, edit_step, look_step, finish_step, look_answered, query_step, way_answered, query_fails}
-use Rattle.session_core.specs.Worlds.{Turn, Trouble, untroubled, no_memory, store_full, disk_failed, is_disk_failed, Occurrence, World, query_line, query_answered, turns_of, happens, run, opening_world, Each, IsBehind, IsNext, RequestFits, passes_store, TroubleFits, OccurrenceFits, AllFit, disk_failures, Fits, is_waiting, is_done, lines_done}
+use Rattle.session_core.specs.Steps.{Opened, State, slot, put_slot, session_places, start, is_full, taking_back, opened_at, act_event, edit_event, undo_step, edit_step, look_step, finish_step, look_answered, query_step, way_answered, query_fails}
+use Rattle.session_core.specs.Worlds.{Turn, Trouble, untroubled, no_memory, store_full, disk_failed, is_disk_failed, Occurrence, World, query_line, query_answered, turns_of, happens, run, opening_world, Each, IsBehind, IsNext, RequestFits, NamesChange, is_edit, act_back, act_wanted, StoreRefusesAct, DiskMayRefuseAct, passes_store, TroubleFits, OccurrenceFits, AllFit, disk_failures, Fits, is_waiting, is_done, lines_done}
 use Rattle.session_core.specs.Legal.{lines_in, replies_in, Legal}
-use Rattle.session_core.specs.InOrder.{Outage, fine, at_first, at_last, disk_fails, is_disk_outage, disk_outages, given, replied, query_begun, stored_trouble, made_trouble, edit_trouble, trouble_at, edit_outcome, request_turn, one_turn, in_turn, NamesEarlier, IsBelow, ComesNext, ComeInOrder}
-use Rattle.session_core.specs.Answers.{entry_of}
+use Rattle.session_core.specs.InOrder.{Outage, fine, at_first, at_last, disk_fails, is_disk_outage, disk_outages, given, replied, query_begun, stored_trouble, made_trouble, edit_trouble, trouble_at, edit_outcome, edit_turn, undo_turn, unless_outage, request_turn, one_turn, in_turn, NamesEarlier, IsBelow, ComesNext, ComeInOrder}
+use Rattle.session_core.specs.Answers.{entry_of, memory, reply_to}
+use Rattle.session_core.specs.Undos.{undo_refusal}
+use Rattle.session_core.specs.declared.line.Answer.TheVariants.{Refused}
+use Rattle.session_core.specs.declared.line.Refusal.{Refusal}
+use Rattle.session_core.specs.declared.line.Refusal.TheVariants as refusals
+use Rattle.edit_undo.specs.declared.faults.NoUndo.{NoUndo}
 use Rattle.emu_names.specs.declared.limits.TheConstants.{HISTORY_EDITS}
 use Rattle.emu_names.specs.Count.{RoseBy}
 use Rattle.session_core.specs.Readings.{IsInOrder}
@@ -54,9 +59,17 @@ query_moments l at_first = moment (events.Look l) no_memory ∷ []
 query_moments l at_last = moment (events.Look l) untroubled ∷ moment (events.Finish l.line l.session commands.Query) no_memory ∷ []
 query_moments l disk_fails = moment (events.Look l) untroubled ∷ moment (events.Finish l.line l.session commands.Query) untroubled ∷ []
 
+-- the trouble of an `undo`, by what takes its line back
+abbrev undo_trouble : Bool → State → Line → Option (Result Act NoUndo) → Outage → Trouble
+undo_trouble store st l None outage = memory_at outage
+undo_trouble store st l (Some (Err fault)) outage = memory_at outage
+undo_trouble store st l (Some (Ok act)) outage = trouble_at store st l act outage
+
 abbrev request_moments : Bool → State → Line → Request → Outage → List Occurrence
 request_moments store st l (requests.Edit (Ok act)) outage = moment (events.Edit l) (trouble_at store st l act outage) ∷ []
 request_moments store st l (requests.Edit (Err fault)) outage = moment (events.Edit l) (memory_at outage) ∷ []
+request_moments store st l (requests.Undo earlier) outage =
+    moment (events.Edit l) (undo_trouble store st l (taking_back st l.session.0 earlier) outage) ∷ []
 request_moments store st l (requests.Query ask) outage = query_moments l outage
 request_moments store st l (requests.Look ask) outage = moment (events.Look l) (memory_at outage) ∷ []
 request_moments store st l requests.Finish outage = moment (events.Finish l.line l.session commands.Finish) (memory_at outage) ∷ []
@@ -119,6 +132,11 @@ memory_failures most at_first = omega arith
 memory_failures most at_last = omega arith
 memory_failures most disk_fails = omega arith
 
+undo_failures : (store : Bool) (st : State) (l : Line) (inverse : Option (Result Act NoUndo)) (outage : Outage) → cond (is_disk_failed (undo_trouble store st l inverse outage)) 1 0 ≤ failures_at store outage
+undo_failures store st l None outage = memory_failures (failures_at store outage) outage
+undo_failures store st l (Some (Err fault)) outage = memory_failures (failures_at store outage) outage
+undo_failures store st l (Some (Ok act)) outage = edit_failures store st l act outage
+
 one_failures : (m : Occurrence) (most : ℕ) → cond (is_disk_failed m.trouble) 1 0 ≤ most → disk_failures (m ∷ []) ≤ most
 one_failures m most low =
     let one : disk_failures (m ∷ []) ≡ cond (is_disk_failed m.trouble) 1 0 + 0 = failures_cons m [] in
@@ -135,6 +153,9 @@ line_failures store st l (requests.Edit (Err fault)) outage =
     one_failures (moment (events.Edit l) (memory_at outage)) (failures_at store outage) (memory_failures (failures_at store outage) outage)
 line_failures store st l (requests.Edit (Ok act)) outage =
     one_failures (moment (events.Edit l) (trouble_at store st l act outage)) (failures_at store outage) (edit_failures store st l act outage)
+line_failures store st l (requests.Undo earlier) outage =
+    one_failures (moment (events.Edit l) (undo_trouble store st l (taking_back st l.session.0 earlier) outage)) (failures_at store outage)
+    (undo_failures store st l (taking_back st l.session.0 earlier) outage)
 line_failures store st l (requests.Query ask) outage = query_failures (failures_at store outage) l outage
 line_failures store st l (requests.Look ask) outage =
     one_failures (moment (events.Look l) (memory_at outage)) (failures_at store outage) (memory_failures (failures_at store outage) outage)
@@ -296,6 +317,7 @@ module _ (store : Bool) (before : List Line) (w : World) (b : Between before w) 
       ∙ ap (λ (ls : List Line). list_any (λ (l : Line). nat_eq l.line earlier) ls) b.told
       ∙ names
   request_fits (requests.Edit given) names = tt
+  request_fits (requests.Undo earlier) names = tt
   request_fits (requests.Query ask) names = tt
   request_fits (requests.Look ask) names = tt
   request_fits requests.Finish names = tt
@@ -330,56 +352,109 @@ module _ (store : Bool) (before : List Line) (w : World) (b : Between before w) 
 
   -- The five requests, in turn.
 
-  module _ (line : ℕ) (s : SessionNo) (command : Command) (act : Act) (comes : ComesNext before (line_of line s command (requests.Edit (Ok act)))) where
-    abbrev edit_line : Line
-    edit_line = line_of line s command (requests.Edit (Ok act))
+  -- an `undo` names the same lines
+  names_change : (session : ℕ) (r : Request) → NamesChange before session r → NamesChange w.lines session r
+  names_change session r names = subst (λ (ls : List Line). NamesChange ls session r) (sym b.came) names
 
-    edit_may : Fits w (events.Edit edit_line)
-    edit_may = record { next = next edit_line comes; kind = refl; command = comes.command }
-
-    edit_answers_at : (trouble : Trouble) → TroubleFits store w.state (events.Edit edit_line) trouble
-        → Answers store w edit_line (moment (events.Edit edit_line) trouble ∷ []) (replied edit_line (edit_outcome w.state edit_line act trouble))
-    edit_answers_at untroubled may =
-        let kept : _ = edit_queries w.state edit_line act (is_full w.state.entries) (edited w.state.config w.state.entries act) in
+  -- an act that is wanted of a line
+  module _ (l : Line) (act : Act) (may : Fits w (events.Edit l)) (wanted : act_wanted w.state l.session.0 l.request ≡ Some act)
+      (event : edit_event w.state l l.request ≡ act_event w.state l act) where
+    edit_answers_at : (trouble : Trouble) → TroubleFits store w.state (events.Edit l) trouble
+        → Answers store w l (moment (events.Edit l) trouble ∷ []) (replied l (edit_outcome w.state l act trouble))
+    edit_answers_at untroubled fits =
+        let kept : _ = edit_queries w.state l act (is_full w.state.entries) (edited w.state.config w.state.entries act) in
         record {
-          fits = (record { event = edit_may; trouble = tt }, tt);
-          state = refl;
+          fits = (record { event = may; trouble = tt }, tt);
+          state = ap (λ (out : Option Reply × State). out.1) event;
           lines = refl;
-          turns = ap (λ (ts : List Turn). w.turns ++ ts) (one_turn_of edit_line _ (edit_some w.state edit_line act (is_full w.state.entries) (edited w.state.config w.state.entries act)));
+          turns = ap (λ (out : Option Reply × State). w.turns ++ turns_of (l ∷ []) out.0) event
+              ∙ ap (λ (ts : List Turn). w.turns ++ ts) (one_turn_of l _ (edit_some w.state l act (is_full w.state.entries) (edited w.state.config w.state.entries act)));
           count = same_count _ kept;
           idle = same_idle _ kept;
         }
-    edit_answers_at no_memory may = record { fits = (record { event = edit_may; trouble = tt }, tt); state = refl; lines = refl; turns = refl; count = b.count; idle = b.idle }
-    edit_answers_at store_full may = record { fits = (record { event = edit_may; trouble = may }, tt); state = refl; lines = refl; turns = refl; count = b.count; idle = b.idle }
-    edit_answers_at disk_failed may = record { fits = (record { event = edit_may; trouble = may }, tt); state = refl; lines = refl; turns = refl; count = b.count; idle = b.idle }
+    edit_answers_at no_memory fits = record { fits = (record { event = may; trouble = tt }, tt); state = refl; lines = refl; turns = refl; count = b.count; idle = b.idle }
+    edit_answers_at store_full fits = record { fits = (record { event = may; trouble = fits }, tt); state = refl; lines = refl; turns = refl; count = b.count; idle = b.idle }
+    edit_answers_at disk_failed fits = record { fits = (record { event = may; trouble = fits }, tt); state = refl; lines = refl; turns = refl; count = b.count; idle = b.idle }
 
     stored_fits : (database : DatabaseParts) (passes fails : Bool) → is_full w.state.entries ≡ false → edited w.state.config w.state.entries act ≡ Ok database
-        → store ≡ true → passes_store w.state.config w.state.entries (entry_of edit_line act) ≡ passes
-        → TroubleFits store w.state (events.Edit edit_line) (stored_trouble passes fails)
+        → store ≡ true → passes_store w.state.config w.state.entries (entry_of l act) ≡ passes
+        → TroubleFits store w.state (events.Edit l) (stored_trouble passes fails)
     stored_fits database true fails room made stored passes_is =
-        record { stored = stored; room = room; database = database; made = made; passes = passes_is }
-    stored_fits database false true room made stored passes_is = stored
+        subst (λ (o : Option Act). StoreRefusesAct store w.state l o) (sym wanted)
+        (record { stored = stored; room = room; database = database; made = made; passes = passes_is })
+    stored_fits database false true room made stored passes_is = subst (λ (o : Option Act). DiskMayRefuseAct store o) (sym wanted) stored
     stored_fits database false false room made stored passes_is = tt
 
     made_fits : (fails full : Bool) (made : Result DatabaseParts Breach) → is_full w.state.entries ≡ full → edited w.state.config w.state.entries act ≡ made → store ≡ true
-        → TroubleFits store w.state (events.Edit edit_line) (made_trouble w.state edit_line act fails full made)
+        → TroubleFits store w.state (events.Edit l) (made_trouble w.state l act fails full made)
     made_fits fails true made full_is made_is stored = tt
     made_fits fails false (Err breach) full_is made_is stored = tt
     made_fits fails false (Ok database) full_is made_is stored =
-        stored_fits database (passes_store w.state.config w.state.entries (entry_of edit_line act)) fails full_is made_is stored refl
+        stored_fits database (passes_store w.state.config w.state.entries (entry_of l act)) fails full_is made_is stored refl
 
-    edit_fits : (there : Bool) (fails : Bool) → store ≡ there → TroubleFits store w.state (events.Edit edit_line) (edit_trouble there w.state edit_line act fails)
+    edit_fits : (there : Bool) (fails : Bool) → store ≡ there → TroubleFits store w.state (events.Edit l) (edit_trouble there w.state l act fails)
     edit_fits false fails is = tt
     edit_fits true fails is = made_fits fails (is_full w.state.entries) (edited w.state.config w.state.entries act) refl refl is
 
-    trouble_fits : (outage : Outage) → TroubleFits store w.state (events.Edit edit_line) (trouble_at store w.state edit_line act outage)
+    trouble_fits : (outage : Outage) → TroubleFits store w.state (events.Edit l) (trouble_at store w.state l act outage)
     trouble_fits fine = edit_fits store false refl
     trouble_fits at_first = tt
     trouble_fits at_last = tt
     trouble_fits disk_fails = edit_fits store true refl
 
-    edit_answers : (outage : Outage) → Answers store w edit_line (request_moments store w.state edit_line (requests.Edit (Ok act)) outage) (request_turn store w.state edit_line (requests.Edit (Ok act)) outage)
-    edit_answers outage = edit_answers_at (trouble_at store w.state edit_line act outage) (trouble_fits outage)
+    act_answers : (outage : Outage) → Answers store w l (moment (events.Edit l) (trouble_at store w.state l act outage) ∷ []) (edit_turn store w.state l act outage)
+    act_answers outage = edit_answers_at (trouble_at store w.state l act outage) (trouble_fits outage)
+
+  edit_may : (line : ℕ) (s : SessionNo) (command : Command) (r : Request) → is_edit r ≡ true → ComesNext before (line_of line s command r) → Fits w (events.Edit (line_of line s command r))
+  edit_may line s command r kind comes =
+      record { next = next (line_of line s command r) comes; kind = kind; command = comes.command; names = names_change s.0 r comes.names }
+
+  edit_answers : (line : ℕ) (s : SessionNo) (command : Command) (act : Act) (outage : Outage) → ComesNext before (line_of line s command (requests.Edit (Ok act)))
+      → Answers store w (line_of line s command (requests.Edit (Ok act))) (request_moments store w.state (line_of line s command (requests.Edit (Ok act))) (requests.Edit (Ok act)) outage)
+      (request_turn store w.state (line_of line s command (requests.Edit (Ok act))) (requests.Edit (Ok act)) outage)
+  edit_answers line s command act outage comes =
+      act_answers (line_of line s command (requests.Edit (Ok act))) act (edit_may line s command (requests.Edit (Ok act)) refl comes) refl refl outage
+
+  -- An `undo`, by what takes its line back.
+  module _ (line : ℕ) (s : SessionNo) (command : Command) (earlier : ℕ) (comes : ComesNext before (line_of line s command (requests.Undo earlier))) where
+    abbrev undo_line : Line
+    undo_line = line_of line s command (requests.Undo earlier)
+
+    undo_may : Fits w (events.Edit undo_line)
+    undo_may = edit_may line s command (requests.Undo earlier) refl comes
+
+    -- no act is wanted
+    undo_taken : (refusal : Refusal) → edit_event w.state undo_line (requests.Undo earlier) ≡ (Some (reply_to undo_line None (Refused refusal)), w.state)
+        → Answers store w undo_line (moment (events.Edit undo_line) untroubled ∷ []) (reply_to undo_line None (Refused refusal), w.state)
+    undo_taken refusal event = record {
+      fits = (record { event = undo_may; trouble = tt }, tt);
+      state = ap (λ (out : Option Reply × State). out.1) event;
+      lines = refl;
+      turns = ap (λ (out : Option Reply × State). w.turns ++ turns_of (undo_line ∷ []) out.0) event;
+      count = b.count;
+      idle = b.idle;
+    }
+
+    undo_failed : Answers store w undo_line (moment (events.Edit undo_line) no_memory ∷ []) (reply_to undo_line None memory, w.state)
+    undo_failed = record { fits = (record { event = undo_may; trouble = tt }, tt); state = refl; lines = refl; turns = refl; count = b.count; idle = b.idle }
+
+    undo_refused : (refusal : Refusal) (outage : Outage) → edit_event w.state undo_line (requests.Undo earlier) ≡ (Some (reply_to undo_line None (Refused refusal)), w.state)
+        → Answers store w undo_line (moment (events.Edit undo_line) (memory_at outage) ∷ []) (unless_outage w.state undo_line outage (Some (reply_to undo_line None (Refused refusal)), w.state))
+    undo_refused refusal fine event = undo_taken refusal event
+    undo_refused refusal disk_fails event = undo_taken refusal event
+    undo_refused refusal at_first event = undo_failed
+    undo_refused refusal at_last event = undo_failed
+
+    undo_by : (inverse : Option (Result Act NoUndo)) (outage : Outage) → taking_back w.state s.0 earlier ≡ inverse
+        → Answers store w undo_line (moment (events.Edit undo_line) (undo_trouble store w.state undo_line inverse outage) ∷ []) (undo_turn store w.state undo_line inverse outage)
+    undo_by None outage is = undo_refused refusals.NotAccepted outage (ap (λ (i : Option (Result Act NoUndo)). undo_step w.state undo_line i) is)
+    undo_by (Some (Err fault)) outage is = undo_refused (undo_refusal fault) outage (ap (λ (i : Option (Result Act NoUndo)). undo_step w.state undo_line i) is)
+    undo_by (Some (Ok act)) outage is =
+        act_answers undo_line act undo_may (ap (λ (i : Option (Result Act NoUndo)). act_back i) is)
+        (ap (λ (i : Option (Result Act NoUndo)). undo_step w.state undo_line i) is) outage
+
+    undo_answers : (outage : Outage) → Answers store w undo_line (request_moments store w.state undo_line (requests.Undo earlier) outage) (request_turn store w.state undo_line (requests.Undo earlier) outage)
+    undo_answers outage = undo_by (taking_back w.state s.0 earlier) outage refl
 
   -- a line whose TextGrid has a fault
   module _ (line : ℕ) (s : SessionNo) (command : Command) (fault : GridFault) (comes : ComesNext before (line_of line s command (requests.Edit (Err fault)))) where
@@ -387,7 +462,7 @@ module _ (store : Bool) (before : List Line) (w : World) (b : Between before w) 
     grid_line = line_of line s command (requests.Edit (Err fault))
 
     grid_may : Fits w (events.Edit grid_line)
-    grid_may = record { next = next grid_line comes; kind = refl; command = comes.command }
+    grid_may = edit_may line s command (requests.Edit (Err fault)) refl comes
 
     grid_taken : Answers store w grid_line (moment (events.Edit grid_line) untroubled ∷ []) (request_turn store w.state grid_line (requests.Edit (Err fault)) fine)
     grid_taken = record { fits = (record { event = grid_may; trouble = tt }, tt); state = refl; lines = refl; turns = refl; count = b.count; idle = b.idle }
@@ -601,8 +676,9 @@ module _ (store : Bool) (before : List Line) (w : World) (b : Between before w) 
 
   request_answers : (line : ℕ) (s : SessionNo) (command : Command) (r : Request) (outage : Outage) → ComesNext before (line_of line s command r)
       → Answers store w (line_of line s command r) (request_moments store w.state (line_of line s command r) r outage) (request_turn store w.state (line_of line s command r) r outage)
-  request_answers line s command (requests.Edit (Ok act)) outage comes = edit_answers line s command act comes outage
+  request_answers line s command (requests.Edit (Ok act)) outage comes = edit_answers line s command act outage comes
   request_answers line s command (requests.Edit (Err fault)) outage comes = grid_answers line s command fault comes outage
+  request_answers line s command (requests.Undo earlier) outage comes = undo_answers line s command earlier comes outage
   request_answers line s command (requests.Query ask) outage comes = of_query line s command ask outage (sym (query_is command ask comes.command)) comes
   request_answers line s command (requests.Look ask) outage comes = look_answers line s command ask outage comes
   request_answers line s command requests.Finish outage comes = of_finish line s command outage (sym (finish_is command comes.command)) comes

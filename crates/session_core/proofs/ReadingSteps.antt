@@ -1,7 +1,7 @@
 -- A legal run in order has one reading: at one line, the reply is the one in turn.
-use Rattle.std.proofs.Common.{◌≡◌, ◌≢◌, ⊎_elim, ℕ, ◌+◌, ◌<◌, ◌≤◌, Bool, true, false, List, [], ◌∷◌, ◌++◌, length, take, slice_get, Option, Some, None, Result, Ok, Err, option_map, refl, sym, ◌∙◌, ap, subst, arith, append_assoc, length-append}
+use Rattle.std.proofs.Common.{◌≡◌, ◌≢◌, ⊎_elim, ℕ, ◌+◌, ◌-◌, ◌<◌, ◌≤◌, ◌⊎◌, Bool, true, false, List, [], ◌∷◌, ◌++◌, length, take, drop, slice_get, Option, Some, None, Result, Ok, Err, option_map, refl, sym, ◌∙◌, ap, subst, arith, append_assoc, length-append}
 use Rattle.std.proofs.lemmas.Bool.{cases_eq, lt-leb, le-leb, false≢true}
-use Rattle.std.proofs.lemmas.List.{take_at}
+use Rattle.std.proofs.lemmas.List.{append-nil, drop-append-le, length-drop, length-take-le, take-append-drop, take_at}
 use Rattle.edit_rules.specs.declared.acts.Breach.{Breach}
 use Rattle.db_config.specs.declared.parts.ConfigParts.{ConfigParts}
 use Rattle.textgrid.specs.declared.fault.GridFault.{GridFault}
@@ -20,12 +20,19 @@ use Rattle.session_core.specs.declared.line.Line.{Line}
 use Rattle.session_core.specs.declared.line.Reply.{Reply}
 use Rattle.edit_rules.specs.Effects.{edited, database_after}
 use Rattle.session_core.specs.Answers.{answer_at, memory, is_want_of_memory, grid_number, grid_answer, reply_to, entry_of}
-use Rattle.session_core.specs.Steps.{Opened, State, slot, put_slot, session_places, is_full, opened_at, with_look, with_query, with_entry, present, edit_step, look_step, finish_step, look_answered, query_step, way_answered}
-use Rattle.session_core.specs.Legal.{accepting, IsAcceptance, IsRightQuery, IsRightAt, IsRightUnnumbered, IsRight, Look, open_behind, LookReplyFits, FinishReplyFits, ReplyFits}
-use Rattle.session_core.specs.InOrder.{Outage, fine, replied, query_begun, query_turn, unless_outage, request_turn}
+use Rattle.session_core.specs.Steps.{Opened, State, kept_in, taking_back, slot, put_slot, session_places, is_full, opened_at, with_look, with_query, with_entry, present, edit_step, look_step, finish_step, look_answered, query_step, way_answered}
+use Rattle.session_core.specs.Legal.{Mark, mark_of, numbered, accepted_as, TakesBack, UndoAnswers, ReplyUndoes, accepting, IsAcceptance, IsRightQuery, IsRightAt, IsRightUnnumbered, IsRight, Look, open_behind, LookReplyFits, FinishReplyFits, ReplyFits}
+use Rattle.session_core.specs.InOrder.{Outage, fine, at_first, undo_turn, replied, query_begun, query_turn, unless_outage, request_turn}
 use Rattle.emu_names.specs.declared.limits.TheConstants.{HISTORY_EDITS}
 use Rattle.session_core.specs.Readings.{IsStanding, outage_in}
+use Rattle.edit_undo.specs.declared.faults.NoUndo.{NoUndo}
+use Rattle.edit_undo.specs.declared.faults.NoUndo.TheVariants as reasons
+use Rattle.session_core.specs.declared.kept_acts.KeptAct.{KeptAct}
+use Rattle.session_core.specs.Undos.{kept_behind, undo_refusal}
+use Rattle.session_core.specs.Inner.Undone.{AreKept}
 use Rattle.session_core.proofs.Asking.{answers}
+use Rattle.session_core.proofs.Turns.{numbered_more}
+use Rattle.session_core.proofs.Undoing.{history_kept, kept_takes_back, are_kept_more, takes_one}
 use Rattle.session_core.proofs.Places.{slot_put, slot_other, put_length}
 use Rattle.session_core.proofs.Seats.{answer_same, look_of, IsIn, in_more}
 
@@ -38,6 +45,9 @@ is_memory (Refused (refusals.Grid fault)) = false
 is_memory (Refused (refusals.Prepare fault)) = false
 is_memory (Refused (refusals.Resolve fault)) = false
 is_memory (Refused refusals.TooManyTuples) = false
+is_memory (Refused refusals.NotAccepted) = false
+is_memory (Refused refusals.TooManyEdits) = false
+is_memory (Refused refusals.NoInverse) = false
 is_memory (Refused refusals.NoLook) = false
 is_memory (Refused refusals.LookOpen) = false
 is_memory (Refused refusals.HistoryFull) = false
@@ -71,10 +81,15 @@ pub record Stands (c : ConfigParts) (H : List Entry) (k : ℕ) (st : State) : Ty
   pub config : st.config ≡ c
   pub more : List Entry
   pub prefix : H ≡ st.entries ++ more
+  pub begun : st.base ≤ length st.entries
   pub count : length st.entries ≡ k
   pub looks_count : length st.looks ≡ session_places
   pub queries_count : length st.queries ≡ session_places
   pub looks_in : (s : ℕ) → IsIn 0 st.entries (slot st.looks s)
+
+-- the marks of the entries that came
+abbrev pub marks_in : State → List Mark
+marks_in st = numbered (st.base + 1) (drop st.base st.entries)
 
 -- the look of a place
 abbrev pub seen_look : Option Opened → Option Look
@@ -85,6 +100,7 @@ seen_look held = option_map look_of held
 pub record Follows (c : ConfigParts) (H : List Entry) (k : ℕ) (st : State) (l : Line) (request : Request) (n : Option ℕ) (answer : Answer) (out : Reply × State) : Type 0 where
   pub reply : out.0 ≡ reply_to l n answer
   pub there : Stands c H (k + length (accepting l request n answer)) out.1
+  pub marks : marks_in out.1 ≡ marks_in st ++ accepting l request n answer
   pub own : seen_look (slot out.1.looks l.session.0) ≡ open_behind (seen_look (slot st.looks l.session.0)) request n
   pub others : (s : ℕ) → l.session.0 ≢ s → slot out.1.looks s ≡ slot st.looks s
 
@@ -106,11 +122,12 @@ module _ (c : ConfigParts) (m : ℕ) (H : List Entry) (k : ℕ) (st : State) (r 
   moved request n answer made out same follows = subst (λ (o : Reply × State). Follows c H k st l request n answer o) same follows
 
   -- the state stays as it is
-  stays : (request : Request) (n : Option ℕ) (answer : Answer) → length (accepting l request n answer) ≡ 0 → open_behind (seen_look held) request n ≡ seen_look held
+  stays : (request : Request) (n : Option ℕ) (answer : Answer) → accepting l request n answer ≡ [] → open_behind (seen_look held) request n ≡ seen_look held
       → Follows c H k st l request n answer (reply_to l n answer, st)
   stays request n answer none opens = record {
     reply = refl;
-    there = subst (λ (j : ℕ). Stands c H j st) (let here : k ≡ k + length (accepting l request n answer) = omega (arith, none) in here) r;
+    there = subst (λ (j : ℕ). Stands c H j st) (let here : k ≡ k + length (accepting l request n answer) = omega (arith, ap length none) in here) r;
+    marks = sym (append-nil (marks_in st)) ∙ ap (λ (ms : List Mark). marks_in st ++ ms) (sym none);
     own = sym opens;
     others = λ s ne. refl;
   }
@@ -146,6 +163,7 @@ module _ (c : ConfigParts) (m : ℕ) (H : List Entry) (k : ℕ) (st : State) (r 
     config = r.config;
     more = r.more;
     prefix = r.prefix;
+    begun = r.begun;
     count = r.count;
     looks_count = put_length st.looks l.session.0 v ∙ r.looks_count;
     queries_count = r.queries_count;
@@ -179,6 +197,15 @@ module _ (c : ConfigParts) (m : ℕ) (H : List Entry) (k : ℕ) (st : State) (r 
   numbered_as : (answer : Answer) (n j : ℕ) (next : State) → n ≡ j → numbered_reply answer next n ≡ numbered_reply answer next j
   numbered_as answer n j next same = ap (numbered_reply answer next) same
 
+  marks_push : (act : Act) (n : ℕ) → n ≡ present st + 1 → marks_in (with_entry st (entry_of l act)) ≡ marks_in st ++ mark_of l n ∷ []
+  marks_push act n is =
+      let low : st.base ≤ length st.entries = r.begun in
+      let left : length (drop st.base st.entries) ≡ length st.entries - st.base = length-drop st.base st.entries in
+      let number : st.base + 1 + length (drop st.base st.entries) ≡ n = omega arith in
+      ap (λ (es : List Entry). numbered (st.base + 1) es) (drop-append-le st.base st.entries (entry_of l act ∷ []) low)
+      ∙ numbered_more (st.base + 1) (drop st.base st.entries) (entry_of l act ∷ [])
+      ∙ ap (λ (j : ℕ). marks_in st ++ mark_of l j ∷ []) number
+
   accepted_follows : (act : Act) (n : ℕ) (command : Command) → IsAcceptance c H l act n command → n ≡ k + 1
       → Follows c H k st l (requests.Edit (Ok act)) (Some n) (Done command) (request_turn false st l (requests.Edit (Ok act)) fine)
   accepted_follows act n command right is =
@@ -199,11 +226,13 @@ module _ (c : ConfigParts) (m : ℕ) (H : List Entry) (k : ℕ) (st : State) (r 
           config = r.config;
           more = next.0;
           prefix = r.prefix ∙ ap (λ (es : List Entry). st.entries ++ es) next.1 ∙ sym (append_assoc st.entries (entry_of l act ∷ []) next.0);
+          begun = omega (arith, r.begun, length-append st.entries (entry_of l act ∷ []));
           count = length-append st.entries (entry_of l act ∷ []) ∙ ap (λ (j : ℕ). j + 1) count;
           looks_count = r.looks_count;
           queries_count = r.queries_count;
           looks_in = λ s. in_more 0 st.entries (entry_of l act ∷ []) (slot st.looks s) (r.looks_in s);
         };
+        marks = marks_push act n n_is;
         own = refl;
         others = λ s ne. refl;
       })
@@ -228,6 +257,9 @@ module _ (c : ConfigParts) (m : ℕ) (H : List Entry) (k : ℕ) (st : State) (r 
   refused_edit act n (refusals.Prepare fault) right is = absurd right
   refused_edit act n (refusals.Resolve fault) right is = absurd right
   refused_edit act n refusals.TooManyTuples right is = absurd right
+  refused_edit act n refusals.NotAccepted right is = absurd right
+  refused_edit act n refusals.TooManyEdits right is = absurd right
+  refused_edit act n refusals.NoInverse right is = absurd right
   refused_edit act n refusals.NoLook right is = absurd right
   refused_edit act n refusals.LookOpen right is = absurd right
   refused_edit act n refusals.Disk right is = absurd right
@@ -244,6 +276,9 @@ module _ (c : ConfigParts) (m : ℕ) (H : List Entry) (k : ℕ) (st : State) (r 
   edit_alone act (Refused (refusals.Prepare fault)) right = absurd right
   edit_alone act (Refused (refusals.Resolve fault)) right = absurd right
   edit_alone act (Refused refusals.TooManyTuples) right = absurd right
+  edit_alone act (Refused refusals.NotAccepted) right = absurd right
+  edit_alone act (Refused refusals.TooManyEdits) right = absurd right
+  edit_alone act (Refused refusals.NoInverse) right = absurd right
   edit_alone act (Refused refusals.HistoryFull) right = absurd right
   edit_alone act (Refused refusals.StoreFull) right = absurd right
   edit_alone act (Done command) right = absurd right
@@ -272,6 +307,9 @@ module _ (c : ConfigParts) (m : ℕ) (H : List Entry) (k : ℕ) (st : State) (r 
   grid_alone fault (Refused (refusals.Prepare other)) right = absurd right
   grid_alone fault (Refused (refusals.Resolve other)) right = absurd right
   grid_alone fault (Refused refusals.TooManyTuples) right = absurd right
+  grid_alone fault (Refused refusals.NotAccepted) right = absurd right
+  grid_alone fault (Refused refusals.TooManyEdits) right = absurd right
+  grid_alone fault (Refused refusals.NoInverse) right = absurd right
   grid_alone fault (Refused refusals.HistoryFull) right = absurd right
   grid_alone fault (Refused refusals.StoreFull) right = absurd right
   grid_alone fault (Done command) right = absurd right
@@ -318,11 +356,13 @@ module _ (c : ConfigParts) (m : ℕ) (H : List Entry) (k : ℕ) (st : State) (r 
           config = r.config;
           more = r.more;
           prefix = r.prefix;
+          begun = r.begun;
           count = let here : length st.entries ≡ k + 0 = omega (arith, r.count) in here;
           looks_count = r.looks_count;
           queries_count = put_length (put_slot st.queries l.session.0 (Some (opened_at st l ask))) l.session.0 None ∙ put_length st.queries l.session.0 (Some (opened_at st l ask)) ∙ r.queries_count;
           looks_in = r.looks_in;
         };
+        marks = sym (append-nil (marks_in st));
         own = refl;
         others = λ s ne. refl;
       })
@@ -338,6 +378,9 @@ module _ (c : ConfigParts) (m : ℕ) (H : List Entry) (k : ℕ) (st : State) (r 
   query_alone ask (Refused (refusals.Prepare fault)) right = absurd right
   query_alone ask (Refused (refusals.Resolve fault)) right = absurd right
   query_alone ask (Refused refusals.TooManyTuples) right = absurd right
+  query_alone ask (Refused refusals.NotAccepted) right = absurd right
+  query_alone ask (Refused refusals.TooManyEdits) right = absurd right
+  query_alone ask (Refused refusals.NoInverse) right = absurd right
   query_alone ask (Refused refusals.HistoryFull) right = absurd right
   query_alone ask (Refused refusals.StoreFull) right = absurd right
   query_alone ask (Done command) right = absurd right
@@ -371,6 +414,7 @@ module _ (c : ConfigParts) (m : ℕ) (H : List Entry) (k : ℕ) (st : State) (r 
       (record {
         reply = refl;
         there = subst (λ (j : ℕ). Stands c H j (with_look st l.session.0 opened)) (let here : k ≡ k + 0 = omega arith in here) (with_looks opened (omega arith, omega arith));
+        marks = sym (append-nil (marks_in st));
         own =
             ap seen_look (look_put opened)
             ∙ ap (λ (j : ℕ). Some (record { n = j; ask = ask })) (sym n_is)
@@ -396,6 +440,9 @@ module _ (c : ConfigParts) (m : ℕ) (H : List Entry) (k : ℕ) (st : State) (r 
   look_alone ask (Refused (refusals.Prepare fault)) right fits = absurd right
   look_alone ask (Refused (refusals.Resolve fault)) right fits = absurd right
   look_alone ask (Refused refusals.TooManyTuples) right fits = absurd right
+  look_alone ask (Refused refusals.NotAccepted) right fits = absurd right
+  look_alone ask (Refused refusals.TooManyEdits) right fits = absurd right
+  look_alone ask (Refused refusals.NoInverse) right fits = absurd right
   look_alone ask (Refused refusals.HistoryFull) right fits = absurd right
   look_alone ask (Refused refusals.StoreFull) right fits = absurd right
   look_alone ask (Done command) right fits = absurd right
@@ -427,6 +474,7 @@ module _ (c : ConfigParts) (m : ℕ) (H : List Entry) (k : ℕ) (st : State) (r 
       (record {
         reply = refl;
         there = subst (λ (j : ℕ). Stands c H j (with_look st l.session.0 None)) (let here : k ≡ k + 0 = omega arith in here) (with_looks None tt);
+        marks = sym (append-nil (marks_in st));
         own =
             ap seen_look (look_put None)
             ∙ ap (λ (o : Option Opened). open_behind (seen_look o) requests.Finish (Some n)) (sym same);
@@ -451,6 +499,9 @@ module _ (c : ConfigParts) (m : ℕ) (H : List Entry) (k : ℕ) (st : State) (r 
   finish_alone (Refused (refusals.Prepare fault)) right fits = absurd right
   finish_alone (Refused (refusals.Resolve fault)) right fits = absurd right
   finish_alone (Refused refusals.TooManyTuples) right fits = absurd right
+  finish_alone (Refused refusals.NotAccepted) right fits = absurd right
+  finish_alone (Refused refusals.TooManyEdits) right fits = absurd right
+  finish_alone (Refused refusals.NoInverse) right fits = absurd right
   finish_alone (Refused refusals.HistoryFull) right fits = absurd right
   finish_alone (Refused refusals.StoreFull) right fits = absurd right
   finish_alone (Done command) right fits = absurd right
@@ -473,6 +524,9 @@ module _ (c : ConfigParts) (m : ℕ) (H : List Entry) (k : ℕ) (st : State) (r 
   after_alone earlier (Refused (refusals.Prepare fault)) right = absurd right
   after_alone earlier (Refused (refusals.Resolve fault)) right = absurd right
   after_alone earlier (Refused refusals.TooManyTuples) right = absurd right
+  after_alone earlier (Refused refusals.NotAccepted) right = absurd right
+  after_alone earlier (Refused refusals.TooManyEdits) right = absurd right
+  after_alone earlier (Refused refusals.NoInverse) right = absurd right
   after_alone earlier (Refused refusals.HistoryFull) right = absurd right
   after_alone earlier (Refused refusals.StoreFull) right = absurd right
   after_alone earlier (Done command) right = absurd right
@@ -490,12 +544,94 @@ module _ (c : ConfigParts) (m : ℕ) (H : List Entry) (k : ℕ) (st : State) (r 
       (moved (requests.After earlier) (Some n) (Done l.command) (reply_to l (Some n) (Done l.command), st) _ (numbered_as (Done l.command) n (present st) st n_is)
       (stays (requests.After earlier) (Some n) (Done l.command) refl refl))
 
+  -- an `undo`
+
+  -- an `undo` of which an act is wanted is answered as an edit
+  as_undo : (earlier : ℕ) (act : Act) (n : Option ℕ) (answer : Answer) (out : Reply × State) → Follows c H k st l (requests.Edit (Ok act)) n answer out
+      → Follows c H k st l (requests.Undo earlier) n answer out
+  as_undo earlier act n answer out f = record { reply = f.reply; there = f.there; marks = f.marks; own = f.own; others = f.others }
+
+  -- what the state takes back is what the marks say
+  takes_there : (line : ℕ) → TakesBack c H (accepted_as l.session.0 line (marks_in st)) (taking_back st l.session.0 line)
+  takes_there line =
+      let low : st.base ≤ length st.entries = r.begun in
+      let size : length (take st.base st.entries) ≡ st.base = length-take-le st.base st.entries low in
+      let acts : List KeptAct = kept_in st in
+      let are : AreKept c (take st.base st.entries ++ drop st.base st.entries) (marks_in st) acts =
+      subst (λ (d : ConfigParts). AreKept d (take st.base st.entries ++ drop st.base st.entries) (marks_in st) (kept_behind st.config (take st.base st.entries) (drop st.base st.entries))) r.config
+      (subst (λ (j : ℕ). AreKept st.config (take st.base st.entries ++ drop st.base st.entries) (numbered (j + 1) (drop st.base st.entries)) (kept_in st)) size
+      (history_kept st.config (take st.base st.entries) (drop st.base st.entries))) in
+      kept_takes_back c H (marks_in st) acts l.session.0 line
+      (subst (λ (es : List Entry). AreKept c es (marks_in st) acts) (sym r.prefix)
+      (are_kept_more c st.entries r.more (marks_in st) acts
+      (subst (λ (es : List Entry). AreKept c es (marks_in st) acts) (take-append-drop st.base st.entries) are)))
+
+  -- an `undo` by what the state takes back
+  abbrev undo_out : Option (Result Act NoUndo) → Outage → Reply × State
+  undo_out inverse outage = undo_turn false st l inverse outage
+
+  undo_alone : (earlier : ℕ) (refusal : Refusal) (out : Reply × State) → (reply_to l None (Refused refusal), st) ≡ out
+      → Follows c H k st l (requests.Undo earlier) None (Refused refusal) out
+  undo_alone earlier refusal out is =
+      moved (requests.Undo earlier) None (Refused refusal) (reply_to l None (Refused refusal), st) out is (stays (requests.Undo earlier) None (Refused refusal) refl refl)
+
+  -- an answer that is one of two
+  undo_one : (earlier : ℕ) (inverse : Option (Result Act NoUndo)) (refusal : Refusal) (answer : Answer) → outage_in (Refused refusal) ≡ fine
+      → (reply_to l None (Refused refusal), st) ≡ undo_out inverse fine → (reply_to l None memory, st) ≡ undo_out inverse at_first
+      → (answer ≡ Refused refusal) ⊎ (answer ≡ memory)
+      → Follows c H k st l (requests.Undo earlier) None answer (undo_out inverse (outage_in answer))
+  undo_one earlier inverse refusal answer told here short is =
+      ⊎_elim
+      (λ same.
+      subst (λ (a : Answer). Follows c H k st l (requests.Undo earlier) None a (undo_out inverse (outage_in a))) (sym same)
+      (subst (λ (o : Outage). Follows c H k st l (requests.Undo earlier) None (Refused refusal) (undo_out inverse o)) (sym told)
+      (undo_alone earlier refusal (undo_out inverse fine) here)))
+      (λ same.
+      subst (λ (a : Answer). Follows c H k st l (requests.Undo earlier) None a (undo_out inverse (outage_in a))) (sym same)
+      (undo_alone earlier refusals.Memory (undo_out inverse at_first) short))
+      is
+
+  undo_told : (fault : NoUndo) → outage_in (Refused (undo_refusal fault)) ≡ fine
+  undo_told reasons.NoInverse = refl
+  undo_told reasons.TooManyEdits = refl
+
+  undo_by : (earlier : ℕ) (inverse : Option (Result Act NoUndo)) (n : Option ℕ) (answer : Answer) → IsRightFor c m H l (requests.Undo earlier) n answer
+      → IsStanding (k + length (accepting l (requests.Undo earlier) n answer)) (requests.Undo earlier) n
+      → UndoAnswers c H false l inverse n answer
+      → Follows c H k st l (requests.Undo earlier) n answer (undo_out inverse (outage_in answer))
+  undo_by earlier None None answer right stand is = undo_one earlier None refusals.NotAccepted answer refl refl refl is
+  undo_by earlier None (Some n) answer right stand is = absurd is
+  undo_by earlier (Some (Err fault)) None answer right stand is = undo_one earlier (Some (Err fault)) (undo_refusal fault) answer (undo_told fault) refl refl is
+  undo_by earlier (Some (Err fault)) (Some n) answer right stand is = absurd is
+  undo_by earlier (Some (Ok act)) None answer right stand is =
+      ⊎_elim
+      (λ same.
+      subst (λ (a : Answer). Follows c H k st l (requests.Undo earlier) None a (undo_out (Some (Ok act)) (outage_in a))) (sym same)
+      (undo_alone earlier refusals.Memory (undo_out (Some (Ok act)) at_first) refl))
+      (λ failed. absurd (false≢true failed.0))
+      is
+  undo_by earlier (Some (Ok act)) (Some n) answer right stand is =
+      as_undo earlier act (Some n) answer (undo_out (Some (Ok act)) (outage_in answer))
+      (edit_follows act (Some n) answer (right.0, right.1, is) stand)
+
+  undo_follows : (earlier : ℕ) (n : Option ℕ) (answer : Answer) → IsRightFor c m H l (requests.Undo earlier) n answer
+      → IsStanding (k + length (accepting l (requests.Undo earlier) n answer)) (requests.Undo earlier) n
+      → ReplyUndoes c H false (marks_in st) l (requests.Undo earlier) n answer
+      → Follows c H k st l (requests.Undo earlier) n answer (request_turn false st l (requests.Undo earlier) (outage_in answer))
+  undo_follows earlier n answer right stand undoes =
+      let one : undoes.inverse ≡ taking_back st l.session.0 earlier =
+      takes_one c H (accepted_as l.session.0 earlier (marks_in st)) undoes.inverse (taking_back st l.session.0 earlier) undoes.takes (takes_there earlier) in
+      subst (λ (i : Option (Result Act NoUndo)). Follows c H k st l (requests.Undo earlier) n answer (undo_out i (outage_in answer))) one
+      (undo_by earlier undoes.inverse n answer right stand undoes.answers)
+
   pub follows : (request : Request) (n : Option ℕ) (answer : Answer) → IsRightFor c m H l request n answer
       → IsStanding (k + length (accepting l request n answer)) request n → ReplyFits c H (seen_look (slot st.looks l.session.0)) request n answer
+      → ReplyUndoes c H false (marks_in st) l request n answer
       → Follows c H k st l request n answer (request_turn false st l request (outage_in answer))
-  follows (requests.Edit (Ok act)) n answer right stand fits = edit_follows act n answer right stand
-  follows (requests.Edit (Err fault)) n answer right stand fits = grid_follows fault n answer right stand
-  follows (requests.Query ask) n answer right stand fits = query_follows ask n answer right stand
-  follows (requests.Look ask) n answer right stand fits = look_follows ask n answer right stand fits
-  follows requests.Finish n answer right stand fits = finish_follows n answer right fits
-  follows (requests.After earlier) n answer right stand fits = after_follows earlier n answer right stand
+  follows (requests.Edit (Ok act)) n answer right stand fits undoes = edit_follows act n answer right stand
+  follows (requests.Edit (Err fault)) n answer right stand fits undoes = grid_follows fault n answer right stand
+  follows (requests.Undo earlier) n answer right stand fits undoes = undo_follows earlier n answer right stand undoes
+  follows (requests.Query ask) n answer right stand fits undoes = query_follows ask n answer right stand
+  follows (requests.Look ask) n answer right stand fits undoes = look_follows ask n answer right stand fits
+  follows requests.Finish n answer right stand fits undoes = finish_follows n answer right fits
+  follows (requests.After earlier) n answer right stand fits undoes = after_follows earlier n answer right stand

@@ -20,8 +20,9 @@ use Rattle.session_core.specs.declared.line.Request.TheVariants as requests
 use Rattle.session_core.specs.declared.line.Line.{Line}
 use Rattle.session_core.specs.declared.line.Reply.{Reply}
 use Rattle.edit_rules.specs.Effects.{IsLegal, edited}
+use Rattle.edit_undo.specs.declared.faults.NoUndo.{NoUndo}
 use Rattle.session_core.specs.Queries.{lacks_memory}
-use Rattle.session_core.specs.Steps.{Opened, State, start, slot, session_places, present, is_full, edit_step, edit_event, look_step, look_event, finish_step, look_answered, query_step, way_answered, Asker, by_look, by_query, by_none, asker_of, finish_by, core_step, query_fails, finish_fails_by, core_fails, option_list, steps}
+use Rattle.session_core.specs.Steps.{Opened, State, start, slot, session_places, present, is_full, taking_back, edit_step, undo_step, edit_event, look_step, look_event, finish_step, look_answered, query_step, way_answered, Asker, by_look, by_query, by_none, asker_of, finish_by, core_step, query_fails, finish_fails_by, core_fails, option_list, steps}
 use Rattle.session_core.specs.Worlds.{Turn, Trouble, untroubled, no_memory, store_full, disk_failed, is_disk_failed, Occurrence, World, edit_kept_out, outcome_of, query_line, finish_line, query_answered, answered_by, answered, turns_of, happens, run, opening_world, Each, AllFit, disk_failures, is_waiting, is_done, lines_done}
 use Rattle.session_core.specs.Legal.{of_session, lines_of_session, is_of, is_line_of, lines_in, replies_in, with_number, HasSeenTurn, disk_replies, Legal}
 use Rattle.emu_names.specs.declared.limits.TheConstants.{HISTORY_EDITS}
@@ -34,8 +35,8 @@ use Rattle.session_core.proofs.Events.{occurrence_good}
 
 -- The beginning, and each run.
 
-start_seat : (c : ConfigParts) (opening : List Entry) (s : ℕ) → Seat c (length opening) opening s [] [] (slot (start c opening).looks s) (slot (start c opening).queries s)
-start_seat c opening s =
+start_seat : (store : Bool) (c : ConfigParts) (opening : List Entry) (s : ℕ) → Seat store c (length opening) opening s [] [] (slot (start c opening).looks s) (slot (start c opening).queries s)
+start_seat store c opening s =
     let none : slot (replicate {A = Option Opened} session_places None) s ≡ None = slot_none session_places s in
     record {
       lines = ap (λ (q : Option Opened). query_answered (session_no s) q) (sym none);
@@ -45,6 +46,7 @@ start_seat c opening s =
       looks = tt;
       held = ap (λ (o : Option Opened). option_map look_of o) (sym none);
       look_in = subst (λ (o : Option Opened). IsIn (length opening) opening o) (sym none) tt;
+      undos = tt;
       waits = subst (λ (o : Option Opened). IsWaiting (length opening) opening [] o) (sym none) tt;
     }
 
@@ -52,6 +54,7 @@ start_good : (c : ConfigParts) (opening : List Entry) (store : Bool) → IsLegal
 start_good c opening store legal most = record {
   more = [];
   prefix = sym (append-nil opening);
+  begun = refl;
   most = most;
   legal = legal;
   marks = refl;
@@ -61,7 +64,7 @@ start_good c opening store legal most = record {
   disks = omega arith;
   looks_count = refl;
   queries_count = refl;
-  seats = λ s. start_seat c opening s;
+  seats = λ s. start_seat store c opening s;
 }
 
 run_good : (opening : List Entry) (store : Bool) (faults : ℕ) (w : World) (ms : List Occurrence) → Good opening store faults w → AllFit store w ms
@@ -81,9 +84,15 @@ edit_config st l act true made = refl
 edit_config st l act false (Ok database) = refl
 edit_config st l act false (Err breach) = refl
 
+undo_config : (st : State) (l : Line) (inverse : Option (Result Act NoUndo)) → (undo_step st l inverse).1.config ≡ st.config
+undo_config st l None = refl
+undo_config st l (Some (Err fault)) = refl
+undo_config st l (Some (Ok act)) = edit_config st l act (is_full st.entries) (edited st.config st.entries act)
+
 edit_event_config : (st : State) (l : Line) (r : Request) → (edit_event st l r).1.config ≡ st.config
 edit_event_config st l (requests.Edit (Ok act)) = edit_config st l act (is_full st.entries) (edited st.config st.entries act)
 edit_event_config st l (requests.Edit (Err fault)) = refl
+edit_event_config st l (requests.Undo earlier) = undo_config st l (taking_back st l.session.0 earlier)
 edit_event_config st l (requests.Query ask) = refl
 edit_event_config st l (requests.Look ask) = refl
 edit_event_config st l requests.Finish = refl
@@ -98,6 +107,7 @@ look_event_config st l (requests.Look ask) = look_config st l ask (slot st.looks
 look_event_config st l (requests.Query ask) = refl
 look_event_config st l (requests.After earlier) = refl
 look_event_config st l (requests.Edit given) = refl
+look_event_config st l (requests.Undo earlier) = refl
 look_event_config st l requests.Finish = refl
 
 told_config : (st : State) (line : ℕ) (s : SessionNo) (held : Opened) (short : Bool) → (look_answered st line s held short).1.config ≡ st.config
@@ -253,6 +263,7 @@ good_legal opening store faults before now w g rose = (
       in_order = script_in_order opening store faults w g s;
       never_falls = (g.seats s).falls;
       looks = (g.seats s).looks;
+      undos = (g.seats s).undos;
     };
     whole = record {
       named = g.named;

@@ -14,12 +14,14 @@ use Rattle.session_core.specs.declared.line.Request.TheVariants as requests
 use Rattle.session_core.specs.declared.line.Line.{Line}
 use Rattle.session_core.specs.declared.line.Reply.{Reply}
 use Rattle.edit_rules.specs.Effects.{edited}
+use Rattle.edit_undo.specs.declared.faults.NoUndo.{NoUndo}
+use Rattle.session_core.specs.Undos.{undo_refusal}
 use Rattle.session_core.specs.Queries.{lacks_memory}
 use Rattle.session_core.specs.Answers.{memory, is_want_of_memory, grid_number, grid_answer, reply_to, entry_of}
-use Rattle.session_core.specs.Steps.{Opened, State, slot, put_slot, present, is_full, opened_at, edit_step, look_step, finish_step, look_answered, query_step, way_answered, query_fails}
+use Rattle.session_core.specs.Steps.{Opened, State, slot, put_slot, taking_back, present, is_full, opened_at, edit_step, look_step, finish_step, look_answered, query_step, way_answered, query_fails}
 use Rattle.session_core.specs.Worlds.{Turn, Trouble, untroubled, no_memory, store_full, disk_failed}
 use Rattle.session_core.specs.Legal.{lines_in, replies_in, accepting}
-use Rattle.session_core.specs.InOrder.{Outage, fine, at_first, at_last, disk_fails, replied, query_begun, edit_outcome, trouble_at, request_turn, one_turn, in_turn}
+use Rattle.session_core.specs.InOrder.{Outage, fine, at_first, at_last, disk_fails, replied, query_begun, edit_outcome, trouble_at, undo_turn, unless_outage, request_turn, one_turn, in_turn}
 use Rattle.session_core.specs.Readings.{IsStanding, AreStanding}
 
 -- The turns of a list of lines.
@@ -54,6 +56,7 @@ module _ (st : State) (l : Line) where
   memory_counts : (request : Request) → Counts st l request (reply_to l None memory, st)
   memory_counts (requests.Edit (Ok act)) = record { stands = tt; count = omega arith }
   memory_counts (requests.Edit (Err fault)) = record { stands = tt; count = omega arith }
+  memory_counts (requests.Undo earlier) = record { stands = tt; count = omega arith }
   memory_counts (requests.Query ask) = record { stands = tt; count = omega arith }
   memory_counts (requests.Look ask) = record { stands = tt; count = omega arith }
   memory_counts requests.Finish = record { stands = tt; count = omega arith }
@@ -112,6 +115,29 @@ module _ (st : State) (l : Line) where
   trouble_counts act store_full = kept_counts act (present st) refusals.StoreFull refl
   trouble_counts act disk_failed = record { stands = tt; count = omega arith }
 
+  -- an `undo`, of which an act is wanted, counts as an edit
+  undo_stands : (k earlier : ℕ) (act : Act) (n : Option ℕ) → IsStanding k (requests.Edit (Ok act)) n → IsStanding k (requests.Undo earlier) n
+  undo_stands k earlier act None stands = tt
+  undo_stands k earlier act (Some n) stands = stands
+
+  as_undo : (earlier : ℕ) (act : Act) (out : Reply × State) → Counts st l (requests.Edit (Ok act)) out → Counts st l (requests.Undo earlier) out
+  as_undo earlier act out one = record {
+    stands = undo_stands (present st + length (accepting l (requests.Edit (Ok act)) out.0.n out.0.answer)) earlier act out.0.n one.stands;
+    count = one.count;
+  }
+
+  alone_counts : (earlier : ℕ) (refusal : Refusal) (outage : Outage) → Counts st l (requests.Undo earlier) (unless_outage st l outage (Some (reply_to l None (Refused refusal)), st))
+  alone_counts earlier refusal fine = record { stands = tt; count = omega arith }
+  alone_counts earlier refusal at_first = memory_counts (requests.Undo earlier)
+  alone_counts earlier refusal at_last = memory_counts (requests.Undo earlier)
+  alone_counts earlier refusal disk_fails = record { stands = tt; count = omega arith }
+
+  undo_counts : (store : Bool) (earlier : ℕ) (inverse : Option (Result Act NoUndo)) (outage : Outage) → Counts st l (requests.Undo earlier) (undo_turn store st l inverse outage)
+  undo_counts store earlier None outage = alone_counts earlier refusals.NotAccepted outage
+  undo_counts store earlier (Some (Err fault)) outage = alone_counts earlier (undo_refusal fault) outage
+  undo_counts store earlier (Some (Ok act)) outage =
+      as_undo earlier act (replied l (edit_outcome st l act (trouble_at store st l act outage))) (trouble_counts act (trouble_at store st l act outage))
+
   -- a line whose TextGrid has a fault
   abbrev grid_out : GridFault → Bool → Reply × State
   grid_out fault short = (reply_to l (grid_number (present st) short) (grid_answer fault short), st)
@@ -126,6 +152,7 @@ module _ (st : State) (l : Line) where
   request_counts store (requests.Edit (Err fault)) at_first = memory_counts (requests.Edit (Err fault))
   request_counts store (requests.Edit (Err fault)) at_last = memory_counts (requests.Edit (Err fault))
   request_counts store (requests.Edit (Err fault)) disk_fails = grid_counts fault (is_want_of_memory fault)
+  request_counts store (requests.Undo earlier) outage = undo_counts store earlier (taking_back st l.session.0 earlier) outage
   request_counts store (requests.Query ask) fine = query_counts ask (under_way ask) (now_put st.queries l.session.0 (opened_at st l ask) refl)
   request_counts store (requests.Query ask) at_first = memory_counts (requests.Query ask)
   request_counts store (requests.Query ask) at_last = fails_counts ask (under_way ask)

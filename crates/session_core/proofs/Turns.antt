@@ -13,7 +13,7 @@ use Rattle.session_core.specs.declared.line.Request.{Request}
 use Rattle.session_core.specs.declared.line.Request.TheVariants as requests
 use Rattle.session_core.specs.declared.line.Reply.{Reply}
 use Rattle.session_core.specs.Worlds.{Turn, Each, is_answered}
-use Rattle.session_core.specs.Legal.{is_of, of_session, lines_in, replies_in, accepting, accepted, numbered, low_behind, KeepsUp, NeverFalls, Look, open_behind, ReplyFits, LooksFit, session_of, number_or, seen_by, seen_in, seen, HasSeen, is_disk, disk_replies}
+use Rattle.session_core.specs.Legal.{is_of, of_session, lines_in, replies_in, accepting, accepted, mark_at, numbered, low_behind, KeepsUp, NeverFalls, Look, open_behind, ReplyFits, LooksFit, session_of, number_or, seen_by, seen_in, seen, HasSeen, is_disk, disk_replies}
 
 -- What holds of each element.
 
@@ -95,7 +95,7 @@ numbered_more n [] ys =
     ap (λ k. numbered k ys) same
 numbered_more n (x ∷ xs) ys =
     let same : (n + 1) + length xs ≡ n + length (x ∷ xs) = omega arith in
-    ap (λ ms. record { n = n; entry = x } ∷ ms) (numbered_more (n + 1) xs ys ∙ ap (λ k. numbered (n + 1) xs ++ numbered k ys) same)
+    ap (λ ms. mark_at n x ∷ ms) (numbered_more (n + 1) xs ys ∙ ap (λ k. numbered (n + 1) xs ++ numbered k ys) same)
 
 -- Numbers that never fall.
 
@@ -216,6 +216,7 @@ seen_in_to m line high (Some s) ts from to = seen_by_to m s line high ts from to
 abbrev pub HasSeenStill : ℕ → List Turn → Request → Option ℕ → Type 0
 HasSeenStill m ts (requests.After earlier) n = (is_answered earlier ts ≡ true) × HasSeen m ts (requests.After earlier) n
 HasSeenStill m ts (requests.Edit given) n = Unit {0}
+HasSeenStill m ts (requests.Undo earlier) n = Unit {0}
 HasSeenStill m ts (requests.Query ask) n = Unit {0}
 HasSeenStill m ts (requests.Look ask) n = Unit {0}
 HasSeenStill m ts requests.Finish n = Unit {0}
@@ -229,6 +230,7 @@ still_push : (m : ℕ) (ts : List Turn) (t : Turn) (r : Request) (n : Option ℕ
 still_push m ts t (requests.After earlier) n past has =
     (any_more (λ (u : Turn). nat_eq u.line.line earlier) ts t has.0, seen_still m earlier ts t n has.0 past has.1)
 still_push m ts t (requests.Edit given) n past has = tt
+still_push m ts t (requests.Undo earlier) n past has = tt
 still_push m ts t (requests.Query ask) n past has = tt
 still_push m ts t (requests.Look ask) n past has = tt
 still_push m ts t requests.Finish n past has = tt
@@ -243,6 +245,7 @@ all_still m ts t past each here =
 pub still_seen : (m : ℕ) (ts : List Turn) (r : Request) (n : Option ℕ) → HasSeenStill m ts r n → HasSeen m ts r n
 still_seen m ts (requests.After earlier) n has = has.1
 still_seen m ts (requests.Edit given) n has = tt
+still_seen m ts (requests.Undo earlier) n has = tt
 still_seen m ts (requests.Query ask) n has = tt
 still_seen m ts (requests.Look ask) n has = tt
 still_seen m ts requests.Finish n has = tt

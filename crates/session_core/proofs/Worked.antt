@@ -23,7 +23,7 @@ example_history_is = refl
 
 pub example_fits : ExampleFits
 example_fits = (
-  record { event = record { next = record { place = omega arith; idle = refl; behind = tt }; kind = refl; command = refl }; trouble = tt },
+  record { event = record { next = record { place = omega arith; idle = refl; behind = tt }; kind = refl; command = refl; names = tt }; trouble = tt },
   (
     record {
       event = record { next = record { place = omega arith; idle = refl; behind = (record { own = λ same. omega arith; others = λ ne same. ne refl }, tt) }; kind = refl; command = refl; answered = tt };

@@ -85,9 +85,11 @@ answer_at c history n ask = answer_over (database_after c (take n history)) ask
 
 -- The rule that an act breaks.
 
--- the place of the edit that breaks a rule is told where the command is a list of edits, also a list of one
+-- the place of the edit that breaks a rule is told where the act is a list of edits, also a list of one: the
+-- command is `edits`, or `undo`, whose act is what takes a line back
 abbrev pub place_shown : Command → ℕ → Option ℕ
 place_shown commands.Edits place = Some place
+place_shown commands.Undo place = Some place
 place_shown command place = None
 
 -- the refusal of an act by the rule that it breaks

@@ -73,10 +73,20 @@ abbrev pub brings_grid : Command → Bool
 brings_grid commands.AddTextgrid = true
 brings_grid command = false
 
+-- whether a command asks for a change of the database, which an `undo` may take back
+abbrev pub is_change : Command → Bool
+is_change commands.Config = false
+is_change commands.Query = false
+is_change commands.Look = false
+is_change commands.Finish = false
+is_change commands.After = false
+is_change command = true
+
 -- whether a command is one of a request
 abbrev pub is_command_of : Command → Request → Bool
 is_command_of command (requests.Edit (Ok act)) = does_act command act
 is_command_of command (requests.Edit (Err fault)) = brings_grid command
+is_command_of commands.Undo (requests.Undo line) = true
 is_command_of commands.Query (requests.Query ask) = true
 is_command_of commands.Look (requests.Look ask) = true
 is_command_of commands.Finish requests.Finish = true

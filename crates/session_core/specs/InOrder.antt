@@ -15,8 +15,9 @@ use Rattle.session_core.specs.declared.line.Reply.{Reply}
 use Rattle.session_core.specs.declared.line.Command.TheVariants as commands
 use Rattle.edit_rules.specs.Effects.{edited}
 use Rattle.session_core.specs.Answers.{memory, reply_to, entry_of}
-use Rattle.session_core.specs.Steps.{State, present, is_full, edit_event, look_event, finish_event, finish_fails, opened_at, with_query, session_places}
-use Rattle.session_core.specs.Worlds.{Trouble, untroubled, no_memory, store_full, disk_failed, passes_store, Each}
+use Rattle.edit_undo.specs.declared.faults.NoUndo.{NoUndo}
+use Rattle.session_core.specs.Steps.{State, present, is_full, act_event, taking_back, undo_step, edit_event, look_event, finish_event, finish_fails, opened_at, with_query, session_places}
+use Rattle.session_core.specs.Worlds.{Trouble, untroubled, no_memory, store_full, disk_failed, passes_store, Each, NamesChange}
 use Rattle.session_core.specs.Commands.{is_command_of}
 
 -- the reply that an event gives to its line
@@ -83,7 +84,7 @@ trouble_at store st l act disk_fails = edit_trouble store st l act true
 
 -- the act of a line, or what keeps it from its step
 abbrev pub edit_outcome : State → Line → Act → Trouble → Option Reply × State
-edit_outcome st l act untroubled = edit_event st l (requests.Edit (Ok act))
+edit_outcome st l act untroubled = act_event st l act
 edit_outcome st l act no_memory = (Some (reply_to l None memory), st)
 edit_outcome st l act store_full = (Some (reply_to l (Some (present st)) (Refused refusals.StoreFull)), st)
 edit_outcome st l act disk_failed = (Some (reply_to l None (Refused refusals.Disk)), st)
@@ -92,11 +93,19 @@ edit_outcome st l act disk_failed = (Some (reply_to l None (Refused refusals.Dis
 abbrev pub edit_turn : Bool → State → Line → Act → Outage → Reply × State
 edit_turn store st l act outage = replied l (edit_outcome st l act (trouble_at store st l act outage))
 
+-- an `undo`, by what takes its line back
+abbrev pub undo_turn : Bool → State → Line → Option (Result Act NoUndo) → Outage → Reply × State
+undo_turn store st l None outage = unless_outage st l outage (undo_step st l None)
+undo_turn store st l (Some (Err fault)) outage = unless_outage st l outage (undo_step st l (Some (Err fault)))
+undo_turn store st l (Some (Ok act)) outage = edit_turn store st l act outage
+
 -- a request is answered over all entries before it; a `finish` over its look
 abbrev pub request_turn : Bool → State → Line → Request → Outage → Reply × State
 request_turn store st l (requests.Edit (Ok act)) outage = edit_turn store st l act outage
 request_turn store st l (requests.Edit (Err fault)) outage =
     unless_outage st l outage (edit_event st l (requests.Edit (Err fault)))
+request_turn store st l (requests.Undo earlier) outage =
+    undo_turn store st l (taking_back st l.session.0 earlier) outage
 request_turn store st l (requests.Query ask) outage = query_turn st l ask outage
 request_turn store st l (requests.Look ask) outage = unless_outage st l outage (look_event st l (requests.Look ask))
 request_turn store st l requests.Finish outage =
@@ -127,12 +136,13 @@ abbrev pub disk_outages : Bool → List Outage → ℕ
 disk_outages store outages = count_by (λ outage. store && is_disk_outage outage) outages
 
 -- Which lists of lines come in order: numbers rise, sessions have a place, a line has the command of
--- its request, and an `after` names a line before it.
+-- its request, an `after` names a line before it, and an `undo` one of its own session that asks for a change.
 
 -- an `after` names a line that stands before it
 abbrev pub NamesEarlier : List Line → Request → Type 0
 NamesEarlier before (requests.After earlier) = list_any (λ (l : Line). nat_eq l.line earlier) before ≡ true
 NamesEarlier before (requests.Edit given) = Unit {0}
+NamesEarlier before (requests.Undo earlier) = Unit {0}
 NamesEarlier before (requests.Query ask) = Unit {0}
 NamesEarlier before (requests.Look ask) = Unit {0}
 NamesEarlier before requests.Finish = Unit {0}
@@ -147,6 +157,7 @@ pub record ComesNext (before : List Line) (l : Line) : Type 0 where
   pub place : l.session.0 < session_places
   pub command : is_command_of l.command l.request ≡ true
   pub earlier : NamesEarlier before l.request
+  pub names : NamesChange before l.session.0 l.request
 
 -- each of these lines may stand behind those before it
 abbrev pub ComeInOrder : List Line → List Line → Type 0

@@ -1,3 +1,5 @@
 pub mod Kept
 pub mod Steps
 pub mod Stops
+pub mod Undone
+pub mod Room

@@ -1,5 +1,6 @@
 pub mod Queries
 pub mod Answers
+pub mod Undos
 pub mod Sizes
 pub mod Steps
 pub mod Commands

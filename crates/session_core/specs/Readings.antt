@@ -29,6 +29,7 @@ abbrev pub IsStanding : ℕ → Request → Option ℕ → Type 0
 IsStanding n request None = Unit {0}
 IsStanding n requests.Finish (Some k) = Unit {0}
 IsStanding n (requests.Edit given) (Some k) = k ≡ n
+IsStanding n (requests.Undo earlier) (Some k) = k ≡ n
 IsStanding n (requests.Query ask) (Some k) = k ≡ n
 IsStanding n (requests.Look ask) (Some k) = k ≡ n
 IsStanding n (requests.After earlier) (Some k) = k ≡ n
@@ -48,6 +49,9 @@ outage_at (refusals.Resolve fault) = fine
 outage_at refusals.TooManyTuples = fine
 outage_at refusals.NoLook = fine
 outage_at refusals.LookOpen = fine
+outage_at refusals.NotAccepted = fine
+outage_at refusals.TooManyEdits = fine
+outage_at refusals.NoInverse = fine
 outage_at refusals.HistoryFull = fine
 outage_at refusals.StoreFull = fine
 outage_at refusals.Disk = disk_fails

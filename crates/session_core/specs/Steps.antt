@@ -1,5 +1,5 @@
 -- The steps of the core: what an event makes of a state, and the reply that it may give.
-use Rattle.std.specs.Prelude.{ℕ, zero, suc, ◌+◌, Bool, true, false, List, [], ◌∷◌, ◌++◌, length, replicate, Option, Some, None, Result, Ok, Err, nat_le}
+use Rattle.std.specs.Prelude.{ℕ, zero, suc, ◌+◌, Bool, true, false, List, [], ◌∷◌, ◌++◌, length, take, drop, replicate, Option, Some, None, Result, Ok, Err, nat_le}
 use Rattle.emu_names.specs.declared.kinds.SessionNo.{SessionNo}
 use Rattle.emu_names.specs.declared.limits.TheConstants.{HISTORY_EDITS, SESSIONS}
 use Rattle.edit_rules.specs.declared.acts.Breach.{Breach}
@@ -20,7 +20,10 @@ use Rattle.session_core.specs.declared.line.Request.TheVariants as requests
 use Rattle.session_core.specs.declared.line.Line.{Line}
 use Rattle.session_core.specs.declared.line.Reply.{Reply}
 use Rattle.edit_rules.specs.Effects.{edited}
+use Rattle.edit_undo.specs.declared.faults.NoUndo.{NoUndo}
+use Rattle.session_core.specs.declared.kept_acts.KeptAct.{KeptAct}
 use Rattle.session_core.specs.Queries.{lacks_memory}
+use Rattle.session_core.specs.Undos.{kept_behind, latest_of, undo_refusal}
 use Rattle.session_core.specs.Answers.{answer_at, memory, reply_to, grid_reply, entry_of, rule_refusal}
 
 -- a query that holds the state after the first n entries, and the line that it came from
@@ -29,10 +32,12 @@ pub record Opened : Type 0 where
   pub n : ℕ
   pub ask : Ask
 
--- the configuration, the history, and for each session its open look and its query under way
+-- the configuration, the history, how many entries it began with, and for each session its open look and its
+-- query under way
 pub record State : Type 0 where
   pub config : ConfigParts
   pub entries : List Entry
+  pub base : ℕ
   pub looks : List (Option Opened)
   pub queries : List (Option Opened)
 
@@ -45,6 +50,7 @@ abbrev pub start : ConfigParts → List Entry → State
 start c history = record {
   config = c;
   entries = history;
+  base = length history;
   looks = replicate session_places None;
   queries = replicate session_places None;
 }
@@ -64,16 +70,17 @@ put_slot (x ∷ xs) (suc s) v = x ∷ put_slot xs s v
 -- a state with this look at a session's place
 abbrev pub with_look : State → ℕ → Option Opened → State
 with_look st s v =
-    record { config = st.config; entries = st.entries; looks = put_slot st.looks s v; queries = st.queries }
+    record { config = st.config; entries = st.entries; base = st.base; looks = put_slot st.looks s v; queries = st.queries }
 
 -- a state with this query under way at a session's place
 abbrev pub with_query : State → ℕ → Option Opened → State
 with_query st s v =
-    record { config = st.config; entries = st.entries; looks = st.looks; queries = put_slot st.queries s v }
+    record { config = st.config; entries = st.entries; base = st.base; looks = st.looks; queries = put_slot st.queries s v }
 
 -- a state with one entry more
 abbrev pub with_entry : State → Entry → State
-with_entry st e = record { config = st.config; entries = st.entries ++ e ∷ []; looks = st.looks; queries = st.queries }
+with_entry st e =
+    record { config = st.config; entries = st.entries ++ e ∷ []; base = st.base; looks = st.looks; queries = st.queries }
 
 -- the number of entries that the present state is after
 abbrev pub present : State → ℕ
@@ -97,6 +104,27 @@ abbrev pub edit_step : State → Line → Act → Bool → Result DatabaseParts 
 edit_step st l act true made = (Some (reply_to l (Some (present st)) (Refused refusals.HistoryFull)), st)
 edit_step st l act false made = edit_made st l act made
 
+-- an act over the present state
+abbrev pub act_event : State → Line → Act → Option Reply × State
+act_event st l act = edit_step st l act (is_full st.entries) (edited st.config st.entries act)
+
+-- An `undo`.
+
+-- what takes back each entry that came since the beginning
+abbrev pub kept_in : State → List KeptAct
+kept_in st = kept_behind st.config (take st.base st.entries) (drop st.base st.entries)
+
+-- what takes back a line of a session, where it was accepted
+abbrev pub taking_back : State → ℕ → ℕ → Option (Result Act NoUndo)
+taking_back st session line = latest_of session line (kept_in st)
+
+-- an `undo`, by what takes its line back: a line that was not accepted is none to take back, and then what takes it
+-- back is an act as any other
+abbrev pub undo_step : State → Line → Option (Result Act NoUndo) → Option Reply × State
+undo_step st l None = (Some (reply_to l None (Refused refusals.NotAccepted)), st)
+undo_step st l (Some (Err fault)) = (Some (reply_to l None (Refused (undo_refusal fault))), st)
+undo_step st l (Some (Ok act)) = act_event st l act
+
 -- A look.
 
 -- a query over the present state
@@ -115,12 +143,14 @@ look_event st l (requests.Look ask) = look_step st l ask (slot st.looks l.sessio
 look_event st l (requests.Query ask) = (None, with_query st l.session.0 (Some (opened_at st l ask)))
 look_event st l (requests.After earlier) = (Some (reply_to l (Some (present st)) (Done l.command)), st)
 look_event st l (requests.Edit given) = (None, st)
+look_event st l (requests.Undo earlier) = (None, st)
 look_event st l requests.Finish = (None, st)
 
 -- an Edit of a line: the fault of its TextGrid comes first, and changes nothing
 abbrev pub edit_event : State → Line → Request → Option Reply × State
-edit_event st l (requests.Edit (Ok act)) = edit_step st l act (is_full st.entries) (edited st.config st.entries act)
+edit_event st l (requests.Edit (Ok act)) = act_event st l act
 edit_event st l (requests.Edit (Err fault)) = (Some (grid_reply l (present st) fault), st)
+edit_event st l (requests.Undo earlier) = undo_step st l (taking_back st l.session.0 earlier)
 edit_event st l (requests.Query ask) = (None, st)
 edit_event st l (requests.Look ask) = (None, st)
 edit_event st l requests.Finish = (None, st)

@@ -1,5 +1,5 @@
 -- Whole runs of the core: which lists of events fit, and the lines and replies that they bring.
-use Rattle.std.specs.Prelude.{◌≡◌, ◌≢◌, ℕ, ◌+◌, ◌<◌, Bool, true, false, not, List, [], ◌∷◌, ◌++◌, count_by, filter, Option, Some, None, Ok, nat_eq, nat_lt}
+use Rattle.std.specs.Prelude.{◌≡◌, ◌≢◌, ℕ, ◌+◌, ◌<◌, Bool, true, false, ◌&&◌, not, List, [], ◌∷◌, ◌++◌, count_by, filter, Option, Some, None, Result, Ok, Err, nat_eq, nat_lt}
 use Rattle.std.specs.List.{list_any}
 use Rattle.emu_names.specs.declared.kinds.SessionNo.{SessionNo}
 use Rattle.emu_names.specs.declared.limits.TheConstants.{STORE_BYTES}
@@ -19,9 +19,10 @@ use Rattle.edit_rules.specs.Database.{DatabaseParts}
 use Rattle.edit_rules.specs.declared.acts.Act.{Act}
 use Rattle.edit_rules.specs.Effects.{edited}
 use Rattle.session_core.specs.Answers.{reply_to, entry_of}
-use Rattle.session_core.specs.Commands.{is_command_of}
+use Rattle.session_core.specs.Commands.{is_change, is_command_of}
 use Rattle.session_core.specs.Sizes.{store_size, entry_size}
-use Rattle.session_core.specs.Steps.{Opened, State, slot, present, is_full, core_step, core_fails, start, session_places, Asker, by_look, by_query, by_none, asker_of}
+use Rattle.edit_undo.specs.declared.faults.NoUndo.{NoUndo}
+use Rattle.session_core.specs.Steps.{Opened, State, slot, taking_back, present, is_full, core_step, core_fails, start, session_places, Asker, by_look, by_query, by_none, asker_of}
 
 -- a line with its reply
 pub record Turn : Type 0 where
@@ -127,7 +128,8 @@ abbrev pub opening_world : ConfigParts → List Entry → World
 opening_world c history = record { state = start c history; lines = []; turns = [] }
 
 -- Which events fit. The lines of a session rise, no number stands in two sessions, a query under
--- way is answered before its session's next line, and an `after` stands behind the reply of its line.
+-- way is answered before its session's next line, an `after` stands behind the reply of its line, and an `undo` behind
+-- its own, which is one of its session that asks for a change.
 
 -- P holds of each element
 abbrev pub Each : {A : Type 0} → (A → Type 0) → List A → Type 0
@@ -153,13 +155,28 @@ is_answered line turns = list_any (λ t. nat_eq t.line.line line) turns
 abbrev pub RequestFits : World → Request → Type 0
 RequestFits w (requests.After earlier) = is_answered earlier w.turns ≡ true
 RequestFits w (requests.Edit given) = Unit {0}
+RequestFits w (requests.Undo earlier) = Unit {0}
 RequestFits w (requests.Query ask) = Unit {0}
 RequestFits w (requests.Look ask) = Unit {0}
 RequestFits w requests.Finish = Unit {0}
 
--- a request is an edit
+-- a line is this one of this session, and asks for a change
+abbrev pub is_change_at : ℕ → ℕ → Line → Bool
+is_change_at session line l = nat_eq l.session.0 session && nat_eq l.line line && is_change l.command
+
+-- an `undo` names a line of its session that stands before it and asks for a change
+abbrev pub NamesChange : List Line → ℕ → Request → Type 0
+NamesChange before session (requests.Undo earlier) = list_any (is_change_at session earlier) before ≡ true
+NamesChange before session (requests.Edit given) = Unit {0}
+NamesChange before session (requests.Query ask) = Unit {0}
+NamesChange before session (requests.Look ask) = Unit {0}
+NamesChange before session requests.Finish = Unit {0}
+NamesChange before session (requests.After earlier) = Unit {0}
+
+-- what an Edit event may bring
 abbrev pub is_edit : Request → Bool
 is_edit (requests.Edit given) = true
+is_edit (requests.Undo earlier) = true
 is_edit (requests.Query ask) = false
 is_edit (requests.Look ask) = false
 is_edit requests.Finish = false
@@ -168,6 +185,7 @@ is_edit (requests.After line) = false
 -- what a Look event may bring
 abbrev pub is_looking : Request → Bool
 is_looking (requests.Edit given) = false
+is_looking (requests.Undo earlier) = false
 is_looking (requests.Query ask) = true
 is_looking (requests.Look ask) = true
 is_looking requests.Finish = false
@@ -178,6 +196,7 @@ pub record EditFits (w : World) (l : Line) : Type 0 where
   pub next : IsNext w l.line l.session.0
   pub kind : is_edit l.request ≡ true
   pub command : is_command_of l.command l.request ≡ true
+  pub names : NamesChange w.lines l.session.0 l.request
 
 -- a Look may come next
 pub record LookFits (w : World) (l : Line) : Type 0 where
@@ -222,36 +241,53 @@ pub record IsOverStore (store : Bool) (st : State) (l : Line) (act : Act) : Type
   pub made : edited st.config st.entries act ≡ Ok database
   pub passes : passes_store st.config st.entries (entry_of l act) ≡ true
 
--- the store refuses the request
-abbrev pub StoreRefusesRequest : Bool → State → Line → Request → Type 0
-StoreRefusesRequest store st l (requests.Edit (Ok act)) = IsOverStore store st l act
-StoreRefusesRequest store st l request = ⊥
+-- the act that takes a line back, where there is one
+abbrev pub act_back : Option (Result Act NoUndo) → Option Act
+act_back None = None
+act_back (Some (Ok act)) = Some act
+act_back (Some (Err fault)) = None
+
+-- the act that a request of a session wants over a state: its own, or the one that takes back the line of an `undo`
+abbrev pub act_wanted : State → ℕ → Request → Option Act
+act_wanted st session (requests.Edit (Ok act)) = Some act
+act_wanted st session (requests.Edit (Err fault)) = None
+act_wanted st session (requests.Undo earlier) = act_back (taking_back st session earlier)
+act_wanted st session (requests.Query ask) = None
+act_wanted st session (requests.Look ask) = None
+act_wanted st session requests.Finish = None
+act_wanted st session (requests.After earlier) = None
+
+-- the store refuses the act that is wanted
+abbrev pub StoreRefusesAct : Bool → State → Line → Option Act → Type 0
+StoreRefusesAct store st l None = ⊥
+StoreRefusesAct store st l (Some act) = IsOverStore store st l act
 
 -- the store refuses the edit of an event
 abbrev pub StoreRefuses : Bool → State → Event → Type 0
-StoreRefuses store st (events.Edit l) = StoreRefusesRequest store st l l.request
+StoreRefuses store st (events.Edit l) = StoreRefusesAct store st l (act_wanted st l.session.0 l.request)
 StoreRefuses store st (events.Look l) = ⊥
 StoreRefuses store st (events.Piece s) = ⊥
 StoreRefuses store st (events.Finish line s command) = ⊥
 
--- the disk may refuse an edit, where there is a store; a line whose TextGrid has a fault never reaches it
-abbrev pub DiskMayRefuseRequest : Bool → Request → Type 0
-DiskMayRefuseRequest store (requests.Edit (Ok act)) = store ≡ true
-DiskMayRefuseRequest store request = ⊥
+-- the disk may refuse the act that is wanted, where there is a store; a line whose TextGrid has a fault never
+-- reaches it, nor does an `undo` for which no act is wanted
+abbrev pub DiskMayRefuseAct : Bool → Option Act → Type 0
+DiskMayRefuseAct store None = ⊥
+DiskMayRefuseAct store (Some act) = store ≡ true
 
 -- the disk may refuse the edit of an event
-abbrev pub DiskMayRefuse : Bool → Event → Type 0
-DiskMayRefuse store (events.Edit l) = DiskMayRefuseRequest store l.request
-DiskMayRefuse store (events.Look l) = ⊥
-DiskMayRefuse store (events.Piece s) = ⊥
-DiskMayRefuse store (events.Finish line s command) = ⊥
+abbrev pub DiskMayRefuse : Bool → State → Event → Type 0
+DiskMayRefuse store st (events.Edit l) = DiskMayRefuseAct store (act_wanted st l.session.0 l.request)
+DiskMayRefuse store st (events.Look l) = ⊥
+DiskMayRefuse store st (events.Piece s) = ⊥
+DiskMayRefuse store st (events.Finish line s command) = ⊥
 
 -- what keeps an event from its step may do so; `store` says whether there is a store
 abbrev pub TroubleFits : Bool → State → Event → Trouble → Type 0
 TroubleFits store st e untroubled = Unit {0}
 TroubleFits store st e no_memory = Unit {0}
 TroubleFits store st e store_full = StoreRefuses store st e
-TroubleFits store st e disk_failed = DiskMayRefuse store e
+TroubleFits store st e disk_failed = DiskMayRefuse store st e
 
 -- an occurrence may come next
 pub record OccurrenceFits (store : Bool) (w : World) (m : Occurrence) : Type 0 where

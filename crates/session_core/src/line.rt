@@ -1,9 +1,9 @@
 //! The lines of a script as the core takes them, and the replies that it gives.
 use edit_rules::Act;
 use emu_names::{Broken, Series, SessionNo, Text};
-use eql_model::SegmentList;
 use eql_resolve::{AskFault, PrepareFault, Prepared};
 use requery::Requery;
+use segment_list::Listing;
 use textgrid::GridFault;
 
 /// The commands of a script.
@@ -47,6 +47,8 @@ pub enum Command {
     AddAttribute,
     /// `add_link_definition`: adds a link definition to the configuration.
     AddLinkDefinition,
+    /// `undo`: takes back what an earlier line of its session changed.
+    Undo,
     /// `query`: asks for a segment list.
     Query,
     /// `look`: keeps the present state for a query.
@@ -73,6 +75,8 @@ pub struct Ask {
 pub enum Request {
     /// A change, or the fault of the TextGrid that was to be added.
     Edit(Result<Act, GridFault>),
+    /// To take back the change that this earlier line of its session made.
+    Undo(u32),
     /// The answer to a query over the present state.
     Query(Ask),
     /// To keep the present state for this query.
@@ -106,7 +110,7 @@ pub enum Refusal {
     Rule {
         /// The rule.
         rule: Broken,
-        /// The place of the edit in the list of the line, counted from 1; none where the line has no list.
+        /// The place of the edit in the list of the line, counted from 1; none where the command has no list.
         place: Option<u32>,
     },
     /// The TextGrid that was to be added has this fault.
@@ -121,6 +125,12 @@ pub enum Refusal {
     NoLook,
     /// Rule 40: the session has an open look already.
     LookOpen,
+    /// Rule 58: the line that is to be taken back was not accepted.
+    NotAccepted,
+    /// Rule 59: what takes the line back has over 65,536 edits.
+    TooManyEdits,
+    /// Rule 60: nothing takes the line back, since it adds to the configuration.
+    NoInverse,
     /// Rule 41: the history has 100,000 entries.
     HistoryFull,
     /// Rule 42: the store would pass its limit.
@@ -137,7 +147,7 @@ pub enum Answer {
     /// It was done.
     Done(Command),
     /// The segment list of a query.
-    Segments(SegmentList),
+    Segments(Listing),
     /// It was refused.
     Refused(Refusal),
 }

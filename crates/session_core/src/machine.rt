@@ -10,8 +10,11 @@ ghost use Rattle.session_core.specs.Inner.Stops.{StopsAt};
 ghost use Rattle.std.specs.Prelude.{◌≡◌, ◌⊎◌, ◌++◌, ◌<◌, ◌≤◌, All, IfErr, IfOk, OnErr, OnOk, Some, length};
 
 use crate::event::{Event, Events};
+use crate::kept_acts::KeptActs;
 use crate::line::{Answer, Ask, Command, Line, Replies, Reply, Request};
-use crate::moves::{Head, begin_query, close_look, close_query, open_look, replay, try_given};
+use crate::moves::{
+    Head, begin_query, close_look, close_query, open_look, replay, try_given, try_undo,
+};
 use crate::slots::{Held, Slots};
 use db_config::Config;
 use edit_rules::{Database, Entries};
@@ -19,17 +22,20 @@ use emu_names::{Fault, Memory, SessionNo};
 use std::alloc::Global;
 use std::marker::Model;
 
-/// The core of a database: the configuration that it began with, its history, and for each session its open look
-/// and its query under way.
+/// The core of a database: the configuration and the number of entries that it began with, its history, and for each
+/// session its open look and its query under way.
 ///
-/// It keeps the database after the history, whose configuration may have more parts by then, and each look and each
-/// query under way shares the database of its moment, so that a look costs one owner more and not a copy.
+/// It keeps the database after the history, whose configuration may have more parts by then, and what takes back each
+/// entry that came since; each look and each query under way shares the database of its moment, so that a look costs
+/// one owner more and not a copy.
 #[derive(Drop)]
 pub struct Core {
     alloc: Global,
     config: Config,
     entries: Entries,
+    base: usize,
     database: Database,
+    kept: KeptActs,
     looks: Slots<Held>,
     queries: Slots<Held>,
 }
@@ -45,9 +51,9 @@ impl Model for Core {
 
     ghost use Rattle.session_core.specs.Inner.Kept.{IsKept, state_of};
 
-    ghost view = { λ a. state_of a.config a.entries a.looks a.queries };
+    ghost view = { λ a. state_of a.config a.entries a.base a.looks a.queries };
 
-    ghost invariant = { λ a. IsKept a.config a.entries a.database a.looks a.queries };
+    ghost invariant = { λ a. IsKept a.config a.entries a.base a.database a.kept.acts a.looks a.queries };
 }
 
 impl Core {
@@ -63,11 +69,15 @@ impl Core {
         let database = replay(alloc, config, &history)?;
         let looks = Slots::new(alloc)?;
         let queries = Slots::new(alloc)?;
+        let kept = KeptActs::new(alloc);
+        let base = history.len();
         Ok(Core {
             alloc,
             config: opening,
             entries: history,
+            base,
             database,
+            kept,
             looks,
             queries,
         })
@@ -95,7 +105,7 @@ impl Core {
         self.entries.len() as u64
     }
 
-    /// Tries an edit.
+    /// Tries an edit, or what takes a line back.
     fn edit(&mut self, line: Line) -> Result<Option<Reply>, Memory>
         ensures ok { IfOk result (λ reply. edit_event self.old line line.request ≡
             (reply, self.new)) }
@@ -112,8 +122,20 @@ impl Core {
                     self.alloc,
                     &mut self.entries,
                     &mut self.database,
+                    &mut self.kept,
                     head,
                     given,
+                )?;
+                Ok(Some(reply))
+            }
+            Request::Undo(earlier) => {
+                let reply = try_undo(
+                    self.alloc,
+                    &mut self.entries,
+                    &mut self.database,
+                    &mut self.kept,
+                    head,
+                    earlier,
                 )?;
                 Ok(Some(reply))
             }
@@ -170,6 +192,7 @@ impl Core {
                 drop(given);
                 Ok(None)
             }
+            Request::Undo(_) => Ok(None),
             Request::Finish => Ok(None),
         }
     }

@@ -1,17 +1,27 @@
 //! What one event does to the parts of the core, each part on its own.
 ghost use Rattle.edit_rules.specs.Effects.{after};
 ghost use Rattle.emu_names.specs.Inner.Gives.{GivesOrBroken};
-ghost use Rattle.session_core.specs.Inner.Kept.{edit_tried, given_tried, grid_told, head_reply, held_answer, held_at, look_closed, looked, query_closed, query_dropped, query_reply, ruled};
+ghost use Rattle.edit_rules.specs.Database.{DatabaseParts};
+ghost use Rattle.edit_rules.specs.Effects.{effect};
+ghost use Rattle.edit_rules.specs.Inner.Effects.{GivesOrBreach};
+ghost use Rattle.edit_undo.specs.Inverse.{bundle_for, inverse_at};
+ghost use Rattle.edit_undo.specs.Before.{IsBefore};
+ghost use Rattle.bundle_state.specs.Built.{FitsConfig};
+ghost use Rattle.session_core.specs.Undos.{latest_of, undo_refusal};
+ghost use Rattle.session_core.specs.Inner.Kept.{edit_accepted, edit_tried, given_tried, undo_tried, grid_told, head_reply, held_answer, held_at, look_closed, looked, query_closed, query_dropped, query_reply, ruled};
 ghost use Rattle.session_core.specs.Answers.{memory, place_shown, rule_refusal};
 ghost use Rattle.session_core.specs.Queries.{lacks_memory};
 ghost use Rattle.session_core.specs.Steps.{is_full as is_full_list, put_slot, reply_of, slot};
-ghost use Rattle.std.specs.Prelude.{◌≡◌, ◌<◌, None, Ok, Some, IfOk, OnErr, OnOk, length};
+ghost use Rattle.std.specs.Prelude.{◌≡◌, ◌<◌, None, Ok, Some, IfOk, IfSome, OnErr, OnOk, length, option_copied};
 
+use crate::kept_acts::KeptActs;
 use crate::line::{Answer, Ask, Command, Refusal, Reply};
 use crate::queries::{answer, lacks_memory};
 use crate::slots::{Held, Slots};
+use bundle_state::Bundle;
 use db_config::Config;
 use edit_rules::{Act, Breach, ChangeFault, Database, Entries, Entry, apply};
+use edit_undo::{InverseFault, NoUndo, inverse};
 use emu_names::limits::HISTORY_EDITS;
 use emu_names::{Fault, Memory, SessionNo};
 use std::alloc::Global;
@@ -58,18 +68,18 @@ pub fn replay(alloc: Global, config: Config, history: &Entries) -> Result<Databa
     Ok(database)
 }
 
-/// The place of the edit that breaks a rule, where it is told: the command is a list of edits.
+/// The place of the edit that breaks a rule, where it is told: the act of the command is a list of edits.
 fn place_shown(command: Command, place: u32) -> Option<u32>
     ensures { result ≡ place_shown command place }
 {
     match command {
-        Command::Edits => Some(place),
+        Command::Edits | Command::Undo => Some(place),
         _ => None,
     }
 }
 
-/// The refusal of an act by the rule that it breaks. The place of the edit is told where the command is a list of
-/// edits, also a list of one.
+/// The refusal of an act by the rule that it breaks. The place of the edit is told where the act of the command is a
+/// list of edits, also a list of one.
 pub fn refuse_rule(command: Command, breach: Breach) -> Refusal
     ensures { result ≡ rule_refusal command breach }
 {
@@ -87,41 +97,139 @@ fn is_full(entries: &Entries) -> bool
     HISTORY_EDITS <= entries.len()
 }
 
-/// Tries an act: the reply to it. It is put last in the history first, and taken out again where it
-/// is refused, or where memory runs out, which changes nothing.
-fn try_edit(
+/// The database that an act leaves, which shares what the act does not change.
+fn changed(alloc: Global, database: &Database, act: &Act) -> Result<Database, ChangeFault>
+    ensures { GivesOrBreach result (effect database.now act.now) }
+{
+    let mut next = database.copy(alloc)?;
+    apply(alloc, &mut next, act)?;
+    Ok(next)
+}
+
+/// The bundle that an act changes which breaks no rule, where it is there.
+fn bundle_of<'a>(database: &'a Database, act: &Act) -> Option<&'a Bundle>
+    requires { (next : DatabaseParts) × (effect database.now act.now ≡ Ok next) }
+    ensures bundle { option_copied result ≡ bundle_for act.now database.now.bundles }
+    ensures fits { IfSome (option_copied result) (λ b. FitsConfig database.now.config b) }
+    ensures before { IsBefore database.now.config (option_copied result) act.now }
+{
+    let _count = database.len();
+    match act {
+        Act::Edits(edits) => {
+            let _edits = edits.len();
+            database.bundle(edits.key())
+        }
+        Act::Config(_) => None,
+    }
+}
+
+/// What takes back an act that breaks no rule, or why nothing does. The only refusal is want of memory.
+fn take_back(alloc: Global, database: &Database, act: &Act) -> Result<Result<Act, NoUndo>, Memory>
+    requires { (next : DatabaseParts) × (effect database.now act.now ≡ Ok next) }
+    ensures { IfOk result (λ made. made ≡ inverse_at database.now act.now) }
+{
+    let old = bundle_of(database, act);
+    match inverse(alloc, database.config(), old, act) {
+        Ok(back) => Ok(Ok(back)),
+        Err(InverseFault::NoUndo(reason)) => Ok(Err(reason)),
+        Err(InverseFault::Memory) => Err(Memory),
+    }
+}
+
+/// Puts an act that leaves this database last in the history, and keeps what takes it back: the reply. Want of
+/// memory changes nothing.
+fn accept(
     alloc: Global,
     entries: &mut Entries,
     database: &mut Database,
+    kept: &mut KeptActs,
     head: Head,
     act: Act,
+    next: Database,
 ) -> Result<Reply, Memory>
-    ensures ok { IfOk result (λ reply. (reply, entries.new, database.new) ≡
-        edit_tried head act entries.old database.old) }
+    requires { effect database.old act ≡ Ok next }
+    ensures ok { IfOk result (λ reply. (reply, entries.new, database.new, kept.new.acts) ≡
+        edit_accepted head act entries.old database.old kept.old.acts next) }
     ensures history { OnErr result (entries.new ≡ entries.old) }
     ensures present { OnErr result (database.new ≡ database.old) }
+    ensures kept { OnErr result (kept.new.acts ≡ kept.old.acts) }
 {
-    let before = entries.len();
-    let n = before as u64;
-    if is_full(entries) {
-        drop(act);
-        return Ok(head.reply(Some(n), Answer::Refused(Refusal::HistoryFull)));
-    }
+    let inverse = take_back(alloc, database, &act)?;
+    kept.make_room()?;
     entries.push(Entry {
         session: head.session,
         line: head.line,
         act,
     })?;
-    match apply(alloc, database, &entries.get(before).act) {
-        Ok(()) => Ok(head.reply(Some(n + 1), Answer::Done(head.command))),
+    let n = entries.len() as u64;
+    kept.keep(head.session, head.line, inverse);
+    *database = next;
+    Ok(head.reply(Some(n), Answer::Done(head.command)))
+}
+
+/// Tries an act: the reply to it. Want of memory changes nothing.
+fn try_edit(
+    alloc: Global,
+    entries: &mut Entries,
+    database: &mut Database,
+    kept: &mut KeptActs,
+    head: Head,
+    act: Act,
+) -> Result<Reply, Memory>
+    ensures ok { IfOk result (λ reply. (reply, entries.new, database.new, kept.new.acts) ≡
+        edit_tried head act entries.old database.old kept.old.acts) }
+    ensures history { OnErr result (entries.new ≡ entries.old) }
+    ensures present { OnErr result (database.new ≡ database.old) }
+    ensures kept { OnErr result (kept.new.acts ≡ kept.old.acts) }
+{
+    let n = entries.len() as u64;
+    if is_full(entries) {
+        drop(act);
+        return Ok(head.reply(Some(n), Answer::Refused(Refusal::HistoryFull)));
+    }
+    match changed(alloc, database, &act) {
+        Ok(next) => accept(alloc, entries, database, kept, head, act, next),
         Err(ChangeFault::Broken(breach)) => {
-            entries.truncate(before);
             let refusal = refuse_rule(head.command, breach);
             Ok(head.reply(Some(n), Answer::Refused(refusal)))
         }
-        Err(ChangeFault::Memory) => {
-            entries.truncate(before);
-            Err(Memory)
+        Err(ChangeFault::Memory) => Err(Memory),
+    }
+}
+
+/// The refusal of an `undo` of a line that nothing takes back.
+pub fn refuse_undo(reason: NoUndo) -> Refusal
+    ensures { result ≡ undo_refusal reason }
+{
+    match reason {
+        NoUndo::NoInverse => Refusal::NoInverse,
+        NoUndo::TooManyEdits => Refusal::TooManyEdits,
+    }
+}
+
+/// Tries what takes back an earlier line of the session, where that was accepted: the reply. Want of memory changes
+/// nothing.
+pub fn try_undo(
+    alloc: Global,
+    entries: &mut Entries,
+    database: &mut Database,
+    kept: &mut KeptActs,
+    head: Head,
+    earlier: u32,
+) -> Result<Reply, Memory>
+    ensures ok { IfOk result (λ reply. (reply, entries.new, database.new, kept.new.acts) ≡
+        undo_tried head entries.old database.old kept.old.acts
+        (latest_of head.session.0 earlier kept.old.acts)) }
+    ensures history { OnErr result (entries.new ≡ entries.old) }
+    ensures present { OnErr result (database.new ≡ database.old) }
+    ensures kept { OnErr result (kept.new.acts ≡ kept.old.acts) }
+{
+    match kept.find(head.session, earlier) {
+        None => Ok(head.reply(None, Answer::Refused(Refusal::NotAccepted))),
+        Some(Err(reason)) => Ok(head.reply(None, Answer::Refused(refuse_undo(*reason)))),
+        Some(Ok(act)) => {
+            let act = act.copy(alloc)?;
+            try_edit(alloc, entries, database, kept, head, act)
         }
     }
 }
@@ -141,16 +249,18 @@ pub fn try_given(
     alloc: Global,
     entries: &mut Entries,
     database: &mut Database,
+    kept: &mut KeptActs,
     head: Head,
     given: Result<Act, GridFault>,
 ) -> Result<Reply, Memory>
-    ensures ok { IfOk result (λ reply. (reply, entries.new, database.new) ≡
-        given_tried head given entries.old database.old) }
+    ensures ok { IfOk result (λ reply. (reply, entries.new, database.new, kept.new.acts) ≡
+        given_tried head given entries.old database.old kept.old.acts) }
     ensures history { OnErr result (entries.new ≡ entries.old) }
     ensures present { OnErr result (database.new ≡ database.old) }
+    ensures kept { OnErr result (kept.new.acts ≡ kept.old.acts) }
 {
     match given {
-        Ok(act) => try_edit(alloc, entries, database, head, act),
+        Ok(act) => try_edit(alloc, entries, database, kept, head, act),
         Err(fault) => {
             let n = entries.len() as u64;
             Ok(refuse_grid(head, n, fault))

@@ -24,6 +24,7 @@ use eql_model::{MatchFault, SegmentList, answer_plain};
 use eql_resolve::{AskFault, Asked, PrepareFault, Prepared, resolve};
 use eql_syntax::QueryFault;
 use requery::{Reached, Requery, requery_plain, resolve_requery};
+use segment_list::{Listing, with_text};
 use std::alloc::Global;
 
 /// Whether the fault of a text is want of memory.
@@ -113,7 +114,7 @@ fn list_rows(alloc: Global, database: &Database, asked: &Asked) -> Result<Segmen
 
 /// The answer to a query, of what the listing of its rows gave. The only failure is want of memory.
 #[tactic(auto, using(crate::proofs::RowLists::answer_of_rows, crate::proofs::RowLists::answer_of_too_many))]
-pub fn answer_listed(listed: Result<SegmentList, MatchFault>) -> Result<Answer, Memory>
+pub fn answer_listed(listed: Result<Listing, MatchFault>) -> Result<Answer, Memory>
     ensures { (rows : List Row) (too_many : Bool) → GivesRows listed rows too_many
         → IfOk result (λ given. given ≡ listed_answer rows too_many) }
 {
@@ -176,7 +177,7 @@ fn answer_asked(alloc: Global, database: &Database, asked: &Asked) -> Result<Ans
         ≡ listed_answer (segment_list database.now.config database.now.bundles asked.now)
         (any_has_too_many database.now.config database.now.bundles asked.now)) }
 {
-    answer_listed(list_rows(alloc, database, asked))
+    answer_listed(with_text(alloc, list_rows(alloc, database, asked)))
 }
 
 /// The answer to a query that was prepared, with the name of the level of the times where it is given.
@@ -203,7 +204,7 @@ fn answer_reached(alloc: Global, database: &Database, reached: &Reached) -> Resu
         ≡ listed_answer (carried_list database.now.config database.now.bundles reached.now)
         (any_has_too_many database.now.config database.now.bundles reached.now.asked)) }
 {
-    answer_listed(list_carried(alloc, database, reached))
+    answer_listed(with_text(alloc, list_carried(alloc, database, reached)))
 }
 
 /// The answer to a query that was prepared and whose results are carried, with the name of the level of the

@@ -2,3 +2,4 @@ mod Commits
 mod Others
 mod Showing
 pub mod Sizes
+mod Undos

@@ -7,4 +7,5 @@ mod shown;
 mod turns;
 
 pub use in_order::{InOrder, new_in_order};
+pub use query_workers::answer_over;
 pub use turns::{commit_reply, or_memory};

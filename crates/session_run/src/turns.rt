@@ -4,17 +4,20 @@ ghost use Rattle.edit_rules.specs.Effects.{after};
 ghost use Rattle.session_core.specs.declared.line.Request.{Request};
 ghost use Rattle.session_core.specs.Inner.Kept.{AreHeld, held_at, look_closed};
 ghost use Rattle.session_core.specs.Steps.{session_places, slot};
+ghost use Rattle.session_core.specs.Undos.{latest_of};
+ghost use Rattle.live_book.specs.Inner.Inverses.{numbered};
 ghost use Rattle.session_run.specs.Inner.Orders.{commit_reply};
-ghost use Rattle.session_run.specs.Inner.Taken.{EditsBook, IsAnsweredAt, IsLookedAt, IsTaken, line_of, or_memory};
+ghost use Rattle.session_run.specs.Inner.Taken.{CommitsAct, EditsBook, IsAnsweredAt, IsLookedAt, IsTaken, KeepsActs, UndoesBook, acts_behind, line_of, or_memory};
 
 use crate::looks::Look;
 use crate::shown::look_at;
 use edit_rules::Act;
 use emu_disk::Disk;
 use emu_names::Memory;
-use live_book::{Book, EditFault, Published};
+use live_book::{Book, EditFault, Kept, Published};
 use session_core::{
-    Answer, Ask, Head, Line, Refusal, Reply, Request, Slots, memory_reply, refuse_grid, refuse_rule,
+    Answer, Ask, Head, KeptActs, Line, Refusal, Reply, Request, Slots, memory_reply, refuse_grid,
+    refuse_rule, refuse_undo,
 };
 use std::alloc::Global;
 use std::sync::Wait;
@@ -50,22 +53,80 @@ pub fn commit_reply(head: Head, made: Result<u64, EditFault>) -> Reply
     }
 }
 
+/// The reply to a line whose act was committed with this answer. What takes an accepted act back is kept.
+fn keep_made(kept: &mut KeptActs, head: Head, made: Result<Kept, EditFault>) -> Reply
+    requires { 0 < kept.old.room }
+    ensures reply { (request : Request) → result ≡ commit_reply (line_of head request) (numbered made) }
+    ensures acts { kept.new.acts ≡ acts_behind kept.old.acts head made }
+{
+    match made {
+        Ok(done) => {
+            kept.keep(head.session, head.line, done.inverse);
+            commit_reply(head, Ok(done.n))
+        }
+        Err(fault) => commit_reply(head, Err(fault)),
+    }
+}
+
+/// Commits an act of a line, and keeps what takes it back where it is accepted, for which room is made first: the reply.
+fn commit_act<D: Disk, R: Wait>(
+    rt: &R,
+    alloc: Global,
+    book: &mut Book<D>,
+    kept: &mut KeptActs,
+    head: Head,
+    act: &Act,
+) -> Reply
+    ensures { CommitsAct D.may_leave D.moment D.left_since D.faults
+        book.old kept.old.acts head act.now result book.new kept.new.acts }
+{
+    match kept.make_room() {
+        Err(Memory) => memory_reply(head.line, head.session),
+        Ok(()) => {
+            let made = book.commit_kept(rt, alloc, head.session, head.line, act);
+            keep_made(kept, head, made)
+        }
+    }
+}
+
 /// Commits the act of a line, unless its TextGrid has a fault: the reply.
 fn try_edit<D: Disk, R: Wait>(
     rt: &R,
     alloc: Global,
     book: &mut Book<D>,
+    kept: &mut KeptActs,
     head: Head,
     given: Result<Act, GridFault>,
 ) -> Reply
-    ensures { EditsBook D.may_leave D.moment D.left_since D.faults book.old head given result book.new }
+    ensures { EditsBook D.may_leave D.moment D.left_since D.faults
+        book.old kept.old.acts head given result book.new kept.new.acts }
 {
     match given {
-        Ok(act) => {
-            let made = book.commit(rt, alloc, head.session, head.line, &act);
-            commit_reply(head, made)
-        }
+        Ok(act) => commit_act(rt, alloc, book, kept, head, &act),
         Err(fault) => refuse_grid(head, book.number(), fault),
+    }
+}
+
+/// Commits what takes back an earlier line of the session, where that was accepted and something takes it back: the
+/// reply. What takes it back is what was kept of it.
+fn undo<D: Disk, R: Wait>(
+    rt: &R,
+    alloc: Global,
+    book: &mut Book<D>,
+    kept: &mut KeptActs,
+    head: Head,
+    earlier: u32,
+) -> Reply
+    ensures { UndoesBook D.may_leave D.moment D.left_since D.faults book.old kept.old.acts head
+        (latest_of head.session.0 earlier kept.old.acts) result book.new kept.new.acts }
+{
+    match kept.find(head.session, earlier) {
+        None => head.reply(None, Answer::Refused(Refusal::NotAccepted)),
+        Some(Err(reason)) => head.reply(None, Answer::Refused(refuse_undo(*reason))),
+        Some(Ok(act)) => match act.copy(alloc) {
+            Err(Memory) => memory_reply(head.line, head.session),
+            Ok(act) => commit_act(rt, alloc, book, kept, head, &act),
+        },
     }
 }
 
@@ -169,14 +230,16 @@ pub(crate) fn take_line<D: Disk, R: Threads + Wait + Sync>(
     book: &mut Book<D>,
     pass: &mut Pass<Published>,
     looks: &mut Slots<Look>,
+    kept: &mut KeptActs,
     line: Line,
 ) -> Reply
     requires gate { pass.old.gate ≡ book.old.gate }
     requires held { AreHeld book.old.config book.old.history looks.old }
+    requires acts { KeepsActs book.old.config book.old.history kept.old.acts }
     requires place { line.session.0 < session_places }
     ensures gate { pass.new.gate ≡ book.new.gate }
     ensures taken { IsTaken D.may_leave D.moment D.left_since D.faults
-        book.old looks.old line result book.new looks.new }
+        book.old looks.old kept.old.acts line result book.new looks.new kept.new.acts }
 {
     let head = Head {
         line: line.line,
@@ -184,7 +247,8 @@ pub(crate) fn take_line<D: Disk, R: Threads + Wait + Sync>(
         command: line.command,
     };
     match line.request {
-        Request::Edit(given) => try_edit(rt, alloc, book, head, given),
+        Request::Edit(given) => try_edit(rt, alloc, book, kept, head, given),
+        Request::Undo(earlier) => undo(rt, alloc, book, kept, head, earlier),
         Request::Query(ask) => or_memory(head, answer_query(rt, alloc, book, pass, head, ask)),
         Request::Look(ask) => or_memory(head, open_look(rt, book, pass, looks, head, ask)),
         Request::Finish => or_memory(head, close_look(rt, alloc, looks, head)),

@@ -4,9 +4,8 @@ ghost use Rattle.store_texts.specs.Inner.Head.{head_text};
 ghost use Rattle.store_texts.specs.Texts.{segments_text};
 
 use emu_names::{Memory, Text};
-use eql_model::SegmentList;
 use itoa::Buffer;
-use segment_list::print_rows;
+use segment_list::{Listing, print_rows};
 use std::alloc::Global;
 
 /// Writes what stands before the rows. The only refusal is want of memory.
@@ -21,7 +20,7 @@ fn push_head(out: &mut String, n: u64) -> Result<(), Memory>
 }
 
 /// The line of a segment list over a state to which `n` edits led. The only refusal is want of memory.
-pub(crate) fn segments_line(alloc: Global, n: u64, rows: &SegmentList) -> Result<Text, Memory>
+pub(crate) fn segments_line(alloc: Global, n: u64, rows: &Listing) -> Result<Text, Memory>
     ensures { IfOk result (λ text. text ≡ segments_text n rows.now) }
 {
     let rows = print_rows(alloc, rows)?;

@@ -3,6 +3,7 @@ use emu_names::{Broken, ItemId, Memory, SessionNo, Text, What};
 use eql_model::{Row, SegmentList};
 use eql_resolve::AskFault;
 use reply_texts::print_reply;
+use segment_list::Listing;
 use session_core::{Answer, Refusal, Reply};
 use std::alloc::Global;
 use std::process::Abort;
@@ -52,7 +53,7 @@ fn expect_reply(rt: &impl Abort, alloc: Global, reply: Reply, wanted: &str) -> R
 fn segments(alloc: Global, row: Row) -> Result<Answer, Memory> {
     let mut rows = SegmentList::new(alloc);
     rows.push(row)?;
-    Ok(Answer::Segments(rows))
+    Ok(Answer::Segments(Listing::of(alloc, &rows)?))
 }
 
 /// A row without times, whose names and labels have escapes.
@@ -92,6 +93,7 @@ enum Why {
     Overlap,
     TooManyBundles,
     LabelTooLong,
+    TooManyEdits,
 }
 
 /// The refusal by a rule, with the place of the edit that breaks it.
@@ -111,11 +113,12 @@ fn refusal(alloc: Global, why: Why) -> Result<Refusal, Memory> {
         Why::Overlap => broken(Broken::Overlap(ItemId(1)), Some(3)),
         Why::TooManyBundles => broken(Broken::TooMany(What::Bundles), None),
         Why::LabelTooLong => broken(Broken::LabelTooLong, None),
+        Why::TooManyEdits => Refusal::TooManyEdits,
     })
 }
 
 /// The number of edits in a reply, its refusal, and its text.
-static REFUSALS: [(Option<u64>, Why, &str); 9] = [
+static REFUSALS: [(Option<u64>, Why, &str); 10] = [
     (
         None,
         Why::NoLook,
@@ -160,6 +163,11 @@ static REFUSALS: [(Option<u64>, Why, &str); 9] = [
         Some(9),
         Why::LabelTooLong,
         "{\"line\":7,\"n\":9,\"refused\":{\"rule\":\"LabelTooLong\"}}\n",
+    ),
+    (
+        None,
+        Why::TooManyEdits,
+        "{\"line\":7,\"refused\":{\"rule\":\"TooManyEdits\"}}\n",
     ),
 ];
 

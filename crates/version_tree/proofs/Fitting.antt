@@ -11,9 +11,8 @@ use Rattle.db_config.specs.Added.{Extends}
 use Rattle.bundle_state.specs.Bundle.{BundleParts}
 use Rattle.bundle_state.specs.Fitted.{CanFit, fitted}
 use Rattle.bundle_state.proofs.FittedKept.{extensions_can_fit}
-use Rattle.bundle_edits.specs.declared.bundle_change.Counts.{Counts}
 use Rattle.bundle_index.specs.Index.{IndexParts}
-use Rattle.edit_rules.specs.Database.{DatabaseParts, IsBundleOf, all_items, are_keys_rising, counts_of, is_before}
+use Rattle.edit_rules.specs.Database.{Counts, DatabaseParts, IsBundleOf, all_items, are_keys_rising, counts_of, is_before}
 use Rattle.edit_rules.specs.Effects.{fitted_database}
 use Rattle.edit_rules.proofs.Fits.{all_fitted, items_fitted, rising_fitted}
 use Rattle.version_tree.specs.Version.{VersionParts, bundles_of, state_of}

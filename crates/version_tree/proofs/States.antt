@@ -7,8 +7,7 @@ use Rattle.emu_names.specs.declared.names.BundleKey.{BundleKey}
 use Rattle.db_config.specs.declared.parts.ConfigParts.{ConfigParts}
 use Rattle.bundle_state.specs.Bundle.{BundleParts, item_count}
 use Rattle.bundle_index.specs.Index.{IndexParts}
-use Rattle.bundle_edits.specs.declared.bundle_change.Counts.{Counts}
-use Rattle.edit_rules.specs.Database.{IsBundleOf, is_before, same_key, bundle_with, without, put_in_order, put_for, all_items, are_keys_rising}
+use Rattle.edit_rules.specs.Database.{Counts, IsBundleOf, is_before, same_key, bundle_with, without, put_in_order, put_for, all_items, are_keys_rising}
 use Rattle.edit_rules.proofs.KeyPlaces.{key_same}
 use Rattle.version_tree.specs.Version.{bundles_of}
 use Rattle.version_tree.specs.Inner.Version.{has_key, indexed_with, others, placed, put_indexed}

@@ -7,8 +7,7 @@ use Rattle.bundle_state.specs.Bundle.{BundleParts, item_count}
 use Rattle.bundle_state.specs.Built.{FitsConfig}
 use Rattle.bundle_state.specs.Valid.{KeepsBundleRules}
 use Rattle.bundle_index.specs.Index.{IndexParts}
-use Rattle.bundle_edits.specs.declared.bundle_change.Counts.{Counts}
-use Rattle.edit_rules.specs.Database.{DatabaseParts, IsBundleOf, all_items, are_keys_rising, counts_of}
+use Rattle.edit_rules.specs.Database.{Counts, DatabaseParts, IsBundleOf, all_items, are_keys_rising, counts_of}
 use Rattle.version_tree.specs.Version.{VersionParts, bundles_of, state_of}
 use Rattle.version_tree.specs.Inner.Version.{KeepsVersionRules, has_key, indexed_with, next_number, others, put_indexed, state_put, version_with, version_without}
 use Rattle.version_tree.specs.Inner.Kept.{IsKept, counts_in}

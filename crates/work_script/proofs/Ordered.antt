@@ -4,7 +4,7 @@ use Rattle.std.specs.List.{list_any}
 use Rattle.std.proofs.Math.Nat.{mul-div-le, mod-lt}
 use Rattle.session_core.specs.declared.line.Line.{Line}
 use Rattle.session_core.specs.InOrder.{ComeInOrder, ComesNext, IsBelow, NamesEarlier}
-use Rattle.session_core.specs.Worlds.{Each}
+use Rattle.session_core.specs.Worlds.{Each, NamesChange}
 use Rattle.work_script.specs.Script.{each, work_queries}
 use Rattle.work_script.specs.Inner.Script.{adding, last_of, others, wait_of, waits}
 use Rattle.work_script.specs.Inner.Lines.{AreAsking, IsScript}
@@ -57,6 +57,7 @@ added_come number (suc count) =
       place = omega (arith, bound);
       command = refl;
       earlier = tt;
+      names = tt;
     } in
     come_both [] (each (adding number) count) (adding number count ∷ []) (added_come number count) (next, tt)
 
@@ -98,6 +99,7 @@ waits_come number count (suc n) few =
       command = refl;
       earlier = any_left (λ (l : Line). nat_eq l.line earlier) added (each (wait_of count) n)
           (awaited_named number count (n + 2) (omega arith) (omega (arith, few)));
+      names = tt;
     } in
     come_both added (each (wait_of count) n) (wait_of count n ∷ []) (waits_come number count n (omega (arith, few))) (next, tt)
 
@@ -118,6 +120,7 @@ asks_come before line (text ∷ texts) (l ∷ ls) below asking =
       place = omega (arith, session);
       command = rw (asking.0.command, asking.0.request) refl;
       earlier = subst (NamesEarlier before) (sym asking.0.request) tt;
+      names = subst (NamesChange before l.session.0) (sym asking.0.request) tt;
     } in (
       next,
       asks_come (before ++ l ∷ []) (suc line) texts ls

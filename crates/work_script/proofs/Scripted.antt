@@ -31,6 +31,12 @@ act_of one two same = cc
 no_wait : (earlier : ℕ) (act : Act) → requests.After earlier ≡ requests.Edit (Ok act) → ⊥
 no_wait earlier act same = cc
 
+edit_is_none : (act : Act) (earlier : ℕ) → ◌≡◌ {A = Request} (requests.Edit (Ok act)) (requests.Undo earlier) → ⊥
+edit_is_none act earlier same = cc
+
+wait_is_none : (awaited earlier : ℕ) → requests.After awaited ≡ requests.Undo earlier → ⊥
+wait_is_none awaited earlier same = cc
+
 module _ (number count : ℕ) (lines : List Line) (script : IsScript number count lines) where
   abbrev pub added : List Line
   added = each (adding number) count
@@ -70,4 +76,26 @@ module _ (number count : ℕ) (lines : List Line) (script : IsScript number coun
           absurd (not_both from.asks.request is)
         where
           not_both : {q : _} → l.request ≡ requests.Query q → l.request ≡ requests.Edit (Ok act) → ⊥
+          not_both first second = cc
+
+  -- no line of the script takes another one back
+  pub none_back : (l : Line) (earlier : ℕ) → Has lines l → l.request ≡ requests.Undo earlier → ⊥
+  none_back l earlier has is =
+      by (has_either (added ++ waits count) script.asks l (subst (λ (ls : List Line). Has ls l) script.whole has))
+    where
+      front : Has added l ⊎ Has (waits count) l → ⊥
+      front (inl add) =
+          let from : IsEach (adding number) count l = has_each (adding number) count l add in
+          edit_is_none (work_act number from.at) earlier (ap (λ (k : Line). k.request) from.value ∙ is)
+      front (inr wait) =
+          let from : IsEach (wait_of count) (others count) l = has_each (wait_of count) (others count) l wait in
+          wait_is_none (last_of count (from.at + 2) + 2) earlier (ap (λ (k : Line). k.request) from.value ∙ is)
+
+      by : Has (added ++ waits count) l ⊎ Has script.asks l → ⊥
+      by (inl has) = front (has_either added (waits count) l has)
+      by (inr ask) =
+          let from = ask_of (length (added ++ waits count) + 2) work_queries script.asks l script.asking ask in
+          not_both from.asks.request is
+        where
+          not_both : {q : _} → l.request ≡ requests.Query q → l.request ≡ requests.Undo earlier → ⊥
           not_both first second = cc

@@ -25,7 +25,7 @@ use Rattle.work_script.proofs.Asked.{rows_asked}
 use Rattle.work_script.proofs.Lists.{each_at}
 use Rattle.work_script.proofs.Numbered.{asking_length, asks_at}
 use Rattle.work_script.proofs.Replied.{edit_there, entry_from, line_there, query_right, reply_from, right_for}
-use Rattle.work_script.proofs.Scripted.{adding_there, edit_is}
+use Rattle.work_script.proofs.Scripted.{adding_there, edit_is, none_back}
 use Rattle.work_script.proofs.States.{AddsOne, IsAddedIn, work_state}
 
 -- the counts of a version are those of the state after its entries
@@ -38,7 +38,7 @@ module _ (number count : ℕ) (lines : List Line) (script : IsScript number coun
     (legal : Legal work_config [] lines replies H store before now) (s : Summary) (up : IsSummedUp work_config H replies (length lines + 1) s) where
   adds : (e : Entry) → Has H e → AddsOne number count e
   adds e has =
-      let from = entry_from work_config lines replies H store before now legal e has in
+      let from = entry_from work_config lines replies H store before now legal (none_back number count lines script) e has in
       let is = edit_is number count lines script from.line from.act from.there from.request in
       record { bundle = is.bundle; low = is.low; is = ap (λ (x : Entry). x.act) from.entry ∙ is.is }
 

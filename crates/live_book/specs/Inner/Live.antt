@@ -7,8 +7,10 @@ use Rattle.version_gate.specs.declared.entry.Entry.{Entry as Numbered}
 use Rattle.version_gate.specs.Lists.{Numbered as IsNumbered}
 use Rattle.live_book.specs.declared.fault.EditFault.{EditFault}
 use Rattle.live_book.specs.declared.fault.EditFault.TheVariants.{Disk}
+use Rattle.live_book.specs.declared.kept.Kept.{Kept}
 use Rattle.live_book.specs.declared.published.Published.{Published}
 use Rattle.live_book.specs.Commits.{IsAnswer, history_behind}
+use Rattle.live_book.specs.Inner.Inverses.{KeepsInverse, numbered}
 use Rattle.live_book.specs.Live.{Opened, Shows}
 
 -- What a share counts: its parts, the edits that were accepted, and the answers that the disk failed
@@ -45,6 +47,12 @@ pub record EditsLive (o : Opened) (next : Entry) (old new : List (Numbered Publi
   pub seen : (k : ℕ) → IsNumbered k old → k ≤ length history
   pub learnt : IsPrefix old new
   pub shown : Shows o (history_behind history next result) new
+
+-- the same of an edit that keeps what takes its act back, over the entries that stood at that moment
+pub record EditsKept (o : Opened) (next : Entry) (old new : List (Numbered Published)) (result : Result Kept EditFault)
+    : Type 0 where
+  pub edits : EditsLive o next old new (numbered result)
+  pub inverse : KeepsInverse o.config edits.history next.act result
 
 -- into how many parts the shares of a book are cut at most, one for each session of a script
 abbrev pub all_parts : ℕ

@@ -1,6 +1,6 @@
 -- What the code of a lane does at one line, beside the list that its pass then has. These are no definitions of the
 -- product: they say how the steps of the code lead to those.
-use Rattle.std.specs.Prelude.{◌≡◌, ℕ, ◌≤◌, List, false, Option, Some, None, Result, length}
+use Rattle.std.specs.Prelude.{◌≡◌, ◌⊎◌, ℕ, ◌≤◌, List, [], ◌∷◌, ◌++◌, false, Option, Some, None, Result, Ok, Err, length}
 use mathlib.Core.List.{IsPrefix}
 use Rattle.edit_rules.specs.declared.acts.Act.{Act}
 use Rattle.edit_rules.specs.declared.acts.Entry.{Entry}
@@ -8,25 +8,30 @@ use Rattle.textgrid.specs.declared.fault.GridFault.{GridFault}
 use Rattle.version_gate.specs.declared.entry.Entry.{Entry as Numbered}
 use Rattle.version_gate.specs.Lists.{EndsIn, Numbered as IsNumbered, entry}
 use Rattle.version_tree.specs.Version.{state_of}
+use Rattle.session_core.specs.declared.kept_acts.KeptAct.{KeptAct}
 use Rattle.session_core.specs.declared.line.Answer.TheVariants.{Done, Refused}
 use Rattle.session_core.specs.declared.line.Ask.{Ask}
 use Rattle.session_core.specs.declared.line.Line.{Line}
 use Rattle.session_core.specs.declared.line.Refusal.TheVariants as refusals
 use Rattle.session_core.specs.declared.line.Reply.{Reply}
+use Rattle.session_core.specs.declared.line.Request.TheVariants as requests
 use Rattle.session_core.specs.declared.slots.Held.{Held}
 use Rattle.session_core.specs.Answers.{answer_over, reply_to}
 use Rattle.session_core.specs.Inner.Kept.{AreHeld, grid_told, look_closed, opened_in}
+use Rattle.session_core.specs.Legal.{Mark}
 use Rattle.session_core.specs.Queries.{lacks_memory}
 use Rattle.session_core.specs.Steps.{put_slot, slot}
+use Rattle.session_core.specs.Undos.{kept_act, latest_of}
 use Rattle.live_book.specs.declared.fault.EditFault.{EditFault}
+use Rattle.live_book.specs.declared.kept.Kept.{Kept}
 use Rattle.live_book.specs.declared.published.Published.{Published}
 use Rattle.live_book.specs.Commits.{entry_of}
+use Rattle.live_book.specs.Inner.Inverses.{numbered as number_in}
 use Rattle.live_book.specs.Live.{Opened}
-use Rattle.live_book.specs.Inner.Live.{Count, EditsLive, count_behind}
-use Rattle.session_run.specs.Inner.Orders.{commit_reply}
+use Rattle.live_book.specs.Inner.Live.{Count, EditsKept, count_behind}
 use Rattle.session_run.specs.Inner.Taken.{head_of}
 use Rattle.live_laws.specs.Lanes.{IsStep}
-use Rattle.live_seats.specs.Inner.Seats.{SeesMore, answered_step, counted_by}
+use Rattle.live_seats.specs.Inner.Seats.{KeepsMore, SeesMore, answered_step, counted_by}
 
 -- the query of a line was answered over the last version of a list
 pub record IsQueried (list : List (Numbered Published)) (l : Line) (ask : Ask) (reply : Reply) : Type 0 where
@@ -84,24 +89,38 @@ pub record IsGridRefused (list : List (Numbered Published)) (l : Line) (fault : 
   pub last : EndsIn list (entry n shown)
   pub made : reply ≡ grid_told (head_of l) n fault
 
--- an edit was answered
-pub record IsEdited (o : Opened) (old new : List (Numbered Published)) (count count_now : Count) (l : Line)
-    (act : Act) (reply : Reply) : Type 0 where
+-- an act was tried for a line
+pub record IsTried (o : Opened) (old new : List (Numbered Published)) (count count_now : Count) (l : Line)
+    (act : Act) (made : Result Kept EditFault) : Type 0 where
   pub seen : ℕ
   pub numbered : IsNumbered seen old
-  pub made : Result ℕ EditFault
-  pub edits : EditsLive o (entry_of l.session l.line act) old new made
-  pub counted : count_now ≡ count_behind count made
-  pub told : reply ≡ commit_reply l made
+  pub edits : EditsKept o (entry_of l.session l.line act) old new made
+  pub counted : count_now ≡ count_behind count (number_in made)
+
+-- what is kept behind an answer: what takes an accepted act back stands last
+abbrev pub kept_with : List KeptAct → Line → Result Kept EditFault → List KeptAct
+kept_with acts l (Ok kept) = acts ++ kept_act l.session l.line kept.inverse ∷ []
+kept_with acts l (Err fault) = acts
+
+-- a line asks to take back an earlier one of its session, and this act does so
+pub record AsksBack (acts : List KeptAct) (l : Line) (act : Act) : Type 0 where
+  pub earlier : ℕ
+  pub asks : l.request ≡ requests.Undo earlier
+  pub back : latest_of l.session.0 earlier acts ≡ Some (Ok act)
+
+-- a line wants an act: its own, or the one that takes back the line that it names
+abbrev pub WantsAct : List KeptAct → Line → Act → Type 0
+WantsAct acts l act = (l.request ≡ requests.Edit (Ok act)) ⊎ AsksBack acts l act
 
 -- What the reply to a line does to the parts of a seat, before its number is noted: the pass's list goes on, the share
 -- counts the answer, and beside whatever histories the lists show, it is a step of a lane
 pub record RepliesTo (o : Opened) (old new : List (Numbered Published)) (count count_now : Count)
-    (looks looks_now : List (Option Held)) (l : Line) (reply : Reply) (heard : Option ℕ) : Type 0 where
+    (looks looks_now : List (Option Held)) (acts acts_now : List KeptAct) (l : Line) (reply : Reply)
+    (heard : Option ℕ) : Type 0 where
   pub learnt : IsPrefix old new
   pub counted : count_now ≡ counted_by count (record { line = l; reply = reply })
   pub places : length looks_now ≡ length looks
-  pub step : (before history : List Entry) → SeesMore o old new looks before history
-      → IsStep o.config (length o.entries) o.stored before history (opened_in looks) (opened_in looks_now) l
+  pub step : (marks : List Mark) (before history : List Entry) → SeesMore o old new looks marks acts before history
+      → IsStep o.config (length o.entries) o.stored before history (opened_in looks) (opened_in looks_now) marks l
       (answered_step l reply (length history) heard)
-      × AreHeld o.config history looks_now
+      × KeepsMore o history looks_now marks acts_now l reply

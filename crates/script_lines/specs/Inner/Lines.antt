@@ -5,6 +5,7 @@ use Rattle.script_lines.specs.declared.faults.LineFault.{LineFault}
 use Rattle.script_lines.specs.declared.faults.LineFault.TheVariants as faults
 use Rattle.script_lines.specs.declared.faults.ReadLine.{ReadLine}
 use Rattle.script_lines.specs.Inner.Faults.{Reads}
+use Rattle.script_lines.specs.declared.line_set.EarlierLine.{EarlierLine}
 use Rattle.script_lines.specs.Made.{eql_of, IsMadeOf}
 use Rattle.eql_resolve.specs.Made.{Made, times_too_large}
 use Rattle.script_lines.specs.Lines.{request_of}
@@ -25,6 +26,6 @@ ReadsMade result asked there before now = ReadsBy result asked there before now
 
 -- the answer is the request of the line, or its first fault, by what a maker made of its query whose
 -- refusals were and are so many
-abbrev pub IsReadAs : Result ReadLine LineFault → List ℕ → ℕ → Bool → List ℕ → ℕ → ℕ → Type 0
+abbrev pub IsReadAs : Result ReadLine LineFault → List ℕ → ℕ → Bool → List EarlierLine → ℕ → ℕ → Type 0
 IsReadAs result bytes number wants earlier before now =
     ReadsMade result (eql_of bytes) (λ made. request_of bytes number wants earlier made) before now

@@ -8,7 +8,7 @@ use Rattle.edit_journal.specs.Held.{disk_of, count_in}
 use Rattle.live_book.specs.Commits.{has_journal}
 use Rattle.book_opening.specs.declared.fault.OpenFault.{OpenFault}
 use Rattle.book_opening.specs.declared.fault.OpenFault.TheVariants as opens
-use Rattle.store_texts.specs.Texts.{damaged_text}
+use Rattle.program_output.specs.Texts.{damaged_text}
 use Rattle.program_output.specs.declared.status.Status.{Status}
 use Rattle.program_output.specs.declared.status.Status.TheVariants as statuses
 use Rattle.script_runs.specs.Bases.{Base, IsBaseOf}

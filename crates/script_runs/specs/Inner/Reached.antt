@@ -5,7 +5,6 @@ use Rattle.emu_names.specs.Count.{Rose, RoseBy}
 use Rattle.db_config.specs.declared.parts.ConfigParts.{ConfigParts}
 use Rattle.edit_rules.specs.declared.acts.Entry.{Entry}
 use Rattle.session_core.specs.declared.line.Line.{Line}
-use Rattle.session_core.specs.declared.line.Reply.{Reply}
 use Rattle.session_core.specs.Steps.{start}
 use Rattle.session_core.specs.InOrder.{Outage, disk_outages, in_turn}
 use Rattle.emu_disk.specs.Disk.{LeavesOnly}
@@ -24,27 +23,28 @@ use Rattle.script_lines.specs.declared.faults.ReadLine.TheVariants as reads
 use Rattle.program_output.specs.declared.ended.Ended.{Ended}
 use Rattle.program_output.specs.declared.ended.Ended.TheVariants as ends
 use Rattle.script_runs.specs.declared.running.Running.{Running}
-use Rattle.script_runs.specs.Scripts.{AskedLine, AreRead, Parsed, read_from, with_read, parse, parse_line, parsed_front, passes_limit, script_from, Stop, limit, at_fault, numbers_of}
+use Rattle.script_runs.specs.Scripts.{AskedLine, AreRead, Parsed, read_from, with_read, parse, parse_line, parsed_front, passes_limit, script_from, Stop, limit, at_fault, earlier_of}
 use Rattle.script_runs.specs.Bases.{Base, wants_by, is_stored, opening_by, config_by, counted, IfRefused, LeavesStore, EachOf, AtEach, AtMoment}
-use Rattle.script_runs.specs.Runs.{replies_by, run_text, run_texts, WritesToLast}
+use Rattle.script_runs.specs.Runs.{run_text, run_texts, WritesToLast}
 use Rattle.script_runs.specs.Inner.Runs.{history_by}
 
 -- What the requests of a script leave in the journal.
 
 -- The journal of a run holds its configuration and the history that it leaves, and perhaps one entry more, which is
--- the edit of a line that the disk refused
-pub record KeepsHistory {D : Type 0} (may_leave : D → List ℕ → Type 0) (config : ConfigParts) (lines : List Line)
-    (replies : List Reply) (history : List Entry) (journal : Option (Journal D)) : Type 0 where
+-- the change of a line that the disk refused
+pub record KeepsHistory {D : Type 0} (may_leave : D → List ℕ → Type 0) (store : Bool) (config : ConfigParts)
+    (opening : List Entry) (lines : List Line) (outages : List Outage) (history : List Entry)
+    (journal : Option (Journal D)) : Type 0 where
   pub lost : Option Entry
-  pub why : IfRefused lines replies lost
+  pub why : IfRefused store (start config opening) lines outages lost
   pub keeps : KeepsIn may_leave config history lost journal
 
 -- without a configuration the journal has no bodies
-abbrev pub KeepsStore : {D : Type 0} → (D → List ℕ → Type 0) → Option ConfigParts → List Line → List Reply
-    → List Entry → Option (Journal D) → Type 0
-KeepsStore may_leave None lines replies history journal = IsEmpty may_leave journal
-KeepsStore may_leave (Some config) lines replies history journal =
-    KeepsHistory may_leave config lines replies history journal
+abbrev pub KeepsStore : {D : Type 0} → (D → List ℕ → Type 0) → Bool → Option ConfigParts → List Entry → List Line
+    → List Outage → List Entry → Option (Journal D) → Type 0
+KeepsStore may_leave store None opening lines outages history journal = IsEmpty may_leave journal
+KeepsStore may_leave store (Some config) opening lines outages history journal =
+    KeepsHistory may_leave store config opening lines outages history journal
 
 -- The requests of a script were run over a base, when the disk's count of faults was this: each has its place among
 -- the outages, the count rose as they say, and the journal keeps what they leave
@@ -53,7 +53,7 @@ pub record IsKept {D : Type 0} (may_leave : D → List ℕ → Type 0) (faults :
   pub each : length outages ≡ length p.requests
   pub stored : has_journal journal ≡ is_stored base
   pub rose : RoseBy (disk_outages (is_stored base) outages) (counted base begin) (faults_in faults journal)
-  pub kept : KeepsStore may_leave (config_by base p.config) p.requests (replies_by base p outages)
+  pub kept : KeepsStore may_leave (is_stored base) (config_by base p.config) (opening_by base) p.requests outages
       (history_by base p outages) journal
 
 -- a crash at any moment since a run began left bytes that have P, where there is a journal
@@ -64,7 +64,7 @@ LeavesSince disk begin (Some journal) P = LeavesOnly disk.moment disk.left_since
 -- what a crash at some moment of a run may have left, behind these requests
 abbrev pub AtMomentOf : (List ℕ → Type 0) → Base → Parsed → List Outage → List ℕ → Type 0
 AtMomentOf before base p outages c =
-    AtMoment before base (config_by base p.config) p.requests (replies_by base p outages) (history_by base p outages) c
+    AtMoment before base (config_by base p.config) p.requests outages (history_by base p outages) c
 
 -- The requests of a script were run over a base, since a disk was this one: the journal keeps what they leave, the
 -- history is no shorter than the one before them, and a crash at any moment left what it may
@@ -79,7 +79,7 @@ pub record IsDone (base : Base) (begin now : ℕ) (images : List ℕ → Type 0)
     : Type 0 where
   pub each : length outages ≡ length p.requests
   pub rose : RoseBy (disk_outages (is_stored base) outages) (counted base begin) (counted base now)
-  pub left : LeavesStore (is_stored base) (config_by base p.config) p.requests (replies_by base p outages)
+  pub left : LeavesStore (is_stored base) (config_by base p.config) (opening_by base) p.requests outages
       (history_by base p outages) images
 
 -- with what a crash at some moment of the run left
@@ -102,7 +102,7 @@ pub record IsAt {D : Type 0} (base : Base) (running : Running D) (config : Confi
   pub book : running.core.book.config ≡ config
   pub state : state_of running.core ≡
       (in_turn (is_stored base) (start config (opening_by base)) p.requests outages).1
-  pub earlier : running.earlier ≡ numbers_of p.requests
+  pub earlier : running.earlier ≡ earlier_of p.requests
   pub number : running.number ≡ p.number
 
 -- the run stands behind the line of its configuration, or before the first line where the store has one

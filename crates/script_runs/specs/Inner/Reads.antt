@@ -8,7 +8,7 @@ use Rattle.script_lines.specs.declared.faults.LineFault.TheVariants as faults
 use Rattle.program_output.specs.declared.ended.Ended.{Ended}
 use Rattle.program_output.specs.declared.ended.Ended.TheVariants as ends
 use Rattle.script_runs.specs.declared.reading.Reading.{Reading}
-use Rattle.script_runs.specs.Scripts.{AskedLine, AreRead, Parsed, numbers_of, parse, parse_line, passes_limit, read_from, script_from, Stop, limit, at_fault}
+use Rattle.script_runs.specs.Scripts.{AskedLine, AreRead, Parsed, earlier_of, parse, parse_line, passes_limit, read_from, script_from, Stop, limit, at_fault}
 
 -- what was read of a script so far
 pub record IsReading (reading : Reading) (parsed : Parsed) : Type 0 where
@@ -16,7 +16,7 @@ pub record IsReading (reading : Reading) (parsed : Parsed) : Type 0 where
   pub wants : reading.wants ≡ parsed.wants
   pub config : reading.config ≡ parsed.config
   pub lines : reading.lines ≡ parsed.requests
-  pub earlier : reading.earlier ≡ numbers_of parsed.requests
+  pub earlier : reading.earlier ≡ earlier_of parsed.requests
 
 -- these lines were read, and nothing ended the script among them
 pub record HasRead (wants : Bool) (lines : List (List ℕ)) (reading : Reading) (refusals refusals_now : ℕ) : Type 0 where

@@ -3,6 +3,7 @@ use Rattle.std.specs.Prelude.{◌≡◌, ◌≢◌, ◌≤◌, ℕ, Bool, true, 
 use Rattle.db_config.specs.declared.parts.ConfigParts.{ConfigParts}
 use Rattle.emu_names.specs.Count.{RoseBy}
 use Rattle.eql_resolve.specs.Made.{Made, times_too_large}
+use Rattle.script_lines.specs.declared.line_set.EarlierLine.{EarlierLine}
 use Rattle.script_lines.specs.declared.faults.LineFault.TheVariants as faults
 use Rattle.script_lines.specs.declared.faults.ReadLine.{ReadLine}
 use Rattle.script_lines.specs.declared.faults.ReadLine.TheVariants as reads
@@ -12,7 +13,7 @@ use Rattle.script_runs.specs.Scripts.{IsAnswered, line_at, passes_limit, Stop, a
 use Rattle.script_runs.specs.Inner.Scripts.{asked_line}
 
 -- a line was read, by a maker whose refusals were and are so many, and this is what it is
-pub record IsLineRead (line : List ℕ) (number : ℕ) (wants : Bool) (earlier : List ℕ)
+pub record IsLineRead (line : List ℕ) (number : ℕ) (wants : Bool) (earlier : List EarlierLine)
     (before now : ℕ) (there : Result ReadLine Stop) : Type 0 where
   pub made : Made
   pub answered : IsAnswered (asked_line line made)
@@ -20,7 +21,7 @@ pub record IsLineRead (line : List ℕ) (number : ℕ) (wants : Bool) (earlier :
   pub read : line_at number wants earlier (asked_line line made) ≡ there
 
 -- the line that was read is the defined one, or it passes a limit; memory may have run out
-abbrev pub ReadsNext : Result ReadLine Ended → List ℕ → ℕ → Bool → List ℕ → ℕ → ℕ → Type 0
+abbrev pub ReadsNext : Result ReadLine Ended → List ℕ → ℕ → Bool → List EarlierLine → ℕ → ℕ → Type 0
 ReadsNext (Ok read) line number wants earlier before now = IsLineRead line number wants earlier before now (Ok read)
 ReadsNext (Err ends.Limit) line number wants earlier before now = (passes_limit number line ≡ true) × (before ≤ now)
 ReadsNext (Err (ends.AtFault place fault)) line number wants earlier before now =

@@ -1,7 +1,7 @@
 -- The core's cache. This is no definition of the product: it says what the code keeps beside the state,
 -- which saves it to work out bundles again, namely the database of the present, and that of each moment
 -- that a look or a query under way is over.
-use Rattle.std.specs.Prelude.{◌≡◌, ◌≤◌, ℕ, ◌+◌, Bool, true, false, List, [], ◌∷◌, ◌++◌, length, map, take, Option, Some, None, Result, Ok, Err}
+use Rattle.std.specs.Prelude.{◌≡◌, ◌≤◌, ℕ, ◌+◌, Bool, true, false, List, [], ◌∷◌, ◌++◌, length, map, take, drop, Option, Some, None, Result, Ok, Err}
 use Rattle.std.specs.Option.{option_map}
 use Rattle.emu_names.specs.declared.kinds.SessionNo.{SessionNo}
 use Rattle.emu_names.specs.declared.rules.Broken.{Broken}
@@ -18,9 +18,13 @@ use Rattle.session_core.specs.declared.line.Refusal.TheVariants as refusals
 use Rattle.session_core.specs.declared.line.Line.{Line}
 use Rattle.session_core.specs.declared.line.Reply.{Reply}
 use Rattle.session_core.specs.declared.line.Request.{Request}
+use Rattle.session_core.specs.declared.kept_acts.KeptAct.{KeptAct}
 use Rattle.session_core.specs.declared.slots.Held.{Held}
 use Rattle.session_core.specs.declared.moves.Head.{Head}
 use Rattle.edit_rules.specs.Effects.{after, effect}
+use Rattle.edit_undo.specs.declared.faults.NoUndo.{NoUndo}
+use Rattle.edit_undo.specs.Inverse.{inverse_at}
+use Rattle.session_core.specs.Undos.{kept_act, kept_behind, undo_refusal}
 use Rattle.session_core.specs.Queries.{lacks_memory}
 use Rattle.session_core.specs.Answers.{answer_over, memory, is_want_of_memory, grid_number, grid_answer, rule_refusal}
 use Rattle.session_core.specs.Steps.{Opened, State, slot, put_slot, is_full, session_places, reply_of}
@@ -36,9 +40,9 @@ abbrev pub opened_in : List (Option Held) → List (Option Opened)
 opened_in slots = map (option_map opened_by) slots
 
 -- the state that the parts stand for
-abbrev pub state_of : ConfigParts → List Entry → List (Option Held) → List (Option Held) → State
-state_of c history looks queries =
-    record { config = c; entries = history; looks = opened_in looks; queries = opened_in queries }
+abbrev pub state_of : ConfigParts → List Entry → ℕ → List (Option Held) → List (Option Held) → State
+state_of c history base looks queries =
+    record { config = c; entries = history; base = base; looks = opened_in looks; queries = opened_in queries }
 
 -- a query that is held has the database of the moment that its number names
 pub record IsMoment (c : ConfigParts) (history : List Entry) (held : Held) : Type 0 where
@@ -55,10 +59,13 @@ pub record AreHeld (c : ConfigParts) (history : List Entry) (slots : List (Optio
   pub places : length slots ≡ session_places
   pub each : (s : ℕ) → IsHeld c history (slot slots s)
 
--- the database is that after the history, and what is held is of its moment
-pub record IsKept (c : ConfigParts) (history : List Entry) (database : DatabaseParts)
+-- the database is that after the history, what is kept takes back each entry that came since the beginning, and what
+-- is held is of its moment
+pub record IsKept (c : ConfigParts) (history : List Entry) (base : ℕ) (database : DatabaseParts) (acts : List KeptAct)
     (looks queries : List (Option Held)) : Type 0 where
   pub present : after c history ≡ Ok database
+  pub begun : base ≤ length history
+  pub taking_back : acts ≡ kept_behind c (take base history) (drop base history)
   pub of_looks : AreHeld c history looks
   pub of_queries : AreHeld c history queries
 
@@ -81,25 +88,43 @@ head_reply head n answer = reply_of head.line head.session n answer
 abbrev pub head_entry : Head → Act → Entry
 head_entry head act = record { session = head.session; line = head.line; act = act }
 
--- an act behind the rules: its entry is put last, or the rule is told
-abbrev pub edit_tried_made : Head → Act → List Entry → DatabaseParts → Result DatabaseParts Breach →
-    Reply × List Entry × DatabaseParts
-edit_tried_made head act history database (Ok next) =
-    (head_reply head (Some (length history + 1)) (Done head.command), history ++ head_entry head act ∷ [], next)
-edit_tried_made head act history database (Err breach) =
-    (head_reply head (Some (length history)) (Refused (rule_refusal head.command breach)), history, database)
+-- the reply, the history, the database and what is kept
+abbrev pub Tried : Type 0
+Tried = Reply × List Entry × DatabaseParts × List KeptAct
+
+-- an act that leaves this database: its entry is put last, and what takes it back is kept
+abbrev pub edit_accepted : Head → Act → List Entry → DatabaseParts → List KeptAct → DatabaseParts → Tried
+edit_accepted head act history database acts next = (
+  head_reply head (Some (length history + 1)) (Done head.command),
+  history ++ head_entry head act ∷ [],
+  next,
+  acts ++ kept_act head.session head.line (inverse_at database act) ∷ [],
+)
+
+-- an act behind the rules: it is accepted, or the rule is told
+abbrev pub edit_tried_made : Head → Act → List Entry → DatabaseParts → List KeptAct → Result DatabaseParts Breach → Tried
+edit_tried_made head act history database acts (Ok next) = edit_accepted head act history database acts next
+edit_tried_made head act history database acts (Err breach) =
+    (head_reply head (Some (length history)) (Refused (rule_refusal head.command breach)), history, database, acts)
 
 -- an act behind the limit of the history
-abbrev pub edit_tried_step : Head → Act → List Entry → DatabaseParts → Bool → Result DatabaseParts Breach →
-    Reply × List Entry × DatabaseParts
-edit_tried_step head act history database true made =
-    (head_reply head (Some (length history)) (Refused refusals.HistoryFull), history, database)
-edit_tried_step head act history database false made = edit_tried_made head act history database made
+abbrev pub edit_tried_step : Head → Act → List Entry → DatabaseParts → List KeptAct → Bool → Result DatabaseParts Breach → Tried
+edit_tried_step head act history database acts true made =
+    (head_reply head (Some (length history)) (Refused refusals.HistoryFull), history, database, acts)
+edit_tried_step head act history database acts false made = edit_tried_made head act history database acts made
 
--- an act: the reply, the history and the database
-abbrev pub edit_tried : Head → Act → List Entry → DatabaseParts → Reply × List Entry × DatabaseParts
-edit_tried head act history database =
-    edit_tried_step head act history database (is_full history) (effect database act)
+-- an act
+abbrev pub edit_tried : Head → Act → List Entry → DatabaseParts → List KeptAct → Tried
+edit_tried head act history database acts =
+    edit_tried_step head act history database acts (is_full history) (effect database act)
+
+-- an `undo`, by what takes its line back
+abbrev pub undo_tried : Head → List Entry → DatabaseParts → List KeptAct → Option (Result Act NoUndo) → Tried
+undo_tried head history database acts None =
+    (head_reply head None (Refused refusals.NotAccepted), history, database, acts)
+undo_tried head history database acts (Some (Err fault)) =
+    (head_reply head None (Refused (undo_refusal fault)), history, database, acts)
+undo_tried head history database acts (Some (Ok act)) = edit_tried head act history database acts
 
 -- the reply to the fault of a line's TextGrid, where n entries stand
 abbrev pub grid_told : Head → ℕ → GridFault → Reply
@@ -107,9 +132,9 @@ grid_told head n fault =
     head_reply head (grid_number n (is_want_of_memory fault)) (grid_answer fault (is_want_of_memory fault))
 
 -- an act that was given, or the fault of a TextGrid
-abbrev pub given_tried : Head → Result Act GridFault → List Entry → DatabaseParts → Reply × List Entry × DatabaseParts
-given_tried head (Ok act) history database = edit_tried head act history database
-given_tried head (Err fault) history database = (grid_told head (length history) fault, history, database)
+abbrev pub given_tried : Head → Result Act GridFault → List Entry → DatabaseParts → List KeptAct → Tried
+given_tried head (Ok act) history database acts = edit_tried head act history database acts
+given_tried head (Err fault) history database acts = (grid_told head (length history) fault, history, database, acts)
 
 -- a query that holds this database
 abbrev pub held_at : Head → Ask → ℕ → DatabaseParts → Held

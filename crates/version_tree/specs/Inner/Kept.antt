@@ -2,8 +2,7 @@
 use Rattle.std.specs.Prelude.{◌≡◌, Option, Some, None}
 use Rattle.bundle_state.specs.Bundle.{item_count}
 use Rattle.bundle_index.specs.Index.{IndexParts}
-use Rattle.bundle_edits.specs.declared.bundle_change.Counts.{Counts}
-use Rattle.edit_rules.specs.Database.{counts_of}
+use Rattle.edit_rules.specs.Database.{Counts, counts_of}
 use Rattle.version_tree.specs.Version.{VersionParts, bundles_of}
 use Rattle.version_tree.specs.Inner.Version.{KeepsVersionRules}
 

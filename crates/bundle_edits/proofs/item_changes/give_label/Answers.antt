@@ -1,4 +1,4 @@
-use Rattle.std.proofs.Common.{◌≡◌, ◌<◌, ℕ, List, length, Option, Some, None, Err, Result, option_map, rules, sym, ◌∙◌, ap, subst}
+use Rattle.std.proofs.Common.{◌≡◌, ◌<◌, ℕ, List, length, Option, Some, None, Result, option_map, rules, sym, ◌∙◌, ap, subst}
 use Rattle.std.specs.List.{slice_get}
 use Rattle.std.specs.Option.{option_and_then}
 use Rattle.emu_names.specs.Inner.Gives.{GivesOrBroken}
@@ -8,7 +8,7 @@ use Rattle.db_config.specs.declared.parts.ConfigParts.{ConfigParts}
 use Rattle.db_config.specs.declared.parts.LevelDef.{LevelDef}
 use Rattle.db_config.specs.Lookups.{attribute_named}
 use Rattle.bundle_state.specs.Bundle.{BundleParts, place_of}
-use Rattle.bundle_edits.proofs.Lookups.{level_low, named_low, attribute_low, given_is, not_given}
+use Rattle.bundle_edits.proofs.Lookups.{breaks, level_low, named_low, attribute_low, given_is, not_given}
 use Rattle.bundle_edits.proofs.item_changes.give_label.Goals as goal
 
 pub get-def-requires : goal.get-def-requires
@@ -45,16 +45,13 @@ returns-in-Some-attribute_in c =
     (ap (λ (n : List ℕ). attribute_named n c.get-def.result.now.attributes) (sym c.as_str.ensures) ∙ named) c.get-own.ensures))
     c.label_item.ensures
 
-pub returns-in_ok-copy-in-None : goal.returns-in_ok-copy-in-None
-returns-in_ok-copy-in-None c =
+pub returns-in-None : goal.returns-in-None
+returns-in-None c =
     let is : place_of c.args.bundle.levels c.args.id.0 ≡ Some (c.in-Some.level, c.in-Some._position) = search rules in
     let there : slice_get c.args.config.now.levels c.in-Some.level ≡ Some c.get-def.result.now =
     ap (λ (p : ConfigParts). slice_get p.levels c.in-Some.level) (sym c.parts.ensures.parts) ∙ c.get-def.ensures in
     let none : attribute_named c.as_str.result.now c.get-def.result.now.attributes ≡ None =
     sym (c.in-None.ensures ∙ ap (λ (o : Option LevelDef). option_and_then (λ d. attribute_named c.as_str.result.now d.attributes) o) there) in
-    not_given c.args.config.now c.args.bundle c.requires c.args.id c.in-Some.level c.in-Some._position is c.args.is_tested c.args.attribute.now c.args.label.now c.get-def.result.now there
-    (ap (λ (n : List ℕ). attribute_named n c.get-def.result.now.attributes) (sym c.as_str.ensures) ∙ none)
-    ∙ ap (λ (n : List ℕ). no_attribute n) (sym c.in_ok-copy-in-None.ensures)
-  where
-    no_attribute : List ℕ → Result BundleParts Broken
-    no_attribute name = Err (broken.NoAttribute name)
+    breaks (broken.NoAttribute c.args.attribute.now) c.no_attribute.result c.no_attribute.ensures
+    (not_given c.args.config.now c.args.bundle c.requires c.args.id c.in-Some.level c.in-Some._position is c.args.is_tested c.args.attribute.now c.args.label.now c.get-def.result.now there
+    (ap (λ (n : List ℕ). attribute_named n c.get-def.result.now.attributes) (sym c.as_str.ensures) ∙ none))

@@ -1,19 +1,16 @@
-use Rattle.std.proofs.Common.{◌≡◌, ◌<◌, ℕ, List, length, Bool, Option, None, Result, IfSome, IsTrue, sym, ◌∙◌, ap, subst, arith}
-use Rattle.std.specs.List.{slice_get}
+use Rattle.std.proofs.Common.{◌≡◌, ◌<◌, ℕ, length, Bool, Option, None, Result, sym, ap, subst, arith}
 use Rattle.std.proofs.lemmas.Option.{slice_get_within}
 use Rattle.emu_names.specs.Inner.Gives.{GivesOrBroken}
 use Rattle.emu_names.specs.declared.rules.Broken.{Broken}
 use Rattle.emu_names.specs.declared.rules.Fault.{Fault}
-use Rattle.level_items.specs.Levels.{are_labels_for}
 use Rattle.level_items.specs.declared.annot.AnnotItem.{AnnotItem}
 use Rattle.level_items.specs.declared.items.Item.{Item}
-use Rattle.db_config.specs.declared.attributes.AttributeDef.{AttributeDef}
 use Rattle.db_config.specs.declared.parts.LevelDef.{LevelDef}
 use Rattle.bundle_state.specs.Bundle.{BundleParts}
 use Rattle.bundle_state.specs.Changed.{item_added}
 use Rattle.bundle_state.specs.Linked.{unless_broken}
 use Rattle.emu_names.specs.Steps.{onward}
-use Rattle.bundle_state.specs.Made.{made_item, made_labels}
+use Rattle.bundle_state.specs.Made.{made_item}
 use Rattle.bundle_edits.specs.declared.bundle_change.Counts.{Counts}
 use Rattle.bundle_edits.specs.Changes.{given_item_fault, put_on}
 use Rattle.bundle_edits.proofs.Next.{level_count, has_room_on}
@@ -27,19 +24,18 @@ with_item-requires-clause-level c =
 
 pub with_item-requires-clause-labels : goal.with_item-requires-clause-labels
 with_item-requires-clause-labels c =
-    has_room_on c.args.is_tested c.args.config.now c.args.counts c.args.bundle c.args.number c.args.def.now c.args.item.now c.in_ok-made.made.labels c.requires.fits c.requires.level
-    c.in_ok-given_item_passes.ensures
-    (ap (λ (i : Item). i.labels) c.in_ok-made.ensures ∙ ap (λ (ds : List AttributeDef). made_labels ds c.args.item.now.labels) c.as_slice.ensures)
+    has_room_on c.args.is_tested c.args.config.now c.args.counts c.args.bundle c.args.number c.args.def.now c.args.item.now c.in-Ok.made.labels c.requires.fits c.requires.level
+    c.in-Ok.ensures.passed (ap (λ (i : Item). i.labels) c.in-Ok.ensures.made)
 
 -- the item that is made is put on the bundle
-put_as : (tested : Bool) (counts : Counts) (position : Option ℕ) (item : AnnotItem) (b : BundleParts) (number : ℕ) (def : LevelDef) (attributes : List AttributeDef) (made : Item) (result : Result BundleParts Fault) →
-    given_item_fault tested counts b.levels def item ≡ None → attributes ≡ def.attributes → made ≡ made_item attributes item →
+put_as : (tested : Bool) (counts : Counts) (position : Option ℕ) (item : AnnotItem) (b : BundleParts) (number : ℕ) (def : LevelDef) (made : Item) (result : Result BundleParts Fault) →
+    given_item_fault tested counts b.levels def item ≡ None → made ≡ made_item def.attributes item →
     GivesOrBroken result (item_added number position made b) → GivesOrBroken result (put_on tested counts position item b (number, def))
-put_as tested counts position item b number def attributes made result free same is gives =
+put_as tested counts position item b number def made result free is gives =
     subst (λ (o : Option Broken). GivesOrBroken result (onward (unless_broken o b) (item_added number position (made_item def.attributes item)))) (sym free)
-    (subst (λ (i : Item). GivesOrBroken result (item_added number position i b)) (is ∙ ap (λ (ds : List AttributeDef). made_item ds item) same) gives)
+    (subst (λ (i : Item). GivesOrBroken result (item_added number position i b)) is gives)
 
-pub returns : goal.returns
-returns c =
-    put_as c.args.is_tested c.args.counts c.args.position c.args.item.now c.args.bundle c.args.number c.args.def.now c.as_slice.result.now c.in_ok-made.made c.with_item.result
-    c.in_ok-given_item_passes.ensures c.as_slice.ensures c.in_ok-made.ensures c.with_item.ensures
+pub returns-in-Ok : goal.returns-in-Ok
+returns-in-Ok c =
+    put_as c.args.is_tested c.args.counts c.args.position c.args.item.now c.args.bundle c.args.number c.args.def.now c.in-Ok.made c.with_item.result
+    c.in-Ok.ensures.passed c.in-Ok.ensures.made c.with_item.ensures

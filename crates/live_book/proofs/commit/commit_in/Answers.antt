@@ -1,14 +1,9 @@
-use Rattle.live_book.specs.declared.fault.EditFault.TheVariants as edit_faults
 use Rattle.live_book.specs.Inner.Kept.{book_of}
 use Rattle.live_book.proofs.Committing.{refused_commits}
-use Rattle.live_book.proofs.Answering.{no_disk_as, memory_is_none}
+use Rattle.live_book.proofs.Answering.{no_disk_as}
 use Rattle.live_book.proofs.commit.commit_in.Goals as goal
 
 pub returns-in-Err-clause-commits : goal.returns-in-Err-clause-commits
 returns-in-Err-clause-commits g c =
     refused_commits g.D.Disk.may_leave g.D.Disk.moment g.D.Disk.left_since g.D.Disk.faults g.met.D.Disk.only_now (book_of c.args.parts.now) c.args.entry c.in-Err.fault c.in-Err.ensures.refused
     (no_disk_as c.in-Err.fault c.in-Err.ensures.no_disk)
-
-pub returns-in-Err-make_ready-clause-commits : goal.returns-in-Err-make_ready-clause-commits
-returns-in-Err-make_ready-clause-commits g c =
-    refused_commits g.D.Disk.may_leave g.D.Disk.moment g.D.Disk.left_since g.D.Disk.faults g.met.D.Disk.only_now (book_of c.args.parts.now) c.args.entry edit_faults.Memory tt memory_is_none

@@ -15,5 +15,5 @@ loop-at-preserved g c =
       capacity = omega arith;
       room = room_more c.args.seats c.loop-at.at c.args.lines.now c.loop-at.places.items c.push_reserved.new.self.items
           c.in_ok-place.place was.room c.push_reserved.ensures.items (omega (arith, c.loop-at.places.ok.0))
-          (sym (c.in_ok-place.ensures.room ∙ c.count.ensures));
+          (sym (c.in_ok-place.ensures.room ∙ c.count-count.ensures));
     }

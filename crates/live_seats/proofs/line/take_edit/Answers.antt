@@ -7,21 +7,18 @@ use Rattle.session_core.specs.declared.line.Request.TheVariants as requests
 use Rattle.session_core.specs.declared.moves.Head.{Head}
 use Rattle.session_run.specs.Inner.Taken.{or_memory}
 use Rattle.live_seats.specs.Inner.Replies.{RepliesTo}
-use Rattle.live_seats.proofs.Edits.{edit_replies}
 use Rattle.live_seats.proofs.Lines.{grid_replies}
 use Rattle.live_seats.proofs.line.take_edit.Goals as goal
 
 abbrev asked : Result Act GridFault → Request
 asked r = requests.Edit r
 
-pub returns-in-Ok-clause-replies : goal.returns-in-Ok-clause-replies
-returns-in-Ok-clause-replies g c looks =
-    edit_replies g.K.Opening.opened c.args.pass.now.list c.answer_edit.new.pass.list looks c.args.line.now c.answer_edit.ensures.edited.edits.learnt c.requires.place
-    c.in-Ok.act (c.requires.asks ∙ ap asked c.in-Ok.is) c.args.share.now c.answer_edit.new.share c.answer_edit.result c.answer_edit.ensures.edited
+pub take_act-requires-clause-asks : goal.take_act-requires-clause-asks
+take_act-requires-clause-asks g c = c.requires.asks ∙ ap asked c.in-Ok.is
 
 pub returns-in-Err-clause-replies : goal.returns-in-Err-clause-replies
 returns-in-Err-clause-replies g c looks =
-    subst (λ (r : Reply). RepliesTo g.K.Opening.opened c.args.pass.now.list c.answer_grid.new.pass.list c.args.share.now c.args.share.now looks looks c.args.line.now r None)
+    subst (λ (r : Reply). RepliesTo g.K.Opening.opened c.args.pass.now.list c.answer_grid.new.pass.list c.args.share.now c.args.share.now looks looks c.args.kept.now.acts c.args.kept.now.acts c.args.line.now r None)
     (sym (c.or_memory.ensures ∙ ap (λ (h : Head). or_memory h c.answer_grid.result) c.head.ensures))
-    (grid_replies g.K.Opening.opened c.args.pass.now.list c.answer_grid.new.pass.list c.args.share.now looks c.args.line.now c.answer_grid.ensures.learnt c.requires.place
+    (grid_replies g.K.Opening.opened c.args.pass.now.list c.answer_grid.new.pass.list c.args.share.now looks c.args.kept.now.acts c.args.line.now c.answer_grid.ensures.learnt c.requires.place
     c.in-Err.fault c.answer_grid.result (c.requires.asks ∙ ap asked c.in-Err.is) c.answer_grid.ensures.refused)

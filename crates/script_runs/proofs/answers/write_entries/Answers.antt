@@ -1,6 +1,6 @@
 use Rattle.script_runs.specs.LiveTexts.{text_of_mark}
 use Rattle.std.specs.List.{flat_map}
-use Rattle.store_texts.specs.Texts.{from_text}
+use Rattle.program_output.specs.Texts.{from_text}
 use Rattle.script_runs.proofs.AnswerLemmas.{texts_behind, texts_broke, texts_one_err, cause_later}
 use Rattle.script_runs.proofs.answers.write_entries.Goals as goal
 

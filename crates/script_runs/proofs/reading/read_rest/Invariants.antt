@@ -7,7 +7,7 @@ use Rattle.script_runs.proofs.reading.read_rest.Given as goal
 -- the lines so far were read, and those of the rest come next
 abbrev pub invariant-lines : goal.invariant-lines
 invariant-lines g l = record {
-  rises : All (λ n. n ≤ l.reading.number) l.reading.earlier;
+  rises : All (λ it. it.line ≤ l.reading.number) l.reading.earlier;
   few : l.reading.number ≤ SCRIPT_LINES;
   read : (wants : Bool) (lines : List (List ℕ)) (refusals : ℕ) → HasRead wants lines l.fn.reading refusals (g.P.PatternMaker.refusals l.fn.patterns) → InReading wants (lines ++ cut l.past l.bytes) (cut l.past l.rest) l.reading refusals (g.P.PatternMaker.refusals l.patterns);
 }

@@ -1,0 +1,4 @@
+pub mod Answers
+pub mod Links
+pub mod Items
+pub mod Turns

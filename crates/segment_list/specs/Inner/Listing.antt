@@ -1,0 +1,14 @@
+-- Words of contracts and loops of lists that are made part by part; no promise of the program rests on them.
+use Rattle.std.specs.Prelude.{◌≡◌, ℕ, List, false, length}
+use Rattle.std.specs.List.{flat_map}
+use Rattle.eql_model.specs.declared.row.Row.{Row}
+use Rattle.segment_list.specs.Inner.Pieces.{row_texts}
+
+-- the rows of the parts, one part after another
+abbrev pub in_turn : List (List Row) → List Row
+in_turn parts = flat_map (λ rows. rows) parts
+
+-- a part has the number of some rows and their text, with a comma between each two
+pub record IsPrinted (rows : List Row) (count : ℕ) (text : List ℕ) : Type 0 where
+  pub counted : count ≡ length rows
+  pub printed : text ≡ row_texts false rows
