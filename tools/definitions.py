@@ -16,6 +16,7 @@ BEGINS = re.compile(rf"^{KEYWORDS}|^[A-Za-z_][A-Za-z_0-9']* :")
 TOKEN = re.compile(r"[A-Za-z_«][A-Za-z_0-9»']*|◌?[^\sA-Za-z_0-9,{}()]+◌?")
 IMPORT = re.compile(r"use Rattle\.([a-z_0-9]+)\.specs\.([A-Za-z][A-Za-z0-9_.]*)\.\{([^}]*)\}")
 ALIAS = re.compile(r"use Rattle\.([a-z_0-9]+)\.specs\.([A-Za-z][A-Za-z0-9_.]*) as ([A-Za-z_0-9]+)")
+PASSED_ON = re.compile(r"Rattle\.[a-z_0-9]+\.specs\.([a-z_0-9]+)\.")
 TRAITS = ("emu_io", "emu_disk", "label_match")
 PAGE = "docs/DEFINITIONS.md"
 
@@ -72,9 +73,15 @@ class File:
             self.definitions.append(Definition((crate, module), path, begun, told, lines))
 
 
+def by_own_crate(match):
+    """A path through a crate that passes another one on, as a path of that other one."""
+    return f"Rattle.{match[1]}.specs." if os.path.isdir(f"crates/{match[1]}/src") else match[0]
+
+
 def imports(text):
     """What a text brings in, by the name that it uses; and the modules that it gives another name."""
     names, modules = {}, {}
+    text = PASSED_ON.sub(by_own_crate, text)
     for crate, module, listed in IMPORT.findall(text):
         for name in listed.split(","):
             said = name.strip().split(" as ")

@@ -6,9 +6,9 @@ use Rattle.std.proofs.lemmas.Bool.{ltb-true, ltb-false}
 use Rattle.emu_names.specs.declared.limits.TheConstants.{HISTORY_EDITS}
 use Rattle.db_config.specs.declared.parts.ConfigParts.{ConfigParts}
 use Rattle.db_config.specs.Valid.{is_valid}
-use Rattle.edit_rules.specs.declared.acts.Entry.{Entry}
-use Rattle.edit_rules.specs.Database.{empty_database}
-use Rattle.edit_code.specs.Codes.{head_code, IsHeadCode}
+use Rattle.version_tree.specs.edit_rules.declared.acts.Entry.{Entry}
+use Rattle.version_tree.specs.edit_rules.Database.{empty_database}
+use Rattle.live_book.specs.edit_code.Codes.{head_code, IsHeadCode}
 use Rattle.emu_disk.proofs.Moments.{started, weaker}
 use Rattle.edit_journal.specs.declared.journal.Journal.{Journal}
 use Rattle.edit_journal.specs.Store.{limit, start, StandsFor}

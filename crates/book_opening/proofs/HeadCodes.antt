@@ -3,9 +3,9 @@ use Rattle.std.proofs.Common.{◌≡◌, true, false, Bool, ℕ, ◌<◌, List, 
 use Rattle.std.specs.Prelude.{◌&&◌}
 use Rattle.db_config.specs.declared.parts.ConfigParts.{ConfigParts}
 use Rattle.db_config.specs.Valid.{is_valid}
-use Rattle.edit_rules.specs.declared.acts.Entry.{Entry}
+use Rattle.version_tree.specs.edit_rules.declared.acts.Entry.{Entry}
 use Rattle.byte_forms.specs.Parts.{led, byte_in}
-use Rattle.edit_code.specs.Codes.{entry_code, head_code, IsEntryCode, IsHeadCode}
+use Rattle.live_book.specs.edit_code.Codes.{entry_code, head_code, IsEntryCode, IsHeadCode}
 use Rattle.value_codes.specs.Heads.{head_form, parts_form}
 use Rattle.db_config.specs.Made.{is_made}
 

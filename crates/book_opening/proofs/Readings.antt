@@ -4,10 +4,10 @@ use Rattle.std.specs.Prelude.{IsErrAnd}
 use Rattle.std.proofs.lemmas.List.{take_more}
 use Rattle.db_config.specs.declared.parts.ConfigParts.{ConfigParts}
 use Rattle.db_config.specs.Valid.{is_valid}
-use Rattle.edit_rules.specs.declared.acts.Breach.{Breach}
-use Rattle.edit_rules.specs.declared.acts.Entry.{Entry}
-use Rattle.edit_rules.specs.Effects.{effect}
-use Rattle.edit_code.specs.Codes.{entry_code, head_code, IsEntryCode, IsHeadCode}
+use Rattle.version_tree.specs.edit_rules.declared.acts.Breach.{Breach}
+use Rattle.version_tree.specs.edit_rules.declared.acts.Entry.{Entry}
+use Rattle.version_tree.specs.edit_rules.Effects.{effect}
+use Rattle.live_book.specs.edit_code.Codes.{entry_code, head_code, IsEntryCode, IsHeadCode}
 use Rattle.edit_journal.specs.declared.body.Body.{Body}
 use Rattle.edit_journal.specs.Held.{texts_of}
 use Rattle.edit_journal.proofs.Found.{texts_of-push}

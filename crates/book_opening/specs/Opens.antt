@@ -2,7 +2,7 @@
 use Rattle.std.specs.Prelude.{◌≡◌, ◌⊎◌, ℕ, List, [], Bool, true, Option, None, Some}
 use Rattle.emu_names.specs.Count.{Rose}
 use Rattle.db_config.specs.declared.parts.ConfigParts.{ConfigParts}
-use Rattle.edit_code.specs.Codes.{head_code}
+use Rattle.live_book.specs.edit_code.Codes.{head_code}
 use Rattle.edit_journal.specs.declared.journal.Journal.{Journal}
 use Rattle.edit_journal.specs.Held.{Holds, disk_of}
 use Rattle.book_opening.specs.declared.fault.OpenFault.{OpenFault}

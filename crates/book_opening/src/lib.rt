@@ -7,5 +7,6 @@ mod opening;
 mod replay;
 
 pub use fault::OpenFault;
+pub use live_book;
 pub use making::{MadeBook, NoBook, new_book};
 pub use opening::{NoStore, Opened, open_store};

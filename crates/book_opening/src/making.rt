@@ -3,7 +3,7 @@ ghost use Rattle.std.specs.Prelude.{◌≡◌, ◌≤◌, [], ℕ, true, None, S
 ghost use Rattle.emu_names.specs.Count.{HasCause};
 ghost use Rattle.db_config.specs.declared.parts.ConfigParts.{ConfigParts};
 ghost use Rattle.edit_journal.specs.Held.{Holds, LeavesIn, count_in};
-ghost use Rattle.edit_code.specs.Codes.{head_code, IsHeadCode};
+ghost use Rattle.live_book.specs.edit_code.Codes.{head_code, IsHeadCode};
 ghost use Rattle.live_book.specs.Histories.{HeadPassesLimit};
 ghost use Rattle.live_book.specs.Kept.{Keeps, KeepsIn, CrashLeaves, faults_in};
 ghost use Rattle.live_book.specs.Commits.{has_journal};
@@ -14,17 +14,17 @@ ghost use Rattle.book_opening.specs.Inner.Prepared.{IsHeadFrameOf, IsFirstShown,
 
 use crate::fault::OpenFault;
 use db_config::Config;
-use edit_code::{head_len, write_head};
 use edit_journal::{Frame, Journal, JournalFault};
-use edit_rules::Entries;
 use emu_disk::{Disk, Failed};
 use emu_names::limits::STORE_BYTES;
 use emu_names::{Memory, Shared};
+use live_book::edit_code::{head_len, write_head};
 use live_book::{Book, Parts, Published};
 use std::alloc::Global;
 use std::sync::{Arc, Wait};
 use version_gate::{Made, Passes, Publisher, new_gate};
 use version_tree::Version;
+use version_tree::edit_rules::Entries;
 
 /// A new book, with the passes of its gate, of which there is at least one.
 pub struct MadeBook<D: Disk> {

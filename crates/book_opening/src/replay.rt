@@ -2,10 +2,10 @@
 ghost use Rattle.std.specs.Prelude.{◌≡◌, ◌<◌, ◌++◌, [], ◌∷◌, ℕ, List, length, IfOk, IfErr, Ok, OnOk, IsTrue};
 ghost use Rattle.db_config.specs.declared.parts.ConfigParts.{ConfigParts};
 ghost use Rattle.db_config.specs.Valid.{is_valid};
-ghost use Rattle.edit_code.specs.Codes.{IsEntryCode, IsHeadCode};
+ghost use Rattle.live_book.specs.edit_code.Codes.{IsEntryCode, IsHeadCode};
 ghost use Rattle.edit_journal.specs.Held.{texts_of};
-ghost use Rattle.edit_rules.specs.Database.{KeepsDatabaseRules};
-ghost use Rattle.edit_rules.specs.Effects.{effect};
+ghost use Rattle.version_tree.specs.edit_rules.Database.{KeepsDatabaseRules};
+ghost use Rattle.version_tree.specs.edit_rules.Effects.{effect};
 ghost use Rattle.version_tree.specs.Version.{state_of};
 ghost use Rattle.version_tree.specs.Inner.Version.{first_version, next_number};
 ghost use Rattle.live_book.specs.Histories.{IsNoEntry, IsNoHead, IsNoNext};
@@ -14,14 +14,14 @@ ghost use Rattle.book_opening.specs.Inner.Prepared.{BreaksRule, IsHistoryOf, IsW
 
 use crate::fault::OpenFault;
 use db_config::Config;
-use edit_code::{CodeFault, read_entry, read_head};
 use edit_journal::Body;
-use edit_rules::{ChangeFault, Entries, Entry};
 use emu_names::limits::HISTORY_EDITS;
 use emu_names::{Memory, Shared};
+use live_book::edit_code::{CodeFault, read_entry, read_head};
 use live_book::next_version;
 use std::alloc::Global;
 use version_tree::Version;
+use version_tree::edit_rules::{ChangeFault, Entries, Entry};
 
 /// Entries that were read, the configuration before them, and the version after them.
 #[derive(Drop)]

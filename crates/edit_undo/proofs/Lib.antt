@@ -5,3 +5,4 @@ pub mod Own
 pub mod InTurn
 pub mod Passing
 pub mod Places
+pub use Rattle.edit_rules.proofs as of_edit_rules

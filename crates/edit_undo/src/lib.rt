@@ -13,5 +13,6 @@ mod reversed;
 mod turns;
 
 pub use act_inverse::inverse;
+pub use edit_rules;
 pub use faults::{InverseFault, NoUndo};
 pub use laws::passing_acts_are_before;

@@ -1,15 +1,15 @@
 -- What a status says, of a whole call.
 use Rattle.std.proofs.Common.{◌≡◌, ◌⊎◌, inl, inr, ℕ, Bool, true, false, List, Option, Some, None, refl, sym, ◌∙◌, ap, subst}
-use Rattle.program_output.specs.declared.status.Status.{Status}
-use Rattle.program_output.specs.declared.status.Status.TheVariants as statuses
-use Rattle.program_output.specs.Texts.{usage_text}
+use Rattle.script_runs.specs.program_output.declared.status.Status.{Status}
+use Rattle.script_runs.specs.program_output.declared.status.Status.TheVariants as statuses
+use Rattle.script_runs.specs.program_output.Texts.{usage_text}
 use Rattle.cli_words.specs.declared.words.Words.{Words}
 use Rattle.cli_words.specs.declared.words.Words.TheVariants as forms
 use Rattle.cli_words.specs.Forms.{words_of}
-use Rattle.program_output.specs.declared.ending.Ending.{Ending}
+use Rattle.script_runs.specs.program_output.declared.ending.Ending.{Ending}
 use Rattle.emu_cli.specs.Ends.{is_of_store}
 use Rattle.script_runs.specs.Says.{Call}
-use Rattle.program_output.specs.Statuses.{WritesLast, code_of}
+use Rattle.script_runs.specs.program_output.Statuses.{WritesLast, code_of}
 use Rattle.emu_cli.specs.Calls.{AskForRun, AsksForStore, CallEnds, IsLiveWords, IsNoCommand, IsNoLive, IsNoRun, IsRunWords, IsWorkWords, RunCompletes, SaysStore, SaysUsage, SaysWork}
 use Rattle.emu_cli.specs.Inner.Calls.{EndsApart, live_asked, run_asked}
 

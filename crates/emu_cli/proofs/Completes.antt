@@ -6,20 +6,20 @@ use Rattle.cli_words.specs.declared.words.Words.{Words}
 use Rattle.cli_words.specs.declared.words.Words.TheVariants as forms
 use Rattle.emu_io.specs.declared.tree.Stored.{Stored}
 use Rattle.db_config.specs.declared.parts.ConfigParts.{ConfigParts}
-use Rattle.edit_rules.specs.declared.acts.Act.{Act}
-use Rattle.edit_rules.specs.declared.acts.Entry.{Entry}
+use Rattle.version_tree.specs.edit_rules.declared.acts.Act.{Act}
+use Rattle.version_tree.specs.edit_rules.declared.acts.Entry.{Entry}
 use Rattle.emu_disk.specs.declared.disk.Disk as disks
-use Rattle.store_texts.specs.declared.faults.Refused.{Refused}
-use Rattle.store_texts.specs.declared.faults.CommandFault.{CommandFault}
-use Rattle.store_texts.specs.declared.faults.CommandFault.TheVariants as faults
-use Rattle.store_texts.specs.Commands.{Tells}
+use Rattle.emudb_files.specs.store_texts.declared.faults.Refused.{Refused}
+use Rattle.emudb_files.specs.store_texts.declared.faults.CommandFault.{CommandFault}
+use Rattle.emudb_files.specs.store_texts.declared.faults.CommandFault.TheVariants as faults
+use Rattle.emudb_files.specs.store_texts.Commands.{Tells}
 use Rattle.emudb_files.specs.Answers.{HasDiskCause, HasReadCause}
 use Rattle.emudb_files.specs.Wanted.{import_wanted}
-use Rattle.program_output.specs.declared.ending.Ending.{Ending}
-use Rattle.program_output.specs.declared.ending.Ending.TheVariants.{Fine as Gives, Refused as Refuses, Damaged as IsDamaged, Read as Unread, Disk as NoDisk, Memory as OutOfMemory}
-use Rattle.program_output.specs.declared.status.Status.{Status}
-use Rattle.program_output.specs.declared.status.Status.TheVariants as statuses
-use Rattle.program_output.specs.Statuses.{Finishes, code_of}
+use Rattle.script_runs.specs.program_output.declared.ending.Ending.{Ending}
+use Rattle.script_runs.specs.program_output.declared.ending.Ending.TheVariants.{Fine as Gives, Refused as Refuses, Damaged as IsDamaged, Read as Unread, Disk as NoDisk, Memory as OutOfMemory}
+use Rattle.script_runs.specs.program_output.declared.status.Status.{Status}
+use Rattle.script_runs.specs.program_output.declared.status.Status.TheVariants as statuses
+use Rattle.script_runs.specs.program_output.Statuses.{Finishes, code_of}
 use Rattle.script_runs.proofs.CompleteLemmas.{not_damaged_base}
 use Rattle.cli_words.specs.Forms.{words_of}
 use Rattle.emu_cli.specs.Calls.{EndsWork}

@@ -3,25 +3,25 @@ use Rattle.std.proofs.Common.{◌≡◌, ◌⊎◌, inl, inr, ℕ, ◌≤◌, Li
 use Rattle.std.specs.Option.{option_map}
 use Rattle.emu_io.specs.declared.tree.Stored.{Stored}
 use Rattle.db_config.specs.declared.parts.ConfigParts.{ConfigParts}
-use Rattle.edit_rules.specs.declared.acts.Act.{Act}
-use Rattle.edit_rules.specs.declared.acts.Entry.{Entry}
+use Rattle.version_tree.specs.edit_rules.declared.acts.Act.{Act}
+use Rattle.version_tree.specs.edit_rules.declared.acts.Entry.{Entry}
 use Rattle.emu_disk.specs.declared.disk.Disk as disks
 use Rattle.emu_disk.proofs.Moments.{joined, weaker}
 use Rattle.edit_journal.specs.declared.journal.Journal.{Journal}
 use Rattle.edit_journal.specs.Held.{disk_of, Holds}
 use Rattle.edit_journal.proofs.Kept.{stands_may}
-use Rattle.live_book.specs.declared.fault.EditFault.{EditFault}
-use Rattle.live_book.specs.declared.fault.EditFault.TheVariants as edit_faults
-use Rattle.live_book.specs.Histories.{IsBare}
-use Rattle.live_book.specs.Kept.{BookParts, CrashLeaves, KeepsIn, StandsOrLost, faults_in}
-use Rattle.live_book.specs.Commits.{Commits, DuringCommit}
-use Rattle.live_book.proofs.Storing.{images}
-use Rattle.book_opening.specs.declared.fault.OpenFault.{OpenFault}
-use Rattle.book_opening.specs.declared.fault.OpenFault.TheVariants as open_faults
-use Rattle.book_opening.specs.Opens.{DuringNoBook, IsNoBookFor}
-use Rattle.book_opening.specs.Inner.Opens.{LeavesFrom}
-use Rattle.store_texts.specs.declared.faults.Refused.{Refused}
-use Rattle.store_texts.specs.declared.faults.CommandFault.{CommandFault}
+use Rattle.script_runs.specs.live_book.declared.fault.EditFault.{EditFault}
+use Rattle.script_runs.specs.live_book.declared.fault.EditFault.TheVariants as edit_faults
+use Rattle.script_runs.specs.live_book.Histories.{IsBare}
+use Rattle.script_runs.specs.live_book.Kept.{BookParts, CrashLeaves, KeepsIn, StandsOrLost, faults_in}
+use Rattle.script_runs.specs.live_book.Commits.{Commits, DuringCommit}
+use Rattle.script_runs.proofs.of_live_book.Storing.{images}
+use Rattle.script_runs.specs.book_opening.declared.fault.OpenFault.{OpenFault}
+use Rattle.script_runs.specs.book_opening.declared.fault.OpenFault.TheVariants as open_faults
+use Rattle.script_runs.specs.book_opening.Opens.{DuringNoBook, IsNoBookFor}
+use Rattle.script_runs.specs.book_opening.Inner.Opens.{LeavesFrom}
+use Rattle.emudb_files.specs.store_texts.declared.faults.Refused.{Refused}
+use Rattle.emudb_files.specs.store_texts.declared.faults.CommandFault.{CommandFault}
 use Rattle.emudb_files.specs.Answers.{HasDiskCause, edit_answer}
 use Rattle.emudb_files.specs.Stored.{DuringLoad, Imports, IsMade, LeavesAlong, Loads, own_entry}
 use Rattle.emudb_files.specs.Wanted.{bundles_wanted}

@@ -7,14 +7,14 @@ use Rattle.emu_disk.specs.Disk.{LeavesOnly}
 use Rattle.edit_journal.specs.declared.journal.Journal.{Journal}
 use Rattle.edit_journal.specs.Held.{disk_of, Holds}
 use Rattle.version_gate.specs.Lists.{Front}
-use Rattle.live_book.specs.declared.published.Published.{Published}
-use Rattle.live_book.specs.Histories.{OfRead, IsBare, Stands}
-use Rattle.live_book.specs.Kept.{BookParts, KeepsIn, faults_in}
-use Rattle.live_book.specs.Commits.{has_journal}
-use Rattle.book_opening.specs.declared.opening.Opened.{Opened}
-use Rattle.book_opening.specs.declared.opening.Opened.TheVariants as stores
-use Rattle.book_opening.specs.Inner.Opens.{IsOpenedAs, LeavesFrom, journal_in}
-use Rattle.program_output.specs.declared.ending.Ending.{Ending}
+use Rattle.script_runs.specs.live_book.declared.published.Published.{Published}
+use Rattle.script_runs.specs.live_book.Histories.{OfRead, IsBare, Stands}
+use Rattle.script_runs.specs.live_book.Kept.{BookParts, KeepsIn, faults_in}
+use Rattle.script_runs.specs.live_book.Commits.{has_journal}
+use Rattle.script_runs.specs.book_opening.declared.opening.Opened.{Opened}
+use Rattle.script_runs.specs.book_opening.declared.opening.Opened.TheVariants as stores
+use Rattle.script_runs.specs.book_opening.Inner.Opens.{IsOpenedAs, LeavesFrom, journal_in}
+use Rattle.script_runs.specs.program_output.declared.ending.Ending.{Ending}
 use Rattle.emu_disk.specs.declared.disk.Disk as disks
 use Rattle.emu_cli.specs.Ends.{EndsLoad, EndsOnStore, EndsReading, FolderTold, IsMadeText, IsUntouched, Refusals}
 

@@ -2,19 +2,19 @@
 use Rattle.std.proofs.Common.{◌≡◌, ◌⊎◌, inl, inr, ℕ, List, length, take, Option, None, Result, Ok, Err, refl, sym, ◌∙◌, ap, subst}
 use Rattle.std.proofs.Math.Seq.{take-length}
 use Rattle.db_config.specs.declared.parts.ConfigParts.{ConfigParts}
-use Rattle.edit_rules.specs.declared.acts.Entry.{Entry}
-use Rattle.edit_rules.specs.Database.{DatabaseParts, empty_database}
-use Rattle.edit_rules.specs.Effects.{database_after, found_or}
+use Rattle.version_tree.specs.edit_rules.declared.acts.Entry.{Entry}
+use Rattle.version_tree.specs.edit_rules.Database.{DatabaseParts, empty_database}
+use Rattle.version_tree.specs.edit_rules.Effects.{database_after, found_or}
 use Rattle.eql_resolve.specs.Made.{Made}
 use Rattle.version_tree.specs.Version.{VersionParts, state_of}
-use Rattle.live_book.specs.Published.{IsStateAfter}
-use Rattle.session_core.specs.Answers.{answer_over}
-use Rattle.store_texts.specs.declared.faults.Refused.{Refused}
-use Rattle.store_texts.specs.declared.faults.CommandFault.{CommandFault}
-use Rattle.store_texts.specs.declared.faults.CommandFault.TheVariants as faults
-use Rattle.store_texts.specs.Asked.{asked_text}
-use Rattle.store_texts.specs.Inner.Asked.{TellsAsked, TellsMade, answered}
-use Rattle.store_texts.specs.Commands.{Tells, config_shown, exported, grid_exported}
+use Rattle.script_runs.specs.live_book.Published.{IsStateAfter}
+use Rattle.script_runs.specs.session_core.Answers.{answer_over}
+use Rattle.emudb_files.specs.store_texts.declared.faults.Refused.{Refused}
+use Rattle.emudb_files.specs.store_texts.declared.faults.CommandFault.{CommandFault}
+use Rattle.emudb_files.specs.store_texts.declared.faults.CommandFault.TheVariants as faults
+use Rattle.emudb_files.specs.store_texts.Asked.{asked_text}
+use Rattle.emudb_files.specs.store_texts.Inner.Asked.{TellsAsked, TellsMade, answered}
+use Rattle.emudb_files.specs.store_texts.Commands.{Tells, config_shown, exported, grid_exported}
 use Rattle.emu_cli.specs.Ends.{IsAsked, IsOutOfMemory, Refusals, answered_after}
 
 module _ (config : ConfigParts) (history : List Entry) (version : VersionParts) (is : IsStateAfter config history version) where

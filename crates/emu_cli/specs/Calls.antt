@@ -12,15 +12,15 @@ use Rattle.label_match.specs.declared.maker.PatternMaker as makers
 use Rattle.cli_words.specs.declared.words.Words.{Words}
 use Rattle.cli_words.specs.declared.words.Words.TheVariants as forms
 use Rattle.cli_words.specs.Forms.{words_of}
-use Rattle.program_output.specs.declared.ending.Ending.{Ending}
-use Rattle.program_output.specs.declared.ending.Ending.TheVariants as endings
+use Rattle.script_runs.specs.program_output.declared.ending.Ending.{Ending}
+use Rattle.script_runs.specs.program_output.declared.ending.Ending.TheVariants as endings
 use Rattle.emu_cli.specs.Ends.{EndsOnStore, IsFaultlessOn, folder_told, is_of_store, refusals_told}
-use Rattle.program_output.specs.declared.status.Status.{Status}
-use Rattle.program_output.specs.declared.status.Status.TheVariants as statuses
+use Rattle.script_runs.specs.program_output.declared.status.Status.{Status}
+use Rattle.script_runs.specs.program_output.declared.status.Status.TheVariants as statuses
 use Rattle.script_runs.specs.Bases.{EachOf}
-use Rattle.program_output.specs.Texts.{usage_text}
+use Rattle.script_runs.specs.program_output.Texts.{usage_text}
 use Rattle.script_runs.specs.Says.{Call, Completes, IsFaultless, Says}
-use Rattle.program_output.specs.Statuses.{code_of}
+use Rattle.script_runs.specs.program_output.Statuses.{code_of}
 use Rattle.script_runs.specs.Lives.{SaysLive}
 use Rattle.script_runs.specs.Told.{FinishesBy, call_by}
 use Rattle.work_script.specs.Summary.{IsWorkText}

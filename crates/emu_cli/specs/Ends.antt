@@ -10,31 +10,31 @@ use Rattle.emu_io.specs.declared.tree.Stored.{Stored}
 use Rattle.emu_io.specs.declared.folder.Folder as folders
 use Rattle.label_match.specs.declared.maker.PatternMaker as makers
 use Rattle.db_config.specs.declared.parts.ConfigParts.{ConfigParts}
-use Rattle.edit_rules.specs.declared.acts.Act.{Act}
-use Rattle.edit_rules.specs.declared.acts.Entry.{Entry}
-use Rattle.edit_rules.specs.Effects.{database_after}
+use Rattle.version_tree.specs.edit_rules.declared.acts.Act.{Act}
+use Rattle.version_tree.specs.edit_rules.declared.acts.Entry.{Entry}
+use Rattle.version_tree.specs.edit_rules.Effects.{database_after}
 use Rattle.eql_resolve.specs.Made.{Made, IsMade, times_too_large}
 use Rattle.emu_disk.specs.Disk.{LeavesOnly}
 use Rattle.emu_disk.specs.declared.disk.Disk as disks
 use Rattle.edit_journal.specs.declared.journal.Journal.{Journal}
 use Rattle.edit_journal.specs.Held.{disk_of, Holds}
-use Rattle.live_book.specs.Histories.{Stands, IsBare, IsDamagedAt, OfRead}
-use Rattle.live_book.specs.Kept.{BookParts, KeepsIn, StandsOrLost}
-use Rattle.book_opening.specs.Opens.{DuringNoBook}
-use Rattle.session_core.specs.Answers.{answer_at}
-use Rattle.store_texts.specs.declared.faults.Refused.{Refused}
-use Rattle.store_texts.specs.declared.faults.Refused.TheVariants as refusals
-use Rattle.store_texts.specs.declared.faults.CommandFault.{CommandFault}
-use Rattle.store_texts.specs.declared.faults.CommandFault.TheVariants as faults
-use Rattle.store_texts.specs.Causes.{refused_text}
-use Rattle.store_texts.specs.Texts.{damaged_text, done_text, history_text}
-use Rattle.store_texts.specs.Commands.{Tells, config_shown, exported, grid_exported}
-use Rattle.store_texts.specs.Asked.{asked_text}
+use Rattle.script_runs.specs.live_book.Histories.{Stands, IsBare, IsDamagedAt, OfRead}
+use Rattle.script_runs.specs.live_book.Kept.{BookParts, KeepsIn, StandsOrLost}
+use Rattle.script_runs.specs.book_opening.Opens.{DuringNoBook}
+use Rattle.script_runs.specs.session_core.Answers.{answer_at}
+use Rattle.emudb_files.specs.store_texts.declared.faults.Refused.{Refused}
+use Rattle.emudb_files.specs.store_texts.declared.faults.Refused.TheVariants as refusals
+use Rattle.emudb_files.specs.store_texts.declared.faults.CommandFault.{CommandFault}
+use Rattle.emudb_files.specs.store_texts.declared.faults.CommandFault.TheVariants as faults
+use Rattle.emudb_files.specs.store_texts.Causes.{refused_text}
+use Rattle.emudb_files.specs.store_texts.Texts.{damaged_text, done_text, history_text}
+use Rattle.emudb_files.specs.store_texts.Commands.{Tells, config_shown, exported, grid_exported}
+use Rattle.emudb_files.specs.store_texts.Asked.{asked_text}
 use Rattle.emudb_files.specs.Answers.{HasDiskCause, HasReadCause}
 use Rattle.emudb_files.specs.Stored.{DuringLoad, Imports, IsMade as IsBookMade, Loads, own_entry}
 use Rattle.emudb_files.specs.Wanted.{bundles_wanted, import_wanted}
-use Rattle.program_output.specs.declared.ending.Ending.{Ending}
-use Rattle.program_output.specs.declared.ending.Ending.TheVariants.{Fine as Gives, Refused as Refuses, Damaged as IsDamaged, Read as Unread, Disk as NoDisk, Memory as OutOfMemory}
+use Rattle.script_runs.specs.program_output.declared.ending.Ending.{Ending}
+use Rattle.script_runs.specs.program_output.declared.ending.Ending.TheVariants.{Fine as Gives, Refused as Refuses, Damaged as IsDamaged, Read as Unread, Disk as NoDisk, Memory as OutOfMemory}
 use Rattle.script_runs.specs.Bases.{Base, IsBaseOf, EachOf}
 
 -- a refused command ends with its last line, or memory ran out

@@ -4,9 +4,9 @@ ghost use Rattle.emu_cli.specs.Inner.Ends.{TellsDone};
 
 use crate::ending::end_of;
 use emu_names::Text;
-use program_output::Ending;
+use emudb_files::store_texts::{CommandFault, print_done};
+use script_runs::program_output::Ending;
 use std::alloc::Global;
-use store_texts::{CommandFault, print_done};
 
 /// The text of a command that has added bundles, if memory holds it.
 fn done_text(

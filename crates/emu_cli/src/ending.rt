@@ -2,9 +2,9 @@
 ghost use Rattle.emu_cli.specs.Ends.{IsEndOf, IsRefusedBy};
 
 use emu_names::Text;
-use program_output::Ending;
+use emudb_files::store_texts::{CommandFault, Refused, print_refused};
+use script_runs::program_output::Ending;
 use std::alloc::Global;
-use store_texts::{CommandFault, Refused, print_refused};
 
 /// How a refused command ends.
 pub(crate) fn refuse(alloc: Global, refused: &Refused) -> Ending

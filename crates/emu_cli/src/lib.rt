@@ -14,7 +14,7 @@ mod work_command;
 pub use at_once::live;
 pub use in_order::run;
 pub use program::{is_of_store, on_store};
-pub use program_output::{Ending, Status};
+pub use script_runs::program_output::{Ending, Status};
 pub use script_runs::{Ran, Spread};
 pub use store::StoreEnd;
 pub use top::{Exit, emu};

@@ -1,8 +1,8 @@
 //! The commands that read the store: `history`, `config`, `export`, `textgrid`, `ask`.
 ghost use Rattle.std.specs.Prelude.{◌≡◌, IfOk, true};
 ghost use Rattle.std.specs.Option.{option_copied};
-ghost use Rattle.edit_rules.specs.Effects.{database_after};
-ghost use Rattle.store_texts.specs.Commands.{Tells, config_shown, exported, grid_exported};
+ghost use Rattle.version_tree.specs.edit_rules.Effects.{database_after};
+ghost use Rattle.emudb_files.specs.store_texts.Commands.{Tells, config_shown, exported, grid_exported};
 ghost use Rattle.emu_cli.specs.Ends.{EndsBook, IsMadeText, reads_book, refusals_told};
 
 use crate::ending::end_of;
@@ -10,12 +10,14 @@ use cli_words::Words;
 use emu_disk::Disk;
 use emu_io::Gate;
 use emu_names::{Memory, Text};
+use emudb_files::store_texts::{
+    CommandFault, ask_text, config_text, export_text, history_text, textgrid_text,
+};
 use label_match::PatternMaker;
-use live_book::Book;
-use program_output::Ending;
+use script_runs::live_book::Book;
+use script_runs::program_output::Ending;
 use std::alloc::Global;
 use std::thread::Threads;
-use store_texts::{CommandFault, ask_text, config_text, export_text, history_text, textgrid_text};
 
 /// How many workers answer the query of `ask`.
 const ASK_WORKERS: u32 = 1;

@@ -3,9 +3,9 @@ ghost use Rattle.std.specs.Prelude.{◌≡◌, ◌≢◌, ◌≤◌, true, [], N
 ghost use Rattle.std.specs.Option.{option_map};
 ghost use Rattle.emu_names.specs.declared.limits.TheConstants.{TOP_RATE};
 ghost use Rattle.edit_journal.specs.Held.{disk_of, Holds, count_in};
-ghost use Rattle.live_book.specs.Kept.{KeepsIn, faults_in};
-ghost use Rattle.live_book.specs.Commits.{has_journal};
-ghost use Rattle.book_opening.specs.Inner.Opens.{LeavesFrom};
+ghost use Rattle.script_runs.specs.live_book.Kept.{KeepsIn, faults_in};
+ghost use Rattle.script_runs.specs.live_book.Commits.{has_journal};
+ghost use Rattle.script_runs.specs.book_opening.Inner.Opens.{LeavesFrom};
 ghost use Rattle.emudb_files.specs.Wanted.{import_wanted};
 ghost use Rattle.emu_cli.specs.Ends.{EndsBook, EndsImport, EndsLoad, EndsReading, IsImport, IsLoad, IsMadeText, IsRefusedBy, IsUntouched, folder_told, reads_book, refusals_told};
 ghost use Rattle.emu_cli.specs.Inner.Ends.{IsOpenEnd};
@@ -13,19 +13,19 @@ ghost use Rattle.emu_cli.specs.Inner.Ends.{IsOpenEnd};
 use crate::adding::done_end;
 use crate::ending::refuse;
 use crate::reading::read_book;
-use book_opening::{NoStore, OpenFault, Opened, open_store};
 use cli_words::Words;
 use edit_journal::Journal;
 use emu_disk::Disk;
 use emu_io::{Folder, Gate};
+use emudb_files::store_texts::{Refused, print_damaged};
 use emudb_files::{Loaded, import, load};
 use label_match::PatternMaker;
-use live_book::Book;
-use program_output::Ending;
+use script_runs::book_opening::{NoStore, OpenFault, Opened, open_store};
+use script_runs::live_book::Book;
+use script_runs::program_output::Ending;
 use std::alloc::Global;
 use std::sync::Wait;
 use std::thread::Threads;
-use store_texts::{Refused, print_damaged};
 
 /// How many passes a command asks for. It looks at the book itself.
 const READERS: u32 = 1;

@@ -1,12 +1,12 @@
 //! The top call.
 ghost use Rattle.std.specs.Prelude.{◌≡◌, ◌≤◌, true, false};
-ghost use Rattle.program_output.specs.declared.ending.Ending.{Ending as Ends};
+ghost use Rattle.script_runs.specs.program_output.declared.ending.Ending.{Ending as Ends};
 ghost use Rattle.emu_cli.specs.Ends.{is_of_store};
 ghost use Rattle.cli_words.specs.Inner.Gives.{IsInRange};
-ghost use Rattle.program_output.specs.Texts.{usage_text};
+ghost use Rattle.script_runs.specs.program_output.Texts.{usage_text};
 ghost use Rattle.emu_cli.specs.Calls.{AskForRun, AsksForStore, CallCompletesBy, CallEndsBy, CallSaysBy, CommandCodeCompletesBy, CommandCompletesBy, EndsOnStoreBy, RunCompletesBy, WorkCodeCompletes, texts_of};
 ghost use Rattle.emu_cli.specs.Inner.Calls.{EndsApart, WorkCompletes, live_asked, run_asked};
-ghost use Rattle.program_output.specs.Statuses.{WritesLast};
+ghost use Rattle.script_runs.specs.program_output.Statuses.{WritesLast};
 ghost use Rattle.script_runs.specs.Told.{FinishesBy};
 
 use crate::at_once::live;
@@ -17,7 +17,7 @@ use cli_words::{Words, WordsFault, read_words};
 use emu_disk::Disk;
 use emu_io::{Folder, Gate, Sink, Source};
 use label_match::PatternMaker;
-use program_output::{Status, code, finish, usage};
+use script_runs::program_output::{Status, code, finish, usage};
 use script_runs::{Ran, Spread};
 use std::alloc::Global;
 use std::sync::Wait;

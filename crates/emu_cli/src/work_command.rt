@@ -3,13 +3,13 @@
 ghost use Rattle.std.specs.Prelude.{◌≤◌};
 ghost use Rattle.emu_names.specs.declared.limits.TheConstants.{BUNDLES};
 ghost use Rattle.emu_cli.specs.Calls.{EndsWork};
-ghost use Rattle.program_output.specs.declared.ending.Ending.{Ending as Ends};
+ghost use Rattle.script_runs.specs.program_output.declared.ending.Ending.{Ending as Ends};
 ghost use Rattle.script_runs.specs.Told.{FinishesBy};
 
 use emu_disk::Disk;
 use emu_io::{Gate, Sink};
 use label_match::PatternMaker;
-use program_output::{Ending, Status, finish};
+use script_runs::program_output::{Ending, Status, finish};
 use std::alloc::Global;
 use std::sync::Wait;
 use std::thread::Threads;

@@ -3,11 +3,11 @@ use Rattle.std.proofs.Common.{◌≡◌, ◌⊎◌, inl, inr, ℕ, List, [], ◌
 use Rattle.std.proofs.lemmas.List.{length-map}
 use Rattle.emu_io.specs.declared.tree.Stored.{Stored}
 use Rattle.db_config.specs.declared.parts.ConfigParts.{ConfigParts}
-use Rattle.edit_rules.specs.declared.acts.Act.{Act}
-use Rattle.edit_rules.specs.declared.acts.Entry.{Entry}
+use Rattle.store_texts.specs.edit_rules.declared.acts.Act.{Act}
+use Rattle.store_texts.specs.edit_rules.declared.acts.Entry.{Entry}
 use Rattle.edit_journal.specs.declared.journal.Journal.{Journal}
-use Rattle.live_book.specs.Histories.{Stands}
-use Rattle.live_book.specs.Kept.{BookParts, CrashLeaves, Keeps, KeepsIn}
+use Rattle.book_opening.specs.live_book.Histories.{Stands}
+use Rattle.book_opening.specs.live_book.Kept.{BookParts, CrashLeaves, Keeps, KeepsIn}
 use Rattle.book_opening.specs.Opens.{DuringNew}
 use Rattle.store_texts.specs.declared.faults.Refused.{Refused}
 use Rattle.store_texts.specs.declared.faults.CommandFault.{CommandFault}

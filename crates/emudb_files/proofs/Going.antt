@@ -6,19 +6,19 @@ use Rattle.std.proofs.lemmas.Grind.{flat_map-append}
 use Rattle.std.proofs.Math.Seq.{take-length, drop-cons}
 use Rattle.emu_io.specs.declared.tree.Stored.{Stored}
 use Rattle.db_config.specs.declared.parts.ConfigParts.{ConfigParts}
-use Rattle.edit_rules.specs.declared.acts.Act.{Act}
-use Rattle.edit_rules.specs.declared.acts.Entry.{Entry}
+use Rattle.store_texts.specs.edit_rules.declared.acts.Act.{Act}
+use Rattle.store_texts.specs.edit_rules.declared.acts.Entry.{Entry}
 use Rattle.emu_disk.proofs.Moments.{joined, weaker}
 use Rattle.edit_journal.specs.declared.journal.Journal.{Journal}
 use Rattle.edit_journal.specs.Held.{disk_of}
-use Rattle.live_book.specs.declared.fault.EditFault.{EditFault}
-use Rattle.live_book.specs.declared.fault.EditFault.TheVariants as edit_faults
-use Rattle.live_book.specs.Histories.{Stands}
-use Rattle.live_book.specs.Kept.{BookParts, CrashLeaves, KeepsIn}
-use Rattle.live_book.specs.Commits.{Commits, DuringCommit, IsAnswer, IsWelcome, has_journal}
-use Rattle.session_core.specs.declared.line.Refusal.TheVariants as requests
-use Rattle.session_core.specs.declared.line.Command.TheVariants as commands
-use Rattle.session_core.specs.Answers.{rule_refusal}
+use Rattle.book_opening.specs.live_book.declared.fault.EditFault.{EditFault}
+use Rattle.book_opening.specs.live_book.declared.fault.EditFault.TheVariants as edit_faults
+use Rattle.book_opening.specs.live_book.Histories.{Stands}
+use Rattle.book_opening.specs.live_book.Kept.{BookParts, CrashLeaves, KeepsIn}
+use Rattle.book_opening.specs.live_book.Commits.{Commits, DuringCommit, IsAnswer, IsWelcome, has_journal}
+use Rattle.store_texts.specs.session_core.declared.line.Refusal.TheVariants as requests
+use Rattle.store_texts.specs.session_core.declared.line.Command.TheVariants as commands
+use Rattle.store_texts.specs.session_core.Answers.{rule_refusal}
 use Rattle.store_texts.specs.declared.faults.Refused.{Refused}
 use Rattle.store_texts.specs.declared.faults.Refused.TheVariants as refusals
 use Rattle.store_texts.specs.declared.faults.CommandFault.{CommandFault}

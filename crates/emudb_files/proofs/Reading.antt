@@ -3,8 +3,8 @@ use Rattle.std.proofs.Common.{◌≡◌, ℕ, List, map, Option, Result, Ok, IsE
 use Rattle.json_view.specs.Steps.{◌>>=◌}
 use Rattle.emu_io.specs.declared.tree.Stored.{Stored}
 use Rattle.level_items.specs.declared.annot.Annot.{Annot}
-use Rattle.edit_rules.specs.declared.acts.Act.{Act}
-use Rattle.live_book.specs.Kept.{BookParts}
+use Rattle.store_texts.specs.edit_rules.declared.acts.Act.{Act}
+use Rattle.book_opening.specs.live_book.Kept.{BookParts}
 use Rattle.store_texts.specs.declared.faults.FileFault.TheVariants as file_faults
 use Rattle.store_texts.specs.declared.faults.Refused.{Refused}
 use Rattle.store_texts.specs.declared.faults.Refused.TheVariants as refusals

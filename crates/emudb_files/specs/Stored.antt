@@ -5,14 +5,14 @@ use Rattle.emu_io.specs.declared.tree.Stored.{Stored}
 use Rattle.emu_names.specs.declared.names.BundleKey.{BundleKey}
 use Rattle.level_items.specs.declared.annot.Annot.{Annot}
 use Rattle.db_config.specs.declared.parts.ConfigParts.{ConfigParts}
-use Rattle.edit_rules.specs.declared.acts.Act.{Act}
-use Rattle.edit_rules.specs.declared.acts.Entry.{Entry}
+use Rattle.store_texts.specs.edit_rules.declared.acts.Act.{Act}
+use Rattle.store_texts.specs.edit_rules.declared.acts.Entry.{Entry}
 use Rattle.edit_journal.specs.declared.journal.Journal.{Journal}
-use Rattle.live_book.specs.declared.fault.EditFault.{EditFault}
+use Rattle.book_opening.specs.live_book.declared.fault.EditFault.{EditFault}
 use Rattle.book_opening.specs.declared.fault.OpenFault.{OpenFault}
-use Rattle.live_book.specs.Histories.{IsBare, Stands}
-use Rattle.live_book.specs.Kept.{BookParts, CrashLeaves, Keeps}
-use Rattle.live_book.specs.Commits.{Commits, IsAnswer, IsWelcome, entry_of}
+use Rattle.book_opening.specs.live_book.Histories.{IsBare, Stands}
+use Rattle.book_opening.specs.live_book.Kept.{BookParts, CrashLeaves, Keeps}
+use Rattle.book_opening.specs.live_book.Commits.{Commits, IsAnswer, IsWelcome, entry_of}
 use Rattle.book_opening.specs.Opens.{DuringNoBook, IsNoBookFor}
 use Rattle.store_texts.specs.declared.faults.Refused.{Refused}
 use Rattle.store_texts.specs.declared.faults.CommandFault.{CommandFault}

@@ -14,8 +14,8 @@ use Rattle.annot_json.specs.Read.{annot_of}
 use Rattle.textgrid.specs.declared.fault.GridFault.{GridFault}
 use Rattle.textgrid.specs.Grids.{grid_of}
 use Rattle.textgrid.specs.Levels as grids
-use Rattle.edit_rules.specs.declared.acts.Act.{Act}
-use Rattle.edit_rules.specs.declared.acts.Act.TheVariants as acts
+use Rattle.store_texts.specs.edit_rules.declared.acts.Act.{Act}
+use Rattle.store_texts.specs.edit_rules.declared.acts.Act.TheVariants as acts
 use Rattle.bundle_edits.specs.declared.edit.Edit.TheVariants as edits
 use Rattle.store_texts.specs.declared.faults.FileFault.TheVariants as file_faults
 use Rattle.store_texts.specs.declared.faults.Refused.{Refused}

@@ -1,7 +1,7 @@
 //! The bundles of one session's folder.
 ghost use Rattle.std.specs.Prelude.{◌≡◌, None, IfOk, IsTrue, [], ◌∷◌, map};
 ghost use Rattle.emu_names.specs.Name.{is_name};
-ghost use Rattle.live_book.specs.Kept.{faults_in};
+ghost use Rattle.book_opening.specs.live_book.Kept.{faults_in};
 ghost use Rattle.store_texts.specs.declared.faults.Refused.TheVariants as refusals;
 ghost use Rattle.emudb_files.specs.Answers.{HasDiskCause, HasReadCause, Reads};
 ghost use Rattle.emudb_files.specs.Inner.Answers.{Makes};
@@ -12,13 +12,13 @@ ghost use Rattle.emudb_files.specs.Wanted.{bundle_wanted, named};
 use crate::faults::{add, bundle_added, refuse};
 use crate::files::annot_in;
 use crate::paths::path_in;
-use edit_rules::Act;
+use book_opening::live_book::Book;
 use emu_disk::Disk;
 use emu_io::{FileName, Folder};
 use emu_names::{BundleKey, Name, NameFault};
-use live_book::Book;
 use std::alloc::Global;
 use std::sync::Wait;
+use store_texts::edit_rules::Act;
 use store_texts::{CommandFault, FileFault};
 
 /// The name of which the folder of this path is called.

@@ -6,15 +6,15 @@ ghost use Rattle.emudb_files.specs.Stored.{IsAdded};
 ghost use Rattle.emudb_files.specs.Wanted.{bundle_added};
 
 use book_opening::OpenFault;
-use edit_rules::{Act, Edit, Edits};
+use book_opening::live_book::{Book, EditFault};
 use emu_disk::Disk;
 use emu_io::FolderFault;
 use emu_names::{BundleKey, Memory, SessionNo, Text};
 use level_items::Annot;
-use live_book::{Book, EditFault};
-use session_core::{Command, Refusal, refuse_rule};
 use std::alloc::Global;
 use std::sync::Wait;
+use store_texts::edit_rules::{Act, Edit, Edits};
+use store_texts::session_core::{Command, Refusal, refuse_rule};
 use store_texts::{CommandFault, FileFault, Refused};
 
 /// The refusal of the file or the folder of a path. The only other answer is want of memory.

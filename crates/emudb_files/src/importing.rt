@@ -1,7 +1,7 @@
 //! A bundle of a TextGrid's file.
 ghost use Rattle.std.specs.Prelude.{◌≡◌, ◌≤◌, IfOk};
 ghost use Rattle.emu_names.specs.declared.limits.TheConstants.{TOP_RATE};
-ghost use Rattle.live_book.specs.Kept.{faults_in};
+ghost use Rattle.book_opening.specs.live_book.Kept.{faults_in};
 ghost use Rattle.emudb_files.specs.Answers.{HasDiskCause, HasReadCause, Reads};
 ghost use Rattle.emudb_files.specs.Inner.Answers.{Makes};
 ghost use Rattle.emudb_files.specs.Stored.{AddsBundle, Imports};
@@ -9,13 +9,13 @@ ghost use Rattle.emudb_files.specs.Wanted.{import_wanted, named};
 
 use crate::faults::{add, bundle_added};
 use crate::files::grid_in;
-use edit_rules::Act;
+use book_opening::live_book::Book;
 use emu_disk::Disk;
 use emu_io::Folder;
 use emu_names::{BundleKey, Name, NameFault};
-use live_book::Book;
 use std::alloc::Global;
 use std::sync::Wait;
+use store_texts::edit_rules::Act;
 use store_texts::{CommandFault, Refused};
 
 /// A word that has to be a name.

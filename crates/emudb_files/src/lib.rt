@@ -11,3 +11,4 @@ mod sessions;
 
 pub use importing::import;
 pub use loading::{Loaded, load};
+pub use store_texts;

@@ -1,8 +1,8 @@
 //! A whole database of a folder.
 ghost use Rattle.std.specs.Prelude.{◌≡◌, [], None, Some, IfOk, length, true};
 ghost use Rattle.edit_journal.specs.Held.{Holds, count_in};
-ghost use Rattle.live_book.specs.Commits.{has_journal};
-ghost use Rattle.live_book.specs.Kept.{faults_in};
+ghost use Rattle.book_opening.specs.live_book.Commits.{has_journal};
+ghost use Rattle.book_opening.specs.live_book.Kept.{faults_in};
 ghost use Rattle.emudb_files.specs.Answers.{HasReadCause, HasDiskCause, Reads};
 ghost use Rattle.emudb_files.specs.Inner.Running.{Goes, IsKept};
 ghost use Rattle.emudb_files.specs.Stored.{IsFilled, IsMade, Loads};
@@ -12,12 +12,12 @@ use crate::faults::open_fault;
 use crate::files::config_in;
 use crate::paths::{database_path, path_in};
 use crate::sessions::add_database;
+use book_opening::live_book::Book;
 use book_opening::{MadeBook, NoBook, new_book};
 use db_config::Config;
 use edit_journal::Journal;
 use emu_disk::Disk;
 use emu_io::Folder;
-use live_book::Book;
 use std::alloc::Global;
 use std::sync::Wait;
 use store_texts::CommandFault;

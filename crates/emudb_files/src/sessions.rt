@@ -1,6 +1,6 @@
 //! The sessions of a database's folder.
 ghost use Rattle.std.specs.Prelude.{◌≡◌, None, IfOk, flat_map, length};
-ghost use Rattle.live_book.specs.Kept.{faults_in};
+ghost use Rattle.book_opening.specs.live_book.Kept.{faults_in};
 ghost use Rattle.emudb_files.specs.Answers.{HasDiskCause, HasReadCause, Reads};
 ghost use Rattle.emudb_files.specs.Inner.Running.{Goes, IsKept};
 ghost use Rattle.emudb_files.specs.Wanted.{database_wanted, names_in, session_in, session_wanted};
@@ -8,10 +8,10 @@ ghost use Rattle.emudb_files.specs.Wanted.{database_wanted, names_in, session_in
 use crate::bundles::{add_bundles, name_in};
 use crate::files::entries_in;
 use crate::paths::{FileNames, names_with, path_in};
+use book_opening::live_book::Book;
 use emu_disk::Disk;
 use emu_io::{FileName, Folder};
 use emu_names::{Name, Text};
-use live_book::Book;
 use std::alloc::Global;
 use std::sync::Wait;
 use store_texts::CommandFault;

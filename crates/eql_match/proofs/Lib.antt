@@ -14,3 +14,4 @@ pub mod RowsBetween
 pub mod Standing
 pub mod Steps
 pub mod Tests
+pub use Rattle.eql_model.proofs as of_eql_model

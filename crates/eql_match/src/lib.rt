@@ -15,3 +15,5 @@ mod runs;
 mod ways;
 
 pub use bundle::match_bundle;
+pub use bundle_index;
+pub use eql_model;

@@ -1,6 +1,6 @@
 -- What the code of an entry says of it.
 use Rattle.std.proofs.Common.{◌≡◌, ℕ, ◌<◌, List, length, subst, arith}
-use Rattle.edit_rules.specs.declared.acts.Entry.{Entry}
+use Rattle.version_steps.specs.edit_rules.declared.acts.Entry.{Entry}
 use Rattle.byte_forms.specs.Parts.{led}
 use Rattle.edit_code.specs.Codes.{entry_code, IsEntryCode}
 use Rattle.edit_code.specs.Edits.{entry_form}

@@ -6,18 +6,18 @@ use Rattle.std.proofs.lemmas.List.{take-append-le, drop-append-le}
 use Rattle.std.proofs.lemmas.Option.{slice_get-get_or}
 use Rattle.std.proofs.Math.Seq.{get_or-append_seam, take-append_seam}
 use Rattle.db_config.specs.declared.parts.ConfigParts.{ConfigParts}
-use Rattle.edit_rules.specs.declared.acts.ChangeFault.{ChangeFault}
-use Rattle.edit_rules.specs.declared.acts.ChangeFault.TheVariants as faults
-use Rattle.edit_rules.specs.declared.acts.Entry.{Entry}
-use Rattle.edit_rules.specs.Effects.{effect}
-use Rattle.edit_rules.specs.Inner.Effects.{IsFirstBreach}
+use Rattle.version_steps.specs.edit_rules.declared.acts.ChangeFault.{ChangeFault}
+use Rattle.version_steps.specs.edit_rules.declared.acts.ChangeFault.TheVariants as faults
+use Rattle.version_steps.specs.edit_rules.declared.acts.Entry.{Entry}
+use Rattle.version_steps.specs.edit_rules.Effects.{effect}
+use Rattle.version_steps.specs.edit_rules.Inner.Effects.{IsFirstBreach}
 use Rattle.emu_disk.proofs.Moments.{weaker}
 use Rattle.edit_journal.specs.declared.journal.Journal.{Journal}
 use Rattle.edit_journal.specs.Held.{disk_of}
 use Rattle.version_gate.specs.declared.entry.Entry.{Entry as Numbered}
 use Rattle.version_gate.specs.Lists.{entry}
 use Rattle.version_gate.specs.Inner.Lists.{Board}
-use Rattle.version_tree.specs.Version.{VersionParts, state_of}
+use Rattle.version_steps.specs.version_tree.Version.{VersionParts, state_of}
 use Rattle.live_book.specs.declared.commit.Ready.{Ready}
 use Rattle.live_book.specs.declared.fault.EditFault.{EditFault}
 use Rattle.live_book.specs.declared.fault.EditFault.TheVariants as edit_faults

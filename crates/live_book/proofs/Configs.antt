@@ -8,21 +8,21 @@ use Rattle.emu_names.specs.declared.rules.Fault.{Fault}
 use Rattle.db_config.specs.declared.parts.ConfigParts.{ConfigParts}
 use Rattle.bundle_state.specs.Bundle.{BundleParts}
 use Rattle.bundle_state.proofs.LinksKept.{ok_same}
-use Rattle.bundle_index.specs.Index.{IndexParts}
+use Rattle.version_steps.specs.bundle_index.Index.{IndexParts}
 use Rattle.bundle_edits.specs.declared.edit.Edit.{Edit}
 use Rattle.bundle_edits.specs.Changes.{changed}
 use Rattle.bundle_edits.specs.Edits.{key_of}
-use Rattle.edit_rules.specs.declared.acts.Act.{Act}
-use Rattle.edit_rules.specs.declared.acts.Act.TheVariants as acts
-use Rattle.edit_rules.specs.declared.acts.Breach.{Breach}
-use Rattle.edit_rules.specs.declared.acts.Entry.{Entry}
-use Rattle.edit_rules.specs.Database.{DatabaseParts, bundle_with, counts_of, put_for, with_bundles}
-use Rattle.edit_rules.specs.Effects.{after, at_place, edit_effect, edited, effect, in_turn, put_back}
-use Rattle.edit_rules.proofs.Replay.{replay_goes_on}
-use Rattle.edit_rules.proofs.Turns.{at_ok, goes_on, told_same}
+use Rattle.version_steps.specs.edit_rules.declared.acts.Act.{Act}
+use Rattle.version_steps.specs.edit_rules.declared.acts.Act.TheVariants as acts
+use Rattle.version_steps.specs.edit_rules.declared.acts.Breach.{Breach}
+use Rattle.version_steps.specs.edit_rules.declared.acts.Entry.{Entry}
+use Rattle.version_steps.specs.edit_rules.Database.{DatabaseParts, bundle_with, counts_of, put_for, with_bundles}
+use Rattle.version_steps.specs.edit_rules.Effects.{after, at_place, edit_effect, edited, effect, in_turn, put_back}
+use Rattle.version_steps.proofs.of_edit_rules.Replay.{replay_goes_on}
+use Rattle.version_steps.proofs.of_edit_rules.Turns.{at_ok, goes_on, told_same}
 use Rattle.version_gate.specs.declared.entry.Entry.{Entry as Numbered}
 use Rattle.version_gate.specs.Lists.{EndsIn, entry}
-use Rattle.version_tree.specs.Version.{VersionParts, state_of}
+use Rattle.version_steps.specs.version_tree.Version.{VersionParts, state_of}
 use Rattle.version_steps.specs.declared.draft.Draft.{Draft}
 use Rattle.version_steps.specs.Inner.Drafts.{IsAddedBy, IsDraftOf, MayServe}
 use Rattle.live_book.specs.declared.fault.EditFault.{EditFault}

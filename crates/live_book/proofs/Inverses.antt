@@ -8,18 +8,18 @@ use Rattle.bundle_state.specs.Bundle.{BundleParts}
 use Rattle.bundle_edits.specs.declared.edit.Edit.{Edit}
 use Rattle.bundle_edits.specs.Edits.{key_of}
 use Rattle.bundle_edits.proofs.Spans.{some_same}
-use Rattle.edit_rules.specs.declared.acts.Act.{Act}
-use Rattle.edit_rules.specs.declared.acts.Act.TheVariants as acts
-use Rattle.edit_rules.specs.declared.acts.Breach.{Breach}
-use Rattle.edit_rules.specs.declared.acts.Entry.{Entry}
-use Rattle.edit_rules.specs.Database.{DatabaseParts, KeepsDatabaseRules, bundle_with, empty_database}
-use Rattle.edit_rules.specs.Effects.{database_after, effect, found_or}
-use Rattle.edit_rules.proofs.Lists.{keys_of}
+use Rattle.version_steps.specs.edit_rules.declared.acts.Act.{Act}
+use Rattle.version_steps.specs.edit_rules.declared.acts.Act.TheVariants as acts
+use Rattle.version_steps.specs.edit_rules.declared.acts.Breach.{Breach}
+use Rattle.version_steps.specs.edit_rules.declared.acts.Entry.{Entry}
+use Rattle.version_steps.specs.edit_rules.Database.{DatabaseParts, KeepsDatabaseRules, bundle_with, empty_database}
+use Rattle.version_steps.specs.edit_rules.Effects.{database_after, effect, found_or}
+use Rattle.version_steps.proofs.of_edit_rules.Lists.{keys_of}
 use Rattle.edit_undo.specs.declared.faults.NoUndo.{NoUndo}
 use Rattle.edit_undo.specs.Inverse.{bundle_for, inverse_at}
 use Rattle.edit_undo.specs.Before.{IsBefore, IsOfOneBundle}
 use Rattle.edit_undo.proofs.Passing.{acts_before}
-use Rattle.version_tree.specs.Version.{VersionParts, state_of}
+use Rattle.version_steps.specs.version_tree.Version.{VersionParts, state_of}
 use Rattle.live_book.specs.declared.fault.EditFault.{EditFault}
 use Rattle.live_book.specs.declared.kept.Kept.{Kept}
 use Rattle.live_book.specs.Commits.{BreaksNone, Commits}

@@ -3,13 +3,13 @@ use Rattle.std.proofs.Common.{◌≡◌, List, [], ◌∷◌, ◌++◌, Result, 
 use Rattle.db_config.specs.declared.parts.ConfigParts.{ConfigParts}
 use Rattle.db_config.specs.Valid.{is_valid}
 use Rattle.emu_names.specs.Steps.{onward}
-use Rattle.edit_rules.specs.declared.acts.Breach.{Breach}
-use Rattle.edit_rules.specs.declared.acts.Entry.{Entry}
-use Rattle.edit_rules.specs.Database.{DatabaseParts, empty_database, KeepsDatabaseRules}
-use Rattle.edit_rules.specs.Effects.{effect, edited, found_or}
-use Rattle.edit_rules.proofs.Replay.{legal_keeps, replay_goes_on}
-use Rattle.version_tree.specs.Version.{VersionParts, state_of}
-use Rattle.version_tree.specs.Inner.Version.{next_number}
+use Rattle.version_steps.specs.edit_rules.declared.acts.Breach.{Breach}
+use Rattle.version_steps.specs.edit_rules.declared.acts.Entry.{Entry}
+use Rattle.version_steps.specs.edit_rules.Database.{DatabaseParts, empty_database, KeepsDatabaseRules}
+use Rattle.version_steps.specs.edit_rules.Effects.{effect, edited, found_or}
+use Rattle.version_steps.proofs.of_edit_rules.Replay.{legal_keeps, replay_goes_on}
+use Rattle.version_steps.specs.version_tree.Version.{VersionParts, state_of}
+use Rattle.version_steps.specs.version_tree.Inner.Version.{next_number}
 use Rattle.live_book.specs.Published.{IsStateAfter}
 use Rattle.live_book.specs.Commits.{HasRoom}
 

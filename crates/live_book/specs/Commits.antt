@@ -3,10 +3,10 @@ use Rattle.std.specs.Prelude.{◌≡◌, ◌⊎◌, ℕ, suc, ◌<◌, ◌≤◌
 use Rattle.emu_names.specs.Count.{Rose}
 use Rattle.emu_names.specs.declared.limits.TheConstants.{HISTORY_EDITS}
 use Rattle.db_config.specs.declared.parts.ConfigParts.{ConfigParts}
-use Rattle.edit_rules.specs.declared.acts.Act.{Act}
-use Rattle.edit_rules.specs.declared.acts.Entry.{Entry}
-use Rattle.edit_rules.specs.Effects.{edited}
-use Rattle.edit_rules.specs.Database.{DatabaseParts}
+use Rattle.version_steps.specs.edit_rules.declared.acts.Act.{Act}
+use Rattle.version_steps.specs.edit_rules.declared.acts.Entry.{Entry}
+use Rattle.version_steps.specs.edit_rules.Effects.{edited}
+use Rattle.version_steps.specs.edit_rules.Database.{DatabaseParts}
 use Rattle.edit_journal.specs.declared.journal.Journal.{Journal}
 use Rattle.live_book.specs.declared.fault.EditFault.{EditFault}
 use Rattle.live_book.specs.declared.fault.EditFault.TheVariants.{HistoryFull, Broken, StoreFull, Disk, Memory}

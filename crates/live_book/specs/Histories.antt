@@ -2,9 +2,9 @@
 use Rattle.std.specs.Prelude.{◌≡◌, ◌⊎◌, ℕ, ◌+◌, ◌≤◌, ◌<◌, ◌^◌, min, List, [], ◌∷◌, ◌++◌, length, map, Option, Ok, Err}
 use Rattle.emu_names.specs.declared.limits.TheConstants.{HISTORY_EDITS}
 use Rattle.db_config.specs.declared.parts.ConfigParts.{ConfigParts}
-use Rattle.edit_rules.specs.declared.acts.Breach.{Breach}
-use Rattle.edit_rules.specs.declared.acts.Entry.{Entry}
-use Rattle.edit_rules.specs.Effects.{IsLegal, edited}
+use Rattle.version_steps.specs.edit_rules.declared.acts.Breach.{Breach}
+use Rattle.version_steps.specs.edit_rules.declared.acts.Entry.{Entry}
+use Rattle.version_steps.specs.edit_rules.Effects.{IsLegal, edited}
 use Rattle.edit_code.specs.Codes.{entry_code, head_code, IsEntryCode, IsHeadCode}
 use Rattle.edit_journal.specs.declared.body.Body.{Body}
 use Rattle.edit_journal.specs.Store.{limit, bodies, start, StandsFor}

@@ -3,7 +3,7 @@
 use Rattle.std.specs.Prelude.{◌≡◌, ◌⊎◌, ℕ, List, [], ◌∷◌, ◌++◌, Option, None, Some}
 use Rattle.std.specs.Option.{option_map}
 use Rattle.db_config.specs.declared.parts.ConfigParts.{ConfigParts}
-use Rattle.edit_rules.specs.declared.acts.Entry.{Entry}
+use Rattle.version_steps.specs.edit_rules.declared.acts.Entry.{Entry}
 use Rattle.edit_code.specs.Codes.{entry_code}
 use Rattle.edit_journal.specs.declared.journal.Journal.{Journal}
 use Rattle.edit_journal.specs.Held.{Holds, count_in, LeavesIn}

@@ -1,7 +1,7 @@
 -- Laws of published lists and of the histories that they show.
 use Rattle.std.specs.Prelude.{◌≡◌, ℕ, ◌≤◌, List, length, take, drop}
 use mathlib.Core.List.{IsPrefix}
-use Rattle.edit_rules.specs.declared.acts.Entry.{Entry}
+use Rattle.version_steps.specs.edit_rules.declared.acts.Entry.{Entry}
 use Rattle.version_gate.specs.declared.entry.Entry.{Entry as Numbered}
 use Rattle.version_gate.specs.Lists.{entry, EndsIn, Numbered as IsNumbered}
 use Rattle.live_book.specs.declared.published.Published.{Published}

@@ -5,3 +5,5 @@ pub mod Commits
 pub mod Live
 pub mod Laws
 pub mod Inner
+pub use Rattle.edit_code.specs as edit_code
+pub use Rattle.edit_undo.specs as edit_undo

@@ -1,10 +1,10 @@
 -- The versions that a book has published: each is the state after some of its entries.
 use Rattle.std.specs.Prelude.{◌≡◌, List, [], ◌∷◌, ◌++◌, length, Option, None, Some, Ok}
 use Rattle.db_config.specs.declared.parts.ConfigParts.{ConfigParts}
-use Rattle.edit_rules.specs.declared.acts.Entry.{Entry}
-use Rattle.edit_rules.specs.Effects.{after}
+use Rattle.version_steps.specs.edit_rules.declared.acts.Entry.{Entry}
+use Rattle.version_steps.specs.edit_rules.Effects.{after}
 use Rattle.version_gate.specs.declared.entry.Entry.{Entry as Numbered}
-use Rattle.version_tree.specs.Version.{VersionParts, state_of}
+use Rattle.version_steps.specs.version_tree.Version.{VersionParts, state_of}
 use Rattle.live_book.specs.declared.published.Published.{Published}
 
 -- a version shows the database after a history, and counts its entries

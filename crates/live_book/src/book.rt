@@ -16,7 +16,6 @@ use crate::kept::Kept;
 use crate::parts::Parts;
 use crate::published::Published;
 use edit_journal::Journal;
-use edit_rules::{Act, Entries};
 use emu_disk::Disk;
 use emu_names::{Memory, SessionNo};
 use std::alloc::Global;
@@ -24,6 +23,7 @@ use std::marker::Model;
 use std::sync::{Arc, Wait};
 use version_gate::{Note, Pass};
 use version_steps::Draft;
+use version_steps::edit_rules::{Act, Entries};
 
 /// A book: the configuration of its opening, a history of at most 100,000 entries, the version after all of them,
 /// the gate that publishes each version, and, if there is one, the journal that holds the codes of that

@@ -4,7 +4,7 @@ ghost use Rattle.std.specs.Arc.{arc_value};
 ghost use Rattle.emu_names.specs.Count.{Rose};
 ghost use Rattle.emu_names.specs.declared.limits.TheConstants.{HISTORY_EDITS};
 ghost use Rattle.db_config.specs.declared.parts.ConfigParts.{ConfigParts};
-ghost use Rattle.edit_rules.specs.declared.acts.Entry.{Entry};
+ghost use Rattle.version_steps.specs.edit_rules.declared.acts.Entry.{Entry};
 ghost use Rattle.edit_code.specs.Codes.{entry_code};
 ghost use Rattle.edit_journal.specs.Store.{limit};
 ghost use Rattle.live_book.specs.Histories.{IsCoded, entry_size};
@@ -24,18 +24,18 @@ use crate::kept::Kept;
 use crate::parts::Parts;
 use crate::published::Published;
 use crate::store::{append_in, is_too_much};
-use bundle_index::Indexed;
 use edit_code::{entry_len, write_entry};
 use edit_journal::{Frame, Journal};
-use edit_rules::{Act, ChangeFault, Entries, Entry};
 use edit_undo::NoUndo;
 use emu_disk::{Disk, Failed};
 use emu_names::limits::HISTORY_EDITS;
 use emu_names::{Fault, Memory, SessionNo};
 use std::alloc::Global;
 use std::sync::{Arc, Wait};
+use version_steps::bundle_index::Indexed;
+use version_steps::edit_rules::{Act, ChangeFault, Entries, Entry};
 use version_steps::next_drafted;
-use version_tree::Version;
+use version_steps::version_tree::Version;
 
 /// What a commit has ready before it calls the disk.
 #[derive(Drop)]

@@ -3,9 +3,9 @@ ghost use Rattle.std.specs.Prelude.{◌≡◌};
 ghost use Rattle.live_book.specs.declared.fault.EditFault.TheVariants as Fault;
 
 use edit_journal::Memory;
-use edit_rules::Breach;
 use std::alloc::{AllocError, AllocFailed};
 use thiserror::Error;
+use version_steps::edit_rules::Breach;
 
 /// Why an act was not accepted. The number says how many entries stand in the book.
 #[derive(Debug, Drop, PartialEq, Eq, Error)]

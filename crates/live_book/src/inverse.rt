@@ -1,20 +1,20 @@
 //! What takes an act back.
 ghost use Rattle.std.specs.Prelude.{◌≡◌, IfOk, IfSome, Ok, option_copied};
 ghost use Rattle.bundle_state.specs.Built.{FitsConfig};
-ghost use Rattle.edit_rules.specs.declared.acts.Act.TheVariants as Act;
-ghost use Rattle.edit_rules.specs.Database.{DatabaseParts, KeepsDatabaseRules, bundle_with};
-ghost use Rattle.edit_rules.specs.Effects.{effect};
-ghost use Rattle.edit_rules.specs.Inner.Acts.{AreTogether};
+ghost use Rattle.version_steps.specs.edit_rules.declared.acts.Act.TheVariants as Act;
+ghost use Rattle.version_steps.specs.edit_rules.Database.{DatabaseParts, KeepsDatabaseRules, bundle_with};
+ghost use Rattle.version_steps.specs.edit_rules.Effects.{effect};
+ghost use Rattle.version_steps.specs.edit_rules.Inner.Acts.{AreTogether};
 ghost use Rattle.edit_undo.specs.Inverse.{bundle_for, inverse_at};
-ghost use Rattle.version_tree.specs.Version.{state_of};
+ghost use Rattle.version_steps.specs.version_tree.Version.{state_of};
 ghost use Rattle.live_book.specs.Inner.Inverses.{IsTogether};
 
 use bundle_state::Bundle;
-use edit_rules::{Act, Edits};
 use edit_undo::{InverseFault, NoUndo, inverse};
 use emu_names::{BundleKey, Memory};
 use std::alloc::Global;
-use version_tree::Version;
+use version_steps::edit_rules::{Act, Edits};
+use version_steps::version_tree::Version;
 
 /// The bundle of a key.
 fn bundle_of<'a>(version: &'a Version, key: &BundleKey) -> Option<&'a Bundle>

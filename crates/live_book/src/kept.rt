@@ -1,7 +1,7 @@
 //! An accepted act, with what takes it back.
 
-use edit_rules::Act;
 use edit_undo::NoUndo;
+use version_steps::edit_rules::Act;
 
 /// An act that was accepted.
 #[derive(Drop)]

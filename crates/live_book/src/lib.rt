@@ -14,6 +14,7 @@ mod published;
 mod store;
 
 pub use book::Book;
+pub use edit_code;
 pub use fault::EditFault;
 pub use kept::Kept;
 pub use live::{Live, MadeLive, Opening, Share};

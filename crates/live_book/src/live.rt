@@ -16,7 +16,6 @@ use crate::book::Book;
 use crate::fault::EditFault;
 use crate::kept::Kept;
 use crate::published::Published;
-use edit_rules::Act;
 use emu_disk::Disk;
 use emu_names::{Memory, SessionNo};
 use std::alloc::Global;
@@ -25,6 +24,7 @@ use std::sync::ledger::{self, Blank, Ledger};
 use std::sync::{Mutex, MutexGuard, Wait};
 use version_gate::Pass;
 use version_steps::Draft;
+use version_steps::edit_rules::Act;
 
 /// Which opening it is: the book as it is at the moment at which threads begin to edit it. It is also the ledger of
 /// the edits that are accepted. Its members are plain values, which contracts alone see.

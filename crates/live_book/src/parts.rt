@@ -3,11 +3,11 @@
 use crate::published::Published;
 use db_config::Config;
 use edit_journal::Journal;
-use edit_rules::Entries;
 use emu_disk::Disk;
 use emu_names::Shared;
 use std::sync::Arc;
 use version_gate::Publisher;
+use version_steps::edit_rules::Entries;
 
 /// The fields of a book. It is no `Drop`, since its publisher is none.
 pub struct Parts<D: Disk> {

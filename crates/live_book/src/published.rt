@@ -1,7 +1,7 @@
 //! What a book publishes.
 
-use edit_rules::Entry;
-use version_tree::Version;
+use version_steps::edit_rules::Entry;
+use version_steps::version_tree::Version;
 
 /// A version of the database, and the last entry before it. The opening's version has none, so the
 /// published list tells the entries past the opening.

@@ -2,7 +2,7 @@
 ghost use Rattle.std.specs.Prelude.{◌≡◌, ◌≤◌, ◌++◌, [], ◌∷◌, List, Option, None, Some, true, false, Err, IfSome, OnOk, OnErr, IsErrOf};
 ghost use Rattle.emu_names.specs.Count.{HasCause};
 ghost use Rattle.db_config.specs.declared.parts.ConfigParts.{ConfigParts};
-ghost use Rattle.edit_rules.specs.declared.acts.Entry.{Entry};
+ghost use Rattle.version_steps.specs.edit_rules.declared.acts.Entry.{Entry};
 ghost use Rattle.edit_code.specs.Codes.{entry_code};
 ghost use Rattle.edit_journal.specs.Held.{count_in, LeavesIn};
 ghost use Rattle.live_book.specs.Kept.{MayFollow, Keeps, KeepsIn, IsAsBefore, CrashLeaves, faults_in};
@@ -12,9 +12,9 @@ ghost use Rattle.live_book.specs.Inner.Prepared.{IsFrameOf, IsTest, ForStore, Fo
 
 use edit_code::entry_len;
 use edit_journal::{Frame, Journal, JournalFault};
-use edit_rules::Entry;
 use emu_disk::{Disk, Failed};
 use emu_names::limits::STORE_BYTES;
+use version_steps::edit_rules::Entry;
 
 /// Whether there is a store, and this entry would bring it past its limit.
 #[tactic(auto, using(crate::proofs::Storing::no_store, crate::proofs::Storing::is_over, crate::proofs::Storing::small_of))]

@@ -19,8 +19,8 @@ use Rattle.session_core.specs.declared.line.Request.{Request}
 use Rattle.session_core.specs.declared.line.Request.TheVariants as requests
 use Rattle.session_core.specs.Answers.{answer_at, entry_of, is_want_of_memory, memory}
 use Rattle.session_core.specs.Queries.{lacks_memory}
-use Rattle.edit_undo.specs.declared.faults.NoUndo.{NoUndo}
-use Rattle.edit_undo.specs.declared.faults.NoUndo.TheVariants as reasons
+use Rattle.session_core.specs.edit_undo.declared.faults.NoUndo.{NoUndo}
+use Rattle.session_core.specs.edit_undo.declared.faults.NoUndo.TheVariants as reasons
 use Rattle.session_core.specs.declared.kept_acts.KeptAct.{KeptAct}
 use Rattle.session_core.specs.Undos.{latest_of, undo_refusal}
 use Rattle.session_core.specs.Inner.Undone.{AreKept}

@@ -1,10 +1,10 @@
 -- All replies, gathered from the queues.
 use Rattle.std.proofs.Common.{◌≡◌, ℕ, ◌≤◌, List, ◌++◌, length, sym, ◌∙◌, ap, subst}
-use Rattle.session_core.specs.declared.line.Reply.{Reply}
-use Rattle.session_core.specs.Steps.{session_places}
-use Rattle.session_core.specs.Worlds.{Each, Turn}
-use Rattle.session_core.specs.Legal.{IsNamed, lines_in, replies_in}
-use Rattle.live_laws.specs.Lanes.{grouped}
+use Rattle.live_seats.specs.session_core.declared.line.Reply.{Reply}
+use Rattle.live_seats.specs.session_core.Steps.{session_places}
+use Rattle.live_seats.specs.session_core.Worlds.{Each, Turn}
+use Rattle.live_seats.specs.session_core.Legal.{IsNamed, lines_in, replies_in}
+use Rattle.live_seats.specs.live_laws.Lanes.{grouped}
 use Rattle.live_run.specs.Runs.{replies_from}
 use Rattle.live_run.specs.Inner.Grouping.{AreWithin, HasRooms, QueueParts, queued_from}
 use Rattle.live_run.proofs.Queues.{all_queued, replies_queued}

@@ -1,12 +1,12 @@
 -- What is known when the lanes of a run have ended and their book is settled.
 use Rattle.std.proofs.Common.{◌≡◌, ℕ, ◌-◌, ◌≤◌, List, length, take, drop, sym, ap, subst, arith}
 use Rattle.edit_rules.specs.declared.acts.Entry.{Entry}
-use Rattle.session_core.specs.declared.line.Line.{Line}
-use Rattle.live_book.specs.Kept.{BookParts}
-use Rattle.live_book.specs.Live.{HasGrown, Opened, Shows}
-use Rattle.live_book.specs.Published.{AreShown}
-use Rattle.live_book.proofs.Living.{books_show}
-use Rattle.live_laws.specs.Lanes.{Step}
+use Rattle.live_seats.specs.session_core.declared.line.Line.{Line}
+use Rattle.live_seats.specs.live_book.Kept.{BookParts}
+use Rattle.live_seats.specs.live_book.Live.{HasGrown, Opened, Shows}
+use Rattle.live_seats.specs.live_book.Published.{AreShown}
+use Rattle.live_seats.proofs.of_live_book.Living.{books_show}
+use Rattle.live_seats.specs.live_laws.Lanes.{Step}
 use Rattle.live_run.specs.Inner.Running.{HaveLanes, accepts_in, refuses_in}
 
 -- the published list of a book shows its history

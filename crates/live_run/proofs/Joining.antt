@@ -7,24 +7,24 @@ use Rattle.db_config.specs.declared.parts.ConfigParts.{ConfigParts}
 use Rattle.edit_rules.specs.declared.acts.Entry.{Entry}
 use Rattle.edit_rules.specs.Effects.{IsLegal}
 use Rattle.version_gate.specs.declared.entry.Entry.{Entry as Numbered}
-use Rattle.session_core.specs.declared.line.Line.{Line}
-use Rattle.session_core.specs.declared.line.Reply.{Reply}
-use Rattle.session_core.specs.InOrder.{ComeInOrder}
-use Rattle.session_core.specs.Inner.Kept.{opened_in}
-use Rattle.session_core.specs.Legal.{IsNamed, Legal, disk_replies, lines_in, replies_in}
-use Rattle.session_core.specs.Worlds.{Each}
-use Rattle.session_core.proofs.Turns.{each_map}
-use Rattle.live_book.specs.declared.published.Published.{Published}
-use Rattle.live_book.specs.Commits.{IsSameBook, has_journal}
-use Rattle.live_book.specs.Histories.{IsHistory}
-use Rattle.live_book.specs.Kept.{BookParts, faults_in}
-use Rattle.live_book.specs.Laws.{ShowsBeginning}
-use Rattle.live_book.specs.Live.{HasGrown, Opened, Shows, opening_of}
-use Rattle.live_book.proofs.Lists.{lists_begin}
-use Rattle.live_laws.specs.Lanes.{Agrees, HasKept, Step, accepts, all_steps, all_turns, grouped}
-use Rattle.live_laws.proofs.Grouping.{disks_grouped}
-use Rattle.live_laws.proofs.Homes.{IsWhole, kept_whole}
-use Rattle.live_laws.proofs.Joined.{lanes_legal}
+use Rattle.live_seats.specs.session_core.declared.line.Line.{Line}
+use Rattle.live_seats.specs.session_core.declared.line.Reply.{Reply}
+use Rattle.live_seats.specs.session_core.InOrder.{ComeInOrder}
+use Rattle.live_seats.specs.session_core.Inner.Kept.{opened_in}
+use Rattle.live_seats.specs.session_core.Legal.{IsNamed, Legal, disk_replies, lines_in, replies_in}
+use Rattle.live_seats.specs.session_core.Worlds.{Each}
+use Rattle.live_seats.proofs.of_session_core.Turns.{each_map}
+use Rattle.live_seats.specs.live_book.declared.published.Published.{Published}
+use Rattle.live_seats.specs.live_book.Commits.{IsSameBook, has_journal}
+use Rattle.live_seats.specs.live_book.Histories.{IsHistory}
+use Rattle.live_seats.specs.live_book.Kept.{BookParts, faults_in}
+use Rattle.live_seats.specs.live_book.Laws.{ShowsBeginning}
+use Rattle.live_seats.specs.live_book.Live.{HasGrown, Opened, Shows, opening_of}
+use Rattle.live_seats.proofs.of_live_book.Lists.{lists_begin}
+use Rattle.live_seats.specs.live_laws.Lanes.{Agrees, HasKept, Step, accepts, all_steps, all_turns, grouped}
+use Rattle.live_seats.proofs.of_live_laws.Grouping.{disks_grouped}
+use Rattle.live_seats.proofs.of_live_laws.Homes.{IsWhole, kept_whole}
+use Rattle.live_seats.proofs.of_live_laws.Joined.{lanes_legal}
 use Rattle.live_run.specs.declared.run.Ended.{Ended}
 use Rattle.live_run.specs.Inner.Grouping.{HasRooms, IsPlaced, QueueParts}
 use Rattle.live_run.specs.Inner.Running.{EndsOver, HasEnded, HaveLanes, accepts_in, refuses_in}

@@ -5,12 +5,12 @@ use Rattle.std.proofs.lemmas.List.{length-map, map-append}
 use Rattle.std.proofs.Math.ListN.{get_or-append}
 use Rattle.std.proofs.Math.Seq.{get_or-append_seam}
 use Rattle.std.proofs.lemmas.Bool.Decides.{nat_tests}
-use Rattle.session_core.specs.declared.line.Line.{Line}
+use Rattle.live_seats.specs.session_core.declared.line.Line.{Line}
 use Rattle.live_seats.specs.declared.lane.Lane.{Lane}
 use Rattle.live_seats.specs.declared.lane.Lane.TheVariants as lanes
-use Rattle.session_core.specs.Legal.{disk_replies, lines_in, replies_in}
-use Rattle.session_core.specs.Worlds.{Each}
-use Rattle.live_laws.specs.Lanes.{AreLanes, Step, accepts, is_in_lane, lane_lines, turns_of}
+use Rattle.live_seats.specs.session_core.Legal.{disk_replies, lines_in, replies_in}
+use Rattle.live_seats.specs.session_core.Worlds.{Each}
+use Rattle.live_seats.specs.live_laws.Lanes.{AreLanes, Step, accepts, is_in_lane, lane_lines, turns_of}
 use Rattle.live_seats.specs.Inner.Seats.{SeatParts, lines_of, lane_of, takes}
 use Rattle.live_run.specs.declared.lanes.LaneOf.{LaneOf}
 use Rattle.live_run.specs.Inner.Running.{accepts_in, refuses_in, AreFree, AreIdle, IsFree, HasTaken, HaveTaken, HaveLanes, IsThread, parts_of, thread_lines}

@@ -1,10 +1,10 @@
 -- The replies of lanes, laid into the queues of their sessions.
 use Rattle.std.proofs.Common.{◌≡◌, ℕ, ◌+◌, ◌≤◌, List, [], ◌∷◌, ◌++◌, length, map, flat_map, refl, sym, ◌∙◌, ap, subst, arith, length-append, append_assoc, append-nil}
 use Rattle.std.proofs.lemmas.List.{map-append}
-use Rattle.session_core.specs.declared.line.Reply.{Reply}
-use Rattle.session_core.specs.Worlds.{Each, Turn}
-use Rattle.session_core.specs.Legal.{replies_in}
-use Rattle.live_laws.specs.Lanes.{Step, all_turns, turns_of}
+use Rattle.live_seats.specs.session_core.declared.line.Reply.{Reply}
+use Rattle.live_seats.specs.session_core.Worlds.{Each, Turn}
+use Rattle.live_seats.specs.session_core.Legal.{replies_in}
+use Rattle.live_seats.specs.live_laws.Lanes.{Step, all_turns, turns_of}
 use Rattle.live_run.specs.Inner.Grouping.{AreWithin, HasPlace, QueueParts, queued_from}
 use Rattle.live_run.proofs.Queues.{queued_append, queued_none, replies_queued, within_front}
 

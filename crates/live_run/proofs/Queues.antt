@@ -3,8 +3,8 @@ use Rattle.std.proofs.Common.{◌≡◌, ◌≢◌, ℕ, zero, suc, ◌+◌, ◌
 use Rattle.std.specs.List.{slice_get}
 use Rattle.std.proofs.lemmas.Bool.{ne_eqb}
 use Rattle.std.proofs.lemmas.List.Elements.{filter-append}
-use Rattle.session_core.specs.declared.line.Reply.{Reply}
-use Rattle.session_core.specs.Worlds.{Each}
+use Rattle.live_seats.specs.session_core.declared.line.Reply.{Reply}
+use Rattle.live_seats.specs.session_core.Worlds.{Each}
 use Rattle.live_run.specs.Runs.{is_reply_of, replies_from}
 use Rattle.live_run.specs.Inner.Grouping.{AreWithin, IsWithin, QueueParts, appended, pushed, queued_from}
 

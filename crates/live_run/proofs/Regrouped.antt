@@ -1,10 +1,10 @@
 -- Grouping what is grouped changes nothing.
 use Rattle.std.proofs.Common.{◌≡◌, ℕ, zero, suc, ◌<◌, List, [], ◌∷◌, ◌++◌, refl, sym, ◌∙◌, ap, subst}
-use Rattle.session_core.specs.Steps.{session_places}
-use Rattle.session_core.specs.Worlds.{Each, Turn}
-use Rattle.session_core.specs.Legal.{IsNamed, of_session, replies_in}
-use Rattle.live_laws.specs.Lanes.{grouped, grouped_from}
-use Rattle.live_laws.proofs.Grouping.{each_grouped, of_grouped}
+use Rattle.live_seats.specs.session_core.Steps.{session_places}
+use Rattle.live_seats.specs.session_core.Worlds.{Each, Turn}
+use Rattle.live_seats.specs.session_core.Legal.{IsNamed, of_session, replies_in}
+use Rattle.live_seats.specs.live_laws.Lanes.{grouped, grouped_from}
+use Rattle.live_seats.proofs.of_live_laws.Grouping.{each_grouped, of_grouped}
 use Rattle.live_run.specs.Runs.{AreGrouped}
 use Rattle.live_run.specs.Inner.Grouping.{HasPlace, IsPlaced}
 use Rattle.live_run.proofs.Sessions.{grouped_replies}

@@ -10,13 +10,13 @@ use Rattle.version_gate.specs.declared.entry.Entry.{Entry as Numbered}
 use Rattle.version_gate.specs.Lists.{Numbered as IsNumbered}
 use Rattle.version_gate.proofs.Beginnings.{prefix_self}
 use Rattle.version_gate.proofs.Numbers.{same_start}
-use Rattle.session_core.specs.declared.line.Line.{Line}
-use Rattle.session_core.specs.declared.line.Request.{Request}
-use Rattle.session_core.specs.declared.line.Request.TheVariants as requests
-use Rattle.session_core.specs.InOrder.{ComeInOrder, NamesEarlier}
-use Rattle.session_core.specs.Worlds.{Each}
-use Rattle.live_book.specs.declared.published.Published.{Published}
-use Rattle.live_book.proofs.Lists.{prefix_length}
+use Rattle.live_seats.specs.session_core.declared.line.Line.{Line}
+use Rattle.live_seats.specs.session_core.declared.line.Request.{Request}
+use Rattle.live_seats.specs.session_core.declared.line.Request.TheVariants as requests
+use Rattle.live_seats.specs.session_core.InOrder.{ComeInOrder, NamesEarlier}
+use Rattle.live_seats.specs.session_core.Worlds.{Each}
+use Rattle.live_seats.specs.live_book.declared.published.Published.{Published}
+use Rattle.live_seats.proofs.of_live_book.Lists.{prefix_length}
 use Rattle.live_seats.specs.declared.lane.Lane.TheVariants as lanes
 use Rattle.live_seats.specs.Inner.Seats.{IsAsked, NamesCell, SeatParts, lines_of}
 use Rattle.live_run.specs.Inner.Running.{AreFree, HaveRoom, IsFresh, IsUnder}

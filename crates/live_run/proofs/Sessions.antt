@@ -3,11 +3,11 @@ use Rattle.std.proofs.Common.{◌≡◌, ◌⊎◌, ⊎_elim, ℕ, zero, suc, �
 use Rattle.std.proofs.lemmas.Bool.{cases_order, le-leb, lt-leb, ne_eqb}
 use Rattle.std.proofs.lemmas.List.{map-append}
 use Rattle.std.proofs.lemmas.List.Filters.{length-filter_more}
-use Rattle.session_core.specs.declared.line.Line.{Line}
-use Rattle.session_core.specs.declared.line.Reply.{Reply}
-use Rattle.session_core.specs.Worlds.{Each, Turn}
-use Rattle.session_core.specs.Legal.{IsNamed, is_line_of, lines_in, lines_of_session, of_session, replies_in}
-use Rattle.live_laws.specs.Lanes.{grouped_from}
+use Rattle.live_seats.specs.session_core.declared.line.Line.{Line}
+use Rattle.live_seats.specs.session_core.declared.line.Reply.{Reply}
+use Rattle.live_seats.specs.session_core.Worlds.{Each, Turn}
+use Rattle.live_seats.specs.session_core.Legal.{IsNamed, is_line_of, lines_in, lines_of_session, of_session, replies_in}
+use Rattle.live_seats.specs.live_laws.Lanes.{grouped_from}
 use Rattle.live_run.specs.Runs.{is_reply_of, replies_from}
 use Rattle.live_run.specs.Inner.Grouping.{AreWithin, HaveRooms, QueueParts, lines_from, queued_from}
 use Rattle.live_run.proofs.Queues.{AreEmpty}

@@ -1,7 +1,7 @@
 -- What is known of the lanes when their shares are put together.
 use Rattle.std.proofs.Common.{◌≡◌, ℕ, List, sym, subst}
-use Rattle.session_core.specs.declared.line.Line.{Line}
-use Rattle.live_laws.specs.Lanes.{Step}
+use Rattle.live_seats.specs.session_core.declared.line.Line.{Line}
+use Rattle.live_seats.specs.live_laws.Lanes.{Step}
 use Rattle.live_run.specs.Inner.Running.{HaveLanes}
 
 -- all lanes have ended

@@ -4,21 +4,21 @@ use Rattle.std.proofs.lemmas.List.{map-append}
 use Rattle.std.proofs.lemmas.List.Sums.{sum_by-append}
 use Rattle.db_config.specs.declared.parts.ConfigParts.{ConfigParts}
 use Rattle.edit_rules.specs.declared.acts.Entry.{Entry}
-use Rattle.session_core.specs.declared.line.Answer.{Answer}
-use Rattle.session_core.specs.declared.line.Answer.TheVariants.{Done, Refused, Segments}
-use Rattle.session_core.specs.declared.line.Line.{Line}
-use Rattle.session_core.specs.declared.line.Reply.{Reply}
-use Rattle.session_core.specs.declared.line.Request.{Request}
-use Rattle.session_core.specs.InOrder.{ComeInOrder}
-use Rattle.session_core.specs.Steps.{session_places}
-use Rattle.session_core.specs.Worlds.{Each, Turn}
-use Rattle.session_core.specs.Legal.{IsNamed, Mark, accepted, accepting, disk_replies, lines_in, lines_of_session, makes_entry, of_session, replies_in, told_mark}
-use Rattle.session_core.proofs.Turns.{disk_of, each_filter, each_map, each_of_map}
-use Rattle.live_laws.specs.Lanes.{Agrees, AreLanes, Step, accepts, all_steps, all_turns, grouped, grouped_from, is_in_lane, turns_of}
-use Rattle.live_laws.proofs.Eaches.{each_append}
-use Rattle.live_laws.proofs.Grouping.{accepts_grouped}
-use Rattle.live_laws.proofs.Homes.{IsWhole, home, in_order}
-use Rattle.live_laws.proofs.Rising.{come_placed}
+use Rattle.live_seats.specs.session_core.declared.line.Answer.{Answer}
+use Rattle.live_seats.specs.session_core.declared.line.Answer.TheVariants.{Done, Refused, Segments}
+use Rattle.live_seats.specs.session_core.declared.line.Line.{Line}
+use Rattle.live_seats.specs.session_core.declared.line.Reply.{Reply}
+use Rattle.live_seats.specs.session_core.declared.line.Request.{Request}
+use Rattle.live_seats.specs.session_core.InOrder.{ComeInOrder}
+use Rattle.live_seats.specs.session_core.Steps.{session_places}
+use Rattle.live_seats.specs.session_core.Worlds.{Each, Turn}
+use Rattle.live_seats.specs.session_core.Legal.{IsNamed, Mark, accepted, accepting, disk_replies, lines_in, lines_of_session, makes_entry, of_session, replies_in, told_mark}
+use Rattle.live_seats.proofs.of_session_core.Turns.{disk_of, each_filter, each_map, each_of_map}
+use Rattle.live_seats.specs.live_laws.Lanes.{Agrees, AreLanes, Step, accepts, all_steps, all_turns, grouped, grouped_from, is_in_lane, turns_of}
+use Rattle.live_seats.proofs.of_live_laws.Eaches.{each_append}
+use Rattle.live_seats.proofs.of_live_laws.Grouping.{accepts_grouped}
+use Rattle.live_seats.proofs.of_live_laws.Homes.{IsWhole, home, in_order}
+use Rattle.live_seats.proofs.of_live_laws.Rising.{come_placed}
 use Rattle.live_run.specs.Inner.Grouping.{HasRooms, HaveRooms, IsPlaced, QueueParts, lines_from}
 use Rattle.live_run.specs.Inner.Running.{accepts_in, refuses_in}
 use Rattle.live_run.proofs.Sessions.{few_lines, session_lines}

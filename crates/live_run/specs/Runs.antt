@@ -1,7 +1,7 @@
 -- What a live run answers.
 use Rattle.std.specs.Prelude.{◌≡◌, ℕ, zero, suc, ◌+◌, List, [], ◌++◌, filter, Bool, nat_eq}
-use Rattle.session_core.specs.declared.line.Reply.{Reply}
-use Rattle.session_core.specs.Steps.{session_places}
+use Rattle.live_seats.specs.session_core.declared.line.Reply.{Reply}
+use Rattle.live_seats.specs.session_core.Steps.{session_places}
 
 -- a reply is one of a session
 abbrev pub is_reply_of : ℕ → Reply → Bool

@@ -1,13 +1,13 @@
 //! The end of a run: the shares are put together, and when the book is settled each pass learns all that was published.
 ghost use Rattle.std.specs.Prelude.{◌≡◌, ◌+◌, ◌<◌, ◌≤◌, [], map, vec_capacity, vec_len};
 ghost use mathlib.Core.List.{IsPrefix};
-ghost use Rattle.session_core.specs.Legal.{disk_replies, replies_in};
-ghost use Rattle.session_core.specs.Worlds.{Each};
-ghost use Rattle.live_laws.specs.Lanes.{accepts, turns_of};
+ghost use Rattle.live_seats.specs.session_core.Legal.{disk_replies, replies_in};
+ghost use Rattle.live_seats.specs.session_core.Worlds.{Each};
+ghost use Rattle.live_seats.specs.live_laws.Lanes.{accepts, turns_of};
 ghost use Rattle.live_run.specs.Inner.Running.{HasEnded, accepts_in, parts_of, refuses_in, with_seat};
 
 use emu_disk::Disk;
-use live_book::{Book, Opening, Published, Share};
+use live_seats::live_book::{Book, Opening, Published, Share};
 use live_seats::{Answered, Row, Seat, SeatEnd};
 use std::marker::Model;
 use std::sync::Wait;

@@ -1,8 +1,8 @@
 //! What the lanes of a run answered, joined to its end.
 ghost use Rattle.std.specs.Prelude.{◌≡◌, ◌≤◌, [], Ok, length, map, vec_capacity, vec_len};
-ghost use Rattle.session_core.specs.InOrder.{ComeInOrder};
-ghost use Rattle.session_core.specs.Worlds.{Each};
-ghost use Rattle.live_book.specs.Live.{HasGrown};
+ghost use Rattle.live_seats.specs.session_core.InOrder.{ComeInOrder};
+ghost use Rattle.live_seats.specs.session_core.Worlds.{Each};
+ghost use Rattle.live_seats.specs.live_book.Live.{HasGrown};
 ghost use Rattle.live_run.specs.Inner.Grouping.{HasRooms};
 ghost use Rattle.live_run.specs.Inner.Running.{EndsOver, HaveLanes, accepts_in, refuses_in};
 ghost use Rattle.live_seats.specs.Inner.Seats.{IsAsked};
@@ -11,9 +11,9 @@ use crate::ending::{Rest, finish_all};
 use crate::room::Joint;
 use crate::run::{Ended, LiveEnd};
 use emu_disk::Disk;
-use live_book::{Book, Opening};
+use live_seats::live_book::{Book, Opening};
+use live_seats::session_core::Lines;
 use live_seats::{Answered, Row, marks_of};
-use session_core::Lines;
 use std::sync::Wait;
 
 /// Lets the passes of all seats learn what was published, and joins what the seats answered. The book has grown by

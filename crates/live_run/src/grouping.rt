@@ -1,16 +1,16 @@
 //! Replies of all lanes, session by session.
 ghost use Rattle.std.specs.Prelude.{◌≡◌, ◌+◌, ◌<◌, ◌≤◌, [], ◌∷◌, ◌++◌, flat_map, length, map, IfOk};
-ghost use Rattle.session_core.specs.Legal.{IsNamed, lines_in, lines_of_session, replies_in};
-ghost use Rattle.session_core.specs.Worlds.{Each};
-ghost use Rattle.live_laws.specs.Lanes.{all_turns, grouped, turns_of};
-ghost use Rattle.session_core.specs.Steps.{session_places};
+ghost use Rattle.live_seats.specs.session_core.Legal.{IsNamed, lines_in, lines_of_session, replies_in};
+ghost use Rattle.live_seats.specs.session_core.Worlds.{Each};
+ghost use Rattle.live_seats.specs.live_laws.Lanes.{all_turns, grouped, turns_of};
+ghost use Rattle.live_seats.specs.session_core.Steps.{session_places};
 ghost use Rattle.live_run.specs.Runs.{AreGrouped};
 ghost use Rattle.live_run.specs.Inner.Grouping.{AreWithin, HasPlace, HasRooms, HaveRooms, IsPlaced, appended, empty_queue, pushed, queued_from};
 
 use emu_names::limits::SESSIONS;
 use emu_names::{Memory, Series};
+use live_seats::session_core::{Lines, Replies, Reply};
 use live_seats::{Answered, Row};
-use session_core::{Lines, Replies, Reply};
 use std::alloc::Global;
 use std::marker::Model;
 

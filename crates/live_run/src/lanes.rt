@@ -1,8 +1,8 @@
 //! The lanes of a run: threads of their own, and the caller.
 ghost use Rattle.std.specs.Prelude.{◌≡◌, ℕ, get_or, ◌+◌, ◌<◌, ◌≤◌, [], length, map, vec_len, vec_capacity};
-ghost use Rattle.session_core.specs.Legal.{lines_in};
-ghost use Rattle.session_core.specs.Worlds.{Each};
-ghost use Rattle.live_laws.specs.Lanes.{turns_of};
+ghost use Rattle.live_seats.specs.session_core.Legal.{lines_in};
+ghost use Rattle.live_seats.specs.session_core.Worlds.{Each};
+ghost use Rattle.live_seats.specs.live_laws.Lanes.{turns_of};
 ghost use Rattle.std.specs.Thread.{IsSend, IsSync};
 ghost use Rattle.live_seats.specs.Inner.Seats.{IsAsked, lines_of};
 ghost use Rattle.live_seats.specs.declared.lane.Lane.TheVariants as lane_kinds;
@@ -10,9 +10,9 @@ ghost use Rattle.live_run.specs.Inner.Running.{AreFree, AreIdle, HasTaken, HaveL
 
 use emu_disk::Disk;
 use emu_io::Gate;
-use live_book::Opening;
+use live_seats::live_book::Opening;
+use live_seats::session_core::Lines;
 use live_seats::{Around, Lane, Row, Seat};
-use session_core::Lines;
 use std::sync::ledger::Ledger;
 use std::sync::{OnceLock, OnceToken, Wait};
 use std::thread;

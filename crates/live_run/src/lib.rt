@@ -9,5 +9,6 @@ mod places;
 mod room;
 mod run;
 
-pub use live_seats::Marks;
+pub use edit_rules;
+pub use live_seats::{Marks, live_book, session_core, session_run};
 pub use run::{Ended, LiveEnd, run_live};

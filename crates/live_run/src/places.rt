@@ -1,13 +1,13 @@
 //! Places of lanes, which are made before the first line is run: want of memory comes then only.
 ghost use Rattle.std.specs.Prelude.{◌≡◌, ◌+◌, ◌<◌, ◌≤◌, [], All, IfOk, length, map, vec_capacity, vec_len};
-ghost use Rattle.session_core.specs.Worlds.{Each};
+ghost use Rattle.live_seats.specs.session_core.Worlds.{Each};
 ghost use Rattle.live_run.specs.Inner.Running.{HasSeen, HaveRoom, IsFresh};
 
 use emu_disk::Disk;
 use emu_names::Memory;
-use live_book::{Book, Opening, Published, Share};
+use live_seats::live_book::{Book, Opening, Published, Share};
+use live_seats::session_core::{KeptActs, Lines, Slots};
 use live_seats::{Answered, Lane, Look, Row, Seat};
-use session_core::{KeptActs, Lines, Slots};
 use std::alloc::Global;
 use std::marker::Model;
 use std::sync::ledger::Ledger;
@@ -25,7 +25,7 @@ pub(crate) struct Place<'a, K: Opening + Row> {
 
 impl<'a, K: Opening + Row> Model for Place<'a, K> {
     ghost use Rattle.std.specs.Prelude.{◌≡◌, ℕ, [], None, length, replicate, vec_capacity};
-    ghost use Rattle.session_core.specs.Steps.{session_places};
+    ghost use Rattle.live_seats.specs.session_core.Steps.{session_places};
     ghost use Rattle.live_run.specs.Inner.Running.{HasSeen};
 
     ghost Value = { ℕ };

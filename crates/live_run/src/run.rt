@@ -1,10 +1,10 @@
 //! A live run: the sessions of a script at once over one book.
 ghost use Rattle.std.specs.Prelude.{◌≡◌, ◌+◌, ◌≤◌, ◌<◌, [], None, All, IfOk, length, map, vec_capacity, vec_len};
-ghost use Rattle.session_core.specs.InOrder.{ComeInOrder};
-ghost use Rattle.session_core.specs.Worlds.{Each};
-ghost use Rattle.live_book.specs.Kept.{KeepsIn};
-ghost use Rattle.live_book.specs.Live.{opening_of};
-ghost use Rattle.live_book.specs.Inner.Live.{all_parts};
+ghost use Rattle.live_seats.specs.session_core.InOrder.{ComeInOrder};
+ghost use Rattle.live_seats.specs.session_core.Worlds.{Each};
+ghost use Rattle.live_seats.specs.live_book.Kept.{KeepsIn};
+ghost use Rattle.live_seats.specs.live_book.Live.{opening_of};
+ghost use Rattle.live_seats.specs.live_book.Inner.Live.{all_parts};
 ghost use Rattle.live_run.specs.Inner.Grouping.{HasRooms};
 ghost use Rattle.live_run.specs.Inner.Running.{HaveRoom, IsUnder};
 ghost use Rattle.live_run.specs.Inner.Runs.{EndsLive};
@@ -19,9 +19,9 @@ use emu_disk::Disk;
 use emu_io::Gate;
 use emu_names::Memory;
 use emu_names::limits::SESSIONS;
-use live_book::{Book, Live, MadeLive, Opening, Published};
+use live_seats::live_book::{Book, Live, MadeLive, Opening, Published};
+use live_seats::session_core::{Lines, Replies};
 use live_seats::{Around, Marks, Row};
-use session_core::{Lines, Replies};
 use std::alloc::Global;
 use std::marker::Brand;
 use std::sync::ledger::{Blank, Ledger};

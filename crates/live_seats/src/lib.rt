@@ -18,4 +18,6 @@ pub use looks::Look;
 pub use marks::{Mark, Marks, mark_room, marks_of};
 pub use notes::Row;
 pub use seat::{Seat, SeatEnd};
+pub use session_run;
+pub use session_run::{live_book, session_core};
 pub use table::Table;

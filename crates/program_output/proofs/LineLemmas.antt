@@ -2,10 +2,10 @@
 use Rattle.std.proofs.Common.{◌≡◌, ◌∷◌, ℕ, List, false, codes, refl, ap, ◌∙◌}
 use Rattle.serde_json.specs.Data.{Data}
 use Rattle.serde_json.specs.Written.{has_float}
-use Rattle.reply_texts.specs.Members.{line_text}
-use Rattle.reply_texts.specs.Refusals.{number_at, plain}
-use Rattle.reply_texts.proofs.Plain.{any_float, object_plain}
-use Rattle.reply_texts.proofs.Printed.{config_plain}
+use Rattle.store_texts.specs.reply_texts.Members.{line_text}
+use Rattle.store_texts.specs.reply_texts.Refusals.{number_at, plain}
+use Rattle.store_texts.proofs.of_reply_texts.Plain.{any_float, object_plain}
+use Rattle.store_texts.proofs.of_reply_texts.Printed.{config_plain}
 use Rattle.script_lines.specs.declared.faults.LineFault.{LineFault}
 use Rattle.script_lines.specs.declared.faults.LineFault.TheVariants as faults
 use Rattle.program_output.specs.Texts.{fault_data, fault_members, fault_text, last_data, last_text}

@@ -1,12 +1,12 @@
 -- What a run writes beside the replies to its requests.
 use Rattle.std.specs.Prelude.{ℕ, List, ◌∷◌, Some, codes}
 use Rattle.serde_json.specs.Data.{Data}
-use Rattle.session_core.specs.declared.line.Command.TheVariants as commands
-use Rattle.session_core.specs.declared.line.Answer.TheVariants.{Done}
-use Rattle.session_core.specs.declared.line.Reply.{Reply}
+use Rattle.script_lines.specs.session_core.declared.line.Command.TheVariants as commands
+use Rattle.script_lines.specs.session_core.declared.line.Answer.TheVariants.{Done}
+use Rattle.script_lines.specs.session_core.declared.line.Reply.{Reply}
 pub use Rattle.store_texts.specs.Texts.{damaged_text, from_text, mark_text}
-use Rattle.reply_texts.specs.Members.{Named, line_text, object_of}
-use Rattle.reply_texts.specs.Refusals.{config_members, number_at, plain, shape_members}
+use Rattle.store_texts.specs.reply_texts.Members.{Named, line_text, object_of}
+use Rattle.store_texts.specs.reply_texts.Refusals.{config_members, number_at, plain, shape_members}
 use Rattle.script_lines.specs.declared.faults.LineFault.{LineFault}
 use Rattle.script_lines.specs.declared.faults.LineFault.TheVariants as faults
 

@@ -1,14 +1,14 @@
 //! Last lines of runs, as texts.
 ghost use Rattle.std.specs.Prelude.{◌≡◌, IfOk, OnOk, codes};
 ghost use Rattle.serde_json.specs.View.{members_view, view};
-ghost use Rattle.reply_texts.specs.Members.{with_all};
+ghost use Rattle.store_texts.specs.reply_texts.Members.{with_all};
 ghost use Rattle.program_output.specs.Texts.{fault_data, fault_members, fault_text, last_data, last_text};
 
 use emu_names::{Memory, Text};
-use reply_texts::{print_value, put_config, put_shape, put_text, put_whole};
 use script_lines::LineFault;
 use serde_json::{Map, Value};
 use std::alloc::Global;
+use store_texts::reply_texts::{print_value, put_config, put_shape, put_text, put_whole};
 
 /// Puts what is said of a line's fault.
 fn put_fault(

@@ -1,15 +1,15 @@
 //! Replies, written.
 ghost use Rattle.std.specs.Prelude.{◌≤◌, IfErr};
-ghost use Rattle.reply_texts.specs.Texts.{reply_text};
+ghost use Rattle.store_texts.specs.reply_texts.Texts.{reply_text};
 ghost use Rattle.program_output.specs.Texts.{config_reply};
 ghost use Rattle.program_output.specs.Inner.Written.{EndHasCause, WritesText};
 
 use crate::ended::Ended;
 use emu_io::{Sink, write_all};
 use emu_names::{SessionNo, Text};
-use reply_texts::print_reply;
-use session_core::{Answer, Command, Reply};
+use script_lines::session_core::{Answer, Command, Reply};
 use std::alloc::Global;
+use store_texts::reply_texts::print_reply;
 
 /// Writes a text.
 pub fn write_text<K: Sink>(out: &mut K, text: &Text) -> Result<(), Ended>

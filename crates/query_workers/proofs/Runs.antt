@@ -5,13 +5,13 @@ use Rattle.std.proofs.lemmas.Grind.{flat_map-append}
 use Rattle.std.proofs.lemmas.List.{drop-drop, map-append, take_all}
 use Rattle.std.proofs.lemmas.List.Folds.{list_any-append}
 use Rattle.std.proofs.Math.Seq.{take-add}
-use Rattle.eql_model.proofs.Listed.{from_here}
-use Rattle.eql_model.specs.declared.row.Row.{Row}
-use Rattle.eql_model.specs.declared.faults.MatchFault.{MatchFault}
+use Rattle.eql_match.proofs.of_eql_model.Listed.{from_here}
+use Rattle.eql_match.specs.eql_model.declared.row.Row.{Row}
+use Rattle.eql_match.specs.eql_model.declared.faults.MatchFault.{MatchFault}
 use Rattle.query_workers.specs.declared.question.Question.{Question}
 use Rattle.version_tree.specs.Version.{VersionParts, bundles_of}
-use Rattle.eql_model.specs.Inner.Rows.{GivesRows}
-use Rattle.bundle_index.specs.Index.{IndexParts}
+use Rattle.eql_match.specs.eql_model.Inner.Rows.{GivesRows}
+use Rattle.eql_match.specs.bundle_index.Index.{IndexParts}
 use Rattle.bundle_state.specs.Bundle.{BundleParts}
 use Rattle.query_workers.specs.Inner.Questions.{rows_for, too_many_for}
 use Rattle.query_workers.specs.Inner.Runs.{GivesOver, GivesRun, run_of}

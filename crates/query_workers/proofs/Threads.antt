@@ -14,7 +14,7 @@ use Rattle.std.specs.contracts.alloc.Global as global
 use Rattle.eql_resolve.proofs.Threads.{asked_sync}
 use Rattle.version_tree.proofs.version.Version.TheSendSync as versions
 use Rattle.version_tree.specs.contracts.version.Version as version
-use Rattle.requery.specs.contracts.reached.Reached as reached
+use Rattle.session_core.specs.requery.contracts.reached.Reached as reached
 use Rattle.query_workers.specs.contracts.question.Question as question
 
 pub reached_sync : (a : NamedLft) → IsSync (reached.the_row a)

@@ -3,19 +3,19 @@ ghost use Rattle.std.specs.Prelude.{◌≡◌, map, IfOk};
 ghost use Rattle.std.specs.List.{filter_map};
 ghost use Rattle.bundle_state.specs.Built.{FitsConfig};
 ghost use Rattle.eql_resolve.specs.Asked.{result_level};
-ghost use Rattle.eql_model.specs.Results.{AreThere};
-ghost use Rattle.eql_model.specs.Rows.{row_of};
-ghost use Rattle.requery.specs.Reach.{reach};
-ghost use Rattle.requery.specs.Inner.Answers.{Carries};
-ghost use Rattle.requery.specs.Inner.Sound.{IsReachedBy};
+ghost use Rattle.eql_match.specs.eql_model.Results.{AreThere};
+ghost use Rattle.eql_match.specs.eql_model.Rows.{row_of};
+ghost use Rattle.session_core.specs.requery.Reach.{reach};
+ghost use Rattle.session_core.specs.requery.Inner.Answers.{Carries};
+ghost use Rattle.session_core.specs.requery.Inner.Sound.{IsReachedBy};
 
-use bundle_index::Indexed;
 use db_config::Config;
 use emu_names::Memory;
+use eql_match::bundle_index::Indexed;
+use eql_match::eql_model::{MatchFault, SegmentList, Span, Spans};
 use eql_match::match_bundle;
-use eql_model::{MatchFault, SegmentList, Span, Spans};
-use requery::{Reached, Target, reach_between, reach_near};
-use segment_list::rows_at;
+use session_core::requery::{Reached, Target, reach_between, reach_near};
+use session_core::segment_list::rows_at;
 use std::alloc::Global;
 
 /// What results of a query reach in an indexed bundle, in the order of the results (EMU-SDMS Manual, "The EMU

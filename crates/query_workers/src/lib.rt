@@ -9,4 +9,6 @@ mod walk;
 
 pub use answers::answer_over;
 pub use carried::reach;
+pub use session_core;
+pub use version_tree;
 pub use walk::{answer, answer_requery};

@@ -1,17 +1,17 @@
 //! What is asked of each bundle of a version.
 ghost use Rattle.bundle_state.specs.Built.{FitsConfig};
 ghost use Rattle.eql_resolve.specs.Inner.Sound.{IsResolvedBy};
-ghost use Rattle.eql_model.specs.Inner.Rows.{Answers, GivesRows};
+ghost use Rattle.eql_match.specs.eql_model.Inner.Rows.{Answers, GivesRows};
 ghost use Rattle.query_workers.specs.Inner.Questions.{IsAskedOf, rows_for, too_many_for};
 
 use crate::carried::carried_in;
-use bundle_index::Indexed;
 use db_config::Config;
+use eql_match::bundle_index::Indexed;
+use eql_match::eql_model::{MatchFault, SegmentList};
 use eql_match::match_bundle;
-use eql_model::{MatchFault, SegmentList};
 use eql_resolve::Asked;
-use requery::Reached;
-use segment_list::rows_of;
+use session_core::requery::Reached;
+use session_core::segment_list::rows_of;
 use std::alloc::Global;
 
 /// A query, or one whose results are carried.

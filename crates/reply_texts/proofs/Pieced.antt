@@ -4,8 +4,8 @@ use Rattle.json.specs.Print.{escape_byte}
 use Rattle.serde_json.specs.Data.{string, no_members, member}
 use Rattle.serde_json.specs.Written.{compact_text, members_text}
 use Rattle.eql_model.specs.declared.row.Row.{Row}
-use Rattle.segment_list.specs.Texts.{rows_data}
-use Rattle.segment_list.specs.Inner.Texts.{rows_text}
+use Rattle.session_core.specs.segment_list.Texts.{rows_data}
+use Rattle.session_core.specs.segment_list.Inner.Texts.{rows_text}
 use Rattle.session_core.specs.declared.line.Command.{Command}
 use Rattle.session_core.specs.declared.line.Command.TheVariants as commands
 use Rattle.session_core.specs.declared.line.Refusal.{Refusal}

@@ -19,7 +19,7 @@ use Rattle.eql_resolve.specs.declared.faults.PrepareFault.{PrepareFault}
 use Rattle.eql_resolve.specs.declared.faults.PrepareFault.TheVariants as prepares
 use Rattle.eql_resolve.specs.declared.faults.AskFault.{AskFault}
 use Rattle.eql_resolve.specs.declared.faults.AskFault.TheVariants as asks
-use Rattle.segment_list.specs.Texts.{whole}
+use Rattle.session_core.specs.segment_list.Texts.{whole}
 use Rattle.session_core.specs.declared.line.Refusal.{Refusal}
 use Rattle.session_core.specs.declared.line.Refusal.TheVariants as refusals
 use Rattle.reply_texts.specs.Members.{Named}

@@ -2,7 +2,7 @@
 -- order of their names' bytes, and a line feed.
 use Rattle.std.specs.Prelude.{ℕ, List, Option, Some, None, codes}
 use Rattle.serde_json.specs.Data.{Data, string, object, Members, no_members, member}
-use Rattle.segment_list.specs.Texts.{rows_data, whole}
+use Rattle.session_core.specs.segment_list.Texts.{rows_data, whole}
 use Rattle.session_core.specs.declared.line.Command.{Command}
 use Rattle.session_core.specs.declared.line.Command.TheVariants as commands
 use Rattle.session_core.specs.declared.line.Refusal.{Refusal}

@@ -9,3 +9,4 @@ mod replies;
 pub use members::{put_text, put_whole};
 pub use print::{print_reply, print_value};
 pub use refusals::{put_config, put_grid, put_name, put_refusal, put_shape};
+pub use session_core;

@@ -1,13 +1,13 @@
 //! The text of a reply, put together from its pieces.
 ghost use Rattle.std.specs.Prelude.{◌≡◌, ◌++◌, OnOk, codes, string_bytes};
-ghost use Rattle.segment_list.specs.Inner.Texts.{rows_text};
+ghost use Rattle.session_core.specs.segment_list.Inner.Texts.{rows_text};
 ghost use Rattle.reply_texts.specs.Inner.Pieces.{answer_piece, done_piece, edits_piece, head_piece, number_behind, refused_piece};
 ghost use Rattle.reply_texts.specs.Texts.{command_word};
 
 use crate::print::refusal_value;
 use emu_names::Memory;
 use itoa::Buffer;
-use segment_list::Listing;
+use session_core::segment_list::Listing;
 use session_core::{Answer, Command, Refusal};
 use std::alloc::Global;
 

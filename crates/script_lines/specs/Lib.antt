@@ -11,3 +11,4 @@ pub mod Lines
 pub mod Earlier
 pub mod Known
 pub mod Inner
+pub use Rattle.session_core.specs as session_core

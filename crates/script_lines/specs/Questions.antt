@@ -9,7 +9,7 @@ use Rattle.config_json.specs.Forms.{text_member}
 use Rattle.emu_names.specs.Texts.{same_text}
 use Rattle.session_core.specs.declared.line.Command.{Command}
 use Rattle.session_core.specs.declared.line.Command.TheVariants as commands
-use Rattle.requery.specs.declared.target.Requery.{Requery}
+use Rattle.session_core.specs.requery.declared.target.Requery.{Requery}
 use Rattle.script_lines.specs.Forms.{session_at}
 use Rattle.script_lines.specs.Requeries.{requery_at}
 

@@ -8,8 +8,8 @@ use Rattle.json_view.specs.Parts.{optional_of, shape, text_there, whole_at}
 use Rattle.json_view.specs.Steps.{◌>>=◌}
 use Rattle.emu_names.specs.Texts.{same_text}
 use Rattle.emu_names.specs.declared.limits.TheConstants.{BUNDLE_ITEMS}
-use Rattle.requery.specs.declared.target.Requery.{Requery}
-use Rattle.requery.specs.declared.target.Requery.TheVariants as asks
+use Rattle.session_core.specs.requery.declared.target.Requery.{Requery}
+use Rattle.session_core.specs.requery.declared.target.Requery.TheVariants as asks
 
 -- whether a move begins at the last item of a result
 abbrev pub end_named : List ℕ → Option Bool

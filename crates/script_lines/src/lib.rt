@@ -22,3 +22,4 @@ pub use faults::{LineFault, ReadLine};
 pub use law::read_lines_are_known;
 pub use line_set::{EarlierLine, LineSet};
 pub use read::read_line;
+pub use session_core;

@@ -16,7 +16,7 @@ use emu_names::{SessionNo, Text};
 use eql_resolve::made_of;
 use json_view::{View, ViewFault};
 use label_match::PatternMaker;
-use requery::Requery;
+use session_core::requery::Requery;
 use session_core::{Ask, Command, Line, Request};
 use std::alloc::Global;
 

@@ -6,7 +6,7 @@ ghost use Rattle.script_lines.specs.Requeries.{along_at, count_at, count_in, end
 use crate::forms::owned;
 use emu_names::limits::BUNDLE_ITEMS;
 use json_view::{View, ViewFault, Wanted};
-use requery::Requery;
+use session_core::requery::Requery;
 use std::alloc::Global;
 
 /// Results are moved by at most so many items, and reach at most as many: no level has more.

@@ -2,19 +2,19 @@
 use Rattle.std.proofs.Common.{◌≡◌, inl, inr, ℕ, ◌≤◌, Bool, true, false, List, [], ◌∷◌, Option, Some, None, Result, Ok, refl, sym, ◌∙◌, ap, subst, arith}
 use Rattle.emu_names.specs.Count.{Rose}
 use Rattle.db_config.specs.declared.parts.ConfigParts.{ConfigParts}
-use Rattle.edit_rules.specs.declared.acts.Entry.{Entry}
+use Rattle.live_run.specs.edit_rules.declared.acts.Entry.{Entry}
 use Rattle.emu_disk.specs.Disk.{LeavesOnly}
 use Rattle.emu_disk.specs.declared.disk.Disk as disks
 use Rattle.edit_journal.specs.declared.journal.Journal.{Journal}
 use Rattle.edit_journal.specs.Held.{disk_of}
 use Rattle.book_opening.specs.declared.fault.OpenFault.{OpenFault}
 use Rattle.book_opening.specs.declared.fault.OpenFault.TheVariants as opens
-use Rattle.live_book.specs.Kept.{BookParts, KeepsIn, CrashLeaves, faults_in}
-use Rattle.live_book.specs.Commits.{has_journal}
+use Rattle.live_run.specs.live_book.Kept.{BookParts, KeepsIn, CrashLeaves, faults_in}
+use Rattle.live_run.specs.live_book.Commits.{has_journal}
 use Rattle.book_opening.specs.Opens.{IsNoBookFor, DuringNew, DuringNoBook}
 use Rattle.book_opening.specs.Inner.Opens.{IsEmpty, IsNew}
 use Rattle.eql_resolve.specs.Made.{times_too_large}
-use Rattle.script_lines.specs.declared.faults.ReadLine.TheVariants as reads
+use Rattle.program_output.specs.script_lines.declared.faults.ReadLine.TheVariants as reads
 use Rattle.program_output.specs.declared.ended.Ended.{Ended}
 use Rattle.program_output.specs.declared.ended.Ended.TheVariants as ends
 use Rattle.script_runs.specs.Scripts.{read_from}

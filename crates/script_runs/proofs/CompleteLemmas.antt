@@ -3,9 +3,9 @@ use Rattle.std.proofs.Common.{◌≡◌, ◌⊎◌, inl, inr, ℕ, ◌<◌, ◌-
 use Rattle.emu_names.specs.Count.{Rose}
 use Rattle.emu_io.specs.Fronts.{Tells}
 use Rattle.db_config.specs.declared.parts.ConfigParts.{ConfigParts}
-use Rattle.edit_rules.specs.declared.acts.Entry.{Entry}
+use Rattle.live_run.specs.edit_rules.declared.acts.Entry.{Entry}
 use Rattle.edit_journal.specs.declared.body.Body.{Body}
-use Rattle.live_book.specs.Histories.{OfRead, IsBare, Stands, IsDamagedAt}
+use Rattle.live_run.specs.live_book.Histories.{OfRead, IsBare, Stands, IsDamagedAt}
 use Rattle.program_output.specs.declared.status.Status.{Status}
 use Rattle.program_output.specs.declared.status.Status.TheVariants as statuses
 use Rattle.script_runs.specs.Scripts.{IsSound, Stop, limit, at_fault}

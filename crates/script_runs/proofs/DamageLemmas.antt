@@ -2,12 +2,12 @@
 use Rattle.std.proofs.Common.{◌≡◌, inl, inr, ℕ, ◌+◌, ◌≤◌, List, [], ◌∷◌, ◌++◌, length, map, Result, Ok, Err, refl, sym, ◌∙◌, ap, subst, arith, length-append, append_assoc}
 use Rattle.std.proofs.Math.Seq.{take-append_seam}
 use Rattle.emu_names.specs.declared.limits.TheConstants.{HISTORY_EDITS}
-use Rattle.edit_rules.specs.declared.acts.Breach.{Breach}
+use Rattle.live_run.specs.edit_rules.declared.acts.Breach.{Breach}
 use Rattle.db_config.specs.declared.parts.ConfigParts.{ConfigParts}
-use Rattle.edit_rules.specs.declared.acts.Entry.{Entry}
-use Rattle.edit_rules.specs.Database.{DatabaseParts}
-use Rattle.edit_rules.specs.Effects.{IsLegal, edited}
-use Rattle.edit_rules.proofs.Replay.{prefixes_are_legal, replay_goes_on}
+use Rattle.live_run.specs.edit_rules.declared.acts.Entry.{Entry}
+use Rattle.live_run.specs.edit_rules.Database.{DatabaseParts}
+use Rattle.live_run.specs.edit_rules.Effects.{IsLegal, edited}
+use Rattle.live_run.proofs.of_edit_rules.Replay.{prefixes_are_legal, replay_goes_on}
 use Rattle.byte_forms.specs.Forms.{Form, IsCode, IsForm}
 use Rattle.edit_code.specs.Codes.{entry_code, IsEntryCode, IsHeadCode}
 use Rattle.edit_code.proofs.EditLaws.{entry_law}
@@ -15,7 +15,7 @@ use Rattle.value_codes.proofs.HeadLaws.{head_law}
 use Rattle.edit_journal.specs.declared.body.Body.{Body}
 use Rattle.edit_journal.specs.Store.{bodies, placed, body_at}
 use Rattle.edit_journal.specs.Held.{texts_of}
-use Rattle.live_book.specs.Histories.{IsBare, Stands, IsStorable, AreCoded, IsDamagedAt, IsWrongAt, IsWrongBehind, AreEntryCodes, IsNoNext, codes_of}
+use Rattle.live_run.specs.live_book.Histories.{IsBare, Stands, IsStorable, AreCoded, IsDamagedAt, IsWrongAt, IsWrongBehind, AreEntryCodes, IsNoNext, codes_of}
 
 abbrev ok_read : {A : Type 0} → A × List ℕ → Result (A × List ℕ) ℕ
 ok_read x = Ok x

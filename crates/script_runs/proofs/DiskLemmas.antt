@@ -2,17 +2,17 @@
 use Rattle.std.proofs.Common.{◌≡◌, ℕ, Bool, true, false, List, [], Option, Some, None, refl, sym, ap, subst, arith}
 use Rattle.emu_names.specs.Count.{Rose, RoseBy}
 use Rattle.db_config.specs.declared.parts.ConfigParts.{ConfigParts}
-use Rattle.edit_rules.specs.declared.acts.Entry.{Entry}
-use Rattle.session_core.specs.declared.line.Line.{Line}
-use Rattle.session_core.specs.InOrder.{Outage, disk_outages}
+use Rattle.live_run.specs.edit_rules.declared.acts.Entry.{Entry}
+use Rattle.live_run.specs.session_core.declared.line.Line.{Line}
+use Rattle.live_run.specs.session_core.InOrder.{Outage, disk_outages}
 use Rattle.emu_disk.specs.declared.disk.Disk as disks
 use Rattle.edit_journal.specs.declared.journal.Journal.{Journal}
 use Rattle.edit_journal.specs.Held.{disk_of}
 use Rattle.edit_journal.proofs.Kept.{stands_may}
-use Rattle.live_book.specs.Kept.{faults_in}
-use Rattle.live_book.specs.Commits.{has_journal}
+use Rattle.live_run.specs.live_book.Kept.{faults_in}
+use Rattle.live_run.specs.live_book.Commits.{has_journal}
 use Rattle.book_opening.specs.Opens.{DuringNew}
-use Rattle.live_book.proofs.Storing.{images}
+use Rattle.live_run.proofs.of_live_book.Storing.{images}
 use Rattle.script_runs.specs.Scripts.{Parsed}
 use Rattle.script_runs.specs.Bases.{Base, no_store, bare_store, store_of, is_stored, opening_by, config_by, counted, EachOf, LeavesStore, AtEach}
 use Rattle.script_runs.specs.Inner.Runs.{history_by}

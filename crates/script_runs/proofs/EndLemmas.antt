@@ -9,7 +9,7 @@ use Rattle.emu_io.specs.declared.faults.ReadFault.TheVariants as read_faults
 use Rattle.edit_journal.specs.declared.journal.Journal.{Journal}
 use Rattle.book_opening.specs.declared.fault.OpenFault.{OpenFault}
 use Rattle.book_opening.specs.declared.fault.OpenFault.TheVariants as opens
-use Rattle.live_book.specs.Kept.{faults_in}
+use Rattle.live_run.specs.live_book.Kept.{faults_in}
 use Rattle.book_opening.specs.Inner.Opens.{IsNoStoreFor}
 use Rattle.program_output.specs.Texts.{damaged_text}
 use Rattle.program_output.specs.declared.ended.Ended.{Ended}

@@ -3,18 +3,18 @@ use Rattle.std.proofs.Common.{◌≡◌, ◌⊎◌, inl, inr, ℕ, ◌+◌, ◌�
 use Rattle.std.proofs.lemmas.List.Sums.{sum_by-append}
 use Rattle.emu_names.specs.Count.{RoseBy}
 use Rattle.db_config.specs.declared.parts.ConfigParts.{ConfigParts}
-use Rattle.edit_rules.specs.declared.acts.Entry.{Entry}
-use Rattle.session_core.specs.declared.line.Line.{Line}
-use Rattle.session_core.specs.declared.line.Reply.{Reply}
-use Rattle.session_core.specs.Steps.{State, start}
-use Rattle.session_core.specs.InOrder.{Outage, is_disk_outage, disk_outages, in_turn, one_turn}
+use Rattle.live_run.specs.edit_rules.declared.acts.Entry.{Entry}
+use Rattle.live_run.specs.session_core.declared.line.Line.{Line}
+use Rattle.live_run.specs.session_core.declared.line.Reply.{Reply}
+use Rattle.live_run.specs.session_core.Steps.{State, start}
+use Rattle.live_run.specs.session_core.InOrder.{Outage, is_disk_outage, disk_outages, in_turn, one_turn}
 use Rattle.edit_journal.specs.declared.journal.Journal.{Journal}
-use Rattle.live_book.specs.Kept.{KeepsIn, faults_in}
-use Rattle.live_book.specs.Commits.{has_journal}
+use Rattle.live_run.specs.live_book.Kept.{KeepsIn, faults_in}
+use Rattle.live_run.specs.live_book.Commits.{has_journal}
 use Rattle.book_opening.specs.Inner.Opens.{IsEmpty}
-use Rattle.session_run.specs.Orders.{IsDiskRefused}
-use Rattle.session_run.specs.Inner.Orders.{LeftBehind, state_of}
-use Rattle.script_lines.specs.declared.faults.ReadLine.TheVariants as reads
+use Rattle.live_run.specs.session_run.Orders.{IsDiskRefused}
+use Rattle.live_run.specs.session_run.Inner.Orders.{LeftBehind, state_of}
+use Rattle.program_output.specs.script_lines.declared.faults.ReadLine.TheVariants as reads
 use Rattle.script_runs.specs.declared.running.Running.{Running}
 use Rattle.script_runs.specs.Scripts.{Parsed, read_from, with_read}
 use Rattle.script_runs.specs.Bases.{Base, is_stored, opening_by, config_by, counted, store_of, WasRefused, IfRefused}

@@ -5,9 +5,9 @@ use Rattle.std.specs.Io.KnownBytes.{Appends}
 use Rattle.std.proofs.KnownBytes.{Appends-nil, Appends-trans}
 use Rattle.emu_io.specs.Fronts.{WritesFront}
 use Rattle.db_config.specs.declared.parts.ConfigParts.{ConfigParts}
-use Rattle.session_core.specs.declared.line.Reply.{Reply}
-use Rattle.session_core.specs.InOrder.{Outage}
-use Rattle.reply_texts.specs.Texts.{reply_text}
+use Rattle.live_run.specs.session_core.declared.line.Reply.{Reply}
+use Rattle.live_run.specs.session_core.InOrder.{Outage}
+use Rattle.program_output.specs.reply_texts.Texts.{reply_text}
 use Rattle.program_output.specs.Texts.{config_reply}
 use Rattle.script_runs.specs.Scripts.{Parsed}
 use Rattle.script_runs.specs.Bases.{Base}

@@ -24,3 +24,4 @@ pub mod CompleteLemmas
 mod LiveLemmas
 mod LiveSays
 mod LiveCalls
+pub use Rattle.live_run.proofs.of_live_book

@@ -11,15 +11,15 @@ use Rattle.emu_io.specs.Inner.Fronts.{IsFrontOf}
 use Rattle.db_config.specs.declared.parts.ConfigParts.{ConfigParts}
 use Rattle.db_config.specs.Valid.{is_valid}
 use Rattle.edit_journal.specs.declared.journal.Journal.{Journal}
-use Rattle.session_core.specs.declared.line.Line.{Line}
+use Rattle.live_run.specs.session_core.declared.line.Line.{Line}
 use Rattle.book_opening.specs.declared.fault.OpenFault.{OpenFault}
 use Rattle.book_opening.specs.declared.fault.OpenFault.TheVariants as opens
-use Rattle.live_book.specs.Histories.{OfRead, IsBare}
-use Rattle.live_book.specs.Kept.{BookParts, KeepsIn, CrashLeaves, faults_in}
-use Rattle.live_book.specs.Commits.{has_journal}
+use Rattle.live_run.specs.live_book.Histories.{OfRead, IsBare}
+use Rattle.live_run.specs.live_book.Kept.{BookParts, KeepsIn, CrashLeaves, faults_in}
+use Rattle.live_run.specs.live_book.Commits.{has_journal}
 use Rattle.book_opening.specs.Opens.{IsNoBookFor, DuringNew, DuringNoBook}
 use Rattle.book_opening.specs.Inner.Opens.{IsEmpty, IsNoStoreFor, IsNew}
-use Rattle.script_lines.specs.declared.faults.ReadLine.TheVariants as reads
+use Rattle.program_output.specs.script_lines.declared.faults.ReadLine.TheVariants as reads
 use Rattle.program_output.specs.Texts.{damaged_text}
 use Rattle.program_output.specs.declared.ended.Ended.{Ended}
 use Rattle.program_output.specs.declared.status.Status.{Status}

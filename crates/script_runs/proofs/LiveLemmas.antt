@@ -9,25 +9,25 @@ use Rattle.emu_names.specs.declared.shortage.Memory.{Memory}
 use Rattle.emu_io.specs.Fronts.{WritesFront}
 use Rattle.emu_io.specs.Inner.Fronts.{TakesFront, IsFrontOf}
 use Rattle.db_config.specs.declared.parts.ConfigParts.{ConfigParts}
-use Rattle.edit_rules.specs.declared.acts.Entry.{Entry}
-use Rattle.edit_rules.proofs.Replay.{states_keep_rules}
+use Rattle.live_run.specs.edit_rules.declared.acts.Entry.{Entry}
+use Rattle.live_run.proofs.of_edit_rules.Replay.{states_keep_rules}
 use Rattle.edit_journal.specs.declared.journal.Journal.{Journal}
-use Rattle.session_core.specs.declared.line.Line.{Line}
-use Rattle.session_core.specs.declared.line.Reply.{Reply}
-use Rattle.session_core.specs.InOrder.{ComeInOrder}
-use Rattle.session_core.specs.Legal.{Legal, disk_replies}
-use Rattle.live_book.specs.Kept.{BookParts, KeepsIn, faults_in}
-use Rattle.live_book.specs.Inner.Kept.{Holding}
-use Rattle.live_book.specs.Commits.{IsSameBook, has_journal}
+use Rattle.live_run.specs.session_core.declared.line.Line.{Line}
+use Rattle.live_run.specs.session_core.declared.line.Reply.{Reply}
+use Rattle.live_run.specs.session_core.InOrder.{ComeInOrder}
+use Rattle.live_run.specs.session_core.Legal.{Legal, disk_replies}
+use Rattle.live_run.specs.live_book.Kept.{BookParts, KeepsIn, faults_in}
+use Rattle.live_run.specs.live_book.Inner.Kept.{Holding}
+use Rattle.live_run.specs.live_book.Commits.{IsSameBook, has_journal}
 use Rattle.live_run.specs.declared.run.Ended.{Ended as LiveEnded}
 use Rattle.live_run.specs.Inner.Runs.{EndsLive, RunsLive}
-use Rattle.script_lines.specs.declared.faults.ReadLine.{ReadLine}
-use Rattle.script_lines.specs.declared.faults.ReadLine.TheVariants as reads
-use Rattle.script_lines.specs.declared.faults.LineFault.{LineFault}
-use Rattle.script_lines.specs.Lines.{request_of}
-use Rattle.script_lines.specs.Known.{Known}
+use Rattle.program_output.specs.script_lines.declared.faults.ReadLine.{ReadLine}
+use Rattle.program_output.specs.script_lines.declared.faults.ReadLine.TheVariants as reads
+use Rattle.program_output.specs.script_lines.declared.faults.LineFault.{LineFault}
+use Rattle.program_output.specs.script_lines.Lines.{request_of}
+use Rattle.program_output.specs.script_lines.Known.{Known}
 use Rattle.eql_resolve.specs.Made.{times_too_large}
-use Rattle.script_lines.proofs.KnownLines.{known}
+use Rattle.program_output.proofs.of_script_lines.KnownLines.{known}
 use Rattle.program_output.specs.declared.status.Status.{Status}
 use Rattle.script_runs.specs.declared.reading.Reading.{Reading}
 use Rattle.script_runs.specs.Cuts.{cut}

@@ -10,15 +10,15 @@ use Rattle.emu_io.specs.Fronts.{WritesFront}
 use Rattle.emu_io.specs.Inner.Fronts.{IsFrontOf}
 use Rattle.db_config.specs.declared.parts.ConfigParts.{ConfigParts}
 use Rattle.db_config.specs.Valid.{is_valid}
-use Rattle.edit_rules.specs.declared.acts.Entry.{Entry}
+use Rattle.live_run.specs.edit_rules.declared.acts.Entry.{Entry}
 use Rattle.edit_journal.specs.declared.journal.Journal.{Journal}
-use Rattle.session_core.specs.declared.line.Line.{Line}
-use Rattle.session_core.specs.declared.line.Reply.{Reply}
-use Rattle.session_core.specs.Legal.{Legal}
-use Rattle.live_book.specs.Histories.{OfRead, IsBare}
-use Rattle.live_book.specs.Kept.{BookParts, StandsOrLost, faults_in}
-use Rattle.live_book.specs.Commits.{has_journal}
-use Rattle.live_book.proofs.Storing.{images}
+use Rattle.live_run.specs.session_core.declared.line.Line.{Line}
+use Rattle.live_run.specs.session_core.declared.line.Reply.{Reply}
+use Rattle.live_run.specs.session_core.Legal.{Legal}
+use Rattle.live_run.specs.live_book.Histories.{OfRead, IsBare}
+use Rattle.live_run.specs.live_book.Kept.{BookParts, StandsOrLost, faults_in}
+use Rattle.live_run.specs.live_book.Commits.{has_journal}
+use Rattle.live_run.proofs.of_live_book.Storing.{images}
 use Rattle.live_run.specs.declared.run.Ended.{Ended as LiveEnded}
 use Rattle.program_output.specs.declared.ended.Ended.{Ended}
 use Rattle.program_output.specs.declared.ended.Ended.TheVariants as ends

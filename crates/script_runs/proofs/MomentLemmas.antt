@@ -3,27 +3,27 @@ use Rattle.std.proofs.Common.{◌≡◌, ◌⊎◌, inl, inr, ℕ, ◌+◌, ◌�
 use Rattle.std.proofs.lemmas.List.{take-append-le}
 use Rattle.std.proofs.Math.Seq.{take-length, take-append_seam}
 use Rattle.db_config.specs.declared.parts.ConfigParts.{ConfigParts}
-use Rattle.edit_rules.specs.declared.acts.Act.{Act}
-use Rattle.edit_rules.specs.declared.acts.Entry.{Entry}
-use Rattle.session_core.specs.declared.line.Line.{Line}
-use Rattle.session_core.specs.declared.line.Reply.{Reply}
-use Rattle.session_core.specs.Steps.{State, start}
-use Rattle.session_core.specs.Worlds.{act_wanted}
-use Rattle.session_core.specs.Answers.{entry_of}
-use Rattle.session_core.specs.InOrder.{Outage, in_turn, one_turn}
+use Rattle.live_run.specs.edit_rules.declared.acts.Act.{Act}
+use Rattle.live_run.specs.edit_rules.declared.acts.Entry.{Entry}
+use Rattle.live_run.specs.session_core.declared.line.Line.{Line}
+use Rattle.live_run.specs.session_core.declared.line.Reply.{Reply}
+use Rattle.live_run.specs.session_core.Steps.{State, start}
+use Rattle.live_run.specs.session_core.Worlds.{act_wanted}
+use Rattle.live_run.specs.session_core.Answers.{entry_of}
+use Rattle.live_run.specs.session_core.InOrder.{Outage, in_turn, one_turn}
 use Rattle.emu_disk.specs.declared.disk.Disk as disks
 use Rattle.emu_disk.proofs.Moments.{joined, weaker}
 use Rattle.edit_journal.specs.declared.journal.Journal.{Journal}
 use Rattle.edit_journal.specs.Held.{disk_of}
-use Rattle.live_book.specs.declared.fault.EditFault.{EditFault}
-use Rattle.live_book.specs.declared.fault.EditFault.TheVariants as faults
-use Rattle.live_book.specs.Histories.{Stands}
-use Rattle.live_book.specs.Kept.{BookParts, CrashLeaves, KeepsIn, StandsOrLost, faults_in}
-use Rattle.live_book.specs.Commits.{Commits, DuringCommit, has_journal}
+use Rattle.live_run.specs.live_book.declared.fault.EditFault.{EditFault}
+use Rattle.live_run.specs.live_book.declared.fault.EditFault.TheVariants as faults
+use Rattle.live_run.specs.live_book.Histories.{Stands}
+use Rattle.live_run.specs.live_book.Kept.{BookParts, CrashLeaves, KeepsIn, StandsOrLost, faults_in}
+use Rattle.live_run.specs.live_book.Commits.{Commits, DuringCommit, has_journal}
 use Rattle.book_opening.specs.Inner.Opens.{IsEmpty}
-use Rattle.session_run.specs.Orders.{IsDiskRefused}
-use Rattle.session_run.specs.Inner.Orders.{ChangesBook, commit_reply, state_of}
-use Rattle.script_lines.specs.declared.faults.ReadLine.TheVariants as reads
+use Rattle.live_run.specs.session_run.Orders.{IsDiskRefused}
+use Rattle.live_run.specs.session_run.Inner.Orders.{ChangesBook, commit_reply, state_of}
+use Rattle.program_output.specs.script_lines.declared.faults.ReadLine.TheVariants as reads
 use Rattle.script_runs.specs.declared.running.Running.{Running}
 use Rattle.script_runs.specs.Scripts.{Parsed, read_from, with_read}
 use Rattle.script_runs.specs.Bases.{AtMoment, Base, IfRefused, IsOfRun, IsOfRunIn, config_by, is_stored, opening_by, store_of, counted}

@@ -3,10 +3,10 @@ use Rattle.std.proofs.Common.{◌≡◌, ℕ, ◌≤◌, true, List, Option, Som
 use Rattle.emu_disk.specs.declared.disk.Disk as disks
 use Rattle.edit_journal.specs.declared.journal.Journal.{Journal}
 use Rattle.version_gate.specs.Lists.{Front}
-use Rattle.live_book.specs.declared.published.Published.{Published}
-use Rattle.live_book.specs.Histories.{OfRead, IsBare, Stands}
-use Rattle.live_book.specs.Kept.{BookParts, KeepsIn, faults_in}
-use Rattle.live_book.specs.Commits.{has_journal}
+use Rattle.live_run.specs.live_book.declared.published.Published.{Published}
+use Rattle.live_run.specs.live_book.Histories.{OfRead, IsBare, Stands}
+use Rattle.live_run.specs.live_book.Kept.{BookParts, KeepsIn, faults_in}
+use Rattle.live_run.specs.live_book.Commits.{has_journal}
 use Rattle.book_opening.specs.declared.opening.Opened.{Opened}
 use Rattle.book_opening.specs.declared.opening.Opened.TheVariants as stores
 use Rattle.book_opening.specs.Inner.Opens.{AreAtFront, IsEmpty, IsOpenedAs, LeavesFrom, journal_in}

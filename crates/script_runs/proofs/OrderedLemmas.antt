@@ -1,24 +1,24 @@
 -- The requests of a script come in order, so that their run is legal.
 use Rattle.std.proofs.Common.{IsTrue, ◌≡◌, ℕ, ◌+◌, ◌≤◌, ◌&&◌, Bool, true, false, List, [], length, Option, Some, None, Ok, refl, sym, ◌∙◌, ap, subst, arith, is_none}
 use Rattle.db_config.specs.declared.parts.ConfigParts.{ConfigParts}
-use Rattle.session_core.specs.declared.line.Line.{Line}
-use Rattle.session_core.specs.Worlds.{Each}
-use Rattle.session_core.specs.InOrder.{Outage, disk_outages, in_turn, ComeInOrder, IsBelow}
-use Rattle.session_core.proofs.Turns.{each_push, each_map}
+use Rattle.live_run.specs.session_core.declared.line.Line.{Line}
+use Rattle.live_run.specs.session_core.Worlds.{Each}
+use Rattle.live_run.specs.session_core.InOrder.{Outage, disk_outages, in_turn, ComeInOrder, IsBelow}
+use Rattle.live_run.proofs.of_session_core.Turns.{each_push, each_map}
 use Rattle.db_config.specs.Valid.{is_valid}
-use Rattle.session_core.specs.Steps.{start}
-use Rattle.edit_rules.specs.Database.{empty_database}
-use Rattle.edit_rules.specs.Effects.{IsLegal}
-use Rattle.edit_rules.specs.declared.acts.Entry.{Entry}
+use Rattle.live_run.specs.session_core.Steps.{start}
+use Rattle.live_run.specs.edit_rules.Database.{empty_database}
+use Rattle.live_run.specs.edit_rules.Effects.{IsLegal}
+use Rattle.live_run.specs.edit_rules.declared.acts.Entry.{Entry}
 use Rattle.emu_names.specs.declared.limits.TheConstants.{HISTORY_EDITS}
 use Rattle.emu_names.specs.Count.{RoseBy}
 use Rattle.db_config.specs.Made.{is_made}
-use Rattle.edit_rules.proofs.Replay.{states_keep_rules}
-use Rattle.session_core.proofs.Ordered.{in_turn_is_in_order}
-use Rattle.live_book.specs.Histories.{Stands}
-use Rattle.script_lines.specs.declared.faults.ReadLine.{ReadLine}
-use Rattle.script_lines.specs.declared.faults.ReadLine.TheVariants as reads
-use Rattle.script_lines.specs.Known.{Known}
+use Rattle.live_run.proofs.of_edit_rules.Replay.{states_keep_rules}
+use Rattle.live_run.proofs.of_session_core.Ordered.{in_turn_is_in_order}
+use Rattle.live_run.specs.live_book.Histories.{Stands}
+use Rattle.program_output.specs.script_lines.declared.faults.ReadLine.{ReadLine}
+use Rattle.program_output.specs.script_lines.declared.faults.ReadLine.TheVariants as reads
+use Rattle.program_output.specs.script_lines.Known.{Known}
 use Rattle.script_runs.specs.Scripts.{AskedLine, Parsed, read_from, with_read, parse, earlier_of}
 use Rattle.script_runs.specs.Bases.{Base, no_store, bare_store, store_of, wants_by, opening_by, config_by, IsBaseOf}
 use Rattle.script_runs.specs.Runs.{Setting, setting_by, IsRunFrom, Runs, run_from, history_in}

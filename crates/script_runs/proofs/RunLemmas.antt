@@ -7,21 +7,21 @@ use Rattle.std.specs.Io.KnownBytes.{Appends}
 use Rattle.std.proofs.KnownBytes.{Appends-nil}
 use Rattle.emu_io.specs.Fronts.{WritesFront}
 use Rattle.db_config.specs.declared.parts.ConfigParts.{ConfigParts}
-use Rattle.edit_rules.specs.declared.acts.Entry.{Entry}
-use Rattle.session_core.specs.declared.line.Line.{Line}
-use Rattle.session_core.specs.declared.line.Reply.{Reply}
-use Rattle.session_core.specs.Steps.{start}
-use Rattle.session_core.specs.InOrder.{Outage}
+use Rattle.live_run.specs.edit_rules.declared.acts.Entry.{Entry}
+use Rattle.live_run.specs.session_core.declared.line.Line.{Line}
+use Rattle.live_run.specs.session_core.declared.line.Reply.{Reply}
+use Rattle.live_run.specs.session_core.Steps.{start}
+use Rattle.live_run.specs.session_core.InOrder.{Outage}
 use Rattle.emu_disk.specs.declared.disk.Disk as disks
 use Rattle.edit_journal.specs.declared.journal.Journal.{Journal}
-use Rattle.live_book.specs.Kept.{KeepsIn, faults_in}
-use Rattle.live_book.specs.Commits.{has_journal}
+use Rattle.live_run.specs.live_book.Kept.{KeepsIn, faults_in}
+use Rattle.live_run.specs.live_book.Commits.{has_journal}
 use Rattle.book_opening.specs.Inner.Opens.{IsEmpty}
-use Rattle.session_run.specs.Inner.Orders.{state_of}
-use Rattle.script_lines.specs.declared.faults.LineFault.TheVariants as faults_of
-use Rattle.script_lines.specs.declared.faults.ReadLine.{ReadLine}
-use Rattle.script_lines.specs.declared.faults.ReadLine.TheVariants as reads
-use Rattle.reply_texts.specs.Texts.{reply_text}
+use Rattle.live_run.specs.session_run.Inner.Orders.{state_of}
+use Rattle.program_output.specs.script_lines.declared.faults.LineFault.TheVariants as faults_of
+use Rattle.program_output.specs.script_lines.declared.faults.ReadLine.{ReadLine}
+use Rattle.program_output.specs.script_lines.declared.faults.ReadLine.TheVariants as reads
+use Rattle.program_output.specs.reply_texts.Texts.{reply_text}
 use Rattle.program_output.specs.declared.ended.Ended.{Ended}
 use Rattle.program_output.specs.declared.ended.Ended.TheVariants as ends
 use Rattle.script_runs.specs.declared.running.Running.{Running}

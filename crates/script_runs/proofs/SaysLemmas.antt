@@ -9,8 +9,8 @@ use Rattle.emu_names.specs.declared.limits.TheConstants.{SCRIPT_BYTES}
 use Rattle.emu_io.specs.Fronts.{Tells, WritesFront}
 use Rattle.emu_io.specs.Inner.Fronts.{TakesFront, IsFrontOf}
 use Rattle.db_config.specs.declared.parts.ConfigParts.{ConfigParts}
-use Rattle.session_core.specs.InOrder.{Outage}
-use Rattle.live_book.specs.Histories.{OfRead, IsBare}
+use Rattle.live_run.specs.session_core.InOrder.{Outage}
+use Rattle.live_run.specs.live_book.Histories.{OfRead, IsBare}
 use Rattle.program_output.specs.declared.ended.Ended.{Ended}
 use Rattle.program_output.specs.declared.ended.Ended.TheVariants as ends
 use Rattle.program_output.specs.declared.status.Status.{Status}

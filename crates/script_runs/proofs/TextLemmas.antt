@@ -1,11 +1,11 @@
 -- The text of a run, reply after reply.
 use Rattle.std.proofs.Common.{◌≡◌, ℕ, ◌+◌, Bool, List, [], ◌∷◌, ◌++◌, length, Option, Some, refl, sym, ◌∙◌, ap, arith, append_assoc, append-nil, flat_map}
 use Rattle.db_config.specs.declared.parts.ConfigParts.{ConfigParts}
-use Rattle.session_core.specs.declared.line.Line.{Line}
-use Rattle.session_core.specs.declared.line.Reply.{Reply}
-use Rattle.session_core.specs.Steps.{State, start}
-use Rattle.session_core.specs.InOrder.{Outage, in_turn, one_turn}
-use Rattle.reply_texts.specs.Texts.{reply_text}
+use Rattle.live_run.specs.session_core.declared.line.Line.{Line}
+use Rattle.live_run.specs.session_core.declared.line.Reply.{Reply}
+use Rattle.live_run.specs.session_core.Steps.{State, start}
+use Rattle.live_run.specs.session_core.InOrder.{Outage, in_turn, one_turn}
+use Rattle.program_output.specs.reply_texts.Texts.{reply_text}
 use Rattle.script_runs.specs.Scripts.{Parsed}
 use Rattle.script_runs.specs.Bases.{Base, is_stored, opening_by, config_by}
 use Rattle.script_runs.specs.Runs.{run_text, run_from, history_in, config_text}

@@ -1,13 +1,13 @@
 -- What a run begins with: no store, a bare store, or a store with a history; and what it then leaves there.
 use Rattle.std.specs.Prelude.{◌⊎◌, ◌≤◌, ℕ, Bool, true, false, List, [], ◌∷◌, length, take, Option, Some, None}
 use Rattle.db_config.specs.declared.parts.ConfigParts.{ConfigParts}
-use Rattle.edit_rules.specs.declared.acts.Entry.{Entry}
-use Rattle.session_core.specs.declared.line.Line.{Line}
-use Rattle.session_core.specs.InOrder.{Outage, one_turn}
-use Rattle.session_core.specs.Steps.{State, start}
-use Rattle.session_run.specs.Orders.{IsDiskRefused}
-use Rattle.live_book.specs.Histories.{OfRead, Stands, IsBare}
-use Rattle.live_book.specs.Kept.{StandsOrLost}
+use Rattle.live_run.specs.edit_rules.declared.acts.Entry.{Entry}
+use Rattle.live_run.specs.session_core.declared.line.Line.{Line}
+use Rattle.live_run.specs.session_core.InOrder.{Outage, one_turn}
+use Rattle.live_run.specs.session_core.Steps.{State, start}
+use Rattle.live_run.specs.session_run.Orders.{IsDiskRefused}
+use Rattle.live_run.specs.live_book.Histories.{OfRead, Stands, IsBare}
+use Rattle.live_run.specs.live_book.Kept.{StandsOrLost}
 
 -- what a run begins with: no store; a store without a configuration; a store that stands for a configuration
 -- and a history

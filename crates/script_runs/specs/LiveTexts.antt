@@ -1,6 +1,6 @@
 -- What a live run writes, and the status that goes with it.
 use Rattle.std.specs.Prelude.{ℕ, Bool, true, false, List, [], ◌++◌, flat_map}
-use Rattle.reply_texts.specs.Texts.{reply_text}
+use Rattle.program_output.specs.reply_texts.Texts.{reply_text}
 use Rattle.live_run.specs.Marks.{Mark}
 use Rattle.live_run.specs.declared.run.Ended.{Ended as LiveEnded}
 use Rattle.program_output.specs.Texts.{from_text, mark_text}

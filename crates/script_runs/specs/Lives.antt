@@ -5,14 +5,14 @@ use Rattle.emu_names.specs.Count.{Rose}
 use Rattle.emu_io.specs.Fronts.{Tells, WritesFront}
 use Rattle.db_config.specs.declared.parts.ConfigParts.{ConfigParts}
 use Rattle.db_config.specs.Valid.{is_valid}
-use Rattle.edit_rules.specs.declared.acts.Entry.{Entry}
-use Rattle.edit_rules.specs.Database.{KeepsDatabaseRules}
-use Rattle.edit_rules.specs.Effects.{database_after}
-use Rattle.session_core.specs.declared.line.Line.{Line}
-use Rattle.session_core.specs.declared.line.Reply.{Reply}
-use Rattle.session_core.specs.InOrder.{ComeInOrder}
-use Rattle.session_core.specs.Legal.{Legal, disk_replies}
-use Rattle.live_book.specs.Kept.{LostMayFollow, StandsOrLost}
+use Rattle.live_run.specs.edit_rules.declared.acts.Entry.{Entry}
+use Rattle.live_run.specs.edit_rules.Database.{KeepsDatabaseRules}
+use Rattle.live_run.specs.edit_rules.Effects.{database_after}
+use Rattle.live_run.specs.session_core.declared.line.Line.{Line}
+use Rattle.live_run.specs.session_core.declared.line.Reply.{Reply}
+use Rattle.live_run.specs.session_core.InOrder.{ComeInOrder}
+use Rattle.live_run.specs.session_core.Legal.{Legal, disk_replies}
+use Rattle.live_run.specs.live_book.Kept.{LostMayFollow, StandsOrLost}
 use Rattle.live_run.specs.declared.run.Ended.{Ended as LiveEnded}
 use Rattle.live_run.specs.Runs.{AreGrouped}
 use Rattle.live_run.specs.Marks.{marks_from}
@@ -23,7 +23,7 @@ use Rattle.script_runs.specs.Scripts.{AskedLine, AreRead, Parsed, lines_of, scri
 use Rattle.script_runs.specs.Bases.{Base, wants_by, is_stored, opening_by, config_by, IsBaseOf, EachOf, LeavesStore}
 use Rattle.script_runs.specs.Runs.{Setting, setting_by, stop_text}
 use Rattle.script_runs.specs.Says.{Call, DiskFailed, FoundDamage, Gives, HasRead, ReadFailed, TooLong, Unopened}
-use Rattle.script_lines.specs.declared.faults.LineFault.{LineFault}
+use Rattle.program_output.specs.script_lines.declared.faults.LineFault.{LineFault}
 
 -- A live run under a configuration: what it answered to these requests, beside the history that it leaves. It holds in
 -- whatever order the sessions got on, and whatever the disk did.

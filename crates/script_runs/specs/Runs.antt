@@ -2,17 +2,17 @@
 use Rattle.std.specs.Prelude.{IsTrue, ◌≡◌, ◌≤◌, ℕ, Bool, List, [], ◌∷◌, ◌++◌, length, take, map, flat_map, Option, Some, None}
 use Rattle.std.specs.Io.KnownBytes.{Appends}
 use Rattle.db_config.specs.declared.parts.ConfigParts.{ConfigParts}
-use Rattle.edit_rules.specs.declared.acts.Entry.{Entry}
-use Rattle.session_core.specs.declared.line.Line.{Line}
-use Rattle.session_core.specs.declared.line.Reply.{Reply}
-use Rattle.session_core.specs.Steps.{State, start}
+use Rattle.live_run.specs.edit_rules.declared.acts.Entry.{Entry}
+use Rattle.live_run.specs.session_core.declared.line.Line.{Line}
+use Rattle.live_run.specs.session_core.declared.line.Reply.{Reply}
+use Rattle.live_run.specs.session_core.Steps.{State, start}
 use Rattle.db_config.specs.Valid.{is_valid}
-use Rattle.edit_rules.specs.Database.{KeepsDatabaseRules}
-use Rattle.edit_rules.specs.Effects.{database_after}
-use Rattle.session_core.specs.InOrder.{Outage, in_turn, ComeInOrder}
-use Rattle.session_core.specs.Readings.{IsInOrder}
-use Rattle.session_core.specs.Legal.{Legal}
-use Rattle.reply_texts.specs.Texts.{reply_text}
+use Rattle.live_run.specs.edit_rules.Database.{KeepsDatabaseRules}
+use Rattle.live_run.specs.edit_rules.Effects.{database_after}
+use Rattle.live_run.specs.session_core.InOrder.{Outage, in_turn, ComeInOrder}
+use Rattle.live_run.specs.session_core.Readings.{IsInOrder}
+use Rattle.live_run.specs.session_core.Legal.{Legal}
+use Rattle.program_output.specs.reply_texts.Texts.{reply_text}
 use Rattle.program_output.specs.Texts.{fault_text}
 use Rattle.program_output.specs.Texts.{config_reply, limit_text}
 use Rattle.script_runs.specs.Scripts.{Parsed, Stop, limit, at_fault}

@@ -1,7 +1,7 @@
 //! What a live run was answered, written when its sessions have ended.
 ghost use Rattle.std.specs.Prelude.{◌≤◌, IfErr};
 ghost use Rattle.std.specs.List.{flat_map};
-ghost use Rattle.reply_texts.specs.Texts.{reply_text};
+ghost use Rattle.program_output.specs.reply_texts.Texts.{reply_text};
 ghost use Rattle.program_output.specs.Texts.{from_text, mark_text};
 ghost use Rattle.program_output.specs.Inner.Written.{EndHasCause, WritesText, WritesTexts};
 ghost use Rattle.script_runs.specs.LiveTexts.{ended_text, entries_text, given_text, live_text, text_of_mark};
@@ -9,11 +9,11 @@ ghost use Rattle.script_runs.specs.Inner.LiveTexts.{AnswersLive};
 
 use emu_io::Sink;
 use emu_names::{Memory, SessionNo};
+use live_run::session_core::Replies;
 use live_run::{Ended as LiveEnded, Marks};
 use program_output::{
     Ended, Status, print_from, print_mark, write_config, write_reply, write_text,
 };
-use session_core::Replies;
 use std::alloc::Global;
 
 /// Writes the reply of the configuration, where the script gave one.

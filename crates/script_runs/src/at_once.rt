@@ -2,10 +2,10 @@
 //! and what they were answered is written when all have ended.
 ghost use Rattle.std.specs.Prelude.{◌≡◌, ◌≢◌, ◌≤◌, ℕ, List, [], Bool, true, false, Some, None, Option};
 ghost use Rattle.emu_io.specs.Inner.Fronts.{IsFrontOf, TakesFront};
-ghost use Rattle.live_book.specs.Kept.{KeepsIn, faults_in};
-ghost use Rattle.live_book.specs.Commits.{has_journal};
+ghost use Rattle.live_run.specs.live_book.Kept.{KeepsIn, faults_in};
+ghost use Rattle.live_run.specs.live_book.Commits.{has_journal};
 ghost use Rattle.book_opening.specs.Inner.Opens.{AreAtFront, IsEmpty, IsOpenedAs, journal_in};
-ghost use Rattle.session_core.specs.InOrder.{ComeInOrder};
+ghost use Rattle.live_run.specs.session_core.InOrder.{ComeInOrder};
 ghost use Rattle.script_runs.specs.Bases.{store_of};
 ghost use Rattle.script_runs.specs.Inner.Bases.{fresh_base};
 ghost use Rattle.script_runs.specs.Inner.Ran.{RunsOver};
@@ -26,10 +26,10 @@ use emu_disk::Disk;
 use emu_io::{Gate, Sink, Source, read_front};
 use emu_names::limits::SCRIPT_BYTES;
 use label_match::PatternMaker;
-use live_book::{Book, Published};
+use live_run::live_book::{Book, Published};
+use live_run::session_core::Lines;
 use live_run::{LiveEnd, run_live};
 use program_output::close_run;
-use session_core::Lines;
 use std::alloc::Global;
 use std::sync::Wait;
 use std::thread::Threads;

@@ -1,8 +1,8 @@
 //! The command `run`: the store is opened, if there is one, the script is read, run and answered, and the disk is
 //! given back.
 ghost use Rattle.std.specs.Prelude.{◌≡◌, ◌≢◌, ◌≤◌, ℕ, List, Bool, true, false, None, Option};
-ghost use Rattle.live_book.specs.Kept.{KeepsIn, faults_in};
-ghost use Rattle.live_book.specs.Commits.{has_journal};
+ghost use Rattle.live_run.specs.live_book.Kept.{KeepsIn, faults_in};
+ghost use Rattle.live_run.specs.live_book.Commits.{has_journal};
 ghost use Rattle.book_opening.specs.Inner.Opens.{AreAtFront, IsEmpty, IsOpenedAs, LeavesFrom, journal_in};
 ghost use Rattle.script_runs.specs.Bases.{store_of};
 ghost use Rattle.script_runs.specs.Inner.Bases.{fresh_base};
@@ -17,7 +17,7 @@ use emu_disk::Disk;
 use emu_io::{ReadFault, Sink, Source, read_front};
 use emu_names::limits::SCRIPT_BYTES;
 use label_match::PatternMaker;
-use live_book::{Book, Published};
+use live_run::live_book::{Book, Published};
 use program_output::{Status, close_run, damaged};
 use std::alloc::Global;
 use std::sync::Wait;

@@ -11,5 +11,8 @@ mod script;
 mod spread;
 
 pub use at_once::{live_alone, live_stored};
+pub use book_opening;
 pub use in_order::{Ran, run_alone, run_stored};
+pub use live_run::live_book;
+pub use program_output;
 pub use spread::Spread;

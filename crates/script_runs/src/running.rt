@@ -1,9 +1,9 @@
 //! A run between two lines: the book in order, the requests so far, and the line's number.
 ghost use Rattle.std.specs.Prelude.{◌≡◌, ◌+◌, ◌<◌, [], None, IfOk, IfErr, OnOk};
 ghost use Rattle.emu_names.specs.declared.limits.TheConstants.{SCRIPT_LINES};
-ghost use Rattle.live_book.specs.Kept.{KeepsIn};
+ghost use Rattle.live_run.specs.live_book.Kept.{KeepsIn};
 ghost use Rattle.book_opening.specs.Inner.Opens.{AreAtFront};
-ghost use Rattle.script_lines.specs.Known.{Known};
+ghost use Rattle.program_output.specs.script_lines.Known.{Known};
 ghost use Rattle.script_runs.specs.Inner.Reached.{IsBegun};
 ghost use Rattle.script_runs.specs.Inner.Turns.{IsUnreadFor, ReadsNext};
 
@@ -12,11 +12,11 @@ use emu_disk::Disk;
 use emu_names::Memory;
 use emu_names::limits::{LINE_BYTES, SCRIPT_LINES};
 use label_match::PatternMaker;
-use live_book::{Book, Published};
+use live_run::live_book::{Book, Published};
+use live_run::session_core::{Line, Reply};
+use live_run::session_run::{InOrder, new_in_order};
 use program_output::Ended;
-use script_lines::{LineFault, LineSet, ReadLine, read_line};
-use session_core::{Line, Reply};
-use session_run::{InOrder, new_in_order};
+use program_output::script_lines::{LineFault, LineSet, ReadLine, read_line};
 use std::alloc::Global;
 use std::sync::Wait;
 use std::thread::Threads;
@@ -103,7 +103,7 @@ impl<D: Disk> Running<D> {
     ghost use Rattle.std.specs.Prelude.{◌≡◌, ◌<◌, All, IfOk, OnErr};
     ghost use Rattle.emu_names.specs.declared.limits.TheConstants.{SCRIPT_LINES};
     ghost use Rattle.script_runs.specs.Inner.Taken.{TakesLine};
-    ghost use Rattle.session_core.specs.Steps.{session_places};
+    ghost use Rattle.live_run.specs.session_core.Steps.{session_places};
 
     /// Answers a request. The only refusal is want of memory before the request is done, which
     /// changes nothing.

@@ -1,8 +1,8 @@
 //! The lines of a script, run one after another.
 ghost use Rattle.std.specs.Prelude.{◌≡◌, ◌≤◌, ℕ, List, [], true, ◌∷◌, ◌++◌, All, Option, None, Some, IfErr, OnOk, if◌then◌else◌};
 ghost use Rattle.db_config.specs.declared.parts.ConfigParts.{ConfigParts as Configuration};
-ghost use Rattle.live_book.specs.Kept.{KeepsIn};
-ghost use Rattle.live_book.specs.Commits.{has_journal};
+ghost use Rattle.live_run.specs.live_book.Kept.{KeepsIn};
+ghost use Rattle.live_run.specs.live_book.Commits.{has_journal};
 ghost use Rattle.book_opening.specs.Inner.Opens.{AreAtFront, IsEmpty};
 ghost use Rattle.script_runs.specs.Bases.{Base, store_of};
 ghost use Rattle.script_runs.specs.Inner.Bases.{fresh_base};
@@ -19,9 +19,9 @@ use edit_journal::Journal;
 use emu_disk::Disk;
 use emu_io::Sink;
 use label_match::PatternMaker;
-use live_book::{Book, Published};
+use live_run::live_book::{Book, Published};
+use program_output::script_lines::{LineFault, LineSet, ReadLine};
 use program_output::{Ended, write_config, write_reply};
-use script_lines::{LineFault, LineSet, ReadLine};
 use std::alloc::Global;
 use std::sync::Wait;
 use std::thread::Threads;

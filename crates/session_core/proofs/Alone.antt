@@ -1,9 +1,9 @@
 -- A legal run of one session: its turns are its lines with its replies, so that wrong replies show.
 use Rattle.std.proofs.Common.{◌≡◌, ℕ, ◌+◌, ◌≤◌, Bool, true, List, [], ◌∷◌, length, None, refl, sym, ◌∙◌, ap, subst, arith, eq-eqb}
 use Rattle.db_config.specs.declared.parts.ConfigParts.{ConfigParts}
-use Rattle.edit_rules.specs.declared.acts.Entry.{Entry}
+use Rattle.edit_undo.specs.edit_rules.declared.acts.Entry.{Entry}
 use Rattle.eql_resolve.specs.Resolve.{asked}
-use Rattle.eql_model.specs.declared.row.Row.{Row}
+use Rattle.requery.specs.eql_model.declared.row.Row.{Row}
 use Rattle.session_core.specs.declared.line.Answer.{Answer}
 use Rattle.session_core.specs.declared.line.Answer.TheVariants.{Done, Segments, Refused}
 use Rattle.session_core.specs.declared.line.Line.{Line}

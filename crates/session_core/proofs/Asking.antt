@@ -2,14 +2,14 @@
 -- fault of its names, or that it has too many tuples.
 use Rattle.std.proofs.Common.{◌≡◌, ℕ, Bool, true, false, List, Option, Some, None, Result, Ok, Err, sym}
 use Rattle.std.proofs.lemmas.Bool.{false≢true}
-use Rattle.edit_rules.specs.Database.{DatabaseParts}
+use Rattle.edit_undo.specs.edit_rules.Database.{DatabaseParts}
 use Rattle.eql_resolve.specs.declared.faults.AskFault.{AskFault}
 use Rattle.eql_resolve.specs.declared.faults.PrepareFault.{PrepareFault}
 use Rattle.eql_resolve.specs.Prepared.{PreparedParts}
 use Rattle.eql_resolve.specs.Asked.{AskedParts}
 use Rattle.eql_resolve.specs.Resolve.{asked}
-use Rattle.eql_model.specs.declared.row.Row.{Row}
-use Rattle.eql_model.specs.Rows.{segment_list, any_has_too_many}
+use Rattle.requery.specs.eql_model.declared.row.Row.{Row}
+use Rattle.requery.specs.eql_model.Rows.{segment_list, any_has_too_many}
 use Rattle.requery.specs.declared.target.Requery.{Requery}
 use Rattle.requery.specs.Target.{ReachedParts}
 use Rattle.requery.specs.Asks.{reached}

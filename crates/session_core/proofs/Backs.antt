@@ -6,13 +6,13 @@ use Rattle.emu_names.specs.declared.names.BundleKey.{BundleKey}
 use Rattle.bundle_state.specs.Bundle.{BundleParts}
 use Rattle.bundle_edits.specs.declared.edit.Edit.{Edit}
 use Rattle.bundle_edits.specs.Edits.{key_of}
-use Rattle.edit_rules.specs.declared.acts.Act.{Act}
-use Rattle.edit_rules.specs.declared.acts.Act.TheVariants as acts
-use Rattle.edit_rules.specs.Acts.{has_key}
-use Rattle.edit_rules.specs.Database.{DatabaseParts, KeepsDatabaseRules, bundle_with}
-use Rattle.edit_rules.specs.Effects.{effect}
-use Rattle.edit_rules.specs.Inner.Acts.{AreTogether, are_together}
-use Rattle.edit_rules.proofs.KeyPlaces.{key_same}
+use Rattle.edit_undo.specs.edit_rules.declared.acts.Act.{Act}
+use Rattle.edit_undo.specs.edit_rules.declared.acts.Act.TheVariants as acts
+use Rattle.edit_undo.specs.edit_rules.Acts.{has_key}
+use Rattle.edit_undo.specs.edit_rules.Database.{DatabaseParts, KeepsDatabaseRules, bundle_with}
+use Rattle.edit_undo.specs.edit_rules.Effects.{effect}
+use Rattle.edit_undo.specs.edit_rules.Inner.Acts.{AreTogether, are_together}
+use Rattle.edit_undo.proofs.of_edit_rules.KeyPlaces.{key_same}
 use Rattle.edit_undo.specs.Inverse.{bundle_for}
 use Rattle.edit_undo.specs.Before.{IsBefore}
 use Rattle.edit_undo.proofs.Passing.{edits_before}

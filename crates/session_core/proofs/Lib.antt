@@ -19,3 +19,4 @@ pub mod Turning
 pub mod ReadingSteps
 pub mod Readings
 pub mod Threads
+pub use Rattle.requery.proofs as of_requery

@@ -1,8 +1,8 @@
 -- What a history makes, without the place of an edit in its entry.
 use Rattle.std.proofs.Common.{◌≡◌, ap}
 use Rattle.std.specs.Prelude.{Result, Ok, Err}
-use Rattle.edit_rules.specs.Database.{DatabaseParts}
-use Rattle.edit_rules.specs.declared.acts.Breach.{Breach}
+use Rattle.edit_undo.specs.edit_rules.Database.{DatabaseParts}
+use Rattle.edit_undo.specs.edit_rules.declared.acts.Breach.{Breach}
 use Rattle.session_core.specs.Inner.Kept.{ruled}
 
 -- what is made stays

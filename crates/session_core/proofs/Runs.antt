@@ -5,11 +5,11 @@ use Rattle.std.proofs.lemmas.List.{append-nil}
 use Rattle.std.proofs.lemmas.List.Elements.{filter-append}
 use Rattle.std.proofs.lemmas.List.Sums.{sum_by-cons}
 use Rattle.emu_names.specs.declared.kinds.SessionNo.{SessionNo}
-use Rattle.edit_rules.specs.declared.acts.Breach.{Breach}
+use Rattle.edit_undo.specs.edit_rules.declared.acts.Breach.{Breach}
 use Rattle.db_config.specs.declared.parts.ConfigParts.{ConfigParts}
-use Rattle.edit_rules.specs.Database.{DatabaseParts}
-use Rattle.edit_rules.specs.declared.acts.Act.{Act}
-use Rattle.edit_rules.specs.declared.acts.Entry.{Entry}
+use Rattle.edit_undo.specs.edit_rules.Database.{DatabaseParts}
+use Rattle.edit_undo.specs.edit_rules.declared.acts.Act.{Act}
+use Rattle.edit_undo.specs.edit_rules.declared.acts.Entry.{Entry}
 use Rattle.session_core.specs.declared.event.Event.{Event}
 use Rattle.session_core.specs.declared.event.Event.TheVariants as events
 use Rattle.session_core.specs.declared.line.Ask.{Ask}
@@ -19,7 +19,7 @@ use Rattle.session_core.specs.declared.line.Request.{Request}
 use Rattle.session_core.specs.declared.line.Request.TheVariants as requests
 use Rattle.session_core.specs.declared.line.Line.{Line}
 use Rattle.session_core.specs.declared.line.Reply.{Reply}
-use Rattle.edit_rules.specs.Effects.{IsLegal, edited}
+use Rattle.edit_undo.specs.edit_rules.Effects.{IsLegal, edited}
 use Rattle.edit_undo.specs.declared.faults.NoUndo.{NoUndo}
 use Rattle.session_core.specs.Queries.{lacks_memory}
 use Rattle.session_core.specs.Steps.{Opened, State, start, slot, session_places, present, is_full, taking_back, edit_step, undo_step, edit_event, look_step, look_event, finish_step, look_answered, query_step, way_answered, Asker, by_look, by_query, by_none, asker_of, finish_by, core_step, query_fails, finish_fails_by, core_fails, option_list, steps}

@@ -1,10 +1,10 @@
 -- In turn, each number is that of the moment: the turns of a list of lines, and how many entries
 -- stand behind each of them.
 use Rattle.std.proofs.Common.{◌≡◌, ℕ, zero, suc, ◌+◌, Bool, true, false, List, [], ◌∷◌, length, Option, Some, None, Result, Ok, Err, refl, ap, subst, arith, length-append}
-use Rattle.edit_rules.specs.declared.acts.Breach.{Breach}
+use Rattle.edit_undo.specs.edit_rules.declared.acts.Breach.{Breach}
 use Rattle.textgrid.specs.declared.fault.GridFault.{GridFault}
-use Rattle.edit_rules.specs.Database.{DatabaseParts}
-use Rattle.edit_rules.specs.declared.acts.Act.{Act}
+use Rattle.edit_undo.specs.edit_rules.Database.{DatabaseParts}
+use Rattle.edit_undo.specs.edit_rules.declared.acts.Act.{Act}
 use Rattle.session_core.specs.declared.line.Ask.{Ask}
 use Rattle.session_core.specs.declared.line.Answer.TheVariants.{Refused}
 use Rattle.session_core.specs.declared.line.Refusal.{Refusal}
@@ -13,7 +13,7 @@ use Rattle.session_core.specs.declared.line.Request.{Request}
 use Rattle.session_core.specs.declared.line.Request.TheVariants as requests
 use Rattle.session_core.specs.declared.line.Line.{Line}
 use Rattle.session_core.specs.declared.line.Reply.{Reply}
-use Rattle.edit_rules.specs.Effects.{edited}
+use Rattle.edit_undo.specs.edit_rules.Effects.{edited}
 use Rattle.edit_undo.specs.declared.faults.NoUndo.{NoUndo}
 use Rattle.session_core.specs.Undos.{undo_refusal}
 use Rattle.session_core.specs.Queries.{lacks_memory}

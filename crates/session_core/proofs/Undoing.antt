@@ -5,9 +5,9 @@ use Rattle.std.proofs.lemmas.List.{append-nil, length_push, take-append-drop, ta
 use Rattle.std.proofs.lemmas.Option.{same_Some, slice_get_within}
 use Rattle.std.proofs.Math.Seq.{take-append_seam, drop-append_seam, take-suc}
 use Rattle.db_config.specs.declared.parts.ConfigParts.{ConfigParts}
-use Rattle.edit_rules.specs.declared.acts.Act.{Act}
-use Rattle.edit_rules.specs.declared.acts.Entry.{Entry}
-use Rattle.edit_rules.specs.Effects.{database_after}
+use Rattle.edit_undo.specs.edit_rules.declared.acts.Act.{Act}
+use Rattle.edit_undo.specs.edit_rules.declared.acts.Entry.{Entry}
+use Rattle.edit_undo.specs.edit_rules.Effects.{database_after}
 use Rattle.edit_undo.specs.declared.faults.NoUndo.{NoUndo}
 use Rattle.edit_undo.specs.Inverse.{inverse_at}
 use Rattle.session_core.specs.declared.kept_acts.KeptAct.{KeptAct}

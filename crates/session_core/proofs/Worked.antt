@@ -8,7 +8,7 @@ use Rattle.value_codes.specs.Heads.{attribute_form, head_form, level_def_form, p
 use Rattle.edit_code.specs.Codes.{entry_code, head_code}
 use Rattle.edit_code.specs.Edits.{body_form, edit_form, entry_form, keyed_form}
 use Rattle.edit_code.specs.Tags.{tag_form}
-use Rattle.edit_rules.specs.Database.{empty_database}
+use Rattle.edit_undo.specs.edit_rules.Database.{empty_database}
 use Rattle.eql_resolve.specs.Resolve.{asked}
 use Rattle.session_core.specs.Example.{example_config, example_events}
 use Rattle.session_core.specs.Laws.{ExampleFits, ExampleReplies, ExampleHistory, ExampleIsLegal, ExampleSizes}

@@ -3,18 +3,18 @@ use Rattle.std.specs.Prelude.{ℕ, Bool, true, false, List, Option, Some, None, 
 use Rattle.db_config.specs.declared.parts.ConfigParts.{ConfigParts}
 use Rattle.textgrid.specs.declared.fault.GridFault.{GridFault}
 use Rattle.textgrid.specs.declared.fault.GridFault.TheVariants as faults
-use Rattle.edit_rules.specs.declared.acts.Act.{Act}
-use Rattle.edit_rules.specs.declared.acts.Breach.{Breach}
-use Rattle.edit_rules.specs.declared.acts.Entry.{Entry}
-use Rattle.edit_rules.specs.Database.{DatabaseParts}
-use Rattle.edit_rules.specs.Effects.{database_after}
+use Rattle.edit_undo.specs.edit_rules.declared.acts.Act.{Act}
+use Rattle.edit_undo.specs.edit_rules.declared.acts.Breach.{Breach}
+use Rattle.edit_undo.specs.edit_rules.declared.acts.Entry.{Entry}
+use Rattle.edit_undo.specs.edit_rules.Database.{DatabaseParts}
+use Rattle.edit_undo.specs.edit_rules.Effects.{database_after}
 use Rattle.eql_resolve.specs.declared.faults.AskFault.{AskFault}
 use Rattle.eql_resolve.specs.declared.faults.PrepareFault.{PrepareFault}
 use Rattle.eql_resolve.specs.Prepared.{PreparedParts}
 use Rattle.eql_resolve.specs.Asked.{AskedParts}
 use Rattle.eql_resolve.specs.Resolve.{asked}
-use Rattle.eql_model.specs.declared.row.Row.{Row}
-use Rattle.eql_model.specs.Rows.{segment_list, any_has_too_many}
+use Rattle.requery.specs.eql_model.declared.row.Row.{Row}
+use Rattle.requery.specs.eql_model.Rows.{segment_list, any_has_too_many}
 use Rattle.requery.specs.declared.target.Requery.{Requery}
 use Rattle.requery.specs.Target.{ReachedParts}
 use Rattle.requery.specs.Asks.{reached}

@@ -3,10 +3,10 @@ use Rattle.std.specs.Prelude.{Bool, true, false, List, [], ◌∷◌, Ok, Err}
 use Rattle.std.specs.List.{list_all}
 use Rattle.bundle_edits.specs.declared.edit.Edit.{Edit}
 use Rattle.bundle_edits.specs.declared.edit.Edit.TheVariants as edits
-use Rattle.edit_rules.specs.declared.acts.Act.{Act}
-use Rattle.edit_rules.specs.declared.acts.Act.TheVariants as acts
-use Rattle.edit_rules.specs.declared.acts.ConfigEdit.{ConfigEdit}
-use Rattle.edit_rules.specs.declared.acts.ConfigEdit.TheVariants as additions
+use Rattle.edit_undo.specs.edit_rules.declared.acts.Act.{Act}
+use Rattle.edit_undo.specs.edit_rules.declared.acts.Act.TheVariants as acts
+use Rattle.edit_undo.specs.edit_rules.declared.acts.ConfigEdit.{ConfigEdit}
+use Rattle.edit_undo.specs.edit_rules.declared.acts.ConfigEdit.TheVariants as additions
 use Rattle.session_core.specs.declared.line.Command.{Command}
 use Rattle.session_core.specs.declared.line.Command.TheVariants as commands
 use Rattle.session_core.specs.declared.line.Request.{Request}

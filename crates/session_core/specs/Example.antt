@@ -8,16 +8,16 @@ use Rattle.level_items.specs.declared.annot.AnnotItem.{AnnotItem}
 use Rattle.level_items.specs.declared.annot.Annot.{Annot}
 use Rattle.db_config.specs.declared.parts.LevelDef.{LevelDef}
 use Rattle.db_config.specs.declared.parts.ConfigParts.{ConfigParts}
-use Rattle.edit_rules.specs.declared.acts.Act.{Act}
-use Rattle.edit_rules.specs.declared.acts.Act.TheVariants as acts
+use Rattle.edit_undo.specs.edit_rules.declared.acts.Act.{Act}
+use Rattle.edit_undo.specs.edit_rules.declared.acts.Act.TheVariants as acts
 use Rattle.bundle_edits.specs.declared.edit.Edit.TheVariants as edits
-use Rattle.edit_rules.specs.declared.acts.Entry.{Entry}
+use Rattle.edit_undo.specs.edit_rules.declared.acts.Entry.{Entry}
 use Rattle.eql_syntax.specs.declared.query.Op.TheVariants.{Is}
 use Rattle.eql_syntax.specs.declared.query.Term.TheVariants.{Test}
 use Rattle.eql_syntax.specs.Tree.{Conjunction}
 use Rattle.session_core.specs.declared.event.Event.{Event}
 use Rattle.session_core.specs.declared.event.Event.TheVariants as events
-use Rattle.eql_model.specs.declared.row.Row.{Row}
+use Rattle.requery.specs.eql_model.declared.row.Row.{Row}
 use Rattle.session_core.specs.declared.line.Ask.{Ask}
 use Rattle.session_core.specs.declared.line.Answer.TheVariants.{Done, Segments}
 use Rattle.session_core.specs.declared.line.Command.TheVariants as commands

@@ -2,9 +2,9 @@
 -- lines, the history before them and the places where memory ran out.
 use Rattle.std.specs.Prelude.{◌≡◌, ℕ, ◌<◌, Bool, true, false, ◌&&◌, List, [], ◌∷◌, ◌++◌, count_by, Option, Some, None, Result, Ok, Err, nat_eq}
 use Rattle.std.specs.List.{list_any}
-use Rattle.edit_rules.specs.declared.acts.Breach.{Breach}
-use Rattle.edit_rules.specs.Database.{DatabaseParts}
-use Rattle.edit_rules.specs.declared.acts.Act.{Act}
+use Rattle.edit_undo.specs.edit_rules.declared.acts.Breach.{Breach}
+use Rattle.edit_undo.specs.edit_rules.Database.{DatabaseParts}
+use Rattle.edit_undo.specs.edit_rules.declared.acts.Act.{Act}
 use Rattle.session_core.specs.declared.line.Ask.{Ask}
 use Rattle.session_core.specs.declared.line.Answer.TheVariants.{Refused}
 use Rattle.session_core.specs.declared.line.Refusal.TheVariants as refusals
@@ -13,7 +13,7 @@ use Rattle.session_core.specs.declared.line.Request.TheVariants as requests
 use Rattle.session_core.specs.declared.line.Line.{Line}
 use Rattle.session_core.specs.declared.line.Reply.{Reply}
 use Rattle.session_core.specs.declared.line.Command.TheVariants as commands
-use Rattle.edit_rules.specs.Effects.{edited}
+use Rattle.edit_undo.specs.edit_rules.Effects.{edited}
 use Rattle.session_core.specs.Answers.{memory, reply_to, entry_of}
 use Rattle.edit_undo.specs.declared.faults.NoUndo.{NoUndo}
 use Rattle.session_core.specs.Steps.{State, present, is_full, act_event, taking_back, undo_step, edit_event, look_event, finish_event, finish_fails, opened_at, with_query, session_places}

@@ -1,10 +1,10 @@
 -- Laws over the definitions: what runs have in common.
 use Rattle.std.specs.Prelude.{◌≡◌, ℕ, ◌≤◌, false, List, [], ◌∷◌, length, map, Bool}
 use Rattle.db_config.specs.declared.parts.ConfigParts.{ConfigParts}
-use Rattle.edit_rules.specs.declared.acts.Entry.{Entry}
+use Rattle.edit_undo.specs.edit_rules.declared.acts.Entry.{Entry}
 use Rattle.session_core.specs.declared.event.Event.{Event}
-use Rattle.eql_model.specs.declared.row.Row.{Row}
-use Rattle.edit_rules.specs.Effects.{IsLegal}
+use Rattle.requery.specs.eql_model.declared.row.Row.{Row}
+use Rattle.edit_undo.specs.edit_rules.Effects.{IsLegal}
 use Rattle.session_core.specs.Steps.{start, steps}
 use Rattle.session_core.specs.Worlds.{Occurrence, untroubled, World, run, opening_world, AllFit, disk_failures, lines_done}
 use Rattle.session_core.specs.Sizes.{head_size, entry_size}

@@ -12,3 +12,6 @@ pub mod Laws
 pub mod OrderLaws
 pub mod Readings
 pub mod Inner
+pub use Rattle.edit_undo.specs as edit_undo
+pub use Rattle.requery.specs as requery
+pub use Rattle.segment_list.specs as segment_list

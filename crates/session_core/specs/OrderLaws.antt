@@ -3,9 +3,9 @@ use Rattle.std.specs.Prelude.{◌≡◌, ℕ, ◌≤◌, Bool, List, [], length}
 use Rattle.emu_names.specs.declared.limits.TheConstants.{HISTORY_EDITS}
 use Rattle.emu_names.specs.Count.{RoseBy}
 use Rattle.db_config.specs.declared.parts.ConfigParts.{ConfigParts}
-use Rattle.edit_rules.specs.declared.acts.Entry.{Entry}
+use Rattle.edit_undo.specs.edit_rules.declared.acts.Entry.{Entry}
 use Rattle.session_core.specs.declared.line.Line.{Line}
-use Rattle.edit_rules.specs.Effects.{IsLegal}
+use Rattle.edit_undo.specs.edit_rules.Effects.{IsLegal}
 use Rattle.session_core.specs.Steps.{start}
 use Rattle.session_core.specs.Legal.{Legal}
 use Rattle.session_core.specs.InOrder.{Outage, disk_outages, in_turn, ComeInOrder}

@@ -2,7 +2,7 @@
 -- length of the code itself.
 use Rattle.std.specs.Prelude.{ℕ, ◌+◌, List, length, sum_by}
 use Rattle.db_config.specs.declared.parts.ConfigParts.{ConfigParts}
-use Rattle.edit_rules.specs.declared.acts.Entry.{Entry}
+use Rattle.edit_undo.specs.edit_rules.declared.acts.Entry.{Entry}
 use Rattle.edit_code.specs.Codes.{entry_code, head_code}
 
 -- how many bytes the code of a configuration takes

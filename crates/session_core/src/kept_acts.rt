@@ -2,8 +2,8 @@
 ghost use Rattle.std.specs.Prelude.{◌≡◌, ◌<◌, ◌≤◌, ◌+◌, ◌∷◌, ◌++◌, [], IfOk, OnErr, OnOk, option_copied};
 ghost use Rattle.session_core.specs.Undos.{is_kept_of, kept_act, latest_of};
 
-use edit_rules::Act;
 use edit_undo::NoUndo;
+use edit_undo::edit_rules::Act;
 use emu_names::{Memory, SessionNo};
 use std::alloc::Global;
 use std::marker::Model;

@@ -21,4 +21,6 @@ pub use line::{Answer, Ask, Command, Line, Lines, Refusal, Replies, Reply, Reque
 pub use machine::Core;
 pub use moves::{Head, memory_reply, refuse_grid, refuse_rule, refuse_undo};
 pub use queries::{answer, answer_listed, lacks_memory, refuse_text};
+pub use requery;
+pub use segment_list;
 pub use slots::Slots;

@@ -1,5 +1,5 @@
 //! The lines of a script as the core takes them, and the replies that it gives.
-use edit_rules::Act;
+use edit_undo::edit_rules::Act;
 use emu_names::{Broken, Series, SessionNo, Text};
 use eql_resolve::{AskFault, PrepareFault, Prepared};
 use requery::Requery;

@@ -1,7 +1,7 @@
 //! The core: a configuration, the history behind it, the database that both make, and what each session holds, changed
 //! by one event at a time.
 ghost use Rattle.emu_names.specs.declared.limits.TheConstants.{HISTORY_EDITS};
-ghost use Rattle.edit_rules.specs.Effects.{after, IsLegal};
+ghost use Rattle.edit_undo.specs.edit_rules.Effects.{after, IsLegal};
 ghost use Rattle.emu_names.specs.Inner.Gives.{IsFaultOf, broken_in};
 ghost use Rattle.session_core.specs.Inner.Kept.{head_line, ruled};
 ghost use Rattle.session_core.specs.Steps.{core_fails, core_step, edit_event, finish_step, look_event, option_list, query_fails, query_step, session_places, slot, start, steps};
@@ -17,7 +17,7 @@ use crate::moves::{
 };
 use crate::slots::{Held, Slots};
 use db_config::Config;
-use edit_rules::{Database, Entries};
+use edit_undo::edit_rules::{Database, Entries};
 use emu_names::{Fault, Memory, SessionNo};
 use std::alloc::Global;
 use std::marker::Model;

@@ -1,9 +1,9 @@
 //! What one event does to the parts of the core, each part on its own.
-ghost use Rattle.edit_rules.specs.Effects.{after};
+ghost use Rattle.edit_undo.specs.edit_rules.Effects.{after};
 ghost use Rattle.emu_names.specs.Inner.Gives.{GivesOrBroken};
-ghost use Rattle.edit_rules.specs.Database.{DatabaseParts};
-ghost use Rattle.edit_rules.specs.Effects.{effect};
-ghost use Rattle.edit_rules.specs.Inner.Effects.{GivesOrBreach};
+ghost use Rattle.edit_undo.specs.edit_rules.Database.{DatabaseParts};
+ghost use Rattle.edit_undo.specs.edit_rules.Effects.{effect};
+ghost use Rattle.edit_undo.specs.edit_rules.Inner.Effects.{GivesOrBreach};
 ghost use Rattle.edit_undo.specs.Inverse.{bundle_for, inverse_at};
 ghost use Rattle.edit_undo.specs.Before.{IsBefore};
 ghost use Rattle.bundle_state.specs.Built.{FitsConfig};
@@ -20,7 +20,7 @@ use crate::queries::{answer, lacks_memory};
 use crate::slots::{Held, Slots};
 use bundle_state::Bundle;
 use db_config::Config;
-use edit_rules::{Act, Breach, ChangeFault, Database, Entries, Entry, apply};
+use edit_undo::edit_rules::{Act, Breach, ChangeFault, Database, Entries, Entry, apply};
 use edit_undo::{InverseFault, NoUndo, inverse};
 use emu_names::limits::HISTORY_EDITS;
 use emu_names::{Fault, Memory, SessionNo};

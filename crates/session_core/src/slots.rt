@@ -3,7 +3,7 @@ ghost use Rattle.session_core.specs.Steps.{put_slot, session_places, slot};
 ghost use Rattle.std.specs.Prelude.{◌≡◌, ◌<◌, None, IfOk, length, replicate};
 
 use crate::line::Ask;
-use edit_rules::Database;
+use edit_undo::edit_rules::Database;
 use emu_names::Memory;
 use emu_names::limits::SESSIONS;
 use std::alloc::Global;

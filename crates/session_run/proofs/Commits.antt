@@ -10,23 +10,23 @@ use Rattle.edit_rules.specs.Database.{DatabaseParts}
 use Rattle.edit_rules.specs.Effects.{edited}
 use Rattle.edit_rules.specs.declared.acts.Act.{Act}
 use Rattle.edit_rules.specs.declared.acts.Entry.{Entry}
-use Rattle.edit_undo.specs.declared.faults.NoUndo.{NoUndo}
-use Rattle.session_core.specs.declared.kept_acts.KeptAct.{KeptAct}
-use Rattle.session_core.specs.declared.line.Answer.TheVariants.{Done, Refused}
-use Rattle.session_core.specs.declared.line.Line.{Line}
-use Rattle.session_core.specs.declared.line.Refusal.TheVariants as refusals
-use Rattle.session_core.specs.declared.line.Reply.{Reply}
-use Rattle.session_core.specs.declared.line.Request.{Request}
-use Rattle.session_core.specs.declared.line.Request.TheVariants as requests
-use Rattle.session_core.specs.declared.moves.Head.{Head}
-use Rattle.session_core.specs.declared.slots.Held.{Held}
-use Rattle.session_core.specs.Answers.{entry_of, memory, reply_to, rule_refusal}
-use Rattle.session_core.specs.InOrder.{Outage, fine, at_first, disk_fails, disk_outages, edit_outcome, edit_trouble, edit_turn, made_trouble, one_turn, replied, request_turn, stored_trouble, trouble_at, undo_turn}
-use Rattle.session_core.specs.Inner.Kept.{AreHeld, grid_told, head_entry, head_reply}
-use Rattle.session_core.specs.Steps.{State, edit_made, edit_step, is_full, taking_back}
-use Rattle.session_core.specs.Undos.{latest_of, undo_refusal}
-use Rattle.session_core.specs.Worlds.{Trouble, act_back, act_wanted, untroubled, store_full, disk_failed, passes_store}
-use Rattle.session_core.proofs.Keeping.{slots_longer}
+use Rattle.live_book.specs.edit_undo.declared.faults.NoUndo.{NoUndo}
+use Rattle.query_workers.specs.session_core.declared.kept_acts.KeptAct.{KeptAct}
+use Rattle.query_workers.specs.session_core.declared.line.Answer.TheVariants.{Done, Refused}
+use Rattle.query_workers.specs.session_core.declared.line.Line.{Line}
+use Rattle.query_workers.specs.session_core.declared.line.Refusal.TheVariants as refusals
+use Rattle.query_workers.specs.session_core.declared.line.Reply.{Reply}
+use Rattle.query_workers.specs.session_core.declared.line.Request.{Request}
+use Rattle.query_workers.specs.session_core.declared.line.Request.TheVariants as requests
+use Rattle.query_workers.specs.session_core.declared.moves.Head.{Head}
+use Rattle.query_workers.specs.session_core.declared.slots.Held.{Held}
+use Rattle.query_workers.specs.session_core.Answers.{entry_of, memory, reply_to, rule_refusal}
+use Rattle.query_workers.specs.session_core.InOrder.{Outage, fine, at_first, disk_fails, disk_outages, edit_outcome, edit_trouble, edit_turn, made_trouble, one_turn, replied, request_turn, stored_trouble, trouble_at, undo_turn}
+use Rattle.query_workers.specs.session_core.Inner.Kept.{AreHeld, grid_told, head_entry, head_reply}
+use Rattle.query_workers.specs.session_core.Steps.{State, edit_made, edit_step, is_full, taking_back}
+use Rattle.query_workers.specs.session_core.Undos.{latest_of, undo_refusal}
+use Rattle.query_workers.specs.session_core.Worlds.{Trouble, act_back, act_wanted, untroubled, store_full, disk_failed, passes_store}
+use Rattle.query_workers.proofs.of_session_core.Keeping.{slots_longer}
 use Rattle.live_book.specs.declared.fault.EditFault.{EditFault}
 use Rattle.live_book.specs.declared.fault.EditFault.TheVariants as faults
 use Rattle.live_book.specs.Commits.{Commits, HasRoom, IsSameBook, IsTooMuch, LeavesKept, has_journal, history_behind}

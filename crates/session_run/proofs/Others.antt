@@ -6,22 +6,22 @@ use Rattle.db_config.specs.declared.parts.ConfigParts.{ConfigParts}
 use Rattle.edit_rules.specs.Database.{DatabaseParts}
 use Rattle.edit_rules.specs.Effects.{after}
 use Rattle.edit_rules.specs.declared.acts.Entry.{Entry}
-use Rattle.session_core.specs.declared.kept_acts.KeptAct.{KeptAct}
-use Rattle.session_core.specs.declared.line.Answer.TheVariants.{Done}
-use Rattle.session_core.specs.declared.line.Ask.{Ask}
-use Rattle.session_core.specs.declared.line.Line.{Line}
-use Rattle.session_core.specs.declared.line.Reply.{Reply}
-use Rattle.session_core.specs.declared.line.Request.{Request}
-use Rattle.session_core.specs.declared.line.Request.TheVariants as requests
-use Rattle.session_core.specs.declared.slots.Held.{Held}
-use Rattle.session_core.specs.Answers.{memory, reply_to}
-use Rattle.session_core.specs.InOrder.{Outage, fine, at_first, disk_outages, one_turn, query_turn, replied, request_turn}
-use Rattle.session_core.specs.Inner.Kept.{AreHeld, IsKept, held_at, head_reply, look_closed, looked, opened_in, query_closed, query_reply, state_of}
-use Rattle.session_core.specs.Queries.{lacks_memory}
-use Rattle.session_core.specs.Steps.{State, put_slot, query_step, session_places, slot}
-use Rattle.session_core.specs.Worlds.{act_wanted}
-use Rattle.session_core.proofs.Undoing.{kept_none}
-use Rattle.session_core.proofs.Keeping.{answered_step, begun_step, closed_kept, closed_step, kept_begun, looked_kept, looked_step, slots_empty}
+use Rattle.query_workers.specs.session_core.declared.kept_acts.KeptAct.{KeptAct}
+use Rattle.query_workers.specs.session_core.declared.line.Answer.TheVariants.{Done}
+use Rattle.query_workers.specs.session_core.declared.line.Ask.{Ask}
+use Rattle.query_workers.specs.session_core.declared.line.Line.{Line}
+use Rattle.query_workers.specs.session_core.declared.line.Reply.{Reply}
+use Rattle.query_workers.specs.session_core.declared.line.Request.{Request}
+use Rattle.query_workers.specs.session_core.declared.line.Request.TheVariants as requests
+use Rattle.query_workers.specs.session_core.declared.slots.Held.{Held}
+use Rattle.query_workers.specs.session_core.Answers.{memory, reply_to}
+use Rattle.query_workers.specs.session_core.InOrder.{Outage, fine, at_first, disk_outages, one_turn, query_turn, replied, request_turn}
+use Rattle.query_workers.specs.session_core.Inner.Kept.{AreHeld, IsKept, held_at, head_reply, look_closed, looked, opened_in, query_closed, query_reply, state_of}
+use Rattle.query_workers.specs.session_core.Queries.{lacks_memory}
+use Rattle.query_workers.specs.session_core.Steps.{State, put_slot, query_step, session_places, slot}
+use Rattle.query_workers.specs.session_core.Worlds.{act_wanted}
+use Rattle.query_workers.proofs.of_session_core.Undoing.{kept_none}
+use Rattle.query_workers.proofs.of_session_core.Keeping.{answered_step, begun_step, closed_kept, closed_step, kept_begun, looked_kept, looked_step, slots_empty}
 use Rattle.live_book.specs.Commits.{has_journal}
 use Rattle.live_book.specs.Kept.{BookParts, faults_in}
 use Rattle.session_run.specs.Inner.Orders.{ChangesBook}

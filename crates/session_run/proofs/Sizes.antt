@@ -5,11 +5,11 @@ use Rattle.std.proofs.lemmas.List.Sums.{sum_by-cons}
 use Rattle.emu_names.specs.declared.limits.TheConstants.{STORE_BYTES}
 use Rattle.db_config.specs.declared.parts.ConfigParts.{ConfigParts}
 use Rattle.edit_rules.specs.declared.acts.Entry.{Entry}
-use Rattle.edit_code.specs.Codes.{entry_code, head_code}
+use Rattle.live_book.specs.edit_code.Codes.{entry_code, head_code}
 use Rattle.edit_journal.specs.Store.{frame, frames}
 use Rattle.edit_journal.proofs.Walk.{length_frame, length-start}
-use Rattle.session_core.specs.Sizes.{entry_size, frame_size, store_size}
-use Rattle.session_core.specs.Worlds.{passes_store}
+use Rattle.query_workers.specs.session_core.Sizes.{entry_size, frame_size, store_size}
+use Rattle.query_workers.specs.session_core.Worlds.{passes_store}
 use Rattle.live_book.specs.Histories.{codes_of, size, PassesLimit}
 
 -- the frames of a history

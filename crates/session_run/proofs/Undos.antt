@@ -3,12 +3,12 @@ use Rattle.std.proofs.Common.{◌≡◌, ℕ, ◌≤◌, List, [], ◌∷◌, �
 use Rattle.db_config.specs.declared.parts.ConfigParts.{ConfigParts}
 use Rattle.edit_rules.specs.declared.acts.Act.{Act}
 use Rattle.edit_rules.specs.declared.acts.Entry.{Entry}
-use Rattle.edit_undo.specs.declared.faults.NoUndo.{NoUndo}
-use Rattle.session_core.specs.declared.kept_acts.KeptAct.{KeptAct}
-use Rattle.session_core.specs.declared.moves.Head.{Head}
-use Rattle.session_core.specs.Inner.Kept.{head_entry}
-use Rattle.session_core.specs.Undos.{kept_act, kept_behind, kept_of}
-use Rattle.session_core.proofs.Undoing.{kept_none, kept_push}
+use Rattle.live_book.specs.edit_undo.declared.faults.NoUndo.{NoUndo}
+use Rattle.query_workers.specs.session_core.declared.kept_acts.KeptAct.{KeptAct}
+use Rattle.query_workers.specs.session_core.declared.moves.Head.{Head}
+use Rattle.query_workers.specs.session_core.Inner.Kept.{head_entry}
+use Rattle.query_workers.specs.session_core.Undos.{kept_act, kept_behind, kept_of}
+use Rattle.query_workers.proofs.of_session_core.Undoing.{kept_none, kept_push}
 use Rattle.live_book.specs.declared.fault.EditFault.{EditFault}
 use Rattle.live_book.specs.declared.kept.Kept.{Kept}
 use Rattle.live_book.specs.Commits.{history_behind}

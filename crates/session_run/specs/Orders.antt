@@ -2,13 +2,13 @@
 use Rattle.std.specs.Prelude.{◌≡◌, Some}
 use Rattle.edit_rules.specs.declared.acts.Act.{Act}
 use Rattle.edit_rules.specs.declared.acts.Entry.{Entry}
-use Rattle.session_core.specs.declared.line.Answer.TheVariants.{Refused}
-use Rattle.session_core.specs.declared.line.Line.{Line}
-use Rattle.session_core.specs.declared.line.Refusal.TheVariants as refusals
-use Rattle.session_core.specs.declared.line.Reply.{Reply}
-use Rattle.session_core.specs.Answers.{entry_of}
-use Rattle.session_core.specs.Steps.{State}
-use Rattle.session_core.specs.Worlds.{act_wanted}
+use Rattle.query_workers.specs.session_core.declared.line.Answer.TheVariants.{Refused}
+use Rattle.query_workers.specs.session_core.declared.line.Line.{Line}
+use Rattle.query_workers.specs.session_core.declared.line.Refusal.TheVariants as refusals
+use Rattle.query_workers.specs.session_core.declared.line.Reply.{Reply}
+use Rattle.query_workers.specs.session_core.Answers.{entry_of}
+use Rattle.query_workers.specs.session_core.Steps.{State}
+use Rattle.query_workers.specs.session_core.Worlds.{act_wanted}
 
 -- the disk refused the act that the line wants over a state, which would be this entry
 pub record IsDiskRefused (st : State) (l : Line) (reply : Reply) (next : Entry) : Type 0 where

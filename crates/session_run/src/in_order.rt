@@ -1,6 +1,6 @@
 //! A run in order over a book.
 ghost use Rattle.std.specs.Prelude.{◌≡◌, ◌<◌, None, IfOk, IfErr, replicate};
-ghost use Rattle.session_core.specs.Steps.{session_places, start};
+ghost use Rattle.query_workers.specs.session_core.Steps.{session_places, start};
 ghost use Rattle.live_book.specs.Histories.{IsHistory};
 ghost use Rattle.session_run.specs.Inner.Orders.{Answers, state_of};
 
@@ -9,7 +9,7 @@ use crate::turns::take_line;
 use edit_rules::Entries;
 use emu_disk::Disk;
 use live_book::{Book, Published};
-use session_core::{KeptActs, Line, Reply, Slots};
+use query_workers::session_core::{KeptActs, Line, Reply, Slots};
 use std::alloc::Global;
 use std::marker::Model;
 use std::sync::Wait;
@@ -31,7 +31,7 @@ impl<D: Disk> Model for InOrder<D> {
     ghost use Rattle.std.specs.Prelude.{◌≡◌};
     ghost use Rattle.std.specs.Coded.{codes};
     ghost use Rattle.eql_resolve.specs.Inner.Codes.{tree_code};
-    ghost use Rattle.session_core.specs.Inner.Kept.{AreHeld};
+    ghost use Rattle.query_workers.specs.session_core.Inner.Kept.{AreHeld};
     ghost use Rattle.session_run.specs.Inner.Orders.{OrderParts};
     ghost use Rattle.session_run.specs.Inner.Taken.{KeepsActs, run_of};
 

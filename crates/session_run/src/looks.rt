@@ -1,16 +1,16 @@
 //! An open look, which keeps the version of its moment.
 ghost use Rattle.std.specs.Prelude.{◌≡◌, Some, IfOk};
 ghost use Rattle.std.specs.Arc.{arc_value};
-ghost use Rattle.version_tree.specs.Version.{state_of};
-ghost use Rattle.session_core.specs.Inner.Kept.{held_answer, held_at, query_reply};
-ghost use Rattle.session_core.specs.Queries.{lacks_memory};
-ghost use Rattle.session_core.specs.Steps.{reply_of};
+ghost use Rattle.query_workers.specs.version_tree.Version.{state_of};
+ghost use Rattle.query_workers.specs.session_core.Inner.Kept.{held_answer, held_at, query_reply};
+ghost use Rattle.query_workers.specs.session_core.Queries.{lacks_memory};
+ghost use Rattle.query_workers.specs.session_core.Steps.{reply_of};
 
 use emu_io::OpenGate;
 use emu_names::{Memory, SessionNo};
 use live_book::Published;
 use query_workers::answer_over;
-use session_core::{Ask, Head, Reply, lacks_memory, memory_reply};
+use query_workers::session_core::{Ask, Head, Reply, lacks_memory, memory_reply};
 use std::alloc::Global;
 use std::marker::Model;
 use std::sync::Arc;
@@ -29,8 +29,8 @@ impl Model for Look {
     ghost use Rattle.std.specs.Arc.{arc_value};
     ghost use Rattle.std.specs.Coded.{codes};
     ghost use Rattle.eql_resolve.specs.Inner.Codes.{tree_code};
-    ghost use Rattle.version_tree.specs.Version.{state_of};
-    ghost use Rattle.session_core.specs.declared.slots.Held.{Held};
+    ghost use Rattle.query_workers.specs.version_tree.Version.{state_of};
+    ghost use Rattle.query_workers.specs.session_core.declared.slots.Held.{Held};
 
     ghost Value = { Held };
 

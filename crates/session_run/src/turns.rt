@@ -1,10 +1,10 @@
 //! What one line does to the parts of a run in order.
 ghost use Rattle.std.specs.Prelude.{◌≡◌, ◌<◌, length, Ok, IfOk, OnErr};
 ghost use Rattle.edit_rules.specs.Effects.{after};
-ghost use Rattle.session_core.specs.declared.line.Request.{Request};
-ghost use Rattle.session_core.specs.Inner.Kept.{AreHeld, held_at, look_closed};
-ghost use Rattle.session_core.specs.Steps.{session_places, slot};
-ghost use Rattle.session_core.specs.Undos.{latest_of};
+ghost use Rattle.query_workers.specs.session_core.declared.line.Request.{Request};
+ghost use Rattle.query_workers.specs.session_core.Inner.Kept.{AreHeld, held_at, look_closed};
+ghost use Rattle.query_workers.specs.session_core.Steps.{session_places, slot};
+ghost use Rattle.query_workers.specs.session_core.Undos.{latest_of};
 ghost use Rattle.live_book.specs.Inner.Inverses.{numbered};
 ghost use Rattle.session_run.specs.Inner.Orders.{commit_reply};
 ghost use Rattle.session_run.specs.Inner.Taken.{CommitsAct, EditsBook, IsAnsweredAt, IsLookedAt, IsTaken, KeepsActs, UndoesBook, acts_behind, line_of, or_memory};
@@ -15,7 +15,7 @@ use edit_rules::Act;
 use emu_disk::Disk;
 use emu_names::Memory;
 use live_book::{Book, EditFault, Kept, Published};
-use session_core::{
+use query_workers::session_core::{
     Answer, Ask, Head, KeptActs, Line, Refusal, Reply, Request, Slots, memory_reply, refuse_grid,
     refuse_rule, refuse_undo,
 };

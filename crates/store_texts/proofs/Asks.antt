@@ -2,7 +2,7 @@
 use Rattle.std.proofs.Common.{◌≤◌, ℕ, List, Option, Result, Ok, Err}
 use Rattle.emu_names.specs.Count.{RoseBy}
 use Rattle.eql_resolve.specs.Made.{Made, IsMade, times_too_large}
-use Rattle.version_tree.specs.Version.{VersionParts}
+use Rattle.query_workers.specs.version_tree.Version.{VersionParts}
 use Rattle.store_texts.specs.declared.faults.CommandFault.{CommandFault}
 use Rattle.store_texts.specs.declared.faults.CommandFault.TheVariants as faults
 use Rattle.store_texts.specs.Inner.Asked.{TellsAsked, answered}

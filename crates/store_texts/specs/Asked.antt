@@ -1,7 +1,7 @@
 -- What a query of a store is answered.
 use Rattle.std.specs.Prelude.{ℕ, List, [], Result, Ok, Err}
-use Rattle.session_core.specs.declared.line.Answer.{Answer}
-use Rattle.session_core.specs.declared.line.Answer.TheVariants as answers
+use Rattle.reply_texts.specs.session_core.declared.line.Answer.{Answer}
+use Rattle.reply_texts.specs.session_core.declared.line.Answer.TheVariants as answers
 use Rattle.store_texts.specs.declared.faults.Refused.{Refused}
 use Rattle.store_texts.specs.declared.faults.Refused.TheVariants.{Request}
 use Rattle.store_texts.specs.Texts.{segments_text}

@@ -1,8 +1,8 @@
 //! The answer to a query over a store.
 ghost use Rattle.std.specs.Prelude.{◌≡◌, ◌≤◌, IfOk};
 ghost use Rattle.std.specs.Option.{option_copied};
-ghost use Rattle.session_core.specs.Answers.{answer_over};
-ghost use Rattle.version_tree.specs.Version.{state_of};
+ghost use Rattle.reply_texts.specs.session_core.Answers.{answer_over};
+ghost use Rattle.query_workers.specs.version_tree.Version.{state_of};
 ghost use Rattle.store_texts.specs.Asked.{asked_text};
 ghost use Rattle.store_texts.specs.Inner.Asked.{TellsAsked};
 ghost use Rattle.store_texts.specs.Commands.{Tells};
@@ -14,10 +14,10 @@ use emu_names::{Memory, Text};
 use eql_resolve::made_of;
 use label_match::PatternMaker;
 use query_workers::answer_over;
-use session_core::{Answer, Ask};
+use query_workers::version_tree::Version;
+use reply_texts::session_core::{Answer, Ask};
 use std::alloc::Global;
 use std::thread::Threads;
-use version_tree::Version;
 
 /// The number that the gate is told in the place of a line's, since no line asks the query.
 const NO_LINE: u32 = 0;

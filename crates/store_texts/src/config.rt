@@ -1,13 +1,13 @@
 //! The text of the configuration of a store.
 ghost use Rattle.std.specs.Prelude.{◌≡◌, IfOk};
-ghost use Rattle.version_tree.specs.Version.{state_of};
+ghost use Rattle.query_workers.specs.version_tree.Version.{state_of};
 ghost use Rattle.store_texts.specs.Commands.{config_shown};
 
 use crate::print::text_line;
 use config_json::print_config;
 use emu_names::{Memory, Text};
+use query_workers::version_tree::Version;
 use std::alloc::Global;
-use version_tree::Version;
 
 /// The configuration of a version on a line of its own (EMU-SDMS Manual, "The emuDB format": `_DBconfig.json`), as
 /// `print_config` of `config_json` says. The only refusal is want of memory.

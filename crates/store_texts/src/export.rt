@@ -3,7 +3,7 @@ ghost use Rattle.std.specs.Prelude.{◌≡◌, ◌++◌, ◌∷◌, [], IfOk, So
 ghost use Rattle.bundle_state.specs.Built.{FitsConfig};
 ghost use Rattle.annot_json.specs.Texts.{printed};
 ghost use Rattle.grid_writing.specs.Written.{written};
-ghost use Rattle.version_tree.specs.Version.{state_of};
+ghost use Rattle.query_workers.specs.version_tree.Version.{state_of};
 ghost use Rattle.store_texts.specs.Commands.{Tells, exported, grid_exported, grid_or_refused, gridded_at, key_of_words, name_of, shown_at};
 
 use crate::faults::{CommandFault, Refused};
@@ -13,8 +13,8 @@ use bundle_state::Bundle;
 use db_config::Config;
 use emu_names::{BundleKey, Memory, Name, NameFault, Text};
 use grid_writing::{WriteFault, write_textgrid};
+use query_workers::version_tree::Version;
 use std::alloc::Global;
-use version_tree::Version;
 
 /// A word as a name, or none where it is none. The only refusal is want of memory.
 fn name_of(alloc: Global, word: &str) -> Result<Option<Name>, Memory>

@@ -2,7 +2,7 @@
 use config_json::ConfigFault;
 use emu_names::{Memory, Text};
 use json_view::Shape;
-use session_core::Refusal;
+use reply_texts::session_core::Refusal;
 use std::alloc::{AllocError, AllocFailed};
 use textgrid::GridFault;
 

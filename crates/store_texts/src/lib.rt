@@ -15,7 +15,10 @@ mod words;
 
 pub use ask::ask_text;
 pub use config::config_text;
+pub use edit_rules;
 pub use export::{export_text, textgrid_text};
 pub use faults::{CommandFault, FileFault, Refused};
 pub use history::history_text;
 pub use print::{print_damaged, print_done, print_from, print_mark, print_refused};
+pub use reply_texts;
+pub use reply_texts::session_core;

@@ -3,3 +3,4 @@ mod Touching
 mod StepChanges
 mod Drafting
 mod Configuring
+pub use Rattle.edit_rules.proofs as of_edit_rules

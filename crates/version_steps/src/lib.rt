@@ -8,5 +8,8 @@ mod marks;
 mod next;
 mod thinning;
 
+pub use bundle_index;
 pub use draft::Draft;
+pub use edit_rules;
 pub use next::{next_drafted, next_version};
+pub use version_tree;

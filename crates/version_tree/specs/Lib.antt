@@ -1,2 +1,3 @@
 pub mod Version
 pub mod Inner
+pub use Rattle.edit_rules.specs as edit_rules

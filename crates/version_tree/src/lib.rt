@@ -10,4 +10,5 @@ mod splice;
 mod tree;
 mod version;
 
+pub use edit_rules;
 pub use version::{Version, versions_cross_threads};

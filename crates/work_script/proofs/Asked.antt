@@ -6,13 +6,13 @@ use Rattle.eql_resolve.specs.Asked.{AskedParts}
 use Rattle.eql_resolve.specs.Made.{IsPreparedFrom}
 use Rattle.eql_resolve.specs.Prepared.{PreparedParts}
 use Rattle.eql_resolve.specs.Resolve.{asked}
-use Rattle.eql_model.specs.declared.row.Row.{Row}
-use Rattle.eql_model.specs.Rows.{any_has_too_many, segment_list}
-use Rattle.edit_rules.specs.Database.{DatabaseParts}
+use Rattle.requery.specs.eql_model.declared.row.Row.{Row}
+use Rattle.requery.specs.eql_model.Rows.{any_has_too_many, segment_list}
+use Rattle.live_run.specs.edit_rules.Database.{DatabaseParts}
 use Rattle.requery.specs.declared.target.Requery.{Requery}
-use Rattle.session_core.specs.declared.line.Answer.TheVariants.{Segments}
-use Rattle.session_core.specs.declared.line.Ask.{Ask}
-use Rattle.session_core.specs.Answers.{answer_over, asked_answer, listed_answer, prepared_answer, resolved_answer}
+use Rattle.live_run.specs.session_core.declared.line.Answer.TheVariants.{Segments}
+use Rattle.live_run.specs.session_core.declared.line.Ask.{Ask}
+use Rattle.live_run.specs.session_core.Answers.{answer_over, asked_answer, listed_answer, prepared_answer, resolved_answer}
 use Rattle.work_script.specs.Summary.{HasRowsFor}
 
 listed : (rows there : List Row) (many : Bool) → Segments rows ≡ listed_answer there many → rows ≡ there

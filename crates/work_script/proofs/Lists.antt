@@ -2,7 +2,7 @@
 use Rattle.std.proofs.Common.{◌≡◌, ◌⊎◌, inl, inr, ℕ, zero, suc, ◌+◌, ◌<◌, Bool, true, false, cond, ◌&&◌, List, [], ◌∷◌, ◌++◌, length, filter, get_or, map, slice_get, Some, refl, sym, ◌∙◌, ap, subst, arith}
 use Rattle.std.specs.List.{list_all}
 use Rattle.std.proofs.lemmas.Bool.{cases_order}
-use Rattle.session_core.specs.Worlds.{Each}
+use Rattle.live_run.specs.session_core.Worlds.{Each}
 use Rattle.work_script.specs.Script.{each}
 use Rattle.work_script.specs.Inner.Replies.{Has}
 

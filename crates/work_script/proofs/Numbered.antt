@@ -1,6 +1,6 @@
 -- Which line of the script of work has a number.
 use Rattle.std.proofs.Common.{◌≡◌, ◌⊎◌, inl, inr, ℕ, zero, suc, ◌+◌, ◌<◌, ◌≤◌, List, [], ◌∷◌, ◌++◌, length, slice_get, Some, refl, sym, ◌∙◌, ap, subst, arith, length-append}
-use Rattle.session_core.specs.declared.line.Line.{Line}
+use Rattle.live_run.specs.session_core.declared.line.Line.{Line}
 use Rattle.work_script.specs.Script.{each, work_queries}
 use Rattle.work_script.specs.Inner.Script.{adding, others, wait_of, waits}
 use Rattle.work_script.specs.Inner.Lines.{AreAsking, IsAsking, IsScript}

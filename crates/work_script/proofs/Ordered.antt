@@ -2,9 +2,9 @@
 use Rattle.std.proofs.Common.{◌≡◌, inl, inr, ℕ, zero, suc, ◌+◌, ◌-◌, ◌%◌, ◌<◌, ◌≤◌, Bool, true, false, ◌||◌, List, [], ◌∷◌, ◌++◌, length, refl, sym, ◌∙◌, ap, subst, arith, nat_eq, eq-eqb, append_assoc, append-nil, length-append}
 use Rattle.std.specs.List.{list_any}
 use Rattle.std.proofs.Math.Nat.{mul-div-le, mod-lt}
-use Rattle.session_core.specs.declared.line.Line.{Line}
-use Rattle.session_core.specs.InOrder.{ComeInOrder, ComesNext, IsBelow, NamesEarlier}
-use Rattle.session_core.specs.Worlds.{Each, NamesChange}
+use Rattle.live_run.specs.session_core.declared.line.Line.{Line}
+use Rattle.live_run.specs.session_core.InOrder.{ComeInOrder, ComesNext, IsBelow, NamesEarlier}
+use Rattle.live_run.specs.session_core.Worlds.{Each, NamesChange}
 use Rattle.work_script.specs.Script.{each, work_queries}
 use Rattle.work_script.specs.Inner.Script.{adding, last_of, others, wait_of, waits}
 use Rattle.work_script.specs.Inner.Lines.{AreAsking, IsScript}

@@ -1,7 +1,7 @@
 -- The lines of the script of work, put together from their parts.
 use Rattle.std.proofs.Common.{◌≡◌, ℕ, ◌+◌, ◌≤◌, List, ◌++◌, length, ◌∙◌, ap, subst, arith, length-append}
 use Rattle.work_script.proofs.Numbered.{asking_length}
-use Rattle.session_core.specs.declared.line.Line.{Line}
+use Rattle.live_run.specs.session_core.declared.line.Line.{Line}
 use Rattle.work_script.specs.Script.{each, work_queries}
 use Rattle.work_script.specs.Inner.Script.{adding, others, wait_of, waits}
 use Rattle.work_script.specs.Inner.Lines.{AreAsking, IsScript}

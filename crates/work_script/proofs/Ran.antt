@@ -3,14 +3,14 @@ use Rattle.std.proofs.Common.{◌≡◌, ℕ, ◌+◌, Bool, List, [], length, R
 use Rattle.emu_names.specs.declared.shortage.Memory.{Memory}
 use Rattle.db_config.specs.declared.parts.ConfigParts.{ConfigParts}
 use Rattle.bundle_edits.specs.declared.bundle_change.Counts.{Counts}
-use Rattle.edit_rules.specs.declared.acts.Entry.{Entry}
-use Rattle.live_book.specs.Commits.{has_journal}
-use Rattle.live_book.specs.Kept.{BookParts, faults_in}
+use Rattle.live_run.specs.edit_rules.declared.acts.Entry.{Entry}
+use Rattle.live_run.specs.live_book.Commits.{has_journal}
+use Rattle.live_run.specs.live_book.Kept.{BookParts, faults_in}
 use Rattle.live_run.specs.declared.run.Ended.{Ended}
 use Rattle.live_run.specs.Inner.Runs.{EndsLive}
-use Rattle.session_core.specs.declared.line.Line.{Line}
-use Rattle.session_core.specs.declared.line.Reply.{Reply}
-use Rattle.session_core.specs.Legal.{Legal}
+use Rattle.live_run.specs.session_core.declared.line.Line.{Line}
+use Rattle.live_run.specs.session_core.declared.line.Reply.{Reply}
+use Rattle.live_run.specs.session_core.Legal.{Legal}
 use Rattle.work_script.specs.declared.summary.Summary.{Summary}
 use Rattle.work_script.specs.Script.{work_config}
 use Rattle.work_script.specs.Summary.{IsSummary}

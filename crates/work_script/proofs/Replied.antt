@@ -3,19 +3,19 @@ use Rattle.std.proofs.Common.{◌≡◌, ◌⊎◌, inl, inr, ℕ, zero, suc, �
 use Rattle.std.specs.List.{list_all}
 use Rattle.std.proofs.lemmas.Option.{same_Some}
 use Rattle.db_config.specs.declared.parts.ConfigParts.{ConfigParts}
-use Rattle.edit_rules.specs.declared.acts.Act.{Act}
-use Rattle.edit_rules.specs.declared.acts.Entry.{Entry}
-use Rattle.session_core.specs.declared.line.Answer.{Answer}
-use Rattle.session_core.specs.declared.line.Answer.TheVariants.{Done, Segments, Refused}
-use Rattle.session_core.specs.declared.line.Ask.{Ask}
-use Rattle.session_core.specs.declared.line.Command.{Command}
-use Rattle.session_core.specs.declared.line.Line.{Line}
-use Rattle.session_core.specs.declared.line.Reply.{Reply}
-use Rattle.session_core.specs.declared.line.Request.{Request}
-use Rattle.session_core.specs.declared.line.Request.TheVariants as requests
-use Rattle.session_core.specs.Answers.{entry_of}
-use Rattle.session_core.specs.Legal.{Legal, Mark, IsRight, IsRightAt, IsRightQuery, IsRightTurn, IsRightUnnumbered, accepted, accepting, has_number, is_line_of, is_of, lines_of_session, makes_entry, mark_at, numbered, of_session, told_mark, with_number}
-use Rattle.session_core.specs.Worlds.{Turn}
+use Rattle.live_run.specs.edit_rules.declared.acts.Act.{Act}
+use Rattle.live_run.specs.edit_rules.declared.acts.Entry.{Entry}
+use Rattle.live_run.specs.session_core.declared.line.Answer.{Answer}
+use Rattle.live_run.specs.session_core.declared.line.Answer.TheVariants.{Done, Segments, Refused}
+use Rattle.live_run.specs.session_core.declared.line.Ask.{Ask}
+use Rattle.live_run.specs.session_core.declared.line.Command.{Command}
+use Rattle.live_run.specs.session_core.declared.line.Line.{Line}
+use Rattle.live_run.specs.session_core.declared.line.Reply.{Reply}
+use Rattle.live_run.specs.session_core.declared.line.Request.{Request}
+use Rattle.live_run.specs.session_core.declared.line.Request.TheVariants as requests
+use Rattle.live_run.specs.session_core.Answers.{entry_of}
+use Rattle.live_run.specs.session_core.Legal.{Legal, Mark, IsRight, IsRightAt, IsRightQuery, IsRightTurn, IsRightUnnumbered, accepted, accepting, has_number, is_line_of, is_of, lines_of_session, makes_entry, mark_at, numbered, of_session, told_mark, with_number}
+use Rattle.live_run.specs.session_core.Worlds.{Turn}
 use Rattle.work_script.specs.Inner.Replies.{Has, is_taken}
 use Rattle.work_script.proofs.Lists.{ComesFrom, all_at, each_at, filter_in, has_at, has_either, has_filter, has_map, map_has}
 

@@ -1,9 +1,9 @@
 -- The lines of the script of work: its edits are the additions of its bundles, and a line's number says what it asks.
 use Rattle.std.proofs.Common.{◌≡◌, ◌⊎◌, inl, inr, ℕ, suc, ◌+◌, ◌<◌, List, [], ◌∷◌, ◌++◌, length, Ok, sym, ◌∙◌, ap, subst}
-use Rattle.edit_rules.specs.declared.acts.Act.{Act}
-use Rattle.session_core.specs.declared.line.Line.{Line}
-use Rattle.session_core.specs.declared.line.Request.{Request}
-use Rattle.session_core.specs.declared.line.Request.TheVariants as requests
+use Rattle.live_run.specs.edit_rules.declared.acts.Act.{Act}
+use Rattle.live_run.specs.session_core.declared.line.Line.{Line}
+use Rattle.live_run.specs.session_core.declared.line.Request.{Request}
+use Rattle.live_run.specs.session_core.declared.line.Request.TheVariants as requests
 use Rattle.work_script.specs.Script.{each, work_queries}
 use Rattle.work_script.specs.Inner.Script.{adding, last_of, others, wait_of, waits, work_act}
 use Rattle.work_script.specs.Inner.Lines.{AreAsking, IsAsking, IsScript}

@@ -1,19 +1,19 @@
 -- The summary of a run of the script of work is that of the database in which all its bundles stand.
 use Rattle.std.proofs.Common.{◌≡◌, ℕ, ◌+◌, ◌-◌, ◌<◌, List, [], ◌++◌, length, take_all, Some, refl, sym, ◌∙◌, ap, subst, arith, length-append, slice_get}
-use Rattle.edit_rules.specs.declared.acts.Entry.{Entry}
+use Rattle.live_run.specs.edit_rules.declared.acts.Entry.{Entry}
 use Rattle.db_config.specs.declared.parts.ConfigParts.{ConfigParts}
 use Rattle.bundle_edits.specs.declared.bundle_change.Counts.{Counts}
-use Rattle.edit_rules.specs.Database.{DatabaseParts, counts_of, empty_database}
-use Rattle.edit_rules.specs.Effects.{database_after, found_or}
-use Rattle.version_tree.specs.Version.{VersionParts, state_of}
-use Rattle.live_book.specs.Published.{IsStateAfter}
-use Rattle.session_core.specs.declared.line.Answer.TheVariants.{Segments}
-use Rattle.session_core.specs.declared.line.Line.{Line}
-use Rattle.session_core.specs.declared.line.Reply.{Reply}
-use Rattle.session_core.specs.declared.line.Request.TheVariants as requests
-use Rattle.session_core.specs.Answers.{answer_at, answer_over, entry_of}
-use Rattle.session_core.specs.Legal.{IsNamed, IsRightQuery, Legal}
-use Rattle.session_core.specs.Worlds.{Turn}
+use Rattle.live_run.specs.edit_rules.Database.{DatabaseParts, counts_of, empty_database}
+use Rattle.live_run.specs.edit_rules.Effects.{database_after, found_or}
+use Rattle.book_opening.specs.version_tree.Version.{VersionParts, state_of}
+use Rattle.live_run.specs.live_book.Published.{IsStateAfter}
+use Rattle.live_run.specs.session_core.declared.line.Answer.TheVariants.{Segments}
+use Rattle.live_run.specs.session_core.declared.line.Line.{Line}
+use Rattle.live_run.specs.session_core.declared.line.Reply.{Reply}
+use Rattle.live_run.specs.session_core.declared.line.Request.TheVariants as requests
+use Rattle.live_run.specs.session_core.Answers.{answer_at, answer_over, entry_of}
+use Rattle.live_run.specs.session_core.Legal.{IsNamed, IsRightQuery, Legal}
+use Rattle.live_run.specs.session_core.Worlds.{Turn}
 use Rattle.work_script.specs.declared.summary.Summary.{Summary}
 use Rattle.work_script.specs.Script.{each, work_config, work_queries}
 use Rattle.work_script.specs.Inner.Script.{adding, waits}

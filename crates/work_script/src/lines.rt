@@ -1,18 +1,18 @@
 //! The lines of the script of work.
 ghost use Rattle.std.specs.Prelude.{◌≡◌, ◌≤◌, ◌<◌, ◌+◌, ◌^◌, [], IfOk, length};
 ghost use Rattle.emu_names.specs.declared.limits.TheConstants.{BUNDLES};
-ghost use Rattle.session_core.specs.InOrder.{ComeInOrder};
+ghost use Rattle.live_run.specs.session_core.InOrder.{ComeInOrder};
 ghost use Rattle.work_script.specs.Script.{each, work_key, work_queries};
 ghost use Rattle.work_script.specs.Inner.Script.{adding, awaiting, last_of, waits};
 ghost use Rattle.work_script.specs.Inner.Lines.{AreAsking, IsAsking, IsScript};
 
 use crate::annotation::work_annot;
 use crate::config::name_of;
-use edit_rules::{Act, Edit, Edits};
 use emu_names::{BundleKey, Memory, Name, SessionNo};
 use eql_resolve::prepare;
 use label_match::PatternMaker;
-use session_core::{Ask, Command, Line, Lines, Request};
+use live_run::edit_rules::{Act, Edit, Edits};
+use live_run::session_core::{Ask, Command, Line, Lines, Request};
 use std::alloc::Global;
 
 /// The segments of one label.

@@ -3,11 +3,11 @@ use Rattle.std.specs.Prelude.{◌≡◌, ℕ, List, [], ◌∷◌, ◌++◌, len
 use Rattle.std.specs.Arc.{arc_value}
 use Rattle.db_config.specs.declared.parts.ConfigParts.{ConfigParts}
 use Rattle.db_config.specs.Valid.{is_valid}
-use Rattle.edit_rules.specs.declared.acts.Act.{Act}
-use Rattle.edit_rules.specs.declared.acts.Breach.{Breach}
-use Rattle.edit_rules.specs.declared.acts.Entry.{Entry}
-use Rattle.edit_rules.specs.Effects.{effect}
-use Rattle.edit_code.specs.Codes.{head_code, IsHeadCode}
+use Rattle.version_tree.specs.edit_rules.declared.acts.Act.{Act}
+use Rattle.version_tree.specs.edit_rules.declared.acts.Breach.{Breach}
+use Rattle.version_tree.specs.edit_rules.declared.acts.Entry.{Entry}
+use Rattle.version_tree.specs.edit_rules.Effects.{effect}
+use Rattle.live_book.specs.edit_code.Codes.{head_code, IsHeadCode}
 use Rattle.edit_journal.specs.declared.body.Body.{Body}
 use Rattle.edit_journal.specs.declared.fault.JournalFault.{JournalFault}
 use Rattle.edit_journal.specs.declared.fault.JournalFault.TheVariants as journal_faults

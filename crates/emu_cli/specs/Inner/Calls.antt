@@ -2,9 +2,9 @@
 use Rattle.std.specs.Prelude.{◌≡◌, ◌⊎◌, ◌<◌, ◌-◌, ◌^◌, ℕ, List, Bool, Option, Some, None}
 use Rattle.cli_words.specs.declared.words.Words.{Words}
 use Rattle.cli_words.specs.declared.words.Words.TheVariants as forms
-use Rattle.program_output.specs.declared.ending.Ending.{Ending}
-use Rattle.program_output.specs.declared.status.Status.{Status}
-use Rattle.program_output.specs.declared.status.Status.TheVariants as statuses
+use Rattle.script_runs.specs.program_output.declared.ending.Ending.{Ending}
+use Rattle.script_runs.specs.program_output.declared.status.Status.{Status}
+use Rattle.script_runs.specs.program_output.declared.status.Status.TheVariants as statuses
 use Rattle.emu_cli.specs.Calls.{EndsWork, IsWorkWords}
 
 -- whether a run that is asked for is one with a store; nothing where no run is asked for

@@ -1,12 +1,12 @@
 -- Words of contracts and loops beside `specs/Ends.antt`; no promise of the program rests on them.
 use Rattle.std.specs.Prelude.{◌≡◌, ◌⊎◌, ℕ, List, Result, Ok, Err}
-use Rattle.book_opening.specs.declared.fault.OpenFault.{OpenFault}
-use Rattle.book_opening.specs.declared.fault.OpenFault.TheVariants as open_faults
-use Rattle.store_texts.specs.declared.faults.CommandFault.{CommandFault}
-use Rattle.store_texts.specs.declared.faults.CommandFault.TheVariants as faults
-use Rattle.store_texts.specs.Texts.{damaged_text, done_text}
-use Rattle.program_output.specs.declared.ending.Ending.{Ending}
-use Rattle.program_output.specs.declared.ending.Ending.TheVariants.{Damaged as IsDamaged, Disk as NoDisk, Memory as OutOfMemory}
+use Rattle.script_runs.specs.book_opening.declared.fault.OpenFault.{OpenFault}
+use Rattle.script_runs.specs.book_opening.declared.fault.OpenFault.TheVariants as open_faults
+use Rattle.emudb_files.specs.store_texts.declared.faults.CommandFault.{CommandFault}
+use Rattle.emudb_files.specs.store_texts.declared.faults.CommandFault.TheVariants as faults
+use Rattle.emudb_files.specs.store_texts.Texts.{damaged_text, done_text}
+use Rattle.script_runs.specs.program_output.declared.ending.Ending.{Ending}
+use Rattle.script_runs.specs.program_output.declared.ending.Ending.TheVariants.{Damaged as IsDamaged, Disk as NoDisk, Memory as OutOfMemory}
 
 -- the end of a command whose store was not opened for this reason
 abbrev pub IsOpenEnd : OpenFault → Ending → Type 0

@@ -2,10 +2,10 @@
 use Rattle.std.specs.Prelude.{◌≡◌, ◌⊎◌, ℕ, List, ◌++◌, map, true, Option, None, Result, Ok, Err}
 use mathlib.Core.List.{IsPrefix}
 use Rattle.emu_io.specs.declared.tree.Stored.{Stored}
-use Rattle.edit_rules.specs.declared.acts.Act.{Act}
-use Rattle.edit_rules.specs.declared.acts.Entry.{Entry}
-use Rattle.live_book.specs.Kept.{BookParts, KeepsIn}
-use Rattle.live_book.specs.Commits.{has_journal}
+use Rattle.store_texts.specs.edit_rules.declared.acts.Act.{Act}
+use Rattle.store_texts.specs.edit_rules.declared.acts.Entry.{Entry}
+use Rattle.book_opening.specs.live_book.Kept.{BookParts, KeepsIn}
+use Rattle.book_opening.specs.live_book.Commits.{has_journal}
 use Rattle.store_texts.specs.declared.faults.Refused.{Refused}
 use Rattle.store_texts.specs.declared.faults.CommandFault.{CommandFault}
 use Rattle.emudb_files.specs.Answers.{Told}

@@ -2,11 +2,11 @@
 use Rattle.std.specs.Prelude.{ℕ, List, Option, None, Result, nat_le, if◌then◌else◌}
 use mathlib.Core.List.{IsPrefix}
 use Rattle.emu_names.specs.declared.rules.Fault.{Fault}
-use Rattle.edit_rules.specs.declared.acts.Entry.{Entry}
+use Rattle.version_steps.specs.edit_rules.declared.acts.Entry.{Entry}
 use Rattle.version_gate.specs.declared.entry.Entry.{Entry as Numbered}
 use Rattle.version_gate.specs.Lists.{EndsIn, entry}
-use Rattle.bundle_index.specs.Index.{IndexParts}
-use Rattle.version_tree.specs.Version.{VersionParts}
+use Rattle.version_steps.specs.bundle_index.Index.{IndexParts}
+use Rattle.version_steps.specs.version_tree.Version.{VersionParts}
 use Rattle.version_steps.specs.declared.draft.Draft.{Draft}
 use Rattle.version_steps.specs.Inner.Drafts.{IsDraftOf}
 use Rattle.live_book.specs.declared.published.Published.{Published}

@@ -2,11 +2,11 @@
 -- words.
 use Rattle.std.specs.Prelude.{◌≡◌, ℕ, List, Result, Ok, Err}
 use Rattle.db_config.specs.declared.parts.ConfigParts.{ConfigParts}
-use Rattle.edit_rules.specs.declared.acts.Act.{Act}
-use Rattle.edit_rules.specs.declared.acts.Act.TheVariants as acts
-use Rattle.edit_rules.specs.declared.acts.Entry.{Entry}
-use Rattle.edit_rules.specs.Effects.{database_after}
-use Rattle.edit_rules.specs.Inner.Acts.{AreTogether}
+use Rattle.version_steps.specs.edit_rules.declared.acts.Act.{Act}
+use Rattle.version_steps.specs.edit_rules.declared.acts.Act.TheVariants as acts
+use Rattle.version_steps.specs.edit_rules.declared.acts.Entry.{Entry}
+use Rattle.version_steps.specs.edit_rules.Effects.{database_after}
+use Rattle.version_steps.specs.edit_rules.Inner.Acts.{AreTogether}
 use Rattle.edit_undo.specs.Inverse.{inverse_at}
 use Rattle.live_book.specs.declared.fault.EditFault.{EditFault}
 use Rattle.live_book.specs.declared.kept.Kept.{Kept}

@@ -4,11 +4,11 @@ use Rattle.std.specs.Arc.{arc_value}
 use Rattle.emu_names.specs.declared.limits.TheConstants.{HISTORY_EDITS}
 use Rattle.db_config.specs.declared.parts.ConfigParts.{ConfigParts}
 use Rattle.db_config.specs.Valid.{is_valid}
-use Rattle.edit_rules.specs.declared.acts.Act.{Act}
-use Rattle.edit_rules.specs.declared.acts.Act.TheVariants as acts
-use Rattle.edit_rules.specs.declared.acts.Entry.{Entry}
-use Rattle.edit_rules.specs.Database.{DatabaseParts}
-use Rattle.edit_rules.specs.Effects.{after}
+use Rattle.version_steps.specs.edit_rules.declared.acts.Act.{Act}
+use Rattle.version_steps.specs.edit_rules.declared.acts.Act.TheVariants as acts
+use Rattle.version_steps.specs.edit_rules.declared.acts.Entry.{Entry}
+use Rattle.version_steps.specs.edit_rules.Database.{DatabaseParts}
+use Rattle.version_steps.specs.edit_rules.Effects.{after}
 use Rattle.edit_journal.specs.declared.journal.Journal.{Journal}
 use Rattle.version_gate.specs.Lists.{EndsIn, entry}
 use Rattle.version_gate.specs.Inner.Lists.{Board}

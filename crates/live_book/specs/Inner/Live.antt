@@ -2,7 +2,7 @@
 use Rattle.std.specs.Prelude.{ℕ, suc, ◌+◌, ◌-◌, ◌≤◌, List, [], length, false, Result, Ok, Err}
 use mathlib.Core.List.{IsPrefix}
 use Rattle.emu_names.specs.declared.limits.TheConstants.{SESSIONS}
-use Rattle.edit_rules.specs.declared.acts.Entry.{Entry}
+use Rattle.version_steps.specs.edit_rules.declared.acts.Entry.{Entry}
 use Rattle.version_gate.specs.declared.entry.Entry.{Entry as Numbered}
 use Rattle.version_gate.specs.Lists.{Numbered as IsNumbered}
 use Rattle.live_book.specs.declared.fault.EditFault.{EditFault}

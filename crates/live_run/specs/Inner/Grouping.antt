@@ -1,10 +1,10 @@
 -- Room for replies, session by session.
 use Rattle.std.specs.Prelude.{◌≡◌, ℕ, zero, suc, ◌<◌, ◌≤◌, List, [], ◌∷◌, ◌++◌, length, filter}
-use Rattle.session_core.specs.declared.line.Line.{Line}
-use Rattle.session_core.specs.declared.line.Reply.{Reply}
-use Rattle.session_core.specs.Legal.{lines_of_session}
-use Rattle.session_core.specs.Steps.{session_places}
-use Rattle.session_core.specs.Worlds.{Each, Turn}
+use Rattle.live_seats.specs.session_core.declared.line.Line.{Line}
+use Rattle.live_seats.specs.session_core.declared.line.Reply.{Reply}
+use Rattle.live_seats.specs.session_core.Legal.{lines_of_session}
+use Rattle.live_seats.specs.session_core.Steps.{session_places}
+use Rattle.live_seats.specs.session_core.Worlds.{Each, Turn}
 use Rattle.live_run.specs.Runs.{is_reply_of}
 
 -- What contracts see of a queue: its replies, and for how many it has room

@@ -1,22 +1,22 @@
 -- Seats whose lanes run at once.
 use Rattle.std.specs.Prelude.{◌≡◌, ℕ, ◌+◌, ◌-◌, ◌<◌, ◌≤◌, List, [], ◌∷◌, length, nat_lt, get_or, Result, if◌then◌else◌}
 use Rattle.emu_names.specs.declared.shortage.Memory.{Memory}
-use Rattle.session_core.specs.declared.line.Line.{Line}
+use Rattle.live_seats.specs.session_core.declared.line.Line.{Line}
 use Rattle.live_run.specs.declared.run.Ended.{Ended}
 use Rattle.live_run.specs.Inner.Runs.{EndsLive}
 use Rattle.live_run.specs.declared.lanes.LaneOf.{LaneOf}
 use Rattle.live_seats.specs.declared.lane.Lane.{Lane}
 use Rattle.live_seats.specs.declared.lane.Lane.TheVariants as lanes
-use Rattle.session_core.specs.Legal.{lines_in}
+use Rattle.live_seats.specs.session_core.Legal.{lines_in}
 use mathlib.Core.List.{IsPrefix}
 use Rattle.version_gate.specs.declared.entry.Entry.{Entry as Numbered}
 use Rattle.version_gate.specs.Lists.{Numbered as IsNumbered}
-use Rattle.session_core.specs.Legal.{disk_replies, replies_in}
-use Rattle.live_book.specs.declared.published.Published.{Published}
-use Rattle.live_book.specs.Kept.{BookParts}
-use Rattle.live_book.specs.Live.{Opened, opening_of}
-use Rattle.live_book.specs.Inner.Live.{Count}
-use Rattle.live_laws.specs.Lanes.{AreLanes, Step, accepts, lane_lines, turns_of}
+use Rattle.live_seats.specs.session_core.Legal.{disk_replies, replies_in}
+use Rattle.live_seats.specs.live_book.declared.published.Published.{Published}
+use Rattle.live_seats.specs.live_book.Kept.{BookParts}
+use Rattle.live_seats.specs.live_book.Live.{Opened, opening_of}
+use Rattle.live_seats.specs.live_book.Inner.Live.{Count}
+use Rattle.live_seats.specs.live_laws.Lanes.{AreLanes, Step, accepts, lane_lines, turns_of}
 use Rattle.live_seats.specs.Inner.Seats.{IsSeat, SeatParts, lane_of, lines_of}
 
 -- the lines of a seat, where so many of the first seats have a thread

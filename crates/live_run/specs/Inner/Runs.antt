@@ -2,10 +2,10 @@
 use Rattle.std.specs.Prelude.{◌≡◌, ℕ, ◌+◌, List, ◌++◌, length, None, Result, Ok, Err}
 use Rattle.emu_names.specs.declared.shortage.Memory.{Memory}
 use Rattle.edit_rules.specs.declared.acts.Entry.{Entry}
-use Rattle.session_core.specs.declared.line.Line.{Line}
-use Rattle.session_core.specs.Legal.{Legal, disk_replies}
-use Rattle.live_book.specs.Kept.{BookParts, KeepsIn, faults_in}
-use Rattle.live_book.specs.Commits.{IsSameBook, has_journal}
+use Rattle.live_seats.specs.session_core.declared.line.Line.{Line}
+use Rattle.live_seats.specs.session_core.Legal.{Legal, disk_replies}
+use Rattle.live_seats.specs.live_book.Kept.{BookParts, KeepsIn, faults_in}
+use Rattle.live_seats.specs.live_book.Commits.{IsSameBook, has_journal}
 use Rattle.live_seats.specs.Marks.{marks_from}
 use Rattle.live_run.specs.declared.run.Ended.{Ended}
 use Rattle.live_run.specs.Runs.{AreGrouped}

@@ -3,11 +3,11 @@ use Rattle.std.specs.Prelude.{Bool, List}
 use Rattle.db_config.specs.declared.parts.ConfigParts.{ConfigParts}
 use Rattle.bundle_state.specs.Bundle.{BundleParts}
 use Rattle.eql_resolve.specs.Inner.Sound.{IsResolvedBy}
-use Rattle.eql_model.specs.declared.row.Row.{Row}
-use Rattle.eql_model.specs.Meaning.{has_too_many}
-use Rattle.eql_model.specs.Rows.{rows}
-use Rattle.requery.specs.Carried.{carried_rows}
-use Rattle.requery.specs.Inner.Sound.{IsReachedBy}
+use Rattle.eql_match.specs.eql_model.declared.row.Row.{Row}
+use Rattle.eql_match.specs.eql_model.Meaning.{has_too_many}
+use Rattle.eql_match.specs.eql_model.Rows.{rows}
+use Rattle.session_core.specs.requery.Carried.{carried_rows}
+use Rattle.session_core.specs.requery.Inner.Sound.{IsReachedBy}
 use Rattle.query_workers.specs.declared.question.Question.{Question}
 use Rattle.query_workers.specs.declared.question.Question.TheVariants.{Rows, Carried}
 

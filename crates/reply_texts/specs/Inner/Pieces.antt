@@ -1,7 +1,7 @@
 -- How the program goes about the text of a reply: pieces that follow each other. No public clause names them.
 use Rattle.std.specs.Prelude.{ℕ, List, [], ◌++◌, Option, Some, None, codes, decimal}
 use Rattle.serde_json.specs.Written.{compact_text}
-use Rattle.segment_list.specs.Inner.Texts.{rows_text}
+use Rattle.session_core.specs.segment_list.Inner.Texts.{rows_text}
 use Rattle.session_core.specs.declared.line.Command.{Command}
 use Rattle.session_core.specs.declared.line.Refusal.{Refusal}
 use Rattle.session_core.specs.declared.line.Answer.{Answer}

@@ -5,7 +5,7 @@ use Rattle.emu_io.specs.declared.faults.ReadFault.TheVariants as read_faults
 use Rattle.emu_disk.specs.declared.disk.Disk as disks
 use Rattle.edit_journal.specs.declared.journal.Journal.{Journal}
 use Rattle.edit_journal.specs.Held.{disk_of, count_in}
-use Rattle.live_book.specs.Commits.{has_journal}
+use Rattle.live_run.specs.live_book.Commits.{has_journal}
 use Rattle.book_opening.specs.declared.fault.OpenFault.{OpenFault}
 use Rattle.book_opening.specs.declared.fault.OpenFault.TheVariants as opens
 use Rattle.program_output.specs.Texts.{damaged_text}

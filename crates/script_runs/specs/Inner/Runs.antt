@@ -1,8 +1,8 @@
 -- Words of contracts and loops beside `specs/Runs.antt`; no promise of the program rests on them.
 use Rattle.std.specs.Prelude.{List}
-use Rattle.edit_rules.specs.declared.acts.Entry.{Entry}
-use Rattle.session_core.specs.declared.line.Reply.{Reply}
-use Rattle.session_core.specs.InOrder.{Outage}
+use Rattle.live_run.specs.edit_rules.declared.acts.Entry.{Entry}
+use Rattle.live_run.specs.session_core.declared.line.Reply.{Reply}
+use Rattle.live_run.specs.session_core.InOrder.{Outage}
 use Rattle.script_runs.specs.Scripts.{Parsed}
 use Rattle.script_runs.specs.Bases.{Base}
 use Rattle.script_runs.specs.Runs.{history_from, replies_from, setting_by}

@@ -5,12 +5,12 @@ use Rattle.std.specs.Prelude.{◌≡◌, ◌≤◌, ℕ, ◌+◌, Bool, true, fa
 use Rattle.std.specs.Option.{option_map}
 use Rattle.emu_names.specs.declared.kinds.SessionNo.{SessionNo}
 use Rattle.emu_names.specs.declared.rules.Broken.{Broken}
-use Rattle.edit_rules.specs.declared.acts.Breach.{Breach}
+use Rattle.edit_undo.specs.edit_rules.declared.acts.Breach.{Breach}
 use Rattle.db_config.specs.declared.parts.ConfigParts.{ConfigParts}
 use Rattle.textgrid.specs.declared.fault.GridFault.{GridFault}
-use Rattle.edit_rules.specs.Database.{DatabaseParts}
-use Rattle.edit_rules.specs.declared.acts.Act.{Act}
-use Rattle.edit_rules.specs.declared.acts.Entry.{Entry}
+use Rattle.edit_undo.specs.edit_rules.Database.{DatabaseParts}
+use Rattle.edit_undo.specs.edit_rules.declared.acts.Act.{Act}
+use Rattle.edit_undo.specs.edit_rules.declared.acts.Entry.{Entry}
 use Rattle.session_core.specs.declared.line.Ask.{Ask}
 use Rattle.session_core.specs.declared.line.Answer.{Answer}
 use Rattle.session_core.specs.declared.line.Answer.TheVariants.{Done, Refused}
@@ -21,7 +21,7 @@ use Rattle.session_core.specs.declared.line.Request.{Request}
 use Rattle.session_core.specs.declared.kept_acts.KeptAct.{KeptAct}
 use Rattle.session_core.specs.declared.slots.Held.{Held}
 use Rattle.session_core.specs.declared.moves.Head.{Head}
-use Rattle.edit_rules.specs.Effects.{after, effect}
+use Rattle.edit_undo.specs.edit_rules.Effects.{after, effect}
 use Rattle.edit_undo.specs.declared.faults.NoUndo.{NoUndo}
 use Rattle.edit_undo.specs.Inverse.{inverse_at}
 use Rattle.session_core.specs.Undos.{kept_act, kept_behind, undo_refusal}

@@ -3,14 +3,14 @@ use Rattle.std.specs.Prelude.{◌≡◌, ◌⊎◌, ◌≤◌, ℕ, List, [], �
 use Rattle.emu_names.specs.Count.{RoseBy}
 use Rattle.edit_rules.specs.declared.acts.Act.{Act}
 use Rattle.edit_rules.specs.declared.acts.Entry.{Entry}
-use Rattle.session_core.specs.declared.line.Answer.TheVariants.{Done, Refused}
-use Rattle.session_core.specs.declared.line.Line.{Line}
-use Rattle.session_core.specs.declared.line.Refusal.TheVariants as refusals
-use Rattle.session_core.specs.declared.line.Reply.{Reply}
-use Rattle.session_core.specs.Answers.{entry_of, memory, reply_to, rule_refusal}
-use Rattle.session_core.specs.InOrder.{Outage, one_turn, disk_outages}
-use Rattle.session_core.specs.Steps.{Opened, State, session_places}
-use Rattle.session_core.specs.Worlds.{act_wanted}
+use Rattle.query_workers.specs.session_core.declared.line.Answer.TheVariants.{Done, Refused}
+use Rattle.query_workers.specs.session_core.declared.line.Line.{Line}
+use Rattle.query_workers.specs.session_core.declared.line.Refusal.TheVariants as refusals
+use Rattle.query_workers.specs.session_core.declared.line.Reply.{Reply}
+use Rattle.query_workers.specs.session_core.Answers.{entry_of, memory, reply_to, rule_refusal}
+use Rattle.query_workers.specs.session_core.InOrder.{Outage, one_turn, disk_outages}
+use Rattle.query_workers.specs.session_core.Steps.{Opened, State, session_places}
+use Rattle.query_workers.specs.session_core.Worlds.{act_wanted}
 use Rattle.live_book.specs.declared.fault.EditFault.{EditFault}
 use Rattle.live_book.specs.declared.fault.EditFault.TheVariants as faults
 use Rattle.live_book.specs.Kept.{BookParts, KeepsIn, faults_in}

@@ -8,21 +8,21 @@ use Rattle.edit_rules.specs.declared.acts.Act.{Act}
 use Rattle.edit_rules.specs.declared.acts.Entry.{Entry}
 use Rattle.edit_rules.specs.Database.{DatabaseParts}
 use Rattle.edit_rules.specs.Effects.{after}
-use Rattle.edit_undo.specs.declared.faults.NoUndo.{NoUndo}
-use Rattle.session_core.specs.declared.kept_acts.KeptAct.{KeptAct}
-use Rattle.session_core.specs.declared.line.Answer.TheVariants.{Refused}
-use Rattle.session_core.specs.declared.line.Ask.{Ask}
-use Rattle.session_core.specs.declared.line.Line.{Line}
-use Rattle.session_core.specs.declared.line.Refusal.TheVariants as refusals
-use Rattle.session_core.specs.declared.line.Reply.{Reply}
-use Rattle.session_core.specs.declared.moves.Head.{Head}
-use Rattle.session_core.specs.declared.slots.Held.{Held}
-use Rattle.session_core.specs.declared.line.Request.{Request}
-use Rattle.session_core.specs.Answers.{memory}
-use Rattle.session_core.specs.Inner.Kept.{AreHeld, held_at, grid_told, head_entry, head_reply, looked, opened_in, query_reply}
-use Rattle.session_core.specs.Queries.{lacks_memory}
-use Rattle.session_core.specs.Steps.{reply_of, slot}
-use Rattle.session_core.specs.Undos.{kept_act, kept_behind, undo_refusal}
+use Rattle.live_book.specs.edit_undo.declared.faults.NoUndo.{NoUndo}
+use Rattle.query_workers.specs.session_core.declared.kept_acts.KeptAct.{KeptAct}
+use Rattle.query_workers.specs.session_core.declared.line.Answer.TheVariants.{Refused}
+use Rattle.query_workers.specs.session_core.declared.line.Ask.{Ask}
+use Rattle.query_workers.specs.session_core.declared.line.Line.{Line}
+use Rattle.query_workers.specs.session_core.declared.line.Refusal.TheVariants as refusals
+use Rattle.query_workers.specs.session_core.declared.line.Reply.{Reply}
+use Rattle.query_workers.specs.session_core.declared.moves.Head.{Head}
+use Rattle.query_workers.specs.session_core.declared.slots.Held.{Held}
+use Rattle.query_workers.specs.session_core.declared.line.Request.{Request}
+use Rattle.query_workers.specs.session_core.Answers.{memory}
+use Rattle.query_workers.specs.session_core.Inner.Kept.{AreHeld, held_at, grid_told, head_entry, head_reply, looked, opened_in, query_reply}
+use Rattle.query_workers.specs.session_core.Queries.{lacks_memory}
+use Rattle.query_workers.specs.session_core.Steps.{reply_of, slot}
+use Rattle.query_workers.specs.session_core.Undos.{kept_act, kept_behind, undo_refusal}
 use Rattle.live_book.specs.declared.fault.EditFault.{EditFault}
 use Rattle.live_book.specs.declared.kept.Kept.{Kept}
 use Rattle.live_book.specs.Commits.{Commits}

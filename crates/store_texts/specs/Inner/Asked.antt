@@ -2,8 +2,8 @@
 use Rattle.std.specs.Prelude.{◌≤◌, ℕ, List, Option, None, Result, Err}
 use Rattle.emu_names.specs.Count.{RoseBy}
 use Rattle.eql_resolve.specs.Made.{Made, IsMade, times_too_large}
-use Rattle.version_tree.specs.Version.{VersionParts, state_of}
-use Rattle.session_core.specs.Answers.{answer_over}
+use Rattle.query_workers.specs.version_tree.Version.{VersionParts, state_of}
+use Rattle.reply_texts.specs.session_core.Answers.{answer_over}
 use Rattle.store_texts.specs.declared.faults.Refused.{Refused}
 use Rattle.store_texts.specs.declared.faults.CommandFault.{CommandFault}
 use Rattle.store_texts.specs.declared.faults.CommandFault.TheVariants as faults

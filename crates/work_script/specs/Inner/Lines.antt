@@ -2,10 +2,10 @@
 use Rattle.std.specs.Prelude.{◌≡◌, ℕ, suc, ◌+◌, List, [], ◌∷◌, ◌++◌, length, None, Ok}
 use Rattle.eql_resolve.specs.Prepared.{PreparedParts}
 use Rattle.eql_resolve.specs.Made.{IsPreparedFrom}
-use Rattle.session_core.specs.declared.line.Ask.{Ask}
-use Rattle.session_core.specs.declared.line.Command.TheVariants as commands
-use Rattle.session_core.specs.declared.line.Line.{Line}
-use Rattle.session_core.specs.declared.line.Request.TheVariants as requests
+use Rattle.live_run.specs.session_core.declared.line.Ask.{Ask}
+use Rattle.live_run.specs.session_core.declared.line.Command.TheVariants as commands
+use Rattle.live_run.specs.session_core.declared.line.Line.{Line}
+use Rattle.live_run.specs.session_core.declared.line.Request.TheVariants as requests
 use Rattle.work_script.specs.Script.{each, work_queries}
 use Rattle.work_script.specs.Inner.Script.{adding, waits}
 

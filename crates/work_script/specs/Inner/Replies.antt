@@ -2,14 +2,14 @@
 use Rattle.std.specs.Prelude.{◌≡◌, ◌⊎◌, ℕ, ◌-◌, Bool, true, false, List, [], ◌∷◌, length, Some}
 use Rattle.std.specs.List.{list_all}
 use Rattle.db_config.specs.declared.parts.ConfigParts.{ConfigParts}
-use Rattle.edit_rules.specs.declared.acts.Entry.{Entry}
+use Rattle.live_run.specs.edit_rules.declared.acts.Entry.{Entry}
 use Rattle.bundle_edits.specs.declared.bundle_change.Counts.{Counts}
-use Rattle.edit_rules.specs.Database.{counts_of}
-use Rattle.edit_rules.specs.Effects.{database_after}
-use Rattle.eql_model.specs.declared.row.Row.{Row}
-use Rattle.session_core.specs.declared.line.Answer.{Answer}
-use Rattle.session_core.specs.declared.line.Answer.TheVariants.{Done, Segments, Refused}
-use Rattle.session_core.specs.declared.line.Reply.{Reply}
+use Rattle.live_run.specs.edit_rules.Database.{counts_of}
+use Rattle.live_run.specs.edit_rules.Effects.{database_after}
+use Rattle.requery.specs.eql_model.declared.row.Row.{Row}
+use Rattle.live_run.specs.session_core.declared.line.Answer.{Answer}
+use Rattle.live_run.specs.session_core.declared.line.Answer.TheVariants.{Done, Segments, Refused}
+use Rattle.live_run.specs.session_core.declared.line.Reply.{Reply}
 use Rattle.work_script.specs.declared.summary.Summary.{Summary}
 
 -- an element of a list

@@ -1,5 +1,5 @@
 use Rattle.std.proofs.Common.{◌≡◌, Ok, sym, ◌∙◌, ap, subst, arith}
-use Rattle.edit_rules.specs.Effects.{effect}
+use Rattle.version_tree.specs.edit_rules.Effects.{effect}
 use Rattle.version_tree.specs.Version.{VersionParts, state_of}
 use Rattle.live_book.specs.Commits.{HasRoom}
 use Rattle.live_book.specs.Histories.{IsNoNext}

@@ -2,7 +2,7 @@ use Rattle.std.proofs.Common.{◌≡◌, ◌∙◌, ◌∷◌, IsTrue, ap, sym, 
 use Rattle.std.proofs.lemmas.Result.{IfOk-weaker, IfErr-weaker}
 use Rattle.db_config.specs.declared.parts.ConfigParts.{ConfigParts}
 use Rattle.db_config.specs.Valid.{is_valid}
-use Rattle.edit_code.specs.Codes.{IsHeadCode}
+use Rattle.live_book.specs.edit_code.Codes.{IsHeadCode}
 use Rattle.edit_journal.specs.Held.{texts_of}
 use Rattle.version_tree.specs.Version.{VersionParts}
 use Rattle.version_tree.specs.Inner.Version.{first_version}

@@ -1,5 +1,5 @@
 use Rattle.std.proofs.Common.{ℕ, ◌≤◌, subst, arith}
-use Rattle.live_book.specs.Kept.{faults_in}
+use Rattle.script_runs.specs.live_book.Kept.{faults_in}
 use Rattle.emudb_files.specs.Wanted.{import_wanted}
 use Rattle.emu_cli.proofs.Images.{disk_images, imported, import_count, import_moments}
 use Rattle.emu_cli.proofs.store.import_and_close.Goals as goal

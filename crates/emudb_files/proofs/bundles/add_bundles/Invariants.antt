@@ -1,5 +1,5 @@
 use Rattle.std.proofs.Common.{[], ◌∷◌, take, flat_map}
-use Rattle.live_book.specs.Kept.{faults_in}
+use Rattle.book_opening.specs.live_book.Kept.{faults_in}
 use Rattle.emudb_files.specs.Wanted.{bundle_wanted}
 use Rattle.emudb_files.proofs.Going.{Going}
 use Rattle.emudb_files.proofs.bundles.add_bundles.Given as goal

@@ -1,5 +1,5 @@
 use Rattle.std.proofs.Common.{Ok, ◌∙◌, ap, codes, subst, sym}
-use Rattle.edit_rules.specs.declared.acts.Act.{Act}
+use Rattle.store_texts.specs.edit_rules.declared.acts.Act.{Act}
 use Rattle.emudb_files.specs.Answers.{Reads}
 use Rattle.emudb_files.specs.Names.{path_in}
 use Rattle.emudb_files.specs.Wanted.{bundle_wanted}

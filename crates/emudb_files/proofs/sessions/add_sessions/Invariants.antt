@@ -1,5 +1,5 @@
 use Rattle.std.proofs.Common.{take, flat_map}
-use Rattle.live_book.specs.Kept.{faults_in}
+use Rattle.book_opening.specs.live_book.Kept.{faults_in}
 use Rattle.emudb_files.specs.Wanted.{session_wanted}
 use Rattle.emudb_files.proofs.Going.{Going}
 use Rattle.emudb_files.proofs.sessions.add_sessions.Given as goal

@@ -1,5 +1,5 @@
 use Rattle.std.proofs.Common.{◌≡◌, [], ◌∷◌, ◌++◌, None, Ok, Err, inl, inr, refl, sym, subst}
-use Rattle.edit_rules.specs.declared.acts.Entry.{Entry}
+use Rattle.version_steps.specs.edit_rules.declared.acts.Entry.{Entry}
 use Rattle.live_book.specs.declared.fault.EditFault.TheVariants as edit_faults
 use Rattle.live_book.specs.Kept.{KeepsIn, IsAsBefore, CrashLeaves}
 use Rattle.live_book.specs.Inner.Kept.{DuringStore}

@@ -1,9 +1,9 @@
 use Rattle.std.proofs.Common.{◌≡◌, Ok, rules, sym, subst}
 use Rattle.std.specs.Arc.{arc_value}
-use Rattle.edit_rules.specs.Database.{DatabaseParts, KeepsDatabaseRules}
-use Rattle.edit_rules.specs.Effects.{effect}
+use Rattle.version_steps.specs.edit_rules.Database.{DatabaseParts, KeepsDatabaseRules}
+use Rattle.version_steps.specs.edit_rules.Effects.{effect}
 use Rattle.edit_undo.specs.Inverse.{inverse_at}
-use Rattle.version_tree.specs.Version.{state_of}
+use Rattle.version_steps.specs.version_tree.Version.{state_of}
 use Rattle.live_book.specs.declared.fault.EditFault.TheVariants as edit_faults
 use Rattle.live_book.specs.declared.published.Published.{Published}
 use Rattle.live_book.specs.Inner.Kept.{book_of, config_in}

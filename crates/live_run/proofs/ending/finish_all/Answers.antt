@@ -1,9 +1,9 @@
 use Rattle.std.proofs.Common.{List, length, map, arith, ap, ◌∙◌, sym, refl, subst}
 use Rattle.std.specs.Vec.Iter.{into_iter_items}
 use Rattle.version_gate.specs.declared.entry.Entry.{Entry as Numbered}
-use Rattle.session_core.specs.Worlds.{Each}
-use Rattle.live_book.specs.declared.published.Published.{Published}
-use Rattle.live_laws.specs.Lanes.{Step}
+use Rattle.live_seats.specs.session_core.Worlds.{Each}
+use Rattle.live_seats.specs.live_book.declared.published.Published.{Published}
+use Rattle.live_seats.specs.live_laws.Lanes.{Step}
 use Rattle.live_run.specs.Inner.Running.{HasEnded}
 use Rattle.live_run.proofs.Joins.{each_more, map_more, moved, none_moved}
 use Rattle.live_run.proofs.ending.finish_all.Goals as goal

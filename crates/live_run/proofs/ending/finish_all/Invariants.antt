@@ -1,6 +1,6 @@
 use Rattle.std.proofs.Common.{◌≡◌, ◌+◌, ◌≤◌, ◌++◌, map, vec_len, vec_capacity}
 use Rattle.std.specs.Vec.Iter.{into_iter_items, into_iter_len}
-use Rattle.session_core.specs.Worlds.{Each}
+use Rattle.live_seats.specs.session_core.Worlds.{Each}
 use Rattle.live_run.specs.Inner.Running.{HasEnded}
 use Rattle.live_run.proofs.ending.finish_all.Given as goal
 

@@ -1,7 +1,7 @@
 use Rattle.std.proofs.Common.{◌≡◌, ◌+◌, [], List, length, map, arith, ap, ◌∙◌, refl}
 use Rattle.std.specs.Vec.Iter.{into_iter_items}
-use Rattle.session_core.specs.Legal.{disk_replies, replies_in}
-use Rattle.live_laws.specs.Lanes.{Step, accepts, turns_of}
+use Rattle.live_seats.specs.session_core.Legal.{disk_replies, replies_in}
+use Rattle.live_seats.specs.live_laws.Lanes.{Step, accepts, turns_of}
 use Rattle.live_seats.specs.Inner.Seats.{SeatParts}
 use Rattle.live_run.specs.Inner.Running.{RestParts, accepts_in, parts_of, refuses_in}
 use Rattle.live_run.proofs.Joins.{accepts_more, all_moved, both_more, moved, nothing, none_moved, parts_more, refuses_more, steps_more}

@@ -1,11 +1,11 @@
 use Rattle.std.proofs.Common.{◌≡◌, ◌+◌, ℕ, List, Ok, ◌∙◌, ap, drop, length, map, subst, sym, vec_capacity, vec_len}
-use Rattle.session_core.specs.Legal.{lines_in}
-use Rattle.session_core.specs.Worlds.{Each}
-use Rattle.live_book.specs.Histories.{IsHistory}
-use Rattle.live_book.specs.Kept.{BookParts}
-use Rattle.live_book.specs.Live.{HasGrown, Shows}
+use Rattle.live_seats.specs.session_core.Legal.{lines_in}
+use Rattle.live_seats.specs.session_core.Worlds.{Each}
+use Rattle.live_seats.specs.live_book.Histories.{IsHistory}
+use Rattle.live_seats.specs.live_book.Kept.{BookParts}
+use Rattle.live_seats.specs.live_book.Live.{HasGrown, Shows}
 use Rattle.edit_rules.specs.declared.acts.Entry.{Entry}
-use Rattle.live_laws.specs.Lanes.{Agrees, Step, all_steps, all_turns}
+use Rattle.live_seats.specs.live_laws.Lanes.{Agrees, Step, all_steps, all_turns}
 use Rattle.live_seats.specs.Inner.Notes.{noted_in}
 use Rattle.live_run.specs.Inner.Running.{EndsOver, HaveLanes, accepts_in, refuses_in}
 use Rattle.live_seats.specs.Marks.{marks_from}

@@ -1,6 +1,6 @@
 use Rattle.std.proofs.Common.{List, ◌∙◌, ap, arith, length, refl}
-use Rattle.session_core.specs.declared.line.Line.{Line}
-use Rattle.session_core.specs.Legal.{lines_of_session}
+use Rattle.live_seats.specs.session_core.declared.line.Line.{Line}
+use Rattle.live_seats.specs.session_core.Legal.{lines_of_session}
 use Rattle.live_run.proofs.Sessions.{count_all, count_low, count_other, count_own}
 use Rattle.live_run.proofs.grouping.count_lines.Goals as goal
 use Rattle.live_run.proofs.grouping.count_lines.Goals.{then-line-session, else-line-session}

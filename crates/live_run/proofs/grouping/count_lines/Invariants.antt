@@ -1,5 +1,5 @@
 use Rattle.std.proofs.Common.{◌≡◌, length, take}
-use Rattle.session_core.specs.Legal.{lines_of_session}
+use Rattle.live_seats.specs.session_core.Legal.{lines_of_session}
 use Rattle.live_run.proofs.grouping.count_lines.Given as goal
 
 -- the lines so far are counted

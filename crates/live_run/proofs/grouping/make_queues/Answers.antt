@@ -1,5 +1,5 @@
 use Rattle.std.proofs.Common.{◌≡◌, ◌+◌, ◌≤◌, ℕ, List, [], ◌∷◌, ◌∙◌, ap, arith, length, length-append, subst, sym}
-use Rattle.session_core.specs.Legal.{lines_of_session}
+use Rattle.live_seats.specs.session_core.Legal.{lines_of_session}
 use Rattle.live_run.specs.Inner.Grouping.{HaveRooms, QueueParts, empty_queue}
 use Rattle.live_run.proofs.Sessions.{rooms_more}
 use Rattle.live_run.proofs.grouping.make_queues.Goals as goal

@@ -1,8 +1,8 @@
 use Rattle.std.proofs.Common.{◌≡◌, ◌<◌, ℕ, List, [], ◌∷◌, ◌∙◌, ap, arith, length, subst, sym}
 use Rattle.std.specs.Vec.Iter.{into_iter_items}
-use Rattle.session_core.specs.declared.line.Reply.{Reply}
-use Rattle.session_core.specs.Worlds.{Each}
-use Rattle.live_laws.specs.Lanes.{Step}
+use Rattle.live_seats.specs.session_core.declared.line.Reply.{Reply}
+use Rattle.live_seats.specs.session_core.Worlds.{Each}
+use Rattle.live_seats.specs.live_laws.Lanes.{Step}
 use Rattle.live_run.specs.Inner.Grouping.{AreWithin, HasPlace, QueueParts, queued_from}
 use Rattle.live_run.proofs.Queues.{length_queued}
 use Rattle.live_run.proofs.Laid.{laid_all, laid_more, laid_room, lane_done, lane_replies, lane_split, places_more}

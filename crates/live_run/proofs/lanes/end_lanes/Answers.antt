@@ -1,7 +1,7 @@
 use Rattle.std.proofs.Common.{◌≡◌, ℕ, ◌+◌, [], vec_len, rules, arith, ap, ◌∙◌, sym, subst}
 use Rattle.live_run.specs.Inner.Running.{IsThread, HasTaken}
-use Rattle.session_core.specs.Legal.{lines_in}
-use Rattle.live_laws.specs.Lanes.{lane_lines, turns_of}
+use Rattle.live_seats.specs.session_core.Legal.{lines_in}
+use Rattle.live_seats.specs.live_laws.Lanes.{lane_lines, turns_of}
 use Rattle.live_seats.specs.Inner.Seats.{lane_of}
 use Rattle.live_run.proofs.Joins.{thread_done, taken_more, parts_more, rest_lines, idle_lines, next_idle, have_lanes}
 use Rattle.live_run.proofs.lanes.end_lanes.Goals as goal

@@ -1,6 +1,6 @@
 use Rattle.std.proofs.Common.{◌≡◌, [], List, length, map, arith, ap, ◌∙◌, sym, refl, subst}
 use Rattle.std.specs.Vec.Iter.{into_iter_items}
-use Rattle.session_core.specs.Worlds.{Each}
+use Rattle.live_seats.specs.session_core.Worlds.{Each}
 use Rattle.live_seats.specs.Inner.Seats.{SeatParts}
 use Rattle.live_run.specs.Inner.Running.{IsFresh}
 use Rattle.live_run.proofs.Joins.{all_moved, each_more, moved, none_moved, nothing}

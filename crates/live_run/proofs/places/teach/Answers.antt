@@ -1,7 +1,7 @@
 use Rattle.std.proofs.Common.{length, subst}
 use mathlib.Core.List.{IsPrefix}
 use Rattle.version_gate.specs.Lists.{Front}
-use Rattle.live_book.specs.declared.published.Published.{Published}
+use Rattle.live_seats.specs.live_book.declared.published.Published.{Published}
 use Rattle.live_run.proofs.Rooming.{seen_more}
 use Rattle.live_run.proofs.places.teach.Goals as goal
 

@@ -1,5 +1,5 @@
 use Rattle.std.proofs.Common.{◌≡◌, ℕ, length, rules, subst, sym}
-use Rattle.session_core.specs.Worlds.{Each}
+use Rattle.live_seats.specs.session_core.Worlds.{Each}
 use Rattle.live_run.specs.Inner.Running.{IsUnder}
 use Rattle.live_run.proofs.Rooming.{each_from}
 use Rattle.live_run.proofs.run.run_live.Goals as goal

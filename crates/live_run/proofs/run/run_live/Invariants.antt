@@ -1,5 +1,5 @@
 use Rattle.std.proofs.Common.{map}
-use Rattle.live_book.specs.Live.{opening_of}
+use Rattle.live_seats.specs.live_book.Live.{opening_of}
 use Rattle.live_run.proofs.run.run_live.Given as goal
 
 abbrev pub ghosts-run_named-K-Ledger : goal.ghosts-run_named-K-Ledger

@@ -1,6 +1,6 @@
 use Rattle.std.proofs.Common.{◌≡◌, ℕ, List, length, sym, ap, subst, ◌∙◌}
 use Rattle.std.proofs.lemmas.List.{length-map}
-use Rattle.session_core.specs.Worlds.{Each}
+use Rattle.live_seats.specs.session_core.Worlds.{Each}
 use Rattle.live_seats.specs.Inner.Seats.{IsAsked}
 use Rattle.live_run.proofs.Rooming.{asked_from}
 use Rattle.live_run.proofs.run.run_named.Goals as goal

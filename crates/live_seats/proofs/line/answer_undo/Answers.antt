@@ -1,11 +1,11 @@
 use Rattle.std.proofs.Common.{◌≡◌, inr, None, Some, Ok, Err, ap, ◌∙◌, refl, rules}
-use Rattle.session_core.specs.declared.line.Answer.TheVariants.{Refused}
-use Rattle.session_core.specs.declared.line.Refusal.{Refusal}
-use Rattle.session_core.specs.declared.line.Refusal.TheVariants as refusals
-use Rattle.session_core.specs.declared.moves.Head.{Head}
-use Rattle.session_core.specs.Answers.{reply_to}
-use Rattle.session_core.specs.Inner.Kept.{head_reply}
-use Rattle.session_core.specs.Undos.{latest_of, undo_refusal}
+use Rattle.session_run.specs.session_core.declared.line.Answer.TheVariants.{Refused}
+use Rattle.session_run.specs.session_core.declared.line.Refusal.{Refusal}
+use Rattle.session_run.specs.session_core.declared.line.Refusal.TheVariants as refusals
+use Rattle.session_run.specs.session_core.declared.moves.Head.{Head}
+use Rattle.session_run.specs.session_core.Answers.{reply_to}
+use Rattle.session_run.specs.session_core.Inner.Kept.{head_reply}
+use Rattle.session_run.specs.session_core.Undos.{latest_of, undo_refusal}
 use Rattle.live_seats.specs.Inner.Replies.{AsksBack}
 use Rattle.live_seats.proofs.Edits.{act_told}
 use Rattle.live_seats.proofs.Lines.{no_undo_told, not_accepted_told}

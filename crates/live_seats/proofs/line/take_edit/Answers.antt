@@ -1,10 +1,10 @@
 use Rattle.std.proofs.Common.{Result, None, ap, sym, ◌∙◌, subst}
 use Rattle.textgrid.specs.declared.fault.GridFault.{GridFault}
-use Rattle.edit_rules.specs.declared.acts.Act.{Act}
-use Rattle.session_core.specs.declared.line.Reply.{Reply}
-use Rattle.session_core.specs.declared.line.Request.{Request}
-use Rattle.session_core.specs.declared.line.Request.TheVariants as requests
-use Rattle.session_core.specs.declared.moves.Head.{Head}
+use Rattle.session_run.specs.edit_rules.declared.acts.Act.{Act}
+use Rattle.session_run.specs.session_core.declared.line.Reply.{Reply}
+use Rattle.session_run.specs.session_core.declared.line.Request.{Request}
+use Rattle.session_run.specs.session_core.declared.line.Request.TheVariants as requests
+use Rattle.session_run.specs.session_core.declared.moves.Head.{Head}
 use Rattle.session_run.specs.Inner.Taken.{or_memory}
 use Rattle.live_seats.specs.Inner.Replies.{RepliesTo}
 use Rattle.live_seats.proofs.Lines.{grid_replies}

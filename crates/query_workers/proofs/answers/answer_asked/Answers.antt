@@ -1,4 +1,4 @@
-use Rattle.eql_model.specs.Rows.{segment_list, any_has_too_many}
+use Rattle.eql_match.specs.eql_model.Rows.{segment_list, any_has_too_many}
 use Rattle.version_tree.specs.Version.{bundles_of}
 use Rattle.query_workers.proofs.answers.answer_asked.Goals as goal
 

@@ -1,5 +1,5 @@
-use Rattle.eql_model.specs.Rows.{any_has_too_many}
-use Rattle.requery.specs.Carried.{carried_list}
+use Rattle.eql_match.specs.eql_model.Rows.{any_has_too_many}
+use Rattle.session_core.specs.requery.Carried.{carried_list}
 use Rattle.version_tree.specs.Version.{bundles_of}
 use Rattle.query_workers.proofs.answers.answer_reached.Goals as goal
 

@@ -1,7 +1,7 @@
 use Rattle.std.proofs.Common.{sym, subst}
 use Rattle.eql_resolve.proofs.Kept.{level_there, result_within}
-use Rattle.eql_model.proofs.Fitting.{level_fits}
-use Rattle.requery.specs.Inner.Sound.{IsTargetIn}
+use Rattle.eql_match.proofs.of_eql_model.Fitting.{level_fits}
+use Rattle.session_core.specs.requery.Inner.Sound.{IsTargetIn}
 use Rattle.query_workers.proofs.carried.reach.Goals as goal
 
 pub closure-requires-clause-upper : goal.closure-requires-clause-upper

@@ -1,10 +1,10 @@
 use Rattle.std.proofs.Common.{rules}
 use Rattle.std.specs.List.{filter_map}
 use Rattle.eql_resolve.specs.Asked.{result_level}
-use Rattle.requery.specs.Target.{level_reached}
-use Rattle.requery.specs.Reach.{reach}
-use Rattle.requery.proofs.Levels.{reached_within}
-use Rattle.requery.proofs.Lists.{reached_there, there_same}
+use Rattle.session_core.specs.requery.Target.{level_reached}
+use Rattle.session_core.specs.requery.Reach.{reach}
+use Rattle.session_core.proofs.of_requery.Levels.{reached_within}
+use Rattle.session_core.proofs.of_requery.Lists.{reached_there, there_same}
 use Rattle.query_workers.proofs.carried.rows_reached.Goals as goal
 
 pub rows_at-requires-clause-level : goal.rows_at-requires-clause-level

@@ -1,5 +1,5 @@
 use Rattle.std.proofs.Common.{rules}
-use Rattle.eql_model.proofs.Shown.{answer_there}
+use Rattle.eql_match.proofs.of_eql_model.Shown.{answer_there}
 use Rattle.query_workers.proofs.question.rows_in.Goals as goal
 
 pub rows_of-requires-clause-spans : goal.rows_of-requires-clause-spans

@@ -1,6 +1,6 @@
 use Rattle.std.proofs.Common.{◌+◌, ap, rules}
 use Rattle.std.specs.List.{flat_map, list_any}
-use Rattle.eql_model.proofs.Listed.{list_more, few_more, refused}
+use Rattle.eql_match.proofs.of_eql_model.Listed.{list_more, few_more, refused}
 use Rattle.version_tree.specs.Version.{bundles_of}
 use Rattle.query_workers.specs.Inner.Questions.{rows_for, too_many_for}
 use Rattle.query_workers.specs.Inner.Runs.{run_of}

@@ -1,5 +1,5 @@
 use Rattle.std.proofs.Common.{codes, string_bytes}
-use Rattle.segment_list.specs.Inner.Texts.{rows_text}
+use Rattle.session_core.specs.segment_list.Inner.Texts.{rows_text}
 use Rattle.reply_texts.proofs.Pushed.{two}
 use Rattle.reply_texts.proofs.replies.push_segments.Goals as goal
 

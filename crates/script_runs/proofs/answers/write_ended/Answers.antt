@@ -1,6 +1,6 @@
 use Rattle.script_runs.specs.LiveTexts.{entries_text}
 use Rattle.std.specs.List.{flat_map}
-use Rattle.reply_texts.specs.Texts.{reply_text}
+use Rattle.program_output.specs.reply_texts.Texts.{reply_text}
 use Rattle.script_runs.proofs.AnswerLemmas.{texts_behind, texts_broke, cause_later}
 use Rattle.script_runs.proofs.answers.write_ended.Goals as goal
 

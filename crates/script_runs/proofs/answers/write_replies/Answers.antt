@@ -1,5 +1,5 @@
 use Rattle.std.proofs.Common.{arith}
-use Rattle.reply_texts.specs.Texts.{reply_text}
+use Rattle.program_output.specs.reply_texts.Texts.{reply_text}
 use Rattle.script_runs.proofs.AnswerLemmas.{loop_broke, loop_more, loop_none, end_later}
 use Rattle.script_runs.proofs.answers.write_replies.Goals as goal
 

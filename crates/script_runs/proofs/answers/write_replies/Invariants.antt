@@ -1,7 +1,7 @@
 use Rattle.std.proofs.Common.{◌≤◌, take}
 use Rattle.std.specs.List.{flat_map}
 use Rattle.std.specs.Io.KnownBytes.{Appends}
-use Rattle.reply_texts.specs.Texts.{reply_text}
+use Rattle.program_output.specs.reply_texts.Texts.{reply_text}
 use Rattle.script_runs.proofs.answers.write_replies.Given as goal
 
 -- the texts so far were written

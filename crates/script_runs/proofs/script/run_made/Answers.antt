@@ -1,6 +1,6 @@
 use Rattle.std.proofs.Common.{◌∷◌, None, sym, ◌∙◌, ap, subst}
-use Rattle.live_book.specs.Kept.{KeepsIn}
-use Rattle.live_book.specs.Commits.{has_journal}
+use Rattle.live_run.specs.live_book.Kept.{KeepsIn}
+use Rattle.live_run.specs.live_book.Commits.{has_journal}
 use Rattle.program_output.specs.declared.ended.Ended.TheVariants as ends
 use Rattle.script_runs.specs.Inner.Bases.{fresh_base}
 use Rattle.script_runs.specs.Cuts.{cut}

@@ -1,6 +1,6 @@
 use Rattle.std.proofs.Common.{◌≡◌, ◌≤◌, ℕ, All, List, ◌++◌, length, Option}
 use Rattle.db_config.specs.declared.parts.ConfigParts.{ConfigParts}
-use Rattle.live_book.specs.Commits.{has_journal}
+use Rattle.live_run.specs.live_book.Commits.{has_journal}
 use Rattle.script_runs.specs.Bases.{Base}
 use Rattle.script_runs.specs.Cuts.{cut}
 use Rattle.script_runs.specs.Inner.Reached.{Reached, InLines}

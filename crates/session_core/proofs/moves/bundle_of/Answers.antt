@@ -1,5 +1,5 @@
 use Rattle.std.proofs.Common.{sym, ◌∙◌, ap, option_copied}
-use Rattle.edit_rules.specs.declared.acts.Act.{Act}
+use Rattle.edit_undo.specs.edit_rules.declared.acts.Act.{Act}
 use Rattle.edit_undo.specs.Inverse.{bundle_for}
 use Rattle.session_core.proofs.Backs.{list_before, list_bundle}
 use Rattle.session_core.proofs.moves.bundle_of.Goals as goal

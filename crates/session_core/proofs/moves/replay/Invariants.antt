@@ -1,5 +1,5 @@
 use Rattle.std.proofs.Common.{◌≡◌, drop}
-use Rattle.edit_rules.specs.Effects.{after, replayed}
+use Rattle.edit_undo.specs.edit_rules.Effects.{after, replayed}
 use Rattle.session_core.proofs.moves.replay.Given as goal
 
 abbrev pub invariant-loop-entry : goal.invariant-loop-entry

@@ -1,5 +1,5 @@
 use Rattle.std.proofs.Common.{◌≡◌, ◌++◌, drop}
-use Rattle.eql_model.specs.Rows.{any_has_too_many}
+use Rattle.requery.specs.eql_model.Rows.{any_has_too_many}
 use Rattle.requery.specs.Carried.{carried_list}
 use Rattle.session_core.proofs.queries.list_carried.Given as goal
 

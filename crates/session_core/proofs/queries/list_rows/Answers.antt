@@ -1,7 +1,7 @@
 use Rattle.std.proofs.Common.{◌+◌, drop, subst}
-use Rattle.eql_model.specs.Meaning.{has_too_many}
-use Rattle.eql_model.specs.Rows.{rows, segment_list, any_has_too_many}
-use Rattle.eql_model.proofs.Listed.{from_here, list_more, few_more, refused}
+use Rattle.requery.specs.eql_model.Meaning.{has_too_many}
+use Rattle.requery.specs.eql_model.Rows.{rows, segment_list, any_has_too_many}
+use Rattle.requery.proofs.of_eql_model.Listed.{from_here, list_more, few_more, refused}
 use Rattle.session_core.proofs.queries.list_rows.Goals as goal
 
 pub returns-in-Err : goal.returns-in-Err

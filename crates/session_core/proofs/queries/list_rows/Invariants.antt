@@ -1,5 +1,5 @@
 use Rattle.std.proofs.Common.{◌≡◌, ◌++◌, drop}
-use Rattle.eql_model.specs.Rows.{segment_list, any_has_too_many}
+use Rattle.requery.specs.eql_model.Rows.{segment_list, any_has_too_many}
 use Rattle.session_core.proofs.queries.list_rows.Given as goal
 
 abbrev pub invariant-loop-place : goal.invariant-loop-place

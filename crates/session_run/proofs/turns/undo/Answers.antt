@@ -1,8 +1,8 @@
 use Rattle.std.proofs.Common.{rules, ◌≡◌, Option, Some, Result, Ok, refl, sym, subst}
 use Rattle.edit_rules.specs.declared.acts.Act.{Act}
-use Rattle.edit_undo.specs.declared.faults.NoUndo.{NoUndo}
-use Rattle.session_core.specs.Inner.Kept.{head_entry}
-use Rattle.session_core.specs.Undos.{latest_of}
+use Rattle.live_book.specs.edit_undo.declared.faults.NoUndo.{NoUndo}
+use Rattle.query_workers.specs.session_core.Inner.Kept.{head_entry}
+use Rattle.query_workers.specs.session_core.Undos.{latest_of}
 use Rattle.live_book.specs.declared.fault.EditFault.TheVariants as faults
 use Rattle.live_book.proofs.Answering.{memory_is_none}
 use Rattle.live_book.proofs.Committing.{refused_commits}

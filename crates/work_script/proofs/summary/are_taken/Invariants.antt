@@ -1,6 +1,6 @@
 use Rattle.std.proofs.Common.{◌≡◌, drop}
 use Rattle.std.specs.List.{list_all}
-use Rattle.session_core.specs.declared.line.Reply.{Reply}
+use Rattle.live_run.specs.session_core.declared.line.Reply.{Reply}
 use Rattle.work_script.specs.Inner.Replies.{is_taken}
 use Rattle.work_script.proofs.summary.are_taken.Given as goal
 

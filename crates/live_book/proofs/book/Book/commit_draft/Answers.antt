@@ -1,6 +1,6 @@
 use Rattle.std.proofs.Common.{Option, Result, sym, subst}
 use Rattle.emu_names.specs.declared.rules.Fault.{Fault}
-use Rattle.bundle_index.specs.Index.{IndexParts}
+use Rattle.version_steps.specs.bundle_index.Index.{IndexParts}
 use Rattle.version_steps.specs.Inner.Drafts.{MayServe}
 use Rattle.live_book.specs.Kept.{BookParts}
 use Rattle.live_book.specs.Inner.Drafts.{IsDraftIn}

@@ -1,6 +1,6 @@
 use Rattle.std.proofs.Common.{subst}
 use Rattle.std.specs.Arc.{arc_value}
-use Rattle.version_tree.specs.Version.{state_of}
+use Rattle.version_steps.specs.version_tree.Version.{state_of}
 use Rattle.live_book.specs.Histories.{IsHistory}
 use Rattle.live_book.specs.Kept.{BookParts}
 use Rattle.live_book.proofs.book.Book.history.Goals as goal

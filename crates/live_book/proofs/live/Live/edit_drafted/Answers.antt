@@ -1,5 +1,5 @@
 use Rattle.std.proofs.Common.{rules, ◌≡◌, List, length, ap, arith}
-use Rattle.edit_rules.specs.declared.acts.Entry.{Entry}
+use Rattle.version_steps.specs.edit_rules.declared.acts.Entry.{Entry}
 use Rattle.version_gate.proofs.Numbers.{numbered_once}
 use Rattle.live_book.proofs.live.Live.edit_drafted.Goals as goal
 

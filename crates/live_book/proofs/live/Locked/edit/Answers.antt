@@ -1,6 +1,6 @@
 use Rattle.std.proofs.Common.{◌≡◌, ◌∙◌, ℕ, ◌≤◌, List, length, sym, ap, subst, arith}
 use mathlib.Core.List.{IsPrefix}
-use Rattle.edit_rules.specs.declared.acts.Entry.{Entry}
+use Rattle.version_steps.specs.edit_rules.declared.acts.Entry.{Entry}
 use Rattle.version_gate.specs.declared.entry.Entry.{Entry as Numbered}
 use Rattle.version_gate.specs.Lists.{Numbered as IsNumbered}
 use Rattle.version_gate.proofs.Numbers.{numbered_once}

@@ -1,6 +1,6 @@
 use Rattle.std.proofs.Common.{◌≡◌, ◌++◌, List, ◌∙◌, ap, arith, length-append, subst, sym}
 use Rattle.std.specs.Vec.Iter.{into_iter_items}
-use Rattle.session_core.specs.declared.line.Reply.{Reply}
+use Rattle.live_seats.specs.session_core.declared.line.Reply.{Reply}
 use Rattle.live_run.specs.Inner.Grouping.{QueueParts}
 use Rattle.live_run.proofs.Queues.{left_long, left_more, left_none, queue_of}
 use Rattle.live_run.proofs.grouping.Queue.append.Goals as goal

@@ -1,9 +1,9 @@
 use Rattle.std.proofs.Common.{◌≡◌, List, ◌++◌, ◌∙◌, ap, arith, length, map, subst, sym}
 use Rattle.std.specs.Vec.Iter.{into_iter_items}
-use Rattle.session_core.specs.declared.line.Reply.{Reply}
-use Rattle.session_core.specs.Worlds.{Each}
-use Rattle.session_core.specs.Legal.{replies_in}
-use Rattle.live_laws.specs.Lanes.{all_turns}
+use Rattle.live_seats.specs.session_core.declared.line.Reply.{Reply}
+use Rattle.live_seats.specs.session_core.Worlds.{Each}
+use Rattle.live_seats.specs.session_core.Legal.{replies_in}
+use Rattle.live_seats.specs.live_laws.Lanes.{all_turns}
 use Rattle.live_run.specs.Runs.{AreGrouped}
 use Rattle.live_run.specs.Inner.Grouping.{HasPlace, QueueParts, queued_from}
 use Rattle.live_run.proofs.Queues.{length_queued}

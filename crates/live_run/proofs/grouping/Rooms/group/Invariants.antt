@@ -1,7 +1,7 @@
 use Rattle.std.proofs.Common.{◌≡◌, length, map}
 use Rattle.std.specs.Vec.Iter.{into_iter_items}
-use Rattle.session_core.specs.Steps.{session_places}
-use Rattle.session_core.specs.Worlds.{Each}
+use Rattle.live_seats.specs.session_core.Steps.{session_places}
+use Rattle.live_seats.specs.session_core.Worlds.{Each}
 use Rattle.live_run.specs.Inner.Grouping.{HasPlace, queued_from}
 use Rattle.live_run.proofs.Laid.{lanes_replies}
 use Rattle.live_run.proofs.grouping.Rooms.group.Given as goal

@@ -1,5 +1,5 @@
 use Rattle.std.proofs.Common.{◌≡◌, ◌≤◌, ℕ, ◌∙◌, ap, length, subst, sym}
-use Rattle.session_core.specs.Steps.{session_places}
+use Rattle.live_seats.specs.session_core.Steps.{session_places}
 use Rattle.live_run.specs.Inner.Grouping.{QueueParts, empty_queue, lines_from}
 use Rattle.live_run.proofs.Sessions.{few_lines}
 use Rattle.live_run.proofs.grouping.Rooms.new.Goals as goal

@@ -1,4 +1,4 @@
-use Rattle.edit_rules.specs.Effects.{after}
+use Rattle.edit_undo.specs.edit_rules.Effects.{after}
 use Rattle.session_core.proofs.Keeping.{kept_begin, begun}
 use Rattle.session_core.proofs.Ruled.{made_ruled}
 use Rattle.session_core.proofs.machine.Core.new.Goals as goal

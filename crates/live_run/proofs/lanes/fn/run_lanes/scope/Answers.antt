@@ -3,7 +3,7 @@ use Rattle.live_seats.specs.declared.lane.Lane.TheVariants as lane_kinds
 use Rattle.live_run.specs.declared.lanes.LaneOf.{LaneOf}
 use Rattle.live_run.specs.Inner.Running.{AreFree, AreIdle, HasTaken, IsFree, IsThread, thread_lines}
 use Rattle.live_seats.specs.Inner.Seats.{IsAsked}
-use Rattle.session_core.specs.Worlds.{Each}
+use Rattle.live_seats.specs.session_core.Worlds.{Each}
 use denote.Param.{param}
 use denote.Exit.{no}
 use denote.Param.Send.{IsSend, IsSync, arg_send, param_send, param_sync, shr_send}
