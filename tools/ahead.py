@@ -140,7 +140,7 @@ def body_of(lines, at):
         if line == f"{indent}{{" or not is_stated and line.endswith(" {"):
             end = next((it for it in range(begin + 1, len(lines)) if lines[it].rstrip() == f"{indent}}}"), None)
             return end and (begin + 1, end)
-        if line == f"{indent}}}" or not is_stated and line.endswith(("}", ";")):
+        if line in (f"{indent}}}", f"{indent}{{}}") or not is_stated and line.endswith(("}", ";")):
             return None
     return None
 
