@@ -12,10 +12,6 @@ pub mod Alone
 pub mod Standing
 pub mod Ordered
 pub mod RowLists
-pub mod Keeping
-pub mod Ruled
-pub mod Backs
-pub mod Turning
 pub mod ReadingSteps
 pub mod Readings
 pub mod Threads

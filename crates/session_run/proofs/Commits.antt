@@ -18,7 +18,7 @@ use Rattle.query_workers.specs.session_core.declared.line.Refusal.TheVariants as
 use Rattle.query_workers.specs.session_core.declared.line.Reply.{Reply}
 use Rattle.query_workers.specs.session_core.declared.line.Request.{Request}
 use Rattle.query_workers.specs.session_core.declared.line.Request.TheVariants as requests
-use Rattle.query_workers.specs.session_core.declared.moves.Head.{Head}
+use Rattle.query_workers.specs.session_core.declared.head.Head.{Head}
 use Rattle.query_workers.specs.session_core.declared.slots.Held.{Held}
 use Rattle.query_workers.specs.session_core.Answers.{entry_of, memory, reply_to, rule_refusal}
 use Rattle.query_workers.specs.session_core.InOrder.{Outage, fine, at_first, disk_fails, disk_outages, edit_outcome, edit_trouble, edit_turn, made_trouble, one_turn, replied, request_turn, stored_trouble, trouble_at, undo_turn}

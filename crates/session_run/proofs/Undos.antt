@@ -5,7 +5,7 @@ use Rattle.edit_rules.specs.declared.acts.Act.{Act}
 use Rattle.edit_rules.specs.declared.acts.Entry.{Entry}
 use Rattle.live_book.specs.edit_undo.declared.faults.NoUndo.{NoUndo}
 use Rattle.query_workers.specs.session_core.declared.kept_acts.KeptAct.{KeptAct}
-use Rattle.query_workers.specs.session_core.declared.moves.Head.{Head}
+use Rattle.query_workers.specs.session_core.declared.head.Head.{Head}
 use Rattle.query_workers.specs.session_core.Inner.Kept.{head_entry}
 use Rattle.query_workers.specs.session_core.Undos.{kept_act, kept_behind, kept_of}
 use Rattle.query_workers.proofs.of_session_core.Undoing.{kept_none, kept_push}

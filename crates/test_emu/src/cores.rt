@@ -9,8 +9,9 @@ use edit_rules::{Act, Edit, Edits, Entries, Entry};
 use emu_names::{Broken, Fault, Memory, SessionNo};
 use eql_resolve::prepare;
 use label_match::RegexMaker;
+use plain_core::Core;
 use reply_texts::print_reply;
-use session_core::{Ask, Command, Core, Event, Events, Line, Replies, Request};
+use session_core::{Ask, Command, Event, Events, Line, Replies, Request};
 use std::alloc::Global;
 use std::test::Fail;
 

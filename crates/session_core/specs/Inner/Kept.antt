@@ -20,7 +20,7 @@ use Rattle.session_core.specs.declared.line.Reply.{Reply}
 use Rattle.session_core.specs.declared.line.Request.{Request}
 use Rattle.session_core.specs.declared.kept_acts.KeptAct.{KeptAct}
 use Rattle.session_core.specs.declared.slots.Held.{Held}
-use Rattle.session_core.specs.declared.moves.Head.{Head}
+use Rattle.session_core.specs.declared.head.Head.{Head}
 use Rattle.edit_undo.specs.edit_rules.Effects.{after, effect}
 use Rattle.edit_undo.specs.declared.faults.NoUndo.{NoUndo}
 use Rattle.edit_undo.specs.Inverse.{inverse_at}

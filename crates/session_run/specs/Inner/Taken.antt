@@ -15,7 +15,7 @@ use Rattle.query_workers.specs.session_core.declared.line.Ask.{Ask}
 use Rattle.query_workers.specs.session_core.declared.line.Line.{Line}
 use Rattle.query_workers.specs.session_core.declared.line.Refusal.TheVariants as refusals
 use Rattle.query_workers.specs.session_core.declared.line.Reply.{Reply}
-use Rattle.query_workers.specs.session_core.declared.moves.Head.{Head}
+use Rattle.query_workers.specs.session_core.declared.head.Head.{Head}
 use Rattle.query_workers.specs.session_core.declared.slots.Held.{Held}
 use Rattle.query_workers.specs.session_core.declared.line.Request.{Request}
 use Rattle.query_workers.specs.session_core.Answers.{memory}

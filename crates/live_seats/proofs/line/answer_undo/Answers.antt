@@ -2,7 +2,7 @@ use Rattle.std.proofs.Common.{◌≡◌, inr, None, Some, Ok, Err, ap, ◌∙◌
 use Rattle.session_run.specs.session_core.declared.line.Answer.TheVariants.{Refused}
 use Rattle.session_run.specs.session_core.declared.line.Refusal.{Refusal}
 use Rattle.session_run.specs.session_core.declared.line.Refusal.TheVariants as refusals
-use Rattle.session_run.specs.session_core.declared.moves.Head.{Head}
+use Rattle.session_run.specs.session_core.declared.head.Head.{Head}
 use Rattle.session_run.specs.session_core.Answers.{reply_to}
 use Rattle.session_run.specs.session_core.Inner.Kept.{head_reply}
 use Rattle.session_run.specs.session_core.Undos.{latest_of, undo_refusal}

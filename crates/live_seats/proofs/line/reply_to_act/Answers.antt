@@ -1,6 +1,6 @@
 use Rattle.std.proofs.Common.{ap, ◌∙◌, ℕ, Result}
 use Rattle.session_run.specs.live_book.declared.fault.EditFault.{EditFault}
-use Rattle.session_run.specs.session_core.declared.moves.Head.{Head}
+use Rattle.session_run.specs.session_core.declared.head.Head.{Head}
 use Rattle.session_run.specs.Inner.Orders.{commit_reply}
 use Rattle.session_run.specs.Inner.Taken.{line_of}
 use Rattle.live_seats.proofs.line.reply_to_act.Goals as goal

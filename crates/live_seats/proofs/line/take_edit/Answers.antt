@@ -4,7 +4,7 @@ use Rattle.session_run.specs.edit_rules.declared.acts.Act.{Act}
 use Rattle.session_run.specs.session_core.declared.line.Reply.{Reply}
 use Rattle.session_run.specs.session_core.declared.line.Request.{Request}
 use Rattle.session_run.specs.session_core.declared.line.Request.TheVariants as requests
-use Rattle.session_run.specs.session_core.declared.moves.Head.{Head}
+use Rattle.session_run.specs.session_core.declared.head.Head.{Head}
 use Rattle.session_run.specs.Inner.Taken.{or_memory}
 use Rattle.live_seats.specs.Inner.Replies.{RepliesTo}
 use Rattle.live_seats.proofs.Lines.{grid_replies}

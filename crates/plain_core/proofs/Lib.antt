@@ -1,0 +1,4 @@
+pub mod Ruled
+pub mod Keeping
+pub mod Backs
+pub mod Turning
