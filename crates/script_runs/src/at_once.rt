@@ -57,6 +57,7 @@ fn live_over<R: Threads + Wait + Sync, K: Sink, D: Disk + Send, G: Gate + Sync>(
 {
     let LiveEnd { book, ended } = run_live(rt, alloc, book, passes, lines, spread.workers, gate);
     let status = answer(alloc, given, &ended, out);
+    drop(ended);
     Left {
         status,
         journal: book.into_journal(rt),

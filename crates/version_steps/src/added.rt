@@ -60,7 +60,10 @@ fn added_in(version: &Version, edit: &Edit, made: Result<Indexed, Fault>) -> Res
     ensures { GivesAdded result (changed_alone (state_of version.now) edit.now) }
 {
     match refused_in(version, edit, &made) {
-        Some(rule) => Err(Fault::Broken(rule)),
+        Some(rule) => {
+            drop(made);
+            Err(Fault::Broken(rule))
+        }
         None => made,
     }
 }
