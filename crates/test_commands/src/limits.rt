@@ -1,16 +1,18 @@
 //! The limits of a line, of the number of lines and of a script, each at the limit and one past it.
-use crate::scripts::{CONFIG, call, empty_disk, words_of};
+use crate::runs::{CONFIG, CONFIG_DONE, Ran, alone, run_by};
+use emu_disk::MemoryDisk;
 use emu_io::{Failed, Source};
 use label_match::RegexMaker;
+use std::alloc::Global;
 use std::io::Read;
 use std::process::Abort;
 use std::sync::Wait;
 use std::test::Fail;
 use std::thread::Threads;
 
-const WITHIN: &[u8] = b"{\"line\":1,\"n\":0,\"ok\":\"config\"}\n";
+const WITHIN: &[&str] = &[CONFIG_DONE];
 
-const OVER: &[u8] = b"{\"line\":1,\"n\":0,\"ok\":\"config\"}\n{\"cause\":\"Limit\",\"status\":9}\n";
+const OVER: &[&str] = &[CONFIG_DONE, "{\"cause\":\"Limit\",\"status\":9}"];
 
 /// How many bytes the line of the configuration has.
 const HEAD: u64 = CONFIG.len() as u64;
@@ -58,59 +60,55 @@ impl Source for Blanks {
     }
 }
 
-/// Runs a script of so many bytes, whose lines behind the configuration have so many spaces.
-fn ends_with(
-    rt: &(impl Abort + Threads + Wait + Sync + AllocGlobal),
-    width: u64,
-    len: u64,
-    status: u8,
-) -> Result<(), Fail> {
+/// How many spaces each line behind the configuration has, how many bytes the script, and how its run ends.
+type Row = (u64, u64, u8, &'static [&'static str]);
+
+/// Runs the script of a row.
+fn ran<R: Threads + Wait + Sync>(rt: &R, alloc: Global, row: &Row) -> Result<Ran, Fail> {
+    let &(width, len, _, _) = row;
     let mut source = Blanks {
         head: CONFIG.as_bytes(),
         left: len.saturating_sub(HEAD),
         width,
         column: width,
     };
-    let words = words_of(rt.alloc(), &["run"])?;
-    let disk = empty_disk(rt.alloc())?;
     let mut patterns = RegexMaker::new();
-    let none = Vec::new(rt.alloc());
-    let ran = call(
-        rt,
-        rt.alloc(),
-        words,
-        &mut source,
-        none,
-        disk,
-        &mut patterns,
-    );
-    let want = if status == 0 { WITHIN } else { OVER };
-    assert_eq!(rt;
-        (ran.status, ran.sink.bytes()),
-        (status, want),
-        "width {width}, {len} bytes"
-    );
-    Ok(())
+    let given = alone(alloc, "run", 0)?;
+    let disk = MemoryDisk::new(alloc, &[])?;
+    Ok(run_by(rt, alloc, given, &mut source, disk, &mut patterns))
 }
 
-/// How many spaces each line has, how many bytes the script, and how its run ends.
-static LINES: [(u64, u64, u8); 4] = [
-    (0, HEAD + 200_000, 0),
-    (0, HEAD + 200_001, 9),
-    (16_777_216, HEAD + 1 + 16_777_216, 0),
-    (16_777_217, HEAD + 1 + 16_777_217, 9),
-];
-
-#[test]
-fn limits_of_lines(rt: HostRuntime) -> Result<(), Fail> {
-    for &(width, len, status) in &LINES {
-        ends_with(&rt, width, len, status)?;
+/// Runs the scripts of rows, and compares how they end.
+fn expect_rows<R: Abort + Threads + Wait + Sync>(
+    rt: &R,
+    alloc: Global,
+    rows: &[Row],
+) -> Result<(), Fail> {
+    for row in rows {
+        let good = ran(rt, alloc, row)?.gave(row.2, row.3);
+        assert!(rt; good, "width {}, {} bytes", row.0, row.1);
     }
     Ok(())
 }
 
+static LINES: [Row; 4] = [
+    (0, HEAD + 200_000, 0, WITHIN),
+    (0, HEAD + 200_001, 9, OVER),
+    (16_777_216, HEAD + 1 + 16_777_216, 0, WITHIN),
+    (16_777_217, HEAD + 1 + 16_777_217, 9, OVER),
+];
+
+#[test]
+fn limits_of_lines(rt: HostRuntime) -> Result<(), Fail> {
+    expect_rows(&rt, rt.alloc(), &LINES)
+}
+
+static SCRIPTS: [Row; 2] = [
+    (9_999, 268_435_456, 0, WITHIN),
+    (9_999, 268_435_457, 9, OVER),
+];
+
 #[test]
 fn limit_of_a_script(rt: HostRuntime) -> Result<(), Fail> {
-    ends_with(&rt, 9_999, 268_435_456, 0)?;
-    ends_with(&rt, 9_999, 268_435_457, 9)
+    expect_rows(&rt, rt.alloc(), &SCRIPTS)
 }
