@@ -44,17 +44,19 @@ impl Source for Blanks {
         {
             return Ok(count);
         }
-        for place in buf.iter_mut() {
-            if self.column < self.width {
-                *place = b' ';
-                self.column = self.column.saturating_add(1);
-            } else {
-                *place = b'\n';
-                self.column = 0;
-            }
-        }
-        let room = buf.len() as u64;
-        let count = if self.left < room { self.left } else { room };
+        let spaces = self.width.saturating_sub(self.column);
+        let most = match (self.width, spaces) {
+            (0, _) => self.left,
+            (_, 0) => 1,
+            _ => spaces,
+        };
+        buf.fill(if spaces == 0 { b'\n' } else { b' ' });
+        let count = self.left.min(most).min(buf.len() as u64);
+        self.column = if spaces == 0 {
+            0
+        } else {
+            self.column.saturating_add(count)
+        };
         self.left -= count;
         Ok(count as usize)
     }
@@ -104,8 +106,8 @@ fn limits_of_lines(rt: HostRuntime) -> Result<(), Fail> {
 }
 
 static SCRIPTS: [Row; 2] = [
-    (9_999, 268_435_456, 0, WITHIN),
-    (9_999, 268_435_457, 9, OVER),
+    (9_999_999, 268_435_456, 0, WITHIN),
+    (9_999_999, 268_435_457, 9, OVER),
 ];
 
 #[test]
