@@ -66,7 +66,7 @@ impl Source for Blanks {
 type Row = (u64, u64, u8, &'static [&'static str]);
 
 /// Runs the script of a row.
-fn ran<R: Threads + Wait + Sync>(rt: &R, alloc: Global, row: &Row) -> Result<Ran, Fail> {
+fn run_row<R: Threads + Wait + Sync>(rt: &R, alloc: Global, row: &Row) -> Result<Ran, Fail> {
     let &(width, len, _, _) = row;
     let mut source = Blanks {
         head: CONFIG.as_bytes(),
@@ -87,7 +87,7 @@ fn expect_rows<R: Abort + Threads + Wait + Sync>(
     rows: &[Row],
 ) -> Result<(), Fail> {
     for row in rows {
-        let good = ran(rt, alloc, row)?.gave(row.2, row.3);
+        let good = run_row(rt, alloc, row)?.gave(row.2, row.3);
         assert!(rt; good, "width {}, {} bytes", row.0, row.1);
     }
     Ok(())

@@ -22,7 +22,7 @@ static ROWS: [Row; 6] = [
 ];
 
 /// Runs the words over a script, where a read and a write fail.
-fn ran<R: Threads + Wait + Sync>(rt: &R, alloc: Global, row: &Row) -> Result<Ran, Fail> {
+fn run_row<R: Threads + Wait + Sync>(rt: &R, alloc: Global, row: &Row) -> Result<Ran, Fail> {
     let &(words, bad_read, bad_write, _, _) = row;
     let disk = MemoryDisk::new(alloc, &[])?;
     let lines = [CONFIG, BUNDLE, QUERY];
@@ -33,7 +33,7 @@ fn ran<R: Threads + Wait + Sync>(rt: &R, alloc: Global, row: &Row) -> Result<Ran
 #[test]
 fn reads_and_writes_that_fail(rt: HostRuntime) -> Result<(), Fail> {
     for row in &ROWS {
-        let good = ran(&rt, rt.alloc(), row)?.gave(row.3, row.4);
+        let good = run_row(&rt, rt.alloc(), row)?.gave(row.3, row.4);
         assert!(rt; good, "{} {} {}", row.0, row.1, row.2);
     }
     Ok(())

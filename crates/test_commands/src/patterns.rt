@@ -19,7 +19,7 @@ static REFUSED_ONCE: [&str; 4] = [
 ];
 
 /// Runs two queries by a pattern.
-fn ran<R: Threads + Wait + Sync>(
+fn run_queries<R: Threads + Wait + Sync>(
     rt: &R,
     alloc: Global,
     maker: &mut ListMaker,
@@ -33,7 +33,7 @@ fn ran<R: Threads + Wait + Sync>(
 #[test]
 fn a_pattern_that_is_too_large_is_refused(rt: HostRuntime) -> Result<(), Fail> {
     let mut maker = ListMaker::new(vec![in rt.alloc(); 1]?);
-    let good = ran(&rt, rt.alloc(), &mut maker)?.gave(0, &REFUSED_ONCE);
+    let good = run_queries(&rt, rt.alloc(), &mut maker)?.gave(0, &REFUSED_ONCE);
     assert!(rt; good && maker.refusals() == 1);
     Ok(())
 }

@@ -123,7 +123,7 @@ fn taken(text: &[u8], sign: u8) -> Option<(u32, &[u8])> {
 }
 
 /// The first three numbers and letters of a text of this form, 0 where it has fewer.
-fn found(text: &str, form: &str) -> Option<[u32; 3]> {
+fn found(text: &str, form: &str) -> Option<(u32, u32, u32)> {
     let mut rest = text.as_bytes();
     let mut all = [0, 0, 0];
     let mut count: usize = 0;
@@ -137,7 +137,12 @@ fn found(text: &str, form: &str) -> Option<[u32; 3]> {
             count = count.saturating_add(1);
         }
     }
-    if rest.is_empty() { Some(all) } else { None }
+    let [first, second, third] = all;
+    if rest.is_empty() {
+        Some((first, second, third))
+    } else {
+        None
+    }
 }
 
 /// The state behind some entries of the history: how many there are, the line of the last one, the label of item 1, what
@@ -182,10 +187,10 @@ impl State {
 }
 
 /// The state behind the entries up to this one, by the marks of a run.
-fn state(output: &str, last: u32) -> State {
+fn state_behind(marks: &str, last: u32) -> State {
     let mut state = START;
-    for line in output.split('\n') {
-        if let Some([at, line, session]) = found(line, MARK)
+    for line in marks.split('\n') {
+        if let Some((at, line, session)) = found(line, MARK)
             && at <= last
         {
             state.take(at, line, session);
@@ -204,8 +209,8 @@ struct Told {
 }
 
 /// What is told behind a reply of this kind to a line, if the history allows it there.
-fn told_by(output: &str, told: Told, line: u32, kind: Kind, n: u32, label: u32) -> Option<Told> {
-    let seen = state(output, n);
+fn told_by(marks: &str, told: Told, line: u32, kind: Kind, n: u32, label: u32) -> Option<Told> {
+    let seen = state_behind(marks, n);
     let right = match kind {
         Kind::Accepted => seen.line == line && n > told.n && !told.refused,
         Kind::IdTaken => seen.split && n >= told.n,
@@ -225,12 +230,12 @@ fn told_by(output: &str, told: Told, line: u32, kind: Kind, n: u32, label: u32) 
 }
 
 /// What is told behind the reply to a line, if that is one that there may be.
-fn told_behind(output: &str, told: Told, line: u32, reply: &str) -> Option<Told> {
+fn told_behind(marks: &str, told: Told, line: u32, reply: &str) -> Option<Told> {
     let place = line.saturating_sub(1) % EACH;
     let turn = if place < 8 { place % 4 } else { 4 };
     for &(of, kind, form) in &REPLIES {
         if of == turn
-            && let Some([named, given, label]) = found(reply, form)
+            && let Some((named, given, label)) = found(reply, form)
             && named == line
         {
             let n = if kind == Kind::NotAccepted {
@@ -238,27 +243,27 @@ fn told_behind(output: &str, told: Told, line: u32, reply: &str) -> Option<Told>
             } else {
                 given
             };
-            return told_by(output, told, line, kind, n, label);
+            return told_by(marks, told, line, kind, n, label);
         }
     }
     None
 }
 
-/// How many lines were accepted, if all replies of a run are such that there may be.
-fn accepted(output: &str) -> Option<u32> {
+/// How many lines were accepted, if all replies of a run are such that there may be beside its marks.
+fn accepted(replies: &str, marks: &str) -> Option<u32> {
     let mut told = Told {
         n: 1,
         refused: false,
         accepted: 0,
     };
     let mut line: u32 = 0;
-    for reply in output.split('\n') {
+    for reply in replies.split('\n') {
         if line < 36 {
             if line % EACH == 0 {
                 told.n = 1;
             }
             line = line.saturating_add(1);
-            told = told_behind(output, told, line, reply)?;
+            told = told_behind(marks, told, line, reply)?;
         }
     }
     Some(told.accepted)
@@ -266,13 +271,15 @@ fn accepted(output: &str) -> Option<u32> {
 
 /// Whether the replies of a run, its marks, and what is asked of the store behind it belong to one history.
 fn is_legal(output: &str, asked: &str) -> bool {
-    let (Some(count), Some([n, label, _])) = (accepted(output), found(asked, ASKED)) else {
+    let Some((replies, marks)) = output.split_once("{\"from\":1}\n") else {
         return false;
     };
-    let end = state(output, 99);
-    let lines = output.split('\n').count();
-    output.contains("\n{\"from\":1}\n{\"at\":2,")
-        && lines == (count as usize).saturating_add(38)
+    let (Some(count), Some((n, label, _))) = (accepted(replies, marks), found(asked, ASKED)) else {
+        return false;
+    };
+    let end = state_behind(marks, 99);
+    let lines = (replies.split('\n').count(), marks.split('\n').count());
+    lines == (37, (count as usize).saturating_add(1))
         && (end.at, end.split) == (n, false)
         && (n, label) == (count.saturating_add(1), end.label)
 }
@@ -307,19 +314,6 @@ const LIVE: [&str; 2] = ["live", "--store"];
 
 const ASK: [&str; 2] = ["ask", "Phonetic =~ '[Va-d]'"];
 
-/// Runs the sessions over a store that has the bundle, asks what they leave, and compares.
-fn expect_legal<R: Abort + Threads + Wait + Sync, G: Gate + Sync>(
-    rt: &R,
-    alloc: Global,
-    store: &[u8],
-    gate: &G,
-) -> Result<(), Fail> {
-    let ran = run(rt, alloc, &LIVE, &SESSIONS, store, gate)?;
-    let asked = run(rt, alloc, &ASK, &[], ran.disk.bytes(), &OpenGate)?;
-    assert!(rt; belong(&ran, &asked));
-    Ok(())
-}
-
 /// A hold of a line's reply until another line has one.
 const fn hold(first: u32, second: u32) -> Hold {
     Hold {
@@ -334,16 +328,41 @@ const fn hold(first: u32, second: u32) -> Hold {
     }
 }
 
+/// No session goes on behind its first line before the next one has begun, so that all are there at once.
+const HOLDS: [Hold; 3] = [hold(1, 10), hold(10, 19), hold(19, 28)];
+
+/// Runs the sessions at once over a store that has the bundle.
+fn run_sessions<R: Abort + Threads + Wait + Sync>(
+    rt: &R,
+    alloc: Global,
+    store: &[u8],
+) -> Result<Ran, Fail> {
+    let gate = HoldGate::new(alloc, &HOLDS)?;
+    let ran = run(rt, alloc, &LIVE, &SESSIONS, store, &gate)?;
+    assert!(rt; gate.saw_all() && !gate.gave_up());
+    Ok(ran)
+}
+
+/// Runs the sessions, asks what they leave, and compares.
+fn expect_legal<R: Abort + Threads + Wait + Sync>(
+    rt: &R,
+    alloc: Global,
+    store: &[u8],
+) -> Result<(), Fail> {
+    let ran = run_sessions(rt, alloc, store)?;
+    let asked = run(rt, alloc, &ASK, &[], ran.disk.bytes(), &OpenGate)?;
+    assert!(rt; belong(&ran, &asked));
+    Ok(())
+}
+
 /// How often the sessions are run.
 const TIMES: u32 = 200;
 
 #[test]
 fn sessions_edit_and_undo_one_bundle_at_once(rt: HostRuntime) -> Result<(), Fail> {
     let store = run(&rt, rt.alloc(), &LIVE, &[CONFIG, BUNDLE], &[], &OpenGate)?;
-    let holds = [hold(1, 10), hold(10, 19), hold(19, 28)];
     for _ in 0..TIMES {
-        let gate = HoldGate::new(rt.alloc(), &holds)?;
-        expect_legal(&rt, rt.alloc(), store.disk.bytes(), &gate)?;
+        expect_legal(&rt, rt.alloc(), store.disk.bytes())?;
     }
     Ok(())
 }
