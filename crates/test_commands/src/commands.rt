@@ -1,7 +1,7 @@
 //! Commands on a store, over a folder and a disk in memory: each call failing once, and the store read again.
 use crate::runs::{Ran, over_files, run};
 use emu_disk::MemoryDisk;
-use emu_io::Stored;
+use emu_io::{ListSource, Stored};
 use std::alloc::{AllocError, Global};
 use std::process::Abort;
 use std::sync::Wait;
@@ -60,7 +60,8 @@ fn command<R: Threads + Wait + Sync>(
 ) -> Result<Ran, Fail> {
     let files = stored(alloc)?;
     let given = over_files(alloc, words, files, folder_call, sink_call)?;
-    Ok(run(rt, alloc, given, disk))
+    let none = ListSource::new(Vec::new(alloc), Vec::new(alloc));
+    Ok(run(rt, alloc, given, none, disk))
 }
 
 /// Whether `history` over a store of these bytes writes one of these texts.

@@ -1,8 +1,8 @@
 //! Runs of the program by its words over a script, files and a disk in memory.
 use emu_cli::{Exit, emu};
 use emu_disk::MemoryDisk;
-use emu_io::{ListSink, ListSource, MapFolder, OpenGate, Stored};
-use label_match::RegexMaker;
+use emu_io::{ListSink, ListSource, MapFolder, OpenGate, Source, Stored};
+use label_match::{PatternMaker, RegexMaker};
 use std::alloc::{AllocError, Global};
 use std::sync::Wait;
 use std::thread::Threads;
@@ -15,6 +15,11 @@ pub const CONFIG: &str =
 pub const BUNDLE: &str =
     "{\"s\":1,\"do\":\"add_bundle\",\"session\":\"s1\",\"bundle\":\"b1\",\"annot\":{\"name\":\"b1\",\"annotates\":\"b1.wav\",\"sampleRate\":20000,\"levels\":[{\"name\":\"Phonetic\",\"type\":\"SEGMENT\",\"items\":[{\"id\":1,\"sampleStart\":3749,\"sampleDur\":1389,\"labels\":[{\"name\":\"Phonetic\",\"value\":\"V\"}]},{\"id\":2,\"sampleStart\":5139,\"sampleDur\":1664,\"labels\":[{\"name\":\"Phonetic\",\"value\":\"m\"}]}]}],\"links\":[]}}";
 
+/// The replies to these two, over a store that had nothing.
+pub const CONFIG_DONE: &str = "{\"line\":1,\"n\":0,\"ok\":\"config\"}";
+
+pub const BUNDLE_DONE: &str = "{\"line\":2,\"n\":1,\"ok\":\"add_bundle\"}";
+
 /// How a run ended, what it wrote, and its disk.
 #[derive(Drop)]
 pub struct Ran {
@@ -23,18 +28,36 @@ pub struct Ran {
     pub disk: MemoryDisk,
 }
 
-/// What a run is given beside its disk: its words, its script, its files, and the calls of the folder and of the sink
-/// that fail, counted from 1.
+impl Ran {
+    /// Whether it ended with this status and wrote just these lines.
+    pub fn gave(&self, status: u8, lines: &[&str]) -> bool {
+        self.status == status && has_lines(self.sink.bytes(), lines)
+    }
+}
+
+/// Whether a text has these lines, each with its end, and nothing else.
+fn has_lines(text: &[u8], lines: &[&str]) -> bool {
+    let mut rest = text;
+    for line in lines {
+        match rest.strip_prefix(line.as_bytes()) {
+            Some([b'\n', behind @ ..]) => rest = behind,
+            _ => return false,
+        }
+    }
+    rest.is_empty()
+}
+
+/// What a run is given beside its script and its disk: its words, its files with the calls of the folder that fail, and
+/// the calls of the sink that fail, counted from 1.
 #[derive(Drop)]
 pub struct Given {
     words: Vec<String>,
-    source: ListSource,
     folder: MapFolder,
     bad_writes: Vec<u64>,
 }
 
 /// The lines of a text, each with its end.
-pub fn joined(alloc: Global, lines: &[&str]) -> Result<Vec<u8>, AllocError> {
+fn joined(alloc: Global, lines: &[&str]) -> Result<Vec<u8>, AllocError> {
     let mut bytes = Vec::new(alloc);
     for line in lines {
         bytes.extend_from_slice(line.as_bytes())?;
@@ -52,18 +75,6 @@ fn words_in(alloc: Global, words: &str) -> Result<Vec<String>, AllocError> {
     Ok(all)
 }
 
-/// Words over a script, without files.
-pub fn over_script(alloc: Global, words: &str, lines: &[&str]) -> Result<Given, AllocError> {
-    let words = words_in(alloc, words)?;
-    let script = joined(alloc, lines)?;
-    Ok(Given {
-        words,
-        source: ListSource::new(script, Vec::new(alloc)),
-        folder: MapFolder::new(Vec::new(alloc), Vec::new(alloc)),
-        bad_writes: Vec::new(alloc),
-    })
-}
-
 /// Words over files, of which a call fails, with a sink of which a call fails. 0 is no call.
 pub fn over_files(
     alloc: Global,
@@ -77,32 +88,69 @@ pub fn over_files(
     let bad_writes = vec![in alloc; sink_call]?;
     Ok(Given {
         words,
-        source: ListSource::new(Vec::new(alloc), Vec::new(alloc)),
         folder,
         bad_writes,
     })
 }
 
-/// Runs the program. All tests of the crate call it here; everything that it is given is dropped at its one exit.
-pub fn run<R: Threads + Wait + Sync>(rt: &R, alloc: Global, given: Given, disk: MemoryDisk) -> Ran {
+/// Words without files, with a sink of which a call fails. 0 is no call.
+pub fn alone(alloc: Global, words: &str, sink_call: u64) -> Result<Given, AllocError> {
+    over_files(alloc, words, Vec::new(alloc), 0, sink_call)
+}
+
+/// Words over a script, of which a read fails, and with a sink of which a call fails. 0 is no call.
+pub fn over_script(
+    alloc: Global,
+    words: &str,
+    lines: &[&str],
+    read: u64,
+    sink_call: u64,
+) -> Result<(Given, ListSource), AllocError> {
+    let given = alone(alloc, words, sink_call)?;
+    let script = joined(alloc, lines)?;
+    let bad_reads = vec![in alloc; read]?;
+    Ok((given, ListSource::new(script, bad_reads)))
+}
+
+/// Runs the program over a source. All tests of the crate call it here; everything that it is given is dropped at its
+/// one exit.
+pub fn run_by<R: Threads + Wait + Sync, S: Source, P: PatternMaker>(
+    rt: &R,
+    alloc: Global,
+    given: Given,
+    source: &mut S,
+    disk: MemoryDisk,
+    patterns: &mut P,
+) -> Ran {
     let Given {
         words,
-        mut source,
         mut folder,
         bad_writes,
     } = given;
     let mut sink = ListSink::new(alloc, bad_writes);
-    let mut patterns = RegexMaker::new();
     let Exit { status, disk } = emu(
         rt,
         alloc,
         words.as_slice(),
-        &mut source,
+        source,
         &mut sink,
         &mut folder,
         disk,
-        &mut patterns,
+        patterns,
         &OpenGate,
     );
     Ran { status, sink, disk }
+}
+
+/// Runs the program over a script.
+pub fn run<R: Threads + Wait + Sync>(
+    rt: &R,
+    alloc: Global,
+    given: Given,
+    script: ListSource,
+    disk: MemoryDisk,
+) -> Ran {
+    let mut source = script;
+    let mut patterns = RegexMaker::new();
+    run_by(rt, alloc, given, &mut source, disk, &mut patterns)
 }

@@ -1,7 +1,7 @@
 //! Runs over a store on a disk in memory: one after another, with a call of the disk that fails, with a disk that stops,
 //! and over bytes that are no store.
 use crate::commands::{NO_CONFIGURATION, history_is_one_of};
-use crate::runs::{BUNDLE, CONFIG, Ran, joined, over_script, run};
+use crate::runs::{BUNDLE, BUNDLE_DONE, CONFIG, CONFIG_DONE, Ran, over_script, run};
 use emu_disk::{Fate, MemoryDisk};
 use std::alloc::Global;
 use std::process::Abort;
@@ -15,14 +15,21 @@ const RUN: &str = "run|--store";
 
 /// The replies to a configuration, a bundle and a query.
 const REPLIES: [&str; 3] = [
-    "{\"line\":1,\"n\":0,\"ok\":\"config\"}",
-    "{\"line\":2,\"n\":1,\"ok\":\"add_bundle\"}",
+    CONFIG_DONE,
+    BUNDLE_DONE,
     "{\"line\":3,\"n\":1,\"segments\":[]}",
 ];
 
-/// The replies to a configuration and twice the same bundle, where the disk refuses the first of these.
+/// The replies to a configuration and twice the same bundle.
+const TAKEN: [&str; 3] = [
+    CONFIG_DONE,
+    BUNDLE_DONE,
+    "{\"line\":3,\"n\":1,\"refused\":{\"rule\":\"BundleTaken\"}}",
+];
+
+/// The same where the disk refuses the first of these.
 const REFUSED: [&str; 3] = [
-    "{\"line\":1,\"n\":0,\"ok\":\"config\"}",
+    CONFIG_DONE,
     "{\"line\":2,\"refused\":{\"rule\":\"Disk\"}}",
     "{\"line\":3,\"n\":1,\"ok\":\"add_bundle\"}",
 ];
@@ -35,8 +42,8 @@ fn run_stored<R: Threads + Wait + Sync>(
     lines: &[&str],
     disk: MemoryDisk,
 ) -> Result<Ran, Fail> {
-    let given = over_script(alloc, words, lines)?;
-    Ok(run(rt, alloc, given, disk))
+    let (given, script) = over_script(alloc, words, lines, 0, 0)?;
+    Ok(run(rt, alloc, given, script, disk))
 }
 
 /// Runs a script over the store on a disk, compares how the run ends and the lines that it writes, and hands the disk
@@ -49,9 +56,8 @@ fn expect_stored<R: Abort + Threads + Wait + Sync>(
     status: u8,
     wanted: &[&str],
 ) -> Result<MemoryDisk, Fail> {
-    let wanted = joined(alloc, wanted)?;
     let ran = run_stored(rt, alloc, RUN, lines, disk)?;
-    assert_eq!(rt; (ran.status, ran.sink.bytes()), (status, wanted.as_slice()));
+    assert!(rt; ran.gave(status, wanted));
     Ok(ran.disk)
 }
 
@@ -73,46 +79,10 @@ fn a_run_goes_on_over_the_store_of_another(rt: HostRuntime) -> Result<(), Fail> 
     Ok(())
 }
 
-/// Runs the bundle that is given twice over an empty disk, a call of which fails.
-fn run_twice<R: Threads + Wait + Sync>(rt: &R, alloc: Global, call: u64) -> Result<Ran, Fail> {
-    let mut disk = MemoryDisk::new(alloc, &[])?;
-    disk.fail_at(&[call])?;
-    run_stored(rt, alloc, RUN, &[CONFIG, BUNDLE, BUNDLE], disk)
-}
-
-#[test]
-fn each_call_of_the_disk_fails(rt: HostRuntime) -> Result<(), Fail> {
-    let refused = joined(rt.alloc(), &REFUSED)?;
-    let (mut unopened, mut unstored) = (false, false);
-    for call in 0..20 {
-        let ran = run_twice(&rt, rt.alloc(), call)?;
-        let output = ran.sink.bytes();
-        let good = ran.status == 0 || (ran.status == 6 && output.is_empty());
-        assert!(rt; good, "call {call}");
-        unopened = unopened || ran.status == 6;
-        unstored = unstored || output == refused.as_slice();
-    }
-    assert!(rt; unopened && unstored);
-    Ok(())
-}
-
-/// The call of the disk that syncs the gate of the first bundle, over an empty disk: two calls read it, six store the
-/// configuration and four the bundle.
-const GATE_SYNC: u64 = 11;
-
 /// What `history` writes of the bundle of this line.
 const OF_LINE_2: &str = "{\"at\":1,\"do\":\"add_bundle\",\"line\":2,\"s\":1}\n";
 
 const OF_LINE_3: &str = "{\"at\":1,\"do\":\"add_bundle\",\"line\":3,\"s\":1}\n";
-
-#[test]
-fn a_refused_bundle_is_given_again(rt: HostRuntime) -> Result<(), Fail> {
-    let refused = joined(rt.alloc(), &REFUSED)?;
-    let ran = run_twice(&rt, rt.alloc(), GATE_SYNC)?;
-    let kept = history_is_one_of(&rt, rt.alloc(), ran.disk.bytes(), &[OF_LINE_3])?;
-    assert!(rt; ran.status == 0 && ran.sink.bytes() == refused.as_slice() && kept);
-    Ok(())
-}
 
 /// What `history` may write where the disk stopped behind some calls of a run: where the calls behind the stop left nothing,
 /// and where a write among them may have landed.
@@ -127,6 +97,53 @@ const CONFIG_ALONE: &[&str] = &[""];
 const BUNDLE_OR_NOT: &[&str] = &["", OF_LINE_2];
 
 const BUNDLE_TOO: &[&str] = &[OF_LINE_2];
+
+/// Runs of a configuration and twice the same bundle over an empty disk, of which a call fails, from one number on up to
+/// before another: how they end, what they write, and what `history` may write then. Two calls read the disk, six store
+/// the configuration and four the bundle. The seventh writes the gate of the configuration.
+type Failing = (
+    u64,
+    u64,
+    u8,
+    &'static [&'static str],
+    &'static [&'static str],
+);
+
+static FAILING: [Failing; 4] = [
+    (0, 6, 6, &[], NEITHER),
+    (6, 8, 6, &[], CONFIG_OR_NOT),
+    (8, 12, 0, &REFUSED, &[OF_LINE_3]),
+    (12, 20, 0, &TAKEN, BUNDLE_TOO),
+];
+
+/// Runs the bundle that is given twice over an empty disk, a call of which fails.
+fn run_twice<R: Threads + Wait + Sync>(rt: &R, alloc: Global, call: u64) -> Result<Ran, Fail> {
+    let mut disk = MemoryDisk::new(alloc, &[])?;
+    disk.fail_at(&[call])?;
+    run_stored(rt, alloc, RUN, &[CONFIG, BUNDLE, BUNDLE], disk)
+}
+
+/// Lets each of the calls of a row fail, compares how the run ends, and reads the store again.
+fn expect_failing<R: Abort + Threads + Wait + Sync>(
+    rt: &R,
+    alloc: Global,
+    row: &Failing,
+) -> Result<(), Fail> {
+    for call in row.0..row.1 {
+        let ran = run_twice(rt, alloc, call)?;
+        let kept = history_is_one_of(rt, alloc, ran.disk.bytes(), row.4)?;
+        assert!(rt; ran.gave(row.2, row.3) && kept, "call {call}");
+    }
+    Ok(())
+}
+
+#[test]
+fn each_call_of_the_disk_fails(rt: HostRuntime) -> Result<(), Fail> {
+    for row in &FAILING {
+        expect_failing(&rt, rt.alloc(), row)?;
+    }
+    Ok(())
+}
 
 /// Stops behind 0, 1, 2 .. calls of a run that stores a configuration and a bundle. The seventh call writes the gate of the
 /// configuration, the eleventh that of the bundle, and the eighth and the twelfth sync them.
@@ -223,6 +240,35 @@ fn a_disk_that_stops_leaves_what_was_acknowledged(rt: HostRuntime) -> Result<(),
             expect_images(&rt, rt.alloc(), &ran.disk, calls % 2 == 1, &STOPS[calls])?;
         }
     }
+    Ok(())
+}
+
+/// A script of one session. Four of its edits are accepted, and one is refused.
+const ALIKE: [&str; 7] = [
+    CONFIG,
+    BUNDLE,
+    "{\"s\":1,\"do\":\"merge\",\"session\":\"s1\",\"bundle\":\"b1\",\"id\":1}",
+    BUNDLE,
+    "{\"s\":1,\"do\":\"undo\",\"line\":3}",
+    QUERY,
+    "{\"s\":1,\"do\":\"drop_bundle\",\"session\":\"s1\",\"bundle\":\"b1\"}",
+];
+
+/// How many calls it makes over an empty disk: two that read it, six for the configuration, and four for each edit.
+const ALIKE_CALLS: usize = 24;
+
+/// Runs that script over an empty disk.
+fn run_alike<R: Threads + Wait + Sync>(rt: &R, alloc: Global, words: &str) -> Result<Ran, Fail> {
+    run_stored(rt, alloc, words, &ALIKE, MemoryDisk::new(alloc, &[])?)
+}
+
+#[test]
+fn a_session_alone_calls_the_disk_alike_in_order_and_live(rt: HostRuntime) -> Result<(), Fail> {
+    let [in_order, live] = WORDS;
+    let first = run_alike(&rt, rt.alloc(), in_order)?;
+    let second = run_alike(&rt, rt.alloc(), live)?;
+    let calls = second.disk.calls();
+    assert!(rt; first.disk.calls() == calls && calls.len() == ALIKE_CALLS);
     Ok(())
 }
 

@@ -101,8 +101,21 @@ pub fn run_on<R: Threads + Wait + Sync, G: Gate + Sync>(
     disk: MemoryDisk,
     gate: &G,
 ) -> Result<Ran, Fail> {
-    let bad_writes = Vec::from_slice(alloc, bad_writes)?;
     let script = joined(alloc, lines)?;
+    run_script(rt, alloc, words, script, bad_writes, disk, gate)
+}
+
+/// As `run_on`, over a script of these bytes.
+pub fn run_script<R: Threads + Wait + Sync, G: Gate + Sync>(
+    rt: &R,
+    alloc: Global,
+    words: &[&str],
+    script: Vec<u8>,
+    bad_writes: &[u64],
+    disk: MemoryDisk,
+    gate: &G,
+) -> Result<Ran, Fail> {
+    let bad_writes = Vec::from_slice(alloc, bad_writes)?;
     let words = words_of(alloc, words)?;
     Ok(call(rt, alloc, words, script, bad_writes, disk, gate))
 }

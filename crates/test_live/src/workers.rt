@@ -1,9 +1,10 @@
-//! A query by two workers, behind a gate that holds each of two bundles until the other is looked at.
-use crate::scripts::{BUNDLE, CONFIG, run_on};
+//! Queries by several workers: two bundles that are held until both are looked at, and many bundles by 1, 3 and 8.
+use crate::scripts::{BUNDLE, CONFIG, Ran, joined, run_on, run_script};
 use emu_disk::MemoryDisk;
-use emu_io::{Hold, HoldGate, LineMoment, Moment};
-use std::alloc::Global;
+use emu_io::{Hold, HoldGate, LineMoment, Moment, OpenGate};
+use std::alloc::{AllocError, Global};
 use std::process::Abort;
+use std::str;
 use std::sync::Wait;
 use std::test::Fail;
 use std::thread::Threads;
@@ -71,4 +72,62 @@ fn two_workers_look_at_two_bundles_at_once(rt: HostRuntime) -> Result<(), Fail> 
         },
     ];
     expect_held(&rt, rt.alloc(), &holds)
+}
+
+/// The line of a bundle up to its name, from there to the label of its second segment, and behind that.
+const PARTS: [&str; 3] = [
+    r#"{"s":1,"do":"add_bundle","session":"s1","bundle":"b"#,
+    r#"","annot":{"sampleRate":20000,"levels":[{"name":"Phonetic","type":"SEGMENT","items":[{"id":1,"sampleStart":3749,"sampleDur":1389,"labels":[{"name":"Phonetic","value":"m"}]},{"id":2,"sampleStart":5139,"sampleDur":1664,"labels":[{"name":"Phonetic","value":""#,
+    "\"}]}]}]}}\n",
+];
+
+/// How many bundles there are.
+const MANY: u32 = 256;
+
+/// How many rows the query finds: the first segment of each bundle is an m, and the second of every third one too.
+const MANY_ROWS: usize = 256 + 86;
+
+/// Adds the line of the bundle of a place.
+fn push_bundle(alloc: Global, script: &mut Vec<u8>, place: u32) -> Result<(), AllocError> {
+    let [front, middle, behind] = PARTS;
+    let label = if place.is_multiple_of(3) { "m" } else { "n" };
+    let line = format!(in alloc; "{front}{place}{middle}{label}{behind}")?;
+    script.extend_from_slice(line.as_bytes())
+}
+
+/// A configuration, many bundles, and a query.
+fn many(alloc: Global) -> Result<Vec<u8>, AllocError> {
+    let mut script = joined(alloc, &[CONFIG])?;
+    for place in 0..MANY {
+        push_bundle(alloc, &mut script, place)?;
+    }
+    script.extend_from_slice(br#"{"s":1,"do":"query","eql":"Phonetic == m"}"#)?;
+    Ok(script)
+}
+
+/// Runs the many bundles by so many workers.
+fn run_many<R: Threads + Wait + Sync>(rt: &R, alloc: Global, workers: &str) -> Result<Ran, Fail> {
+    let script = many(alloc)?;
+    let disk = MemoryDisk::new(alloc, &[])?;
+    let words = ["live", "--workers", workers];
+    run_script(rt, alloc, &words, script, &[], disk, &OpenGate)
+}
+
+/// How many rows an output has.
+fn rows(output: &[u8]) -> usize {
+    match str::from_utf8(output) {
+        Ok(text) => text.split("{\"attribute\":").count().saturating_sub(1),
+        Err(_) => 0,
+    }
+}
+
+#[test]
+fn one_three_and_eight_workers_find_the_same_rows(rt: HostRuntime) -> Result<(), Fail> {
+    let one = run_many(&rt, rt.alloc(), "1")?;
+    assert_eq!(rt; (one.status, rows(one.sink.bytes())), (0, MANY_ROWS));
+    for workers in ["3", "8"] {
+        let more = run_many(&rt, rt.alloc(), workers)?;
+        assert!(rt; more.status == 0 && more.sink.bytes() == one.sink.bytes());
+    }
+    Ok(())
 }

@@ -3,9 +3,9 @@ ghost use Rattle.std.specs.Prelude.{◌<◌, All, IfOk};
 ghost use Rattle.session_core.specs.Steps.{session_places};
 ghost use Rattle.session_core.specs.Inner.Steps.{place_of};
 
-use crate::made::{config, key, words};
+use crate::made::{adding, config};
 use db_config::Config;
-use edit_rules::{Act, Edit, Edits, Entries, Entry};
+use edit_rules::{Act, Entries, Entry};
 use emu_names::{Broken, Fault, Memory, SessionNo};
 use eql_resolve::prepare;
 use label_match::RegexMaker;
@@ -54,24 +54,17 @@ fn core(alloc: Global, config: Config, history: Entries) -> Result<Core, Fault> 
     Core::new(alloc, config, history)
 }
 
-/// The replies of a core to events.
-fn replies(mut core: Core, events: Events) -> Result<Replies, Memory>
-    requires { All (λ event. place_of event < session_places) events.items }
-{
-    core.run(events)
-}
-
-/// The replies to a query of a core without a history.
-fn queried(alloc: Global) -> Result<Replies, Fail> {
+/// The replies of a core to the query.
+fn queried(alloc: Global, core: Core) -> Result<Replies, Memory> {
     let events = events(alloc)?;
-    let config = config(alloc)?;
-    let core = core(alloc, config, Entries::new(alloc))?;
-    Ok(replies(core, events)?)
+    let mut asked = core;
+    asked.run(events)
 }
 
 #[test]
 fn a_query_is_run(rt: HostRuntime) -> Result<(), Fail> {
-    let replies = queried(rt.alloc())?;
+    let core = replayed(rt.alloc(), 0)??;
+    let replies = queried(rt.alloc(), core)?;
     assert_eq!(rt; replies.len(), 1);
     let text = print_reply(rt.alloc(), replies.get(0))?;
     assert_eq!(rt; text.as_str(), "{\"line\":2,\"n\":0,\"segments\":[]}\n");
@@ -80,9 +73,7 @@ fn a_query_is_run(rt: HostRuntime) -> Result<(), Fail> {
 
 /// The entry that adds a bundle without items.
 fn entry(alloc: Global) -> Result<Entry, Fail> {
-    let key = key(alloc, "s1", "b1")?;
-    let annot = words(alloc, 0)?;
-    let edits = Edits::one(alloc, Edit::AddBundle { key, annot })?;
+    let edits = adding(alloc, 0)?;
     Ok(Entry {
         session: SessionNo(1),
         line: 2,

@@ -1,7 +1,7 @@
 //! What no clause says: that edits of the greatest sizes succeed where memory is ample.
-use crate::made::{config, key, words};
+use crate::made::{adding, config};
 use db_config::Config;
-use edit_rules::{Breach, ChangeFault, Counts, Edit, Edits, change};
+use edit_rules::{Breach, ChangeFault, Counts, Edits, change};
 use emu_names::Broken;
 use std::alloc::Global;
 use std::test::Fail;
@@ -23,13 +23,6 @@ fn word<T>(ended: &Result<T, ChangeFault>) -> &'static str {
     }
 }
 
-/// The list of the edit that adds a bundle of so many words.
-fn bundle_of(alloc: Global, count: u32) -> Result<Edits, Fail> {
-    let key = key(alloc, "s1", "b1")?;
-    let annot = words(alloc, count)?;
-    Ok(Edits::one(alloc, Edit::AddBundle { key, annot })?)
-}
-
 /// What ends a list of edits of a database with so many bundles and items.
 fn ended(alloc: Global, config: &Config, counts: Counts, edits: &Edits) -> &'static str {
     let made = change(alloc, config, counts, None, edits);
@@ -38,7 +31,7 @@ fn ended(alloc: Global, config: &Config, counts: Counts, edits: &Edits) -> &'sta
 
 /// Adds one bundle of so many words to so many bundles with so many items.
 fn added(alloc: Global, config: &Config, counts: Counts, count: u32) -> Result<&'static str, Fail> {
-    let edits = bundle_of(alloc, count)?;
+    let edits = adding(alloc, count)?;
     Ok(ended(alloc, config, counts, &edits))
 }
 

@@ -81,63 +81,36 @@ fn rows_in_order(rt: HostRuntime) -> Result<(), Fail> {
     expect_reply(&rt, alloc, reply(4, Some(u64::MAX), timeless), TIMELESS)
 }
 
-/// A refusal of the table.
+/// A refusal that no script with its output comes to, or whose name has escapes.
 #[derive(Clone, Copy)]
 enum Why {
-    NoLook,
-    LookOpen,
     Memory,
-    Disk,
     UnknownName,
-    NoLevel,
-    Overlap,
     TooManyBundles,
-    LabelTooLong,
     TooManyEdits,
-}
-
-/// The refusal by a rule, with the place of the edit that breaks it.
-fn broken(rule: Broken, place: Option<u32>) -> Refusal {
-    Refusal::Rule { rule, place }
 }
 
 /// The refusal that a row names.
 fn refusal(alloc: Global, why: Why) -> Result<Refusal, Memory> {
     Ok(match why {
-        Why::NoLook => Refusal::NoLook,
-        Why::LookOpen => Refusal::LookOpen,
         Why::Memory => Refusal::Memory,
-        Why::Disk => Refusal::Disk,
         Why::UnknownName => { Refusal::Resolve(AskFault::UnknownName(Text::new(alloc, "a\"b\n")?)) }
-        Why::NoLevel => broken(Broken::NoLevel(Text::new(alloc, "Word")?), None),
-        Why::Overlap => broken(Broken::Overlap(ItemId(1)), Some(3)),
-        Why::TooManyBundles => broken(Broken::TooMany(What::Bundles), None),
-        Why::LabelTooLong => broken(Broken::LabelTooLong, None),
+        Why::TooManyBundles => {
+            Refusal::Rule {
+                rule: Broken::TooMany(What::Bundles),
+                place: Some(3),
+            }
+        }
         Why::TooManyEdits => Refusal::TooManyEdits,
     })
 }
 
 /// The number of edits in a reply, its refusal, and its text.
-static REFUSALS: [(Option<u64>, Why, &str); 10] = [
-    (
-        None,
-        Why::NoLook,
-        "{\"line\":7,\"refused\":{\"rule\":\"NoLook\"}}\n",
-    ),
-    (
-        None,
-        Why::LookOpen,
-        "{\"line\":7,\"refused\":{\"rule\":\"LookOpen\"}}\n",
-    ),
+static REFUSALS: [(Option<u64>, Why, &str); 4] = [
     (
         None,
         Why::Memory,
         "{\"line\":7,\"refused\":{\"rule\":\"Memory\"}}\n",
-    ),
-    (
-        None,
-        Why::Disk,
-        "{\"line\":7,\"refused\":{\"rule\":\"Disk\"}}\n",
     ),
     (
         Some(1),
@@ -145,24 +118,9 @@ static REFUSALS: [(Option<u64>, Why, &str); 10] = [
         "{\"line\":7,\"n\":1,\"refused\":{\"name\":\"a\\\"b\\n\",\"rule\":\"UnknownName\"}}\n",
     ),
     (
-        Some(1),
-        Why::NoLevel,
-        "{\"line\":7,\"n\":1,\"refused\":{\"name\":\"Word\",\"rule\":\"NoLevel\"}}\n",
-    ),
-    (
-        Some(0),
-        Why::Overlap,
-        "{\"line\":7,\"n\":0,\"refused\":{\"id\":1,\"place\":3,\"rule\":\"Overlap\"}}\n",
-    ),
-    (
         Some(9),
         Why::TooManyBundles,
-        "{\"line\":7,\"n\":9,\"refused\":{\"rule\":\"TooMany\",\"what\":\"Bundles\"}}\n",
-    ),
-    (
-        Some(9),
-        Why::LabelTooLong,
-        "{\"line\":7,\"n\":9,\"refused\":{\"rule\":\"LabelTooLong\"}}\n",
+        "{\"line\":7,\"n\":9,\"refused\":{\"place\":3,\"rule\":\"TooMany\",\"what\":\"Bundles\"}}\n",
     ),
     (
         None,

@@ -1,27 +1,16 @@
 //! What a database answers to an act that is tested, done and tested again, and a copy of it.
-use crate::made::{config, key, words};
+use crate::made::{adding, config, key};
 use db_config::Config;
 use edit_rules::{Act, ChangeFault, Database, Edit, Edits, apply, check};
 use std::alloc::Global;
 use std::process::Abort;
 use std::test::Fail;
 
-/// The act of one edit.
-fn act_of(alloc: Global, edit: Edit) -> Result<Act, Fail> {
-    Ok(Act::Edits(Edits::one(alloc, edit)?))
-}
-
-/// The act that adds the bundle.
-fn adding(alloc: Global) -> Result<Act, Fail> {
-    let annot = words(alloc, 1)?;
-    let key = key(alloc, "s1", "b1")?;
-    act_of(alloc, Edit::AddBundle { key, annot })
-}
-
-/// The act that drops it.
+/// The act that drops the bundle.
 fn dropping(alloc: Global) -> Result<Act, Fail> {
     let key = key(alloc, "s1", "b1")?;
-    act_of(alloc, Edit::DropBundle { key })
+    let edits = Edits::one(alloc, Edit::DropBundle { key })?;
+    Ok(Act::Edits(edits))
 }
 
 /// The word of an answer.
@@ -43,9 +32,14 @@ fn expect_act(rt: &impl Abort, alloc: Global, database: &mut Database, act: &Act
 
 /// Adds the bundle to a database, compares a copy, and drops it.
 fn expect_acts(rt: &impl Abort, alloc: Global, database: &mut Database) -> Result<(), Fail> {
-    expect_act(rt, alloc, database, &adding(alloc)?, "BundleTaken");
+    expect_act(
+        rt,
+        alloc,
+        database,
+        &Act::Edits(adding(alloc, 1)?),
+        "BundleTaken",
+    );
     let copied = database.copy(alloc)?;
-    assert_eq!(rt; copied.len(), 1);
     expect_act(rt, alloc, database, &dropping(alloc)?, "NoBundle");
     assert_eq!(rt; (copied.len(), database.len()), (1, 0));
     Ok(())

@@ -1,6 +1,7 @@
 //! A configuration, keys and annotations of it.
 use config_json::read_config;
 use db_config::Config;
+use edit_rules::{Edit, Edits};
 use emu_names::{BundleKey, ItemId, LevelKind, Memory, Name, NameFault, Series, Text};
 use json_view::View;
 use level_items::{Annot, AnnotItem, AnnotLevel, Time};
@@ -40,7 +41,7 @@ fn items(alloc: Global, count: u32) -> Result<Vec<AnnotItem>, Memory> {
 }
 
 /// So many words without labels, with the ids from 0 on.
-pub fn words(alloc: Global, count: u32) -> Result<Annot, Memory> {
+fn words(alloc: Global, count: u32) -> Result<Annot, Memory> {
     let name = Text::new(alloc, "Word")?;
     let annotates = Text::new(alloc, "b1.wav")?;
     let level = AnnotLevel {
@@ -54,4 +55,11 @@ pub fn words(alloc: Global, count: u32) -> Result<Annot, Memory> {
         levels: Series::from_vec(vec![in alloc; level]?),
         links: Series::new(alloc),
     })
+}
+
+/// The list of the edit that adds a bundle of so many words.
+pub fn adding(alloc: Global, count: u32) -> Result<Edits, Fail> {
+    let key = key(alloc, "s1", "b1")?;
+    let annot = words(alloc, count)?;
+    Ok(Edits::one(alloc, Edit::AddBundle { key, annot })?)
 }
