@@ -106,8 +106,8 @@ fn limits_of_lines(rt: HostRuntime) -> Result<(), Fail> {
 }
 
 static SCRIPTS: [Row; 2] = [
-    (9_999_999, 268_435_456, 0, WITHIN),
-    (9_999_999, 268_435_457, 9, OVER),
+    (9_999, 268_435_456, 0, WITHIN),
+    (9_999, 268_435_457, 9, OVER),
 ];
 
 #[test]

@@ -328,16 +328,15 @@ const fn hold(first: u32, second: u32) -> Hold {
     }
 }
 
-/// No session goes on behind its first line before the next one has begun, so that all are there at once.
-const HOLDS: [Hold; 3] = [hold(1, 10), hold(10, 19), hold(19, 28)];
-
-/// Runs the sessions at once over a store that has the bundle.
+/// Runs the sessions at once over a store that has the bundle. None goes on behind its first line before the next one has
+/// begun, so that all are there at once.
 fn run_sessions<R: Abort + Threads + Wait + Sync>(
     rt: &R,
     alloc: Global,
     store: &[u8],
 ) -> Result<Ran, Fail> {
-    let gate = HoldGate::new(alloc, &HOLDS)?;
+    let holds = [hold(1, 10), hold(10, 19), hold(19, 28)];
+    let gate = HoldGate::new(alloc, &holds)?;
     let ran = run(rt, alloc, &LIVE, &SESSIONS, store, &gate)?;
     assert!(rt; gate.saw_all() && !gate.gave_up());
     Ok(ran)
