@@ -1,4 +1,3 @@
 pub mod Ruled
-pub mod Keeping
 pub mod Backs
 pub mod Turning

@@ -12,6 +12,7 @@ pub mod Alone
 pub mod Standing
 pub mod Ordered
 pub mod RowLists
+pub mod Keeping
 pub mod ReadingSteps
 pub mod Readings
 pub mod Threads

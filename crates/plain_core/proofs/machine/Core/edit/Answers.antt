@@ -1,5 +1,5 @@
 use Rattle.session_core.specs.Undos.{latest_of}
-use Rattle.plain_core.proofs.Keeping.{head_of, kept_changed, kept_undone, given_told, undo_told}
+use Rattle.session_core.proofs.Keeping.{head_of, kept_changed, kept_undone, given_told, undo_told}
 use Rattle.plain_core.proofs.machine.Core.edit.Goals as goal
 
 pub invariant_of-self-in-Edit : goal.invariant_of-self-in-Edit

@@ -1,4 +1,4 @@
-use Rattle.plain_core.proofs.Keeping.{kept_closed, closed_step}
+use Rattle.session_core.proofs.Keeping.{kept_closed, closed_step}
 use Rattle.plain_core.proofs.machine.Core.finish.Goals as goal
 
 pub invariant_of-self-2 : goal.invariant_of-self-2

@@ -1,7 +1,7 @@
 use Rattle.std.proofs.Common.{refl}
 use Rattle.session_core.specs.declared.line.Request.TheVariants as requests
 use Rattle.session_core.specs.Inner.Kept.{head_line}
-use Rattle.plain_core.proofs.Keeping.{kept_begun_at, query_told}
+use Rattle.session_core.proofs.Keeping.{kept_begun_at, query_told}
 use Rattle.plain_core.proofs.machine.Core.hold_query.Goals as goal
 
 pub invariant_of-self-2 : goal.invariant_of-self-2

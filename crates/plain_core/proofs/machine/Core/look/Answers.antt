@@ -1,5 +1,5 @@
 use Rattle.session_core.specs.declared.line.Request.TheVariants as requests
-use Rattle.plain_core.proofs.Keeping.{look_of_line}
+use Rattle.session_core.proofs.Keeping.{look_of_line}
 use Rattle.plain_core.proofs.machine.Core.look.Goals as goal
 
 pub returns-in-Look-clause-ok : goal.returns-in-Look-clause-ok

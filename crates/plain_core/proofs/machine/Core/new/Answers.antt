@@ -1,5 +1,5 @@
 use Rattle.edit_undo.specs.edit_rules.Effects.{after}
-use Rattle.plain_core.proofs.Keeping.{kept_begin, begun}
+use Rattle.session_core.proofs.Keeping.{kept_begin, begun}
 use Rattle.plain_core.proofs.Ruled.{made_ruled}
 use Rattle.plain_core.proofs.machine.Core.new.Goals as goal
 

@@ -1,4 +1,4 @@
-use Rattle.plain_core.proofs.Keeping.{kept_tried, answered_ok, answered_err}
+use Rattle.session_core.proofs.Keeping.{kept_tried, answered_ok, answered_err}
 use Rattle.plain_core.proofs.machine.Core.query.Goals as goal
 
 pub invariant_of-self : goal.invariant_of-self
