@@ -5,7 +5,7 @@ ghost use Rattle.emu_cli.specs.Inner.Ends.{TellsDone};
 use crate::ending::end_of;
 use emu_names::Text;
 use emudb_files::store_texts::{CommandFault, print_done};
-use script_runs::program_output::Ending;
+use script_runs::Ending;
 use std::alloc::Global;
 
 /// The text of a command that has added bundles, if memory holds it.

@@ -3,7 +3,7 @@ ghost use Rattle.emu_cli.specs.Ends.{IsEndOf, IsRefusedBy};
 
 use emu_names::Text;
 use emudb_files::store_texts::{CommandFault, Refused, print_refused};
-use script_runs::program_output::Ending;
+use script_runs::Ending;
 use std::alloc::Global;
 
 /// How a refused command ends.

@@ -14,7 +14,6 @@ mod work_command;
 pub use at_once::live;
 pub use in_order::run;
 pub use program::{is_of_store, on_store};
-pub use script_runs::program_output::{Ending, Status};
-pub use script_runs::{Ran, Spread};
+pub use script_runs::{Ending, Ran, Spread, Status};
 pub use store::StoreEnd;
 pub use top::{Exit, emu};

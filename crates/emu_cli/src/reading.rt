@@ -14,8 +14,7 @@ use emudb_files::store_texts::{
     CommandFault, ask_text, config_text, export_text, history_text, textgrid_text,
 };
 use label_match::PatternMaker;
-use script_runs::live_book::Book;
-use script_runs::program_output::Ending;
+use script_runs::{Book, Ending};
 use std::alloc::Global;
 use std::thread::Threads;
 

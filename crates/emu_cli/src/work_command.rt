@@ -9,7 +9,7 @@ ghost use Rattle.script_runs.specs.Told.{FinishesBy};
 use emu_disk::Disk;
 use emu_io::{Gate, Sink};
 use label_match::PatternMaker;
-use script_runs::program_output::{Ending, Status, finish};
+use script_runs::{Ending, Status, finish};
 use std::alloc::Global;
 use std::sync::Wait;
 use std::thread::Threads;

@@ -9,6 +9,8 @@ mod places;
 mod room;
 mod run;
 
-pub use edit_rules;
-pub use live_seats::{Marks, live_book, session_core, session_run};
+pub use live_seats::Marks;
+pub use live_seats::live_book::{Book, Published};
+pub use live_seats::session_core::{Answer, Ask, Command, Line, Lines, Replies, Reply, Request};
+pub use live_seats::session_run::{InOrder, new_in_order};
 pub use run::{Ended, LiveEnd, run_live};

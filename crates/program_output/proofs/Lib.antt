@@ -1,3 +1,2 @@
 pub mod FrontLemmas
 mod LineLemmas
-pub use Rattle.script_lines.proofs as of_script_lines

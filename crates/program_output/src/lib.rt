@@ -12,6 +12,5 @@ pub use ended::Ended;
 pub use ending::Ending;
 pub use last::{close_run, damaged, finish, usage};
 pub use output::{write_config, write_reply, write_text};
-pub use script_lines;
 pub use status::{Status, code};
 pub use store_texts::{print_from, print_mark};

@@ -14,7 +14,7 @@ use Rattle.live_run.specs.live_book.Commits.{has_journal}
 use Rattle.book_opening.specs.Opens.{IsNoBookFor, DuringNew, DuringNoBook}
 use Rattle.book_opening.specs.Inner.Opens.{IsEmpty, IsNew}
 use Rattle.eql_resolve.specs.Made.{times_too_large}
-use Rattle.program_output.specs.script_lines.declared.faults.ReadLine.TheVariants as reads
+use Rattle.script_lines.specs.declared.faults.ReadLine.TheVariants as reads
 use Rattle.program_output.specs.declared.ended.Ended.{Ended}
 use Rattle.program_output.specs.declared.ended.Ended.TheVariants as ends
 use Rattle.script_runs.specs.Scripts.{read_from}

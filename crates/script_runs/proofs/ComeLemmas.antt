@@ -9,14 +9,14 @@ use Rattle.live_run.specs.session_core.declared.line.Request.TheVariants as requ
 use Rattle.live_run.specs.session_core.Worlds.{Each, NamesChange}
 use Rattle.live_run.specs.session_core.InOrder.{ComeInOrder, ComesNext, NamesEarlier, IsBelow}
 use Rattle.live_run.proofs.of_session_core.Turns.{each_push, each_map}
-use Rattle.program_output.specs.script_lines.declared.faults.LineFault.{LineFault}
-use Rattle.program_output.specs.script_lines.declared.faults.ReadLine.{ReadLine}
-use Rattle.program_output.specs.script_lines.declared.faults.ReadLine.TheVariants as reads
-use Rattle.program_output.specs.script_lines.Lines.{request_of}
-use Rattle.program_output.specs.script_lines.declared.line_set.EarlierLine.{EarlierLine}
-use Rattle.program_output.specs.script_lines.Earlier.{is_change_of, is_line}
-use Rattle.program_output.specs.script_lines.Known.{Known, NamesOneOf}
-use Rattle.program_output.proofs.of_script_lines.KnownLines.{known}
+use Rattle.script_lines.specs.declared.faults.LineFault.{LineFault}
+use Rattle.script_lines.specs.declared.faults.ReadLine.{ReadLine}
+use Rattle.script_lines.specs.declared.faults.ReadLine.TheVariants as reads
+use Rattle.script_lines.specs.Lines.{request_of}
+use Rattle.script_lines.specs.declared.line_set.EarlierLine.{EarlierLine}
+use Rattle.script_lines.specs.Earlier.{is_change_of, is_line}
+use Rattle.script_lines.specs.Known.{Known, NamesOneOf}
+use Rattle.script_lines.proofs.KnownLines.{known}
 use Rattle.script_runs.specs.Scripts.{AskedLine, Parsed, read_from, with_read, parse, parse_line, line_at, unless_over, as_stop, passes_limit, earlier_line, earlier_of, Stop, ◌>>=◌}
 use Rattle.script_runs.specs.Inner.Reads.{GivesConfig}
 

@@ -14,7 +14,7 @@ use Rattle.live_run.specs.live_book.Commits.{has_journal}
 use Rattle.book_opening.specs.Inner.Opens.{IsEmpty}
 use Rattle.live_run.specs.session_run.Orders.{IsDiskRefused}
 use Rattle.live_run.specs.session_run.Inner.Orders.{LeftBehind, state_of}
-use Rattle.program_output.specs.script_lines.declared.faults.ReadLine.TheVariants as reads
+use Rattle.script_lines.specs.declared.faults.ReadLine.TheVariants as reads
 use Rattle.script_runs.specs.declared.running.Running.{Running}
 use Rattle.script_runs.specs.Scripts.{Parsed, read_from, with_read}
 use Rattle.script_runs.specs.Bases.{Base, is_stored, opening_by, config_by, counted, store_of, WasRefused, IfRefused}

@@ -19,7 +19,7 @@ use Rattle.live_run.specs.live_book.Kept.{BookParts, KeepsIn, CrashLeaves, fault
 use Rattle.live_run.specs.live_book.Commits.{has_journal}
 use Rattle.book_opening.specs.Opens.{IsNoBookFor, DuringNew, DuringNoBook}
 use Rattle.book_opening.specs.Inner.Opens.{IsEmpty, IsNoStoreFor, IsNew}
-use Rattle.program_output.specs.script_lines.declared.faults.ReadLine.TheVariants as reads
+use Rattle.script_lines.specs.declared.faults.ReadLine.TheVariants as reads
 use Rattle.program_output.specs.Texts.{damaged_text}
 use Rattle.program_output.specs.declared.ended.Ended.{Ended}
 use Rattle.program_output.specs.declared.status.Status.{Status}

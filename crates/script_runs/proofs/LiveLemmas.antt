@@ -21,13 +21,13 @@ use Rattle.live_run.specs.live_book.Inner.Kept.{Holding}
 use Rattle.live_run.specs.live_book.Commits.{IsSameBook, has_journal}
 use Rattle.live_run.specs.declared.run.Ended.{Ended as LiveEnded}
 use Rattle.live_run.specs.Inner.Runs.{EndsLive, RunsLive}
-use Rattle.program_output.specs.script_lines.declared.faults.ReadLine.{ReadLine}
-use Rattle.program_output.specs.script_lines.declared.faults.ReadLine.TheVariants as reads
-use Rattle.program_output.specs.script_lines.declared.faults.LineFault.{LineFault}
-use Rattle.program_output.specs.script_lines.Lines.{request_of}
-use Rattle.program_output.specs.script_lines.Known.{Known}
+use Rattle.script_lines.specs.declared.faults.ReadLine.{ReadLine}
+use Rattle.script_lines.specs.declared.faults.ReadLine.TheVariants as reads
+use Rattle.script_lines.specs.declared.faults.LineFault.{LineFault}
+use Rattle.script_lines.specs.Lines.{request_of}
+use Rattle.script_lines.specs.Known.{Known}
 use Rattle.eql_resolve.specs.Made.{times_too_large}
-use Rattle.program_output.proofs.of_script_lines.KnownLines.{known}
+use Rattle.script_lines.proofs.KnownLines.{known}
 use Rattle.program_output.specs.declared.status.Status.{Status}
 use Rattle.script_runs.specs.declared.reading.Reading.{Reading}
 use Rattle.script_runs.specs.Cuts.{cut}

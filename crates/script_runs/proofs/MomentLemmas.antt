@@ -23,7 +23,7 @@ use Rattle.live_run.specs.live_book.Commits.{Commits, DuringCommit, has_journal}
 use Rattle.book_opening.specs.Inner.Opens.{IsEmpty}
 use Rattle.live_run.specs.session_run.Orders.{IsDiskRefused}
 use Rattle.live_run.specs.session_run.Inner.Orders.{ChangesBook, commit_reply, state_of}
-use Rattle.program_output.specs.script_lines.declared.faults.ReadLine.TheVariants as reads
+use Rattle.script_lines.specs.declared.faults.ReadLine.TheVariants as reads
 use Rattle.script_runs.specs.declared.running.Running.{Running}
 use Rattle.script_runs.specs.Scripts.{Parsed, read_from, with_read}
 use Rattle.script_runs.specs.Bases.{AtMoment, Base, IfRefused, IsOfRun, IsOfRunIn, config_by, is_stored, opening_by, store_of, counted}

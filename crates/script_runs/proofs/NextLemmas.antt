@@ -2,13 +2,13 @@
 use Rattle.std.proofs.Common.{◌≡◌, ◌≢◌, ℕ, ◌≤◌, Bool, false, List, length, Result, Ok, Err, refl, ◌∙◌, ap}
 use Rattle.std.proofs.lemmas.Bool.{le-ltb}
 use Rattle.emu_names.specs.declared.limits.TheConstants.{LINE_BYTES, SCRIPT_LINES}
-use Rattle.program_output.specs.script_lines.declared.line_set.EarlierLine.{EarlierLine}
-use Rattle.program_output.specs.script_lines.declared.faults.LineFault.{LineFault}
-use Rattle.program_output.specs.script_lines.declared.faults.LineFault.TheVariants as faults
-use Rattle.program_output.specs.script_lines.declared.faults.ReadLine.{ReadLine}
-use Rattle.program_output.specs.script_lines.Made.{eql_of}
-use Rattle.program_output.specs.script_lines.Lines.{request_of}
-use Rattle.program_output.specs.script_lines.Inner.Lines.{ReadsBy, IsReadAs}
+use Rattle.script_lines.specs.declared.line_set.EarlierLine.{EarlierLine}
+use Rattle.script_lines.specs.declared.faults.LineFault.{LineFault}
+use Rattle.script_lines.specs.declared.faults.LineFault.TheVariants as faults
+use Rattle.script_lines.specs.declared.faults.ReadLine.{ReadLine}
+use Rattle.script_lines.specs.Made.{eql_of}
+use Rattle.script_lines.specs.Lines.{request_of}
+use Rattle.script_lines.specs.Inner.Lines.{ReadsBy, IsReadAs}
 use Rattle.script_runs.specs.Scripts.{at_fault, passes_limit, as_stop, unless_over}
 use Rattle.script_runs.specs.Inner.Turns.{IsLineRead}
 

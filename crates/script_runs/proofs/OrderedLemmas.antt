@@ -16,9 +16,9 @@ use Rattle.db_config.specs.Made.{is_made}
 use Rattle.live_run.proofs.of_edit_rules.Replay.{states_keep_rules}
 use Rattle.live_run.proofs.of_session_core.Ordered.{in_turn_is_in_order}
 use Rattle.live_run.specs.live_book.Histories.{Stands}
-use Rattle.program_output.specs.script_lines.declared.faults.ReadLine.{ReadLine}
-use Rattle.program_output.specs.script_lines.declared.faults.ReadLine.TheVariants as reads
-use Rattle.program_output.specs.script_lines.Known.{Known}
+use Rattle.script_lines.specs.declared.faults.ReadLine.{ReadLine}
+use Rattle.script_lines.specs.declared.faults.ReadLine.TheVariants as reads
+use Rattle.script_lines.specs.Known.{Known}
 use Rattle.script_runs.specs.Scripts.{AskedLine, Parsed, read_from, with_read, parse, earlier_of}
 use Rattle.script_runs.specs.Bases.{Base, no_store, bare_store, store_of, wants_by, opening_by, config_by, IsBaseOf}
 use Rattle.script_runs.specs.Runs.{Setting, setting_by, IsRunFrom, Runs, run_from, history_in}

@@ -4,12 +4,12 @@ use Rattle.std.proofs.lemmas.List.{map-append}
 use Rattle.emu_names.specs.Count.{RoseBy}
 use Rattle.db_config.specs.declared.parts.ConfigParts.{ConfigParts}
 use Rattle.live_run.specs.session_core.declared.line.Line.{Line}
-use Rattle.program_output.specs.script_lines.declared.line_set.EarlierLine.{EarlierLine}
-use Rattle.program_output.specs.script_lines.declared.faults.LineFault.TheVariants as faults
-use Rattle.program_output.specs.script_lines.declared.faults.ReadLine.{ReadLine}
-use Rattle.program_output.specs.script_lines.declared.faults.ReadLine.TheVariants as reads
+use Rattle.script_lines.specs.declared.line_set.EarlierLine.{EarlierLine}
+use Rattle.script_lines.specs.declared.faults.LineFault.TheVariants as faults
+use Rattle.script_lines.specs.declared.faults.ReadLine.{ReadLine}
+use Rattle.script_lines.specs.declared.faults.ReadLine.TheVariants as reads
 use Rattle.eql_resolve.specs.Made.{times_too_large}
-use Rattle.program_output.specs.script_lines.Known.{Known}
+use Rattle.script_lines.specs.Known.{Known}
 use Rattle.program_output.specs.declared.ended.Ended.{Ended}
 use Rattle.program_output.specs.declared.ended.Ended.TheVariants as ends
 use Rattle.script_runs.specs.declared.reading.Reading.{Reading}

@@ -1,7 +1,7 @@
 -- The numbers of the requests so far are at most the number of the lines so far.
 use Rattle.std.proofs.Common.{◌≡◌, ℕ, ◌+◌, ◌<◌, ◌≤◌, List, [], ◌∷◌, ◌++◌, All, arith, subst, sym}
 use Rattle.std.proofs.lemmas.List.Elements.{All-weaker, All-push}
-use Rattle.program_output.specs.script_lines.declared.line_set.EarlierLine.{EarlierLine}
+use Rattle.script_lines.specs.declared.line_set.EarlierLine.{EarlierLine}
 
 -- the number of a line is at most this one
 abbrev IsUpTo : ℕ → EarlierLine → Type 0

@@ -18,9 +18,9 @@ use Rattle.live_run.specs.live_book.Kept.{KeepsIn, faults_in}
 use Rattle.live_run.specs.live_book.Commits.{has_journal}
 use Rattle.book_opening.specs.Inner.Opens.{IsEmpty}
 use Rattle.live_run.specs.session_run.Inner.Orders.{state_of}
-use Rattle.program_output.specs.script_lines.declared.faults.LineFault.TheVariants as faults_of
-use Rattle.program_output.specs.script_lines.declared.faults.ReadLine.{ReadLine}
-use Rattle.program_output.specs.script_lines.declared.faults.ReadLine.TheVariants as reads
+use Rattle.script_lines.specs.declared.faults.LineFault.TheVariants as faults_of
+use Rattle.script_lines.specs.declared.faults.ReadLine.{ReadLine}
+use Rattle.script_lines.specs.declared.faults.ReadLine.TheVariants as reads
 use Rattle.program_output.specs.reply_texts.Texts.{reply_text}
 use Rattle.program_output.specs.declared.ended.Ended.{Ended}
 use Rattle.program_output.specs.declared.ended.Ended.TheVariants as ends

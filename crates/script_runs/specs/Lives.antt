@@ -23,7 +23,7 @@ use Rattle.script_runs.specs.Scripts.{AskedLine, AreRead, Parsed, lines_of, scri
 use Rattle.script_runs.specs.Bases.{Base, wants_by, is_stored, opening_by, config_by, IsBaseOf, EachOf, LeavesStore}
 use Rattle.script_runs.specs.Runs.{Setting, setting_by, stop_text}
 use Rattle.script_runs.specs.Says.{Call, DiskFailed, FoundDamage, Gives, HasRead, ReadFailed, TooLong, Unopened}
-use Rattle.program_output.specs.script_lines.declared.faults.LineFault.{LineFault}
+use Rattle.script_lines.specs.declared.faults.LineFault.{LineFault}
 
 -- A live run under a configuration: what it answered to these requests, beside the history that it leaves. It holds in
 -- whatever order the sessions got on, and whatever the disk did.

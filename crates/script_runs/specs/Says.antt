@@ -6,8 +6,8 @@ use Rattle.emu_io.specs.Fronts.{Tells, WritesFront}
 use Rattle.db_config.specs.declared.parts.ConfigParts.{ConfigParts}
 use Rattle.live_run.specs.edit_rules.declared.acts.Entry.{Entry}
 use Rattle.live_run.specs.session_core.InOrder.{Outage}
-use Rattle.program_output.specs.script_lines.declared.faults.LineFault.{LineFault}
-use Rattle.program_output.specs.script_lines.declared.faults.ReadLine.TheVariants as reads
+use Rattle.script_lines.specs.declared.faults.LineFault.{LineFault}
+use Rattle.script_lines.specs.declared.faults.ReadLine.TheVariants as reads
 use Rattle.live_run.specs.live_book.Histories.{OfRead, IsBare, IsDamagedAt, HeadPassesLimit}
 use Rattle.book_opening.specs.Opens.{DuringNew}
 use Rattle.program_output.specs.Texts.{damaged_text}

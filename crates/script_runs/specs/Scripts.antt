@@ -4,14 +4,14 @@ use Rattle.emu_names.specs.Count.{RoseBy}
 use Rattle.emu_names.specs.declared.limits.TheConstants.{LINE_BYTES, SCRIPT_BYTES, SCRIPT_LINES}
 use Rattle.db_config.specs.declared.parts.ConfigParts.{ConfigParts}
 use Rattle.live_run.specs.session_core.declared.line.Line.{Line}
-use Rattle.program_output.specs.script_lines.declared.line_set.EarlierLine.{EarlierLine}
-use Rattle.program_output.specs.script_lines.declared.faults.LineFault.{LineFault}
-use Rattle.program_output.specs.script_lines.declared.faults.LineFault.TheVariants as faults
-use Rattle.program_output.specs.script_lines.declared.faults.ReadLine.{ReadLine}
-use Rattle.program_output.specs.script_lines.declared.faults.ReadLine.TheVariants as reads
-use Rattle.program_output.specs.script_lines.Made.{eql_of, IsMadeOf}
+use Rattle.script_lines.specs.declared.line_set.EarlierLine.{EarlierLine}
+use Rattle.script_lines.specs.declared.faults.LineFault.{LineFault}
+use Rattle.script_lines.specs.declared.faults.LineFault.TheVariants as faults
+use Rattle.script_lines.specs.declared.faults.ReadLine.{ReadLine}
+use Rattle.script_lines.specs.declared.faults.ReadLine.TheVariants as reads
+use Rattle.script_lines.specs.Made.{eql_of, IsMadeOf}
 use Rattle.eql_resolve.specs.Made.{Made, times_too_large}
-use Rattle.program_output.specs.script_lines.Lines.{request_of}
+use Rattle.script_lines.specs.Lines.{request_of}
 use Rattle.script_runs.specs.Cuts.{cut}
 
 -- a line of a script that was read, and what the maker of patterns made of the query that it asks

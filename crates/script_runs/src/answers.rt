@@ -9,8 +9,7 @@ ghost use Rattle.script_runs.specs.Inner.LiveTexts.{AnswersLive};
 
 use emu_io::Sink;
 use emu_names::{Memory, SessionNo};
-use live_run::session_core::Replies;
-use live_run::{Ended as LiveEnded, Marks};
+use live_run::{Ended as LiveEnded, Marks, Replies};
 use program_output::{
     Ended, Status, print_from, print_mark, write_config, write_reply, write_text,
 };

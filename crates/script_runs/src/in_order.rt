@@ -17,7 +17,7 @@ use emu_disk::Disk;
 use emu_io::{ReadFault, Sink, Source, read_front};
 use emu_names::limits::SCRIPT_BYTES;
 use label_match::PatternMaker;
-use live_run::live_book::{Book, Published};
+use live_run::{Book, Published};
 use program_output::{Status, close_run, damaged};
 use std::alloc::Global;
 use std::sync::Wait;

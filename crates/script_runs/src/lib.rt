@@ -11,8 +11,8 @@ mod script;
 mod spread;
 
 pub use at_once::{live_alone, live_stored};
-pub use book_opening;
+pub use book_opening::{NoStore, OpenFault, Opened, open_store};
 pub use in_order::{Ran, run_alone, run_stored};
-pub use live_run::live_book;
-pub use program_output;
+pub use live_run::Book;
+pub use program_output::{Ending, Status, code, finish, usage};
 pub use spread::Spread;

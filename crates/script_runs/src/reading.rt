@@ -9,9 +9,9 @@ use crate::cut::next_line;
 use crate::running::read_next;
 use db_config::Config;
 use label_match::PatternMaker;
-use live_run::session_core::{Line, Lines};
+use live_run::{Line, Lines};
 use program_output::Ended;
-use program_output::script_lines::{LineFault, LineSet, ReadLine};
+use script_lines::{LineFault, LineSet, ReadLine};
 use std::alloc::Global;
 
 /// What was read of a script so far.

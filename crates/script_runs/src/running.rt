@@ -3,7 +3,7 @@ ghost use Rattle.std.specs.Prelude.{◌≡◌, ◌+◌, ◌<◌, [], None, IfOk,
 ghost use Rattle.emu_names.specs.declared.limits.TheConstants.{SCRIPT_LINES};
 ghost use Rattle.live_run.specs.live_book.Kept.{KeepsIn};
 ghost use Rattle.book_opening.specs.Inner.Opens.{AreAtFront};
-ghost use Rattle.program_output.specs.script_lines.Known.{Known};
+ghost use Rattle.script_lines.specs.Known.{Known};
 ghost use Rattle.script_runs.specs.Inner.Reached.{IsBegun};
 ghost use Rattle.script_runs.specs.Inner.Turns.{IsUnreadFor, ReadsNext};
 
@@ -12,11 +12,9 @@ use emu_disk::Disk;
 use emu_names::Memory;
 use emu_names::limits::{LINE_BYTES, SCRIPT_LINES};
 use label_match::PatternMaker;
-use live_run::live_book::{Book, Published};
-use live_run::session_core::{Line, Reply};
-use live_run::session_run::{InOrder, new_in_order};
+use live_run::{Book, InOrder, Line, Published, Reply, new_in_order};
 use program_output::Ended;
-use program_output::script_lines::{LineFault, LineSet, ReadLine, read_line};
+use script_lines::{LineFault, LineSet, ReadLine, read_line};
 use std::alloc::Global;
 use std::sync::Wait;
 use std::thread::Threads;

@@ -15,15 +15,15 @@ use Rattle.bundle_edits.specs.declared.bundle_change.Counts.{Counts}
 use Rattle.bundle_edits.specs.declared.edit.Edit.{Edit}
 use Rattle.bundle_edits.specs.declared.edit.Edit.TheVariants.{AddBundle}
 use Rattle.bundle_edits.specs.Changes.{changed, unless_too_many}
-use Rattle.live_run.specs.edit_rules.declared.acts.Act.TheVariants as acts
-use Rattle.live_run.specs.edit_rules.declared.acts.Entry.{Entry}
-use Rattle.live_run.specs.edit_rules.Database.{DatabaseParts, empty_database, same_key, bundle_with, counts_of, KeepsDatabaseRules}
-use Rattle.live_run.specs.edit_rules.Effects.{after, at_place, edit_effect, effect, found_or, in_turn, replayed}
-use Rattle.live_run.proofs.of_edit_rules.KeyPlaces.{key_same, same_itself}
-use Rattle.live_run.proofs.of_edit_rules.Orders.{Goes, found_for, goes, lists_same}
-use Rattle.live_run.proofs.of_edit_rules.Replay.{empty_keeps, legal_keeps}
-use Rattle.live_run.proofs.of_edit_rules.Stays.{limit_before, limit_passed}
-use Rattle.live_run.proofs.of_edit_rules.Turns.{acts_keep_rules, at_ok, goes_on, told_same}
+use Rattle.edit_rules.specs.declared.acts.Act.TheVariants as acts
+use Rattle.edit_rules.specs.declared.acts.Entry.{Entry}
+use Rattle.edit_rules.specs.Database.{DatabaseParts, empty_database, same_key, bundle_with, counts_of, KeepsDatabaseRules}
+use Rattle.edit_rules.specs.Effects.{after, at_place, edit_effect, effect, found_or, in_turn, replayed}
+use Rattle.edit_rules.proofs.KeyPlaces.{key_same, same_itself}
+use Rattle.edit_rules.proofs.Orders.{Goes, found_for, goes, lists_same}
+use Rattle.edit_rules.proofs.Replay.{empty_keeps, legal_keeps}
+use Rattle.edit_rules.proofs.Stays.{limit_before, limit_passed}
+use Rattle.edit_rules.proofs.Turns.{acts_keep_rules, at_ok, goes_on, told_same}
 use Rattle.work_script.specs.States.{Adds, AreAdditions, HaveSameAdditions, AdditionsInAnyOrder, addition}
 
 -- One addition.

@@ -8,7 +8,7 @@ use Rattle.eql_resolve.specs.Prepared.{PreparedParts}
 use Rattle.eql_resolve.specs.Resolve.{asked}
 use Rattle.requery.specs.eql_model.declared.row.Row.{Row}
 use Rattle.requery.specs.eql_model.Rows.{any_has_too_many, segment_list}
-use Rattle.live_run.specs.edit_rules.Database.{DatabaseParts}
+use Rattle.edit_rules.specs.Database.{DatabaseParts}
 use Rattle.requery.specs.declared.target.Requery.{Requery}
 use Rattle.live_run.specs.session_core.declared.line.Answer.TheVariants.{Segments}
 use Rattle.live_run.specs.session_core.declared.line.Ask.{Ask}

@@ -3,7 +3,7 @@ use Rattle.std.proofs.Common.{◌≡◌, ℕ, ◌+◌, Bool, List, [], length, R
 use Rattle.emu_names.specs.declared.shortage.Memory.{Memory}
 use Rattle.db_config.specs.declared.parts.ConfigParts.{ConfigParts}
 use Rattle.bundle_edits.specs.declared.bundle_change.Counts.{Counts}
-use Rattle.live_run.specs.edit_rules.declared.acts.Entry.{Entry}
+use Rattle.edit_rules.specs.declared.acts.Entry.{Entry}
 use Rattle.live_run.specs.live_book.Commits.{has_journal}
 use Rattle.live_run.specs.live_book.Kept.{BookParts, faults_in}
 use Rattle.live_run.specs.declared.run.Ended.{Ended}

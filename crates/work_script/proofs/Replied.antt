@@ -3,8 +3,8 @@ use Rattle.std.proofs.Common.{◌≡◌, ◌⊎◌, inl, inr, ℕ, zero, suc, �
 use Rattle.std.specs.List.{list_all}
 use Rattle.std.proofs.lemmas.Option.{same_Some}
 use Rattle.db_config.specs.declared.parts.ConfigParts.{ConfigParts}
-use Rattle.live_run.specs.edit_rules.declared.acts.Act.{Act}
-use Rattle.live_run.specs.edit_rules.declared.acts.Entry.{Entry}
+use Rattle.edit_rules.specs.declared.acts.Act.{Act}
+use Rattle.edit_rules.specs.declared.acts.Entry.{Entry}
 use Rattle.live_run.specs.session_core.declared.line.Answer.{Answer}
 use Rattle.live_run.specs.session_core.declared.line.Answer.TheVariants.{Done, Segments, Refused}
 use Rattle.live_run.specs.session_core.declared.line.Ask.{Ask}

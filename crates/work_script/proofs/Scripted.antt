@@ -1,6 +1,6 @@
 -- The lines of the script of work: its edits are the additions of its bundles, and a line's number says what it asks.
 use Rattle.std.proofs.Common.{◌≡◌, ◌⊎◌, inl, inr, ℕ, suc, ◌+◌, ◌<◌, List, [], ◌∷◌, ◌++◌, length, Ok, sym, ◌∙◌, ap, subst}
-use Rattle.live_run.specs.edit_rules.declared.acts.Act.{Act}
+use Rattle.edit_rules.specs.declared.acts.Act.{Act}
 use Rattle.live_run.specs.session_core.declared.line.Line.{Line}
 use Rattle.live_run.specs.session_core.declared.line.Request.{Request}
 use Rattle.live_run.specs.session_core.declared.line.Request.TheVariants as requests

@@ -3,10 +3,10 @@ use Rattle.std.proofs.Common.{◌≡◌, inl, inr, ℕ, ◌<◌, true, List, [],
 use Rattle.emu_names.specs.declared.names.BundleKey.{BundleKey}
 use Rattle.level_items.specs.declared.annot.Annot.{Annot}
 use Rattle.db_config.specs.Valid.{is_valid}
-use Rattle.live_run.specs.edit_rules.declared.acts.Entry.{Entry}
-use Rattle.live_run.specs.edit_rules.Database.{DatabaseParts, KeepsDatabaseRules, empty_database, same_key}
-use Rattle.live_run.specs.edit_rules.Effects.{IsLegal, database_after, found_or}
-use Rattle.live_run.proofs.of_edit_rules.Replay.{empty_keeps, legal_keeps}
+use Rattle.edit_rules.specs.declared.acts.Entry.{Entry}
+use Rattle.edit_rules.specs.Database.{DatabaseParts, KeepsDatabaseRules, empty_database, same_key}
+use Rattle.edit_rules.specs.Effects.{IsLegal, database_after, found_or}
+use Rattle.edit_rules.proofs.Replay.{empty_keeps, legal_keeps}
 use Rattle.work_script.specs.Script.{work_annot, work_config, work_key}
 use Rattle.work_script.specs.Inner.Script.{work_act}
 use Rattle.work_script.specs.States.{Adds, AreAdditions, IsWorkState, addition}

@@ -1,10 +1,10 @@
 -- The summary of a run of the script of work is that of the database in which all its bundles stand.
 use Rattle.std.proofs.Common.{◌≡◌, ℕ, ◌+◌, ◌-◌, ◌<◌, List, [], ◌++◌, length, take_all, Some, refl, sym, ◌∙◌, ap, subst, arith, length-append, slice_get}
-use Rattle.live_run.specs.edit_rules.declared.acts.Entry.{Entry}
+use Rattle.edit_rules.specs.declared.acts.Entry.{Entry}
 use Rattle.db_config.specs.declared.parts.ConfigParts.{ConfigParts}
 use Rattle.bundle_edits.specs.declared.bundle_change.Counts.{Counts}
-use Rattle.live_run.specs.edit_rules.Database.{DatabaseParts, counts_of, empty_database}
-use Rattle.live_run.specs.edit_rules.Effects.{database_after, found_or}
+use Rattle.edit_rules.specs.Database.{DatabaseParts, counts_of, empty_database}
+use Rattle.edit_rules.specs.Effects.{database_after, found_or}
 use Rattle.book_opening.specs.version_tree.Version.{VersionParts, state_of}
 use Rattle.live_run.specs.live_book.Published.{IsStateAfter}
 use Rattle.live_run.specs.session_core.declared.line.Answer.TheVariants.{Segments}

@@ -7,11 +7,11 @@ use Rattle.db_config.specs.Valid.{is_valid}
 use Rattle.bundle_state.specs.Bundle.{BundleParts}
 use Rattle.bundle_state.specs.Built.{built}
 use Rattle.bundle_edits.specs.declared.edit.Edit.TheVariants.{AddBundle}
-use Rattle.live_run.specs.edit_rules.declared.acts.Act.{Act}
-use Rattle.live_run.specs.edit_rules.declared.acts.Act.TheVariants as acts
-use Rattle.live_run.specs.edit_rules.declared.acts.Entry.{Entry}
-use Rattle.live_run.specs.edit_rules.Database.{DatabaseParts, KeepsDatabaseRules, bundle_with, same_key}
-use Rattle.live_run.specs.edit_rules.Effects.{after}
+use Rattle.edit_rules.specs.declared.acts.Act.{Act}
+use Rattle.edit_rules.specs.declared.acts.Act.TheVariants as acts
+use Rattle.edit_rules.specs.declared.acts.Entry.{Entry}
+use Rattle.edit_rules.specs.Database.{DatabaseParts, KeepsDatabaseRules, bundle_with, same_key}
+use Rattle.edit_rules.specs.Effects.{after}
 use Rattle.work_script.specs.Script.{work_annot, work_config, work_key}
 
 -- A database in which all bundles of the script of a number stand, so many of them, and no other. It keeps the rules:

@@ -6,7 +6,7 @@ use Rattle.eql_syntax.specs.Tree.{Tree}
 use Rattle.eql_resolve.specs.Asked.{AskedParts}
 use Rattle.eql_resolve.specs.Resolve.{asked}
 use Rattle.requery.specs.eql_model.Rows.{segment_list}
-use Rattle.live_run.specs.edit_rules.Database.{DatabaseParts, all_items}
+use Rattle.edit_rules.specs.Database.{DatabaseParts, all_items}
 use Rattle.work_script.specs.Script.{work_queries}
 use Rattle.work_script.specs.States.{IsWorkState}
 use Rattle.work_script.specs.declared.summary.Summary.{Summary}

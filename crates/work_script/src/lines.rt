@@ -8,11 +8,11 @@ ghost use Rattle.work_script.specs.Inner.Lines.{AreAsking, IsAsking, IsScript};
 
 use crate::annotation::work_annot;
 use crate::config::name_of;
+use edit_rules::{Act, Edit, Edits};
 use emu_names::{BundleKey, Memory, Name, SessionNo};
 use eql_resolve::prepare;
 use label_match::PatternMaker;
-use live_run::edit_rules::{Act, Edit, Edits};
-use live_run::session_core::{Ask, Command, Line, Lines, Request};
+use live_run::{Ask, Command, Line, Lines, Request};
 use std::alloc::Global;
 
 /// The segments of one label.

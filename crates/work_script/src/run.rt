@@ -1,8 +1,8 @@
 //! The run of the script of work, by several sessions at once.
 ghost use Rattle.std.specs.Prelude.{◌≡◌, ◌≤◌, ◌<◌, ◌+◌, ◌^◌, ℕ, false, [], None, IfOk, IfSome, length};
 ghost use Rattle.emu_names.specs.declared.limits.TheConstants.{BUNDLES};
-ghost use Rattle.live_run.specs.edit_rules.Database.{counts_of};
-ghost use Rattle.live_run.specs.edit_rules.Effects.{database_after};
+ghost use Rattle.edit_rules.specs.Database.{counts_of};
+ghost use Rattle.edit_rules.specs.Effects.{database_after};
 ghost use Rattle.live_run.specs.live_book.Commits.{has_journal};
 ghost use Rattle.live_run.specs.live_book.Kept.{BookParts, KeepsIn};
 ghost use Rattle.live_run.specs.Inner.Runs.{EndsLive};
@@ -18,14 +18,12 @@ use crate::lines::work_lines;
 use crate::summary::{Summary, are_taken, rows_at, summary_text};
 use book_opening::{MadeBook, NoBook, new_book};
 use edit_journal::Journal;
+use edit_rules::Counts;
 use emu_disk::Disk;
 use emu_io::Gate;
 use emu_names::{Memory, Text};
 use label_match::PatternMaker;
-use live_run::edit_rules::Counts;
-use live_run::live_book::{Book, Published};
-use live_run::session_core::{Lines, Reply};
-use live_run::{Ended, LiveEnd, run_live};
+use live_run::{Book, Ended, Lines, LiveEnd, Published, Reply, run_live};
 use std::alloc::Global;
 use std::sync::Wait;
 use std::thread::Threads;

@@ -5,7 +5,7 @@ ghost use Rattle.work_script.specs.Inner.Replies.{GivesRows, HasRows, is_taken};
 ghost use Rattle.work_script.specs.Summary.{summary_text};
 
 use emu_names::{Memory, Text};
-use live_run::session_core::{Answer, Reply};
+use live_run::{Answer, Reply};
 use std::alloc::Global;
 
 /// What was found in a run of the script of work.

@@ -4,7 +4,7 @@ use Rattle.emu_names.specs.Count.{RoseBy}
 use Rattle.db_config.specs.declared.parts.ConfigParts.{ConfigParts}
 use Rattle.db_config.specs.Valid.{is_valid}
 use Rattle.live_run.specs.session_core.InOrder.{ComeInOrder}
-use Rattle.program_output.specs.script_lines.declared.faults.LineFault.TheVariants as faults
+use Rattle.script_lines.specs.declared.faults.LineFault.TheVariants as faults
 use Rattle.program_output.specs.declared.ended.Ended.{Ended}
 use Rattle.program_output.specs.declared.ended.Ended.TheVariants as ends
 use Rattle.script_runs.specs.declared.reading.Reading.{Reading}

@@ -3,10 +3,10 @@ use Rattle.std.specs.Prelude.{◌≡◌, ◌≢◌, ◌≤◌, ℕ, Bool, true, 
 use Rattle.db_config.specs.declared.parts.ConfigParts.{ConfigParts}
 use Rattle.emu_names.specs.Count.{RoseBy}
 use Rattle.eql_resolve.specs.Made.{Made, times_too_large}
-use Rattle.program_output.specs.script_lines.declared.line_set.EarlierLine.{EarlierLine}
-use Rattle.program_output.specs.script_lines.declared.faults.LineFault.TheVariants as faults
-use Rattle.program_output.specs.script_lines.declared.faults.ReadLine.{ReadLine}
-use Rattle.program_output.specs.script_lines.declared.faults.ReadLine.TheVariants as reads
+use Rattle.script_lines.specs.declared.line_set.EarlierLine.{EarlierLine}
+use Rattle.script_lines.specs.declared.faults.LineFault.TheVariants as faults
+use Rattle.script_lines.specs.declared.faults.ReadLine.{ReadLine}
+use Rattle.script_lines.specs.declared.faults.ReadLine.TheVariants as reads
 use Rattle.program_output.specs.declared.ended.Ended.{Ended}
 use Rattle.program_output.specs.declared.ended.Ended.TheVariants as ends
 use Rattle.script_runs.specs.Scripts.{IsAnswered, line_at, passes_limit, Stop, at_fault}

@@ -2,10 +2,10 @@
 use Rattle.std.specs.Prelude.{◌≡◌, ◌⊎◌, ℕ, ◌-◌, Bool, true, false, List, [], ◌∷◌, length, Some}
 use Rattle.std.specs.List.{list_all}
 use Rattle.db_config.specs.declared.parts.ConfigParts.{ConfigParts}
-use Rattle.live_run.specs.edit_rules.declared.acts.Entry.{Entry}
+use Rattle.edit_rules.specs.declared.acts.Entry.{Entry}
 use Rattle.bundle_edits.specs.declared.bundle_change.Counts.{Counts}
-use Rattle.live_run.specs.edit_rules.Database.{counts_of}
-use Rattle.live_run.specs.edit_rules.Effects.{database_after}
+use Rattle.edit_rules.specs.Database.{counts_of}
+use Rattle.edit_rules.specs.Effects.{database_after}
 use Rattle.requery.specs.eql_model.declared.row.Row.{Row}
 use Rattle.live_run.specs.session_core.declared.line.Answer.{Answer}
 use Rattle.live_run.specs.session_core.declared.line.Answer.TheVariants.{Done, Segments, Refused}

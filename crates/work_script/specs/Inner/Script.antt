@@ -1,6 +1,6 @@
 -- The lines of the script of work: the additions, and the lines in which session 1 waits for those of the others.
 use Rattle.std.specs.Prelude.{ℕ, ◌+◌, ◌*◌, ◌-◌, ◌/◌, ◌%◌, List, Ok, min}
-use Rattle.live_run.specs.edit_rules.declared.acts.Act.{Act}
+use Rattle.edit_rules.specs.declared.acts.Act.{Act}
 use Rattle.live_run.specs.session_core.declared.line.Command.TheVariants as commands
 use Rattle.live_run.specs.session_core.declared.line.Line.{Line}
 use Rattle.live_run.specs.session_core.declared.line.Request.TheVariants as requests

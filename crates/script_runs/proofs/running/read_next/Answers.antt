@@ -1,6 +1,6 @@
 use Rattle.std.proofs.Common.{◌≢◌, ◌+◌, arith, rules}
-use Rattle.program_output.specs.script_lines.declared.faults.LineFault.TheVariants as faults
-use Rattle.program_output.proofs.of_script_lines.KnownLines.{known}
+use Rattle.script_lines.specs.declared.faults.LineFault.TheVariants as faults
+use Rattle.script_lines.proofs.KnownLines.{known}
 use Rattle.script_runs.proofs.NextLemmas.{within, next_read, next_fault}
 use Rattle.script_runs.proofs.running.read_next.Goals as goal
 
