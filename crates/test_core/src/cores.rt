@@ -49,6 +49,8 @@ fn events(alloc: Global) -> Result<Events, Memory>
 /// The core over a history that is not too long.
 fn core(alloc: Global, config: Config, history: Entries) -> Result<Core, Fault> {
     if history.len() > 100_000 {
+        drop(config);
+        drop(history);
         return Err(Fault::Memory);
     }
     Core::new(alloc, config, history)
@@ -56,9 +58,18 @@ fn core(alloc: Global, config: Config, history: Entries) -> Result<Core, Fault> 
 
 /// The replies of a core to the query.
 fn queried(alloc: Global, core: Core) -> Result<Replies, Memory> {
-    let events = events(alloc)?;
-    let mut asked = core;
-    asked.run(events)
+    match events(alloc) {
+        Ok(events) => {
+            let mut asked = core;
+            let replies = asked.run(events);
+            drop(asked);
+            replies
+        }
+        Err(fault) => {
+            drop(core);
+            Err(fault)
+        }
+    }
 }
 
 #[test]
@@ -100,7 +111,9 @@ fn replayed(alloc: Global, count: usize) -> Result<Result<Core, Fault>, Fail> {
 #[test]
 fn a_history_is_replayed(rt: HostRuntime) -> Result<(), Fail> {
     let core = replayed(rt.alloc(), 1)??;
-    assert_eq!(rt; (core.number(), core.history().len()), (1, 1));
+    let counts = (core.number(), core.history().len());
+    drop(core);
+    assert_eq!(rt; counts, (1, 1));
     Ok(())
 }
 

@@ -4,6 +4,7 @@ use db_config::Config;
 use edit_rules::{Breach, ChangeFault, Counts, Edits, change};
 use emu_names::Broken;
 use std::alloc::Global;
+use std::process::Abort;
 use std::test::Fail;
 
 /// What ends an edit, in a word; `none` where it is taken.
@@ -45,12 +46,19 @@ static ROWS: [(u32, u32, u32, &str); 6] = [
     (10000, 0, 0, "Bundles"),
 ];
 
-#[test]
-fn counts_keep_the_limits(rt: HostRuntime) -> Result<(), Fail> {
-    let config = config(rt.alloc())?;
+/// Adds each of the bundles, and compares.
+fn expect_rows<R: Abort>(rt: &R, alloc: Global, config: &Config) -> Result<(), Fail> {
     for &(bundles, items, count, wanted) in &ROWS {
-        let text = added(rt.alloc(), &config, Counts { bundles, items }, count)?;
+        let text = added(alloc, config, Counts { bundles, items }, count)?;
         assert_eq!(rt; text, wanted, "{bundles} {items} {count}");
     }
     Ok(())
+}
+
+#[test]
+fn counts_keep_the_limits(rt: HostRuntime) -> Result<(), Fail> {
+    let config = config(rt.alloc())?;
+    let compared = expect_rows(&rt, rt.alloc(), &config);
+    drop(config);
+    compared
 }

@@ -67,24 +67,62 @@ fn threes(alloc: Global, len: usize) -> Result<BitRow, Memory>
     Ok(row)
 }
 
-/// What the rows of a length say.
-fn counts(alloc: Global, len: usize) -> Result<Counts, Memory> {
-    let evens = evens(alloc, len)?;
-    let threes = threes(alloc, len)?;
-    let tens = tens(alloc, len)?;
-    let mut both = evens.copy(alloc)?;
-    let mut either = evens.copy(alloc)?;
-    and_into(&mut both, &threes);
-    or_into(&mut either, &threes);
+/// How many places two rows have both, and how many one of them has.
+fn joined(alloc: Global, evens: &BitRow, threes: &BitRow) -> Result<(usize, usize), Memory>
+    requires { length evens.now ≡ length threes.now }
+{
+    let mut row = evens.copy(alloc)?;
+    and_into(&mut row, threes);
+    let both = row.count();
+    drop(row);
+    let mut row = evens.copy(alloc)?;
+    or_into(&mut row, threes);
+    let either = row.count();
+    drop(row);
+    Ok((both, either))
+}
+
+/// How many tens there are, the first and the last of them.
+fn tens_of(alloc: Global, len: usize) -> Result<(usize, Option<usize>, Option<usize>), Memory> {
+    let row = tens(alloc, len)?;
+    let told = (row.count(), row.first(), row.last());
+    drop(row);
+    Ok(told)
+}
+
+/// What the rows of a length say, of which these are two.
+fn counts_of(alloc: Global, len: usize, evens: &BitRow, threes: &BitRow) -> Result<Counts, Memory>
+    requires { length evens.now ≡ length threes.now }
+{
+    let (both, either) = joined(alloc, evens, threes)?;
+    let (count, first, last) = tens_of(alloc, len)?;
     Ok((
         evens.count(),
         threes.count(),
-        both.count(),
-        either.count(),
-        tens.count(),
-        tens.first(),
-        tens.last(),
+        both,
+        either,
+        count,
+        first,
+        last,
     ))
+}
+
+/// The same, of which this is one.
+fn counts_with(alloc: Global, len: usize, evens: &BitRow) -> Result<Counts, Memory>
+    requires { length evens.now ≡ len }
+{
+    let threes = threes(alloc, len)?;
+    let told = counts_of(alloc, len, evens, &threes);
+    drop(threes);
+    told
+}
+
+/// What the rows of a length say.
+fn counts(alloc: Global, len: usize) -> Result<Counts, Memory> {
+    let evens = evens(alloc, len)?;
+    let told = counts_with(alloc, len, &evens);
+    drop(evens);
+    told
 }
 
 #[test]

@@ -228,11 +228,15 @@ fn ask_all(rt: &impl Abort, alloc: Global, config: &Config, indexed: &Indexed) -
 /// Asks all queries of the bundle.
 fn ask_of_bundle(rt: &impl Abort, alloc: Global, config: &Config) -> Result<(), Fail> {
     let indexed = indexed_of(alloc, config, BUNDLE)?;
-    ask_all(rt, alloc, config, &indexed)
+    let compared = ask_all(rt, alloc, config, &indexed);
+    drop(indexed);
+    compared
 }
 
 #[test]
 fn results_are_those_of_the_table(rt: HostRuntime) -> Result<(), Fail> {
     let config = config_of(rt.alloc(), DATABASE)?;
-    ask_of_bundle(&rt, rt.alloc(), &config)
+    let compared = ask_of_bundle(&rt, rt.alloc(), &config);
+    drop(config);
+    compared
 }

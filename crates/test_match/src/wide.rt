@@ -164,13 +164,17 @@ fn expect_all_crossed(
 fn ask_of_crossed(rt: &impl Abort, alloc: Global, config: &Config) -> Result<(), Fail> {
     let text = crossed_text(alloc)?;
     let indexed = indexed_of(alloc, config, text.as_str())?;
-    expect_all_crossed(rt, alloc, config, &indexed)
+    let compared = expect_all_crossed(rt, alloc, config, &indexed);
+    drop(indexed);
+    compared
 }
 
 #[test]
 fn both_evaluators_agree_where_items_have_several_parents(rt: HostRuntime) -> Result<(), Fail> {
     let config = config_of(rt.alloc(), DATABASE)?;
-    ask_of_crossed(&rt, rt.alloc(), &config)
+    let compared = ask_of_crossed(&rt, rt.alloc(), &config);
+    drop(config);
+    compared
 }
 
 /// So many items A above one item M, and 1,000 items B below it, all with the label x.
@@ -230,16 +234,33 @@ fn fast_count_of(
 }
 
 /// How many results it finds for a text in a bundle.
+fn fast_count_in(
+    alloc: Global,
+    config: &Config,
+    indexed: &Indexed,
+    text: &str,
+) -> Result<Result<usize, MatchFault>, Fail> {
+    let prepared = prepared_of(alloc, text)?;
+    fast_count_of(alloc, config, indexed, &prepared)
+}
+
+/// The wide bundle with so many items.
+fn wide(alloc: Global, config: &Config, count: u32) -> Result<Indexed, Fail> {
+    let annot = wide_text(alloc, count)?;
+    indexed_of(alloc, config, annot.as_str())
+}
+
+/// How many results it finds for a text in the wide bundle with so many items.
 fn fast_count_for(
     alloc: Global,
     config: &Config,
     count: u32,
     text: &str,
 ) -> Result<Result<usize, MatchFault>, Fail> {
-    let annot = wide_text(alloc, count)?;
-    let indexed = indexed_of(alloc, config, annot.as_str())?;
-    let prepared = prepared_of(alloc, text)?;
-    fast_count_of(alloc, config, &indexed, &prepared)
+    let indexed = wide(alloc, config, count)?;
+    let found = fast_count_in(alloc, config, &indexed, text);
+    drop(indexed);
+    found
 }
 
 /// Asks the fast evaluator all queries of the table.
