@@ -1,5 +1,5 @@
 //! Generated bundles of more items than a word has bits: several items above one, and as many pairs as a query may have.
-ghost use Rattle.std.specs.Prelude.{◌≡◌};
+ghost use Rattle.std.specs.Prelude.{◌≡◌, IfOk};
 ghost use Rattle.bundle_state.specs.Built.{FitsConfig};
 ghost use Rattle.eql_resolve.specs.Inner.Sound.{IsResolvedBy};
 
@@ -239,13 +239,17 @@ fn fast_count_in(
     config: &Config,
     indexed: &Indexed,
     text: &str,
-) -> Result<Result<usize, MatchFault>, Fail> {
+) -> Result<Result<usize, MatchFault>, Fail>
+    requires { FitsConfig config.now indexed.now.bundle }
+{
     let prepared = prepared_of(alloc, text)?;
     fast_count_of(alloc, config, indexed, &prepared)
 }
 
 /// The wide bundle with so many items.
-fn wide(alloc: Global, config: &Config, count: u32) -> Result<Indexed, Fail> {
+fn wide(alloc: Global, config: &Config, count: u32) -> Result<Indexed, Fail>
+    ensures { IfOk result (λ indexed. FitsConfig config.now indexed.bundle) }
+{
     let annot = wide_text(alloc, count)?;
     indexed_of(alloc, config, annot.as_str())
 }
