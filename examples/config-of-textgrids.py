@@ -3,7 +3,7 @@
 
 Interval tiers become SEGMENT levels, point tiers EVENT levels, in order of first sight, each with one attribute of its name. With
 `--links UPPER LOWER` before NAME, which may be repeated, a link definition ONE_TO_MANY leads from the level UPPER down to LOWER; the
-links themselves are made by links-from-times.jq.
+links themselves are made by `link_times`, or one by one by links-from-times.jq.
 """
 import json
 import re

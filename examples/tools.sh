@@ -148,6 +148,24 @@ m 0 199
 a 200 499
 WANTED
 
+# The same with the link definition added after the import, and the links that the times give made by one line.
+mkdir ../later && cd ../later || exit 1
+cp ../grids/one.TextGrid .
+python3 "$here/config-of-textgrids.py" g one.TextGrid | jq -c '{do: "config", config: .}' | emu run --store >/dev/null
+emu import s1 one 1000 one.TextGrid >../found
+jq -cn '{s: 1, do: "add_link_definition",
+    definition: {type: "ONE_TO_MANY", superlevelName: "Word", sublevelName: "Phonetic"}},
+    {s: 1, do: "link_times", session: "s1", bundle: "one", upper: "Word", lower: "Phonetic"}' | emu run --store >>../found
+emu ask "[Word == ma ^ #Phonetic =~ '.*']" | jq -r '.segments[] | "\(.labels) \(.sampleStart) \(.sampleEnd)"' >>../found
+agree "links from times" ../found <<'WANTED'
+{"n":1,"ok":"import"}
+{"line":1,"n":2,"ok":"add_link_definition"}
+{"line":2,"n":3,"ok":"link_times"}
+m 0 199
+a 200 499
+WANTED
+cd ../grids || exit 1
+
 # Into a folder that has the configuration alone: loaded elsewhere it gives the same configuration and the same bundle.
 mkdir g_emuDB new && emu config | jq . >g_emuDB/g_DBconfig.json && EMU=emu bash "$here/export-folder.sh" g_emuDB new/g_emuDB
 { emu config && emu export s1 one; } >../wanted
