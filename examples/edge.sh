@@ -59,7 +59,7 @@ fresh() {
 }
 entries() { "$binary" history | grep -c '"do":'; }
 acknowledged() { grep -c '"ok":"add_bundle"}$'; }
-# Whether the store has so many of the bundles of the database `many`: the last of them is there, and the one behind it is not.
+# Whether the store has so many of the bundles of the database `many`: the last of them is there, and the one after it is not.
 has_first() {
     { [ "$1" = 0 ] || "$binary" export s1 "b$((99 + $1))" | grep -q '"sampleRate":20000'; } &&
         [ "$("$binary" export s1 "b$((100 + $1))")" = '{"cause":"NoBundle","status":10}' ]
@@ -242,7 +242,7 @@ no_room() {
 }
 fresh limit
 no_room "a limit on the file" limited
-agree "an import behind the limit" "$("$binary" import s1 long 20000 long.TextGrid)" '{"n":'$((count + 1))',"ok":"import"}'
+agree "an import past the limit" "$("$binary" import s1 long 20000 long.TextGrid)" '{"n":'$((count + 1))',"ok":"import"}'
 fresh nothing
 for words in 'run --store' 'live --store' 'load t'; do
     # shellcheck disable=SC2086

@@ -2,7 +2,7 @@
 """first-version.py BINARY: a store of the first version, with one entry or more of each number from 1 to 12.
 
 Its bytes are put together here by hand, as docs/STORE.md has them. They stand for the same history as ever, no command
-that reads writes a byte of them anew, and a run only puts entries behind them. The last line says how many checks
+that reads writes a byte of them anew, and a run only puts entries after them. The last line says how many checks
 agreed; the status is 0 where all did.
 """
 import os
@@ -25,7 +25,7 @@ HEAD = """
 00000001  01 00000000 00000001
 """
 
-# The number of each edit with its name, and what stands behind session and line.
+# The number of each edit with its name, and what stands after session and line.
 EDITS = [
     ("add_bundle", f"""01 {KEY}  00000000 0000000000004e20
         00000002

@@ -2,7 +2,7 @@
 # kill-live.sh [BINARY [TIMES [LINES]]]: runs the sixteen sessions of make-live.sh at once over a store, kills the program at a
 # random moment, and opens the store again, so many times (200 where the number is not given), each time with another seed. What
 # the store has then are edits of the script, those of each session in the order of its lines; given to `run` in the order of the
-# history they are all accepted, and leave the same bundles; and a further live run goes on behind them. BINARY is
+# history they are all accepted, and leave the same bundles; and a further live run goes on after them. BINARY is
 # crates/emu/out/emu where it is not given. The last line says how many stores were right; the status is 0 where all were.
 here=$(realpath -- "$(dirname "$0")")
 binary=$(realpath -- "${1:-$here/../crates/emu/out/emu}") || exit 2

@@ -7,7 +7,7 @@ bundles() {
     done
 }
 
-# Gives the lines of the script $1 whose numbers stand in the file $2, behind its configuration, to `run` over a new store in the
+# Gives the lines of the script $1 whose numbers stand in the file $2, after its configuration, to `run` over a new store in the
 # folder $3. The status is 0 where the run ends with 0, no line is refused, and the store has the bundles of the one in the folder $4.
 again() {
     rm -f "$3/emu.store"

@@ -1,5 +1,5 @@
 #!/bin/sh
-# make-history.sh EDITS: a script with one bundle and so many edits of one label behind it, the label n and m in turn; and then an edit of
+# make-history.sh EDITS: a script with one bundle and so many edits of one label after it, the label n and m in turn; and then an edit of
 # an item that is there and one of an item that is not. With the bundle these are 100,000 edits, the most that a history has, where EDITS is 99999.
 awk -v edits="$1" 'BEGIN {
     level = "{\"name\":\"Phonetic\",\"type\":\"SEGMENT\",\"attributeDefinitions\":[{\"name\":\"Phonetic\",\"type\":\"STRING\"}]}"

@@ -1,6 +1,6 @@
 #!/usr/bin/env bash
 # store.sh BINARY: a walk over a store, in a folder of its own, with the database t_emuDB and the TextGrid a.TextGrid beside this
-# file. Before what a command writes it shows the command, behind a `$`, and after it the status where that is not 0.
+# file. Before what a command writes it shows the command, after a `$`, and after it the status where that is not 0.
 # BINARY is a path from the root. check.sh compares what this writes with store.stdout.
 binary=$1
 cd "$(dirname "$0")" || exit 2

@@ -44,7 +44,7 @@ while IFS= read -r line; do
 done <"$here/ae.queries" >../found
 agree ae.queries ../found <"$here/ae.queries"
 
-# One table by each tool: the vowels behind an `m`.
+# One table by each tool: the vowels after an `m`.
 eql='[Phonetic == m -> #Phonetic == vowel]'
 cat >../wanted <<'CSV'
 spk1 b01 Q 224968 324968 3600 5199 3

@@ -62,7 +62,7 @@ def lines_of(path):
 
 
 def owner(head):
-    """The name under which proofs/ has the functions of an `impl`, of which this is what stands behind that word."""
+    """The name under which proofs/ has the functions of an `impl`, of which this is what stands after that word."""
     depth = 0
     for place, sign in enumerate(head if head.startswith("<") else ""):
         depth += (sign == "<") - (sign == ">")
@@ -131,7 +131,7 @@ def functions_of(folder):
 
 
 def body_of(lines, at):
-    """The first line of the body of the function that begins at a line, and the line behind it, or None where its form is another."""
+    """The first line of the body of the function that begins at a line, and the line after it, or None where its form is another."""
     indent, is_stated = re.match(" *", lines[at])[0], False
     for begin in range(at, len(lines)):
         line = lines[begin].rstrip()

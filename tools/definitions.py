@@ -162,7 +162,7 @@ class House:
         return found
 
     def reached(self, roots):
-        """All that some definitions rest on, with them, each behind one that names it, in the order of reading."""
+        """All that some definitions rest on, with them, each after one that names it, in the order of reading."""
         done, order, waiting = set(), [], list(roots)
         while waiting:
             it = waiting.pop(0)
