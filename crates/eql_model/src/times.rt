@@ -1,27 +1,25 @@
 //! When a result is: its first and its last sample, and its borders in microseconds.
-ghost use Rattle.std.specs.Prelude.{◌≡◌, ◌<◌, ◌≤◌, ◌^◌, All, length, true, IfOk, IfSome, Some, option_map, if◌then◌else◌};
+ghost use Rattle.std.specs.Prelude.{◌≡◌, ◌<◌, ◌≤◌, ◌^◌, All, length, true, IfSome, Some, option_map, if◌then◌else◌};
 ghost use Rattle.level_items.specs.Times.{ends_in_time, last_sample};
-ghost use Rattle.bundle_state.specs.Built.{FitsConfig};
 ghost use Rattle.level_items.specs.Levels.{items_at};
 ghost use Rattle.eql_model.specs.Rows.{items_below, items_of, extent, end_to_end, samples_of, start_of, end_of};
-ghost use Rattle.eql_model.specs.Inner.Below.{widened, IsBelow, below_of, AreInTime};
+ghost use Rattle.eql_model.specs.Inner.Below.{widened, IsBelow, AreInTime};
 ghost use Rattle.eql_model.specs.Results.{IsStretchIn};
 
 use crate::joins::is_under;
 use crate::tuple::{Span, Tuple};
 use bundle_state::Bundle;
-use db_config::Config;
-use emu_names::{LevelKind, Memory};
+use emu_names::LevelKind;
 use hier_closure::Closure;
 use level_items::{Item, Time};
 use sample_time::{micros_of_end, micros_of_point, micros_of_start};
-use std::alloc::Global;
 
-/// A time level, and which items of the level of the results dominate which of its items.
-#[derive(Drop)]
-pub(crate) struct Below {
-    time: usize,
-    rows: Closure,
+/// A SEGMENT level from which results have their times, by its number, and which items of the level of the
+/// results dominate which of its items.
+#[derive(Clone, Copy)]
+pub struct Below<'r> {
+    pub time: usize,
+    pub rows: &'r Closure,
 }
 
 /// When a row begins and ends, in microseconds and in samples.
@@ -31,29 +29,6 @@ pub(crate) struct RowTimes {
     pub(crate) end: Option<u64>,
     pub(crate) sample_start: Option<u64>,
     pub(crate) sample_end: Option<u64>,
-}
-
-/// The time level below the level of the results, where there is one. The only refusal is want of
-/// memory.
-pub(crate) fn below_of(
-    alloc: Global,
-    config: &Config,
-    bundle: &Bundle,
-    level: usize,
-    time: Option<usize>,
-) -> Result<Option<Below>, Memory>
-    requires fits { FitsConfig config.now bundle.now }
-    requires level { level < length bundle.now.levels }
-    requires time { IfSome time (λ t. t < length bundle.now.levels) }
-    ensures { IfOk result (λ made. made ≡ below_of bundle.now level time) }
-{
-    match time {
-        Some(time) => {
-            let rows = Closure::between(alloc, config, bundle, level, time)?;
-            Ok(Some(Below { time, rows }))
-        }
-        None => Ok(None),
-    }
 }
 
 /// The items of a level, whose times end below sample 2^40.
@@ -111,7 +86,7 @@ fn extent_below(bundle: &Bundle, below: &Below, span: Span) -> Option<(u64, u64)
     let items = timed_items(bundle, below.time);
     let mut found = None;
     for at in 0..items.len() {
-        let wanted = is_under(&below.rows, stretch, at);
+        let wanted = is_under(below.rows, stretch, at);
         found = widened(found, wanted, items[at].time);
     }
     found

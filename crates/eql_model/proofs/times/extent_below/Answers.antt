@@ -15,7 +15,7 @@ loop-at-init c = (
 pub is_under-wanted-requires-clause-place : goal.is_under-wanted-requires-clause-place
 is_under-wanted-requires-clause-place c =
     below_wide c.args.bundle.now c.args.span.level c.args.below.now.time c.loop-at.at c.timed_items-items.result.now
-    c.args.below.now.rows c.timed_items-items.ensures.items c.requires.below.rows c.loop-at-test.true
+    c.args.below.now.rows.now c.timed_items-items.ensures.items c.requires.below.rows c.loop-at-test.true
 
 pub loop-at-preserved : goal.loop-at-preserved
 loop-at-preserved c = (
@@ -23,7 +23,7 @@ loop-at-preserved c = (
       c.timed_items-items.result.now c.loop-at.at c.index-items-at.result c.loop-at.found c.widened-found.result _
       c.is_under-wanted.result c.loop-at-test.true c.loop-at.invariant.0
       (below_answer c.args.bundle.now c.args.span c.args.below.now.time c.loop-at.at c.index-items-at.result
-      c.timed_items-items.result.now c.args.below.now.rows c.is_under-wanted.result c.requires.span
+      c.timed_items-items.result.now c.args.below.now.rows.now c.is_under-wanted.result c.requires.span
       c.timed_items-items.ensures.items c.requires.below.rows c.loop-at-test.true c.is_under-wanted.ensures)
       c.widened-found.ensures.wide,
   c.widened-found.ensures.in_time,
