@@ -4,6 +4,7 @@
 
 mod answer;
 mod conjunction;
+mod ends;
 mod evaluate;
 mod faults;
 mod flags;

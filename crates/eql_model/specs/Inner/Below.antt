@@ -1,15 +1,8 @@
 -- The segments below a result, and what a row needs of them.
-use Rattle.std.specs.Prelude.{◌≡◌, ◌<◌, ◌^◌, ℕ, min, max, length, Option, Some, None, IfSome}
-use Rattle.level_items.specs.declared.times.Time.{Time}
-use Rattle.level_items.specs.Times.{first_sample, last_sample}
+use Rattle.std.specs.Prelude.{◌≡◌, ◌<◌, ◌^◌, ℕ, length, Option, IfSome}
 use Rattle.bundle_state.specs.Bundle.{BundleParts}
 use Rattle.hier_closure.specs.Dominance.{closure_of}
 use Rattle.eql_model.specs.declared.times.Below.{Below}
-
--- samples widened to those of a time
-abbrev pub widened : Option (ℕ × ℕ) → Time → ℕ × ℕ
-widened None time = (first_sample time, last_sample time)
-widened (Some samples) time = (min samples.0 (first_sample time), max samples.1 (last_sample time))
 
 -- samples are below 2^40
 abbrev pub AreInTime : Option (ℕ × ℕ) → Type 0
