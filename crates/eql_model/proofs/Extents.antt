@@ -1,10 +1,10 @@
--- The least first sample and the greatest last one, item by item; and the ends of a stretch.
-use Rattle.std.proofs.Common.{◌≡◌, ℕ, zero, suc, ◌+◌, ◌-◌, ◌<◌, ◌≤◌, Bool, true, false, cond, ◌&&◌, List, [], ◌∷◌, length, take, drop, map, get_or, Option, None, Some, refl, sym, ap, subst, ◌∙◌, arith, nat_lt, nat_le}
-use Rattle.std.specs.Prelude.{All, min, max, option_map}
+-- The samples of the items below a stretch, and the ends of a stretch.
+use Rattle.std.proofs.Common.{◌≡◌, ℕ, zero, suc, ◌+◌, ◌-◌, ◌<◌, ◌≤◌, Bool, true, ◌&&◌, List, length, take, drop, map, get_or, None, Some, sym, ap, subst, ◌∙◌, arith, nat_lt, nat_le}
+use Rattle.std.specs.Prelude.{option_map}
 use Rattle.std.specs.List.{filter, list_any, range_with_len}
+use Rattle.std.specs.List.Sorted.{IsNonDecreasingBy}
 use Rattle.std.proofs.lemmas.Bool.Decides.{nat_tests}
-use Rattle.std.proofs.lemmas.List.{drop_more, take-map, drop-map, get_or-map, length-map, get_or_default}
-use Rattle.std.proofs.lemmas.List.Elements.{All-weaker}
+use Rattle.std.proofs.lemmas.List.{take-map, drop-map, get_or-map, length-map, get_or_default}
 use Rattle.level_items.specs.declared.items.Item.{Item}
 use Rattle.level_items.specs.Levels.{ids_of, items_at}
 use Rattle.level_items.specs.Times.{first_sample, last_sample}
@@ -14,41 +14,13 @@ use Rattle.eql_model.specs.declared.tuple.Span.{Span}
 use Rattle.eql_model.specs.Tuples.{from_to, stretch, fits_in}
 use Rattle.eql_model.specs.Inner.Joins.{is_under}
 use Rattle.eql_model.specs.Results.{bare, IsStretchIn}
-use Rattle.eql_model.specs.Rows.{items_of, is_below_some, least, greatest, extent, end_to_end}
-use Rattle.eql_model.specs.Inner.Below.{widened}
-use Rattle.eql_model.proofs.Between.{ids_are, wide_exit}
+use Rattle.eql_model.specs.Rows.{items_of, items_below, is_below_some, extent, end_to_end}
+use Rattle.eql_model.specs.Inner.Ends.{AreEnds}
+use Rattle.eql_model.proofs.Between.{ids_are, rows_count, wide_exit}
 use Rattle.eql_model.proofs.Covers.{under_is, taken_by}
-
--- samples widened to those of these items, one after another
-abbrev pub extended : Option (ℕ × ℕ) → List Item → Option (ℕ × ℕ)
-extended found [] = found
-extended found (s ∷ ss) = extended (Some (widened found s.time)) ss
-
-extended_from : (a b : ℕ) (ss : List Item) →
-    extended (Some (a, b)) ss ≡ Some (least a (map (λ i. first_sample i.time) ss), greatest b (map (λ i. last_sample i.time) ss))
-extended_from a b [] = refl
-extended_from a b (s ∷ ss) = extended_from (min a (first_sample s.time)) (max b (last_sample s.time)) ss
-
-pub extended_is : (ss : List Item) → extended None ss ≡ extent ss
-extended_is [] = refl
-extended_is (s ∷ ss) = extended_from (first_sample s.time) (last_sample s.time) ss
-
--- one item more, where the test says whether it counts
-by_choice : (b : Bool) (found : Option (ℕ × ℕ)) (x : Item) (kept : List Item) →
-    extended found (cond b (x ∷ kept) kept) ≡ extended (cond b (Some (widened found x.time)) found) kept
-by_choice true found x kept = refl
-by_choice false found x kept = refl
-
-pub extend_step : (p : Item → Bool) (items : List Item) (at : ℕ) (d : Item) (found more whole : Option (ℕ × ℕ)) (wanted : Bool) →
-    at < length items → extended found (filter p (drop at items)) ≡ whole → wanted ≡ p (get_or items at d) →
-    more ≡ cond wanted (Some (widened found (get_or items at d).time)) found →
-    extended more (filter p (drop (at + 1) items)) ≡ whole
-extend_step p items at d found more whole wanted h so_far is put =
-    ap (λ f. extended f (filter p (drop (at + 1) items)))
-    (put ∙ ap (λ w. cond w (Some (widened found (get_or items at d).time)) found) is)
-    ∙ sym (by_choice (p (get_or items at d)) found (get_or items at d) (filter p (drop (at + 1) items)))
-    ∙ sym (ap (λ xs. extended found (filter p xs)) (drop_more items at d h))
-    ∙ so_far
+use Rattle.eql_model.proofs.InOrder.{start, end, none_kept, extent_is}
+use Rattle.eql_model.proofs.MadeRows.{no_item}
+use Rattle.eql_model.proofs.RowEnds.{under_within}
 
 -- ---- what is below a result
 
@@ -62,6 +34,12 @@ pub span_fits : (b : BundleParts) (span : Span) → IsStretchIn b span →
     fits_in (length (ids_at b.levels span.level)) (bare span.first span.last) ≡ true
 span_fits b span there =
     subst (λ (n : ℕ). fits_in n (bare span.first span.last) ≡ true) (sym (ids_count_of b span.level))
+    (fits_bare (length (items_at b.levels span.level)) span.first span.last there.rises there.within)
+
+pub span_fits_rows : (b : BundleParts) (span : Span) (time : ℕ) (rows : List (List Bool)) → IsStretchIn b span →
+    rows ≡ closure_of b time span.level → fits_in (length rows) (bare span.first span.last) ≡ true
+span_fits_rows b span time rows there made =
+    subst (λ (n : ℕ). fits_in n (bare span.first span.last) ≡ true) (sym (ap length made ∙ rows_count b time span.level))
     (fits_bare (length (items_at b.levels span.level)) span.first span.last there.rises there.within)
 
 pub stretch_ids : (items : List Item) (first last : ℕ) → from_to (ids_of items) first last ≡ ids_of (from_to items first last)
@@ -105,27 +83,50 @@ ends_are items first last d rises within =
     ∙ ends_along (λ i. get_or items i d) first (last - first)
     ∙ ap (λ k. Some (first_sample (get_or items first d).time, last_sample (get_or items k d).time)) m
 
-pub ends_answer : (b : BundleParts) (span : Span) (items : List Item) (d e : Item) (f l : ℕ) → items ≡ items_at b.levels span.level →
-    IsStretchIn b span → f ≡ first_sample (get_or items span.first d).time → l ≡ last_sample (get_or items span.last e).time →
-    Some (f, l) ≡ end_to_end (items_of b span)
-ends_answer b span items d e f l are there first last =
-    (λ i. Some (
-      (first ∙ ap (λ xs. first_sample (get_or xs span.first d).time) are) i,
-      (last ∙ ap (λ xs. last_sample (get_or xs span.last e).time) are
-          ∙ ap (λ (x : Item). last_sample x.time) (get_or_default (items_at b.levels span.level) span.last e d there.within)) i,
-    ))
-    ∙ sym (ends_are (items_at b.levels span.level) span.first span.last d there.rises there.within)
+pub ends_answer : (items : List Item) (first last : ℕ) (d e : Item) (f l : ℕ) → first ≤ last → last < length items →
+    f ≡ start (get_or items first d) → l ≡ end (get_or items last e) → Some (f, l) ≡ end_to_end (from_to items first last)
+ends_answer items first last d e f l rises within from to =
+    (λ i. Some (from i, (to ∙ ap end (get_or_default items last e d within)) i)) ∙ sym (ends_are items first last d rises within)
 
-pub below_answer : (b : BundleParts) (span : Span) (time at : ℕ) (d : Item) (items : List Item) (rows : List (List Bool)) (wanted : Bool) →
-    IsStretchIn b span → items ≡ items_at b.levels time → rows ≡ closure_of b time span.level → at < length items →
-    wanted ≡ is_under rows (bare span.first span.last) at → wanted ≡ is_below_some b.links (ids_of (items_of b span)) (get_or items at d)
-below_answer b span time at d items rows wanted there are made h told =
-    told ∙ ap (λ rs. is_under rs (bare span.first span.last) at) made
-    ∙ below_is b span time at d there (let same = ap length are in omega arith)
-    ∙ ap (λ xs. is_below_some b.links (ids_of (items_of b span)) (get_or xs at d)) (sym are)
+-- ---- the samples of what is below a result
 
-pub below_wide : (b : BundleParts) (level time at : ℕ) (items : List Item) (rows : List (List Bool)) → items ≡ items_at b.levels time →
-    rows ≡ closure_of b time level → at < length items → All (λ row. at < length row) rows
-below_wide b level time at items rows are made h =
-    All-weaker (λ row. length row ≡ length items) (λ row. at < length row) (λ row same. omega arith) rows
-    (wide_exit b level time rows items made are)
+module _ (b : BundleParts) (span : Span) (time : ℕ) (items : List Item) (rows : List (List Bool)) (there : IsStretchIn b span)
+    (are : items ≡ items_at b.levels time) (made : rows ≡ closure_of b time span.level) where
+  abbrev is_below : Item → Bool
+  is_below = is_below_some b.links (ids_of (items_of b span))
+
+  abbrev is_set : ℕ → Bool
+  is_set = is_under rows (bare span.first span.last)
+
+  below_at : (at : ℕ) (d : Item) → at < length items → is_set at ≡ is_below (get_or items at d)
+  below_at at d h =
+      ap (λ rs. is_under rs (bare span.first span.last) at) made
+      ∙ below_is b span time at d there (let same = ap length are in omega arith)
+      ∙ ap (λ xs. is_below (get_or xs at d)) (sym are)
+
+  set_within : (at : ℕ) → is_set at ≡ true → at < length items
+  set_within at set =
+      under_within rows (length items) (bare span.first span.last) at (wide_exit b span.level time rows items made are) set
+
+  below_whole : extent (filter is_below items) ≡ extent (items_below b (Some time) span)
+  below_whole = ap (λ xs. extent (filter is_below xs)) are
+
+  pub ends_rise : (first last : ℕ) → AreEnds is_set (Some (first, last)) → first ≤ last
+  ends_rise first last ends = (ends.2 first ends.0).1
+
+  pub ends_within : (first last : ℕ) → AreEnds is_set (Some (first, last)) → last < length items
+  ends_within first last ends = set_within last ends.1
+
+  pub extent_answer : (first last : ℕ) (samples : ℕ × ℕ) → IsNonDecreasingBy start items → IsNonDecreasingBy end items →
+      AreEnds is_set (Some (first, last)) → Some samples ≡ end_to_end (from_to items first last) →
+      Some samples ≡ extent (items_below b (Some time) span)
+  extent_answer first last samples starts ends bits are_ends =
+      are_ends ∙ ends_are items first last no_item (ends_rise first last bits) (set_within last bits.1)
+      ∙ sym (extent_is is_below first last no_item items starts ends (set_within first bits.0) (set_within last bits.1)
+      (sym (below_at first no_item (set_within first bits.0)) ∙ bits.0) (sym (below_at last no_item (set_within last bits.1)) ∙ bits.1)
+      (λ k h is. bits.2 k (below_at k no_item h ∙ is)))
+      ∙ below_whole
+
+  pub extent_none : AreEnds is_set None → None ≡ extent (items_below b (Some time) span)
+  extent_none none =
+      sym (ap extent (none_kept is_below items no_item (λ k h. sym (below_at k no_item h) ∙ none k))) ∙ below_whole

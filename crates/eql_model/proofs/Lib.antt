@@ -6,6 +6,7 @@ mod Edges
 pub mod Extents
 pub mod Fitting
 pub mod Gathers
+mod InOrder
 pub mod Listed
 pub mod MadeRows
 pub mod Members
@@ -14,6 +15,7 @@ mod Opposite
 pub mod Places
 pub mod Ranges
 mod Rising
+mod RowEnds
 mod SharedTexts
 pub mod Shown
 pub mod Walk

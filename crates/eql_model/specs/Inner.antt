@@ -1,5 +1,6 @@
 pub mod Below
 pub mod Bits
+pub mod Ends
 pub mod Flags
 pub mod Joins
 pub mod Kept

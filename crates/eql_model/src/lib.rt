@@ -4,6 +4,7 @@
 
 mod answer;
 mod conjunction;
+mod ends;
 mod evaluate;
 mod faults;
 mod flags;
@@ -37,6 +38,7 @@ pub use laws::{
 pub use positions::row_counts;
 pub use results::shown_once;
 pub use row::{Row, SegmentList};
-pub use rows::{rows_at, rows_of};
+pub use rows::{rows_at, rows_below, rows_of};
 pub use terms::items_at;
+pub use times::Below;
 pub use tuple::{Span, Spans, Tuple, Tuples};

@@ -11,12 +11,13 @@ ghost use Rattle.eql_model.specs.Rows.{attribute_name, id_at, items_of, joined_l
 use crate::labels::label_of;
 use crate::row::{Row, SegmentList};
 use crate::terms::items_at;
-use crate::times::{Below, below_of, samples_of, times_of};
+use crate::times::{Below, samples_of, times_of};
 use crate::tuple::Span;
 use bundle_state::Bundle;
 use db_config::Config;
 use emu_names::{ItemId, LevelKind, Memory, Series, Text};
 use eql_resolve::Asked;
+use hier_closure::Closure;
 use level_items::Item;
 use std::alloc::Global;
 
@@ -186,8 +187,10 @@ fn row(
     })
 }
 
-/// The rows of results on a level. The only refusal is want of memory.
-fn rows_below(
+/// The rows of some results on a level, in their order. The only refusal is want of memory.
+///
+/// Each result lies on the level. On an ITEM level the rows have their times by `below`, where it is given.
+pub fn rows_below(
     alloc: Global,
     config: &Config,
     bundle: &Bundle,
@@ -233,7 +236,11 @@ pub fn rows_at(
     if spans.is_empty() {
         return Ok(Series::new(alloc));
     }
-    let below = below_of(alloc, config, bundle, level, time)?;
+    let Some(time) = time else {
+        return rows_below(alloc, config, bundle, &None, level, spans);
+    };
+    let rows = Closure::between(alloc, config, bundle, level, time)?;
+    let below = Some(Below { time, rows: &rows });
     rows_below(alloc, config, bundle, &below, level, spans)
 }
 

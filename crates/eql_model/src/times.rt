@@ -1,27 +1,27 @@
 //! When a result is: its first and its last sample, and its borders in microseconds.
-ghost use Rattle.std.specs.Prelude.{◌≡◌, ◌<◌, ◌≤◌, ◌^◌, All, length, true, IfOk, IfSome, Some, option_map, if◌then◌else◌};
-ghost use Rattle.level_items.specs.Times.{ends_in_time, last_sample};
-ghost use Rattle.bundle_state.specs.Built.{FitsConfig};
+ghost use Rattle.std.specs.Prelude.{◌≡◌, ◌<◌, ◌≤◌, ◌^◌, All, length, true, IfSome, Some, option_map};
+ghost use Rattle.std.specs.List.Sorted.{IsNonDecreasingBy};
+ghost use Rattle.level_items.specs.Times.{ends_in_time, first_sample, last_sample};
 ghost use Rattle.level_items.specs.Levels.{items_at};
 ghost use Rattle.eql_model.specs.Rows.{items_below, items_of, extent, end_to_end, samples_of, start_of, end_of};
-ghost use Rattle.eql_model.specs.Inner.Below.{widened, IsBelow, below_of, AreInTime};
+ghost use Rattle.eql_model.specs.Inner.Below.{IsBelow, AreInTime};
 ghost use Rattle.eql_model.specs.Results.{IsStretchIn};
+ghost use Rattle.eql_model.specs.Tuples.{from_to};
 
-use crate::joins::is_under;
+use crate::ends::ends_under;
 use crate::tuple::{Span, Tuple};
 use bundle_state::Bundle;
-use db_config::Config;
-use emu_names::{LevelKind, Memory};
+use emu_names::LevelKind;
 use hier_closure::Closure;
 use level_items::{Item, Time};
 use sample_time::{micros_of_end, micros_of_point, micros_of_start};
-use std::alloc::Global;
 
-/// A time level, and which items of the level of the results dominate which of its items.
-#[derive(Drop)]
-pub(crate) struct Below {
-    time: usize,
-    rows: Closure,
+/// A SEGMENT level from which results have their times, by its number, and which items of the level of the
+/// results dominate which of its items.
+#[derive(Clone, Copy)]
+pub struct Below<'r> {
+    pub time: usize,
+    pub rows: &'r Closure,
 }
 
 /// When a row begins and ends, in microseconds and in samples.
@@ -33,34 +33,14 @@ pub(crate) struct RowTimes {
     pub(crate) sample_end: Option<u64>,
 }
 
-/// The time level below the level of the results, where there is one. The only refusal is want of
-/// memory.
-pub(crate) fn below_of(
-    alloc: Global,
-    config: &Config,
-    bundle: &Bundle,
-    level: usize,
-    time: Option<usize>,
-) -> Result<Option<Below>, Memory>
-    requires fits { FitsConfig config.now bundle.now }
-    requires level { level < length bundle.now.levels }
-    requires time { IfSome time (λ t. t < length bundle.now.levels) }
-    ensures { IfOk result (λ made. made ≡ below_of bundle.now level time) }
-{
-    match time {
-        Some(time) => {
-            let rows = Closure::between(alloc, config, bundle, level, time)?;
-            Ok(Some(Below { time, rows }))
-        }
-        None => Ok(None),
-    }
-}
-
-/// The items of a level, whose times end below sample 2^40.
+/// The items of a level, whose times end below sample 2^40, and of which neither the first samples nor the last
+/// ones fall.
 fn timed_items(bundle: &Bundle, level: usize) -> &[Item]
     requires { level < length bundle.now.levels }
     ensures items { result.now ≡ items_at bundle.now.levels level }
     ensures in_time { All (λ i. ends_in_time i.time ≡ true) result.now }
+    ensures starts { IsNonDecreasingBy (λ i. first_sample i.time) result.now }
+    ensures ends { IsNonDecreasingBy (λ i. last_sample i.time) result.now }
 {
     bundle.level(level).as_slice()
 }
@@ -78,25 +58,21 @@ fn last_sample(time: Time) -> u64
     }
 }
 
-/// Samples widened to those of a time, where it is wanted.
-fn widened(found: Option<(u64, u64)>, wanted: bool, time: Time) -> Option<(u64, u64)>
-    requires time { ends_in_time time ≡ true }
-    requires found { AreInTime found }
-    ensures wide { result ≡ (if wanted then Some (widened found time) else found) }
-    ensures in_time { AreInTime result }
+/// The first sample of the item at the one place and the last one of the item at the other.
+fn ends_between(items: &[Item], first: usize, last: usize) -> (u64, u64)
+    requires order { first ≤ last }
+    requires within { last < length items.now }
+    requires in_time { All (λ i. ends_in_time i.time ≡ true) items.now }
+    ensures ends { Some result ≡ end_to_end (from_to items.now first last) }
+    ensures in_time { AreInTime (Some result) }
 {
-    if !wanted {
-        return found;
-    }
-    let first = time.first_sample();
-    let last = last_sample(time);
-    match found {
-        Some((least, greatest)) => Some((least.min(first), greatest.max(last))),
-        None => Some((first, last)),
-    }
+    let start = items[first].time.first_sample();
+    let end = last_sample(items[last].time);
+    (start, end)
 }
 
-/// The samples of the items of the time level that some item of the result dominates.
+/// The samples of the items of the time level that some item of the result dominates: the items of a level
+/// stand in the order of their times.
 fn extent_below(bundle: &Bundle, below: &Below, span: Span) -> Option<(u64, u64)>
     requires below { IsBelow bundle.now span.level below.now }
     requires span { IsStretchIn bundle.now span }
@@ -109,12 +85,10 @@ fn extent_below(bundle: &Bundle, below: &Below, span: Span) -> Option<(u64, u64)
         mark: None,
     };
     let items = timed_items(bundle, below.time);
-    let mut found = None;
-    for at in 0..items.len() {
-        let wanted = is_under(&below.rows, stretch, at);
-        found = widened(found, wanted, items[at].time);
+    match ends_under(below.rows, stretch) {
+        Some((first, last)) => Some(ends_between(items, first, last)),
+        None => None,
     }
-    found
 }
 
 /// The first sample of the first item of a result and the last one of its last item.
@@ -125,9 +99,8 @@ fn ends_of(bundle: &Bundle, span: Span) -> Option<(u64, u64)>
     ensures in_time { AreInTime result }
 {
     let items = timed_items(bundle, span.level as usize);
-    let first = items[span.first as usize].time.first_sample();
-    let last = last_sample(items[span.last as usize].time);
-    Some((first, last))
+    let ends = ends_between(items, span.first as usize, span.last as usize);
+    Some(ends)
 }
 
 /// The first and the last sample of a result: those of its items, or on an ITEM level those of the

@@ -1,5 +1,5 @@
 //! The rows of results in an indexed bundle.
-ghost use Rattle.std.specs.Prelude.{◌≡◌, ◌<◌, IfOk, IfSome, length, map};
+ghost use Rattle.std.specs.Prelude.{◌≡◌, ◌<◌, IfOk, IfSome, Some, length, map};
 ghost use Rattle.bundle_state.specs.Built.{FitsConfig};
 ghost use Rattle.eql_resolve.specs.Asked.{result_level};
 ghost use Rattle.eql_resolve.specs.Inner.Sound.{IsResolvedBy, IsTimeLevel};
@@ -8,10 +8,37 @@ ghost use Rattle.eql_model.specs.Rows.{row_of};
 
 use bundle_index::Indexed;
 use db_config::Config;
-use emu_names::Memory;
-use eql_model::{SegmentList, Span};
+use emu_names::{Memory, Series};
+use eql_model::{Below, SegmentList, Span, rows_below};
 use eql_resolve::Asked;
 use std::alloc::Global;
+
+/// The rows of some results on a level, in their order, with times from a SEGMENT level by the rows of dominance
+/// that the bundle keeps, or by those that it makes. The only refusal is want of memory.
+fn rows_timed(
+    alloc: Global,
+    config: &Config,
+    indexed: &Indexed,
+    level: usize,
+    time: usize,
+    spans: &[Span],
+) -> Result<SegmentList, Memory>
+    requires fits { FitsConfig config.now indexed.now.bundle }
+    requires level { level < length config.now.levels }
+    requires time { IsTimeLevel config.now time }
+    requires spans { AreThere config.now indexed.now.bundle level spans.now }
+    ensures { IfOk result (λ rows. rows
+        ≡ map (row_of config.now indexed.now.bundle (Some time)) spans.now) }
+{
+    let bundle = indexed.bundle();
+    if let Some(rows) = indexed.kept_closure(config, level, time) {
+        let below = Some(Below { time, rows });
+        return rows_below(alloc, config, bundle, &below, level, spans);
+    }
+    let rows = indexed.closure(alloc, config, level, time)?;
+    let below = Some(Below { time, rows: &rows });
+    rows_below(alloc, config, bundle, &below, level, spans)
+}
 
 /// The rows of some results on a level of an indexed bundle, in their order (EMU-SDMS Manual, "The EMU Query
 /// Language (EQL)": segment lists). Times are whole microseconds. The only refusal is want of memory.
@@ -33,7 +60,13 @@ pub fn rows_at(
     ensures { IfOk result (λ rows. rows
         ≡ map (row_of config.now indexed.now.bundle time) spans.now) }
 {
-    eql_model::rows_at(alloc, config, indexed.bundle(), level, time, spans)
+    if spans.is_empty() {
+        return Ok(Series::new(alloc));
+    }
+    match time {
+        Some(time) => rows_timed(alloc, config, indexed, level, time, spans),
+        None => rows_below(alloc, config, indexed.bundle(), &None, level, spans),
+    }
 }
 
 /// The rows of results of a query in an indexed bundle, in their order (EMU-SDMS Manual, "The EMU Query
@@ -54,5 +87,6 @@ pub fn rows_of(
     ensures { IfOk result (λ rows. rows
         ≡ map (row_of config.now indexed.now.bundle asked.now.time) spans.now) }
 {
-    eql_model::rows_of(alloc, config, indexed.bundle(), asked, spans)
+    let level = asked.query().result_level();
+    rows_at(alloc, config, indexed, level, asked.time(), spans)
 }

@@ -1,15 +1,8 @@
 -- The segments below a result, and what a row needs of them.
-use Rattle.std.specs.Prelude.{◌≡◌, ◌<◌, ◌^◌, ℕ, min, max, length, Option, Some, None, IfSome, option_map}
-use Rattle.level_items.specs.declared.times.Time.{Time}
-use Rattle.level_items.specs.Times.{first_sample, last_sample}
+use Rattle.std.specs.Prelude.{◌≡◌, ◌<◌, ◌^◌, ℕ, length, Option, IfSome}
 use Rattle.bundle_state.specs.Bundle.{BundleParts}
 use Rattle.hier_closure.specs.Dominance.{closure_of}
 use Rattle.eql_model.specs.declared.times.Below.{Below}
-
--- samples widened to those of a time
-abbrev pub widened : Option (ℕ × ℕ) → Time → ℕ × ℕ
-widened None time = (first_sample time, last_sample time)
-widened (Some samples) time = (min samples.0 (first_sample time), max samples.1 (last_sample time))
 
 -- samples are below 2^40
 abbrev pub AreInTime : Option (ℕ × ℕ) → Type 0
@@ -18,8 +11,4 @@ AreInTime samples = IfSome samples (λ s. (s.0 < 2 ^ 40) × (s.1 < 2 ^ 40))
 -- the rows are those of dominance between a level and the time level
 pub record IsBelow (b : BundleParts) (level : ℕ) (below : Below) : Type 0 where
   pub within : below.time < length b.levels
-  pub rows : below.rows ≡ closure_of b below.time level
-
--- the time level with its rows, where there is one
-abbrev pub below_of : BundleParts → ℕ → Option ℕ → Option Below
-below_of b level time = option_map (λ t. record { time = t; rows = closure_of b t level }) time
+  pub rows : below.rows.now ≡ closure_of b below.time level

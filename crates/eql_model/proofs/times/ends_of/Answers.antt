@@ -1,8 +1,9 @@
-use Rattle.eql_model.proofs.Extents.{ends_answer}
+use Rattle.std.proofs.Common.{ap, ◌∙◌}
+use Rattle.eql_model.specs.Rows.{end_to_end}
+use Rattle.eql_model.specs.Tuples.{from_to}
 use Rattle.eql_model.proofs.times.ends_of.Goals as goal
 
 pub returns-clause-ends : goal.returns-clause-ends
 returns-clause-ends c =
-    ends_answer c.args.bundle.now c.args.span c.timed_items-items.result.now c.index-items-span.result c.index-items-span-2.result
-    c.first_sample-first.result c.last_sample-last.result c.timed_items-items.ensures.items c.requires.span
-    c.first_sample-first.ensures c.last_sample-last.ensures.last
+    c.ends_between-ends.ensures.ends
+    ∙ ap (λ items. end_to_end (from_to items c.args.span.first c.args.span.last)) c.timed_items-items.ensures.items
