@@ -16,6 +16,5 @@ pub mod Places
 pub mod Ranges
 mod Rising
 mod RowEnds
-mod SharedTexts
 pub mod Shown
 pub mod Walk

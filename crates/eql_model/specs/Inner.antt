@@ -6,6 +6,7 @@ pub mod Joins
 pub mod Kept
 pub mod Labels
 pub mod Meaning
+pub mod Names
 pub mod Results
 pub mod Rows
 pub mod Sets

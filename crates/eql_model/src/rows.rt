@@ -6,6 +6,7 @@ ghost use Rattle.eql_resolve.specs.Inner.Sound.{IsResolvedBy, IsTimeLevel};
 ghost use Rattle.level_items.specs.Levels.{items_at};
 ghost use Rattle.eql_model.specs.Results.{AreThere, IsSpanIn, IsStretchIn};
 ghost use Rattle.eql_model.specs.Inner.Below.{IsBelow};
+ghost use Rattle.eql_model.specs.Inner.Names.{AreNames};
 ghost use Rattle.eql_model.specs.Rows.{attribute_name, id_at, items_of, joined_labels, kind_of, level_name, row_of};
 
 use crate::labels::label_of;
@@ -98,50 +99,60 @@ fn joined_labels(alloc: Global, attribute: usize, items: &[Item]) -> Result<Text
     Text::from_string(text)
 }
 
-/// The names that a row shows of the place of its items.
+/// The names that rows of results on a level show: of the session, the bundle, the level and one of the level's
+/// attributes, by its number.
 #[derive(Drop)]
 struct RowNames {
     session: Text,
     bundle: Text,
     level: Text,
     attribute: Text,
+    number: u32,
 }
 
-/// The names of the row of a result. The only refusal is want of memory.
+/// The names of rows of results on a level. The only refusal is want of memory.
 fn names_of(
     alloc: Global,
     config: &Config,
     bundle: &Bundle,
-    span: Span,
-) -> Result<RowNames, Memory> {
+    level: usize,
+    number: u32,
+) -> Result<RowNames, Memory>
+    ensures { IfOk result (AreNames config.now bundle.now level) }
+{
     let session = Text::new(alloc, bundle.key().session.as_str())?;
     let name = Text::new(alloc, bundle.key().bundle.as_str())?;
-    let level = Text::new(alloc, level_name(config, span.level as usize))?;
-    let attribute = Text::new(
-        alloc,
-        attribute_name(config, span.level as usize, span.attribute as usize),
-    )?;
+    let level_text = Text::new(alloc, level_name(config, level))?;
+    let attribute = Text::new(alloc, attribute_name(config, level, number as usize))?;
     Ok(RowNames {
         session,
         bundle: name,
-        level,
+        level: level_text,
         attribute,
+        number,
     })
 }
 
-/// A text, which shares its bytes with another one where the two are the same. The only refusal is want of memory.
-#[tactic(auto, using(crate::proofs::SharedTexts::copied_alike))]
-fn shared(alloc: Global, near: &Text, text: &str) -> Result<Text, Memory>
-    ensures { IfOk result (λ made. made ≡ text.now) }
+/// The name of the attribute that a result shows. It shares its bytes with the one that is there, where it is that
+/// one. The only refusal is want of memory.
+fn attribute_of(
+    alloc: Global,
+    config: &Config,
+    names: &RowNames,
+    span: Span,
+) -> Result<Text, Memory>
+    requires { names.now.attribute ≡ attribute_name config.now span.level names.now.number }
+    ensures { IfOk result (λ made. made ≡ attribute_name config.now span.level span.attribute) }
 {
-    if near.as_str() == text {
-        near.copy(alloc)
+    if span.attribute == names.number {
+        names.attribute.copy(alloc)
     } else {
-        Text::new(alloc, text)
+        let name = attribute_name(config, span.level as usize, span.attribute as usize);
+        Text::new(alloc, name)
     }
 }
 
-/// The row of a result, which shares those of the names that are its own. The only refusal is want of memory.
+/// The row of a result, which shares the names. The only refusal is want of memory.
 fn row(
     alloc: Global,
     config: &Config,
@@ -152,6 +163,7 @@ fn row(
 ) -> Result<Row, Memory>
     requires span { IsStretchIn bundle.now span }
     requires level { span.level < length bundle.now.levels }
+    requires names { AreNames config.now bundle.now span.level names.now }
     requires below { IfSome below.now (IsBelow bundle.now span.level) }
     ensures { IfOk result (λ made. made
         ≡ row_of config.now bundle.now (option_map (λ b. b.time) below.now) span) }
@@ -160,14 +172,10 @@ fn row(
     let kind = kind_of(config, span.level as usize);
     let times = times_of(kind, bundle.rate(), samples_of(bundle, kind, below, span));
     let items = items_at(bundle, span.level as usize);
-    let session = shared(alloc, &names.session, bundle.key().session.as_str())?;
-    let name = shared(alloc, &names.bundle, bundle.key().bundle.as_str())?;
-    let level = shared(alloc, &names.level, level_name(config, span.level as usize))?;
-    let attribute = shared(
-        alloc,
-        &names.attribute,
-        attribute_name(config, span.level as usize, span.attribute as usize),
-    )?;
+    let session = names.session.copy(alloc)?;
+    let name = names.bundle.copy(alloc)?;
+    let level = names.level.copy(alloc)?;
+    let attribute = attribute_of(alloc, config, names, span)?;
     let labels = joined_labels(alloc, span.attribute as usize, items_of(bundle, span))?;
     Ok(Row {
         session,
@@ -208,7 +216,7 @@ pub fn rows_below(
     let Some(first) = spans.first() else {
         return Ok(rows);
     };
-    let names = names_of(alloc, config, bundle, *first)?;
+    let names = names_of(alloc, config, bundle, level, first.attribute)?;
     for span in spans {
         rows.push(row(alloc, config, bundle, &names, below, *span)?)?;
     }
