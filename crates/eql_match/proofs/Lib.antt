@@ -1,3 +1,4 @@
+pub mod Added
 pub mod Aside
 pub mod Bare
 pub mod Bits

@@ -1,18 +1,16 @@
 -- Tests of labels by rows of bits and by numbers.
-use Rattle.std.proofs.Common.{◌≡◌, ◌⊎◌, inl, inr, ℕ, zero, suc, ◌+◌, ◌<◌, ◌≤◌, Bool, false, cond, ◌&&◌, List, [], ◌∷◌, ◌++◌, length, map, take, drop, get_or, nat_eq, Option, None, Some, Result, Ok, Err, refl, sym, ap, subst, ◌∙◌, arith}
+use Rattle.std.proofs.Common.{◌≡◌, ◌⊎◌, inl, inr, ℕ, zero, suc, ◌+◌, ◌<◌, ◌≤◌, Bool, false, cond, ◌&&◌, List, [], ◌∷◌, length, map, take, drop, get_or, nat_eq, Option, None, Some, Result, Ok, Err, refl, sym, ap, subst, ◌∙◌, arith}
 use Rattle.std.specs.Prelude.{All, IfOk, IsSome, is_some, replicate, slice_set, true}
-use Rattle.std.specs.List.{filter, flat_map, list_any, list_all, range_with_len, slice_get}
+use Rattle.std.specs.List.{filter, list_any, list_all, range_with_len, slice_get}
 use Rattle.std.specs.Option.{option_and_then}
 use Rattle.std.specs.Simd.Lanes.{zip2}
 use Rattle.std.specs.Str.{bytes_eq}
 use Rattle.std.proofs.lemmas.Bool.{cases_eq}
 use Rattle.std.proofs.lemmas.Bool.Decides.{nat_tests}
-use Rattle.std.proofs.lemmas.Grind.{flat_map-append}
-use Rattle.std.proofs.lemmas.List.{append-nil, get_or-map, get_or-replicate, get_or-set_other, get_or-set_same, length-map, length-replicate, length-set, map-append, take-append-drop, take_all, take_more}
-use Rattle.std.proofs.lemmas.List.Concat.{flat_map-cons}
+use Rattle.std.proofs.lemmas.List.{get_or-map, get_or-replicate, get_or-set_other, get_or-set_same, length-map, length-replicate, length-set, take-append-drop, take_all}
 use Rattle.std.proofs.lemmas.List.Folds.{list_all-append}
 use Rattle.std.proofs.lemmas.List.FromFn.{fill_by_all, get_or-range_with_len, length-range_with_len}
-use Rattle.std.proofs.lemmas.Option.{get_or_from_slice_get, same_Some, slice_get-get_or, slice_get_within, unwrap_or-slice_get}
+use Rattle.std.proofs.lemmas.Option.{get_or_from_slice_get, same_Some, slice_get-get_or, slice_get_within}
 use Rattle.emu_names.specs.declared.shortage.Memory.{Memory}
 use Rattle.level_items.specs.declared.items.Item.{Item}
 use Rattle.db_config.specs.declared.parts.AttributePlace.{AttributePlace}
@@ -32,14 +30,14 @@ use Rattle.eql_resolve.specs.Asked.{AskedTerm, term_level}
 use Rattle.lane_bits.specs.Inner.Row.{IsFirst}
 use Rattle.eql_model.specs.declared.tuple.Tuple.{Tuple}
 use Rattle.eql_model.specs.Inner.Flags.{flag_at}
-use Rattle.eql_model.specs.Labels.{is_as, is_wanted, stands_for, wanted_labels}
+use Rattle.eql_model.specs.Labels.{is_as}
 use Rattle.eql_model.specs.Inner.Labels.{matched_row}
 use Rattle.eql_model.specs.Meaning.{meets, single}
 use Rattle.eql_model.specs.Inner.Meaning.{met_row}
 use Rattle.eql_model.proofs.MadeRows.{flag_of_map, no_item}
-use Rattle.eql_match.specs.Inner.Labels.{label_row, label_at, HasColumn, IsAlone, AreNumbersOf, AreAnswers}
+use Rattle.eql_match.specs.Inner.Labels.{label_row, label_at, HasColumn, AreNumbersOf, AreAnswers}
 use Rattle.eql_match.specs.Inner.Rows.{any_bits, all_bits}
-use Rattle.eql_match.proofs.Bits.{IsFilled, filled_all, any_rows_are, rows_wide, all_long, all_first, all_none, all_step, or_false}
+use Rattle.eql_match.proofs.Bits.{IsFilled, filled_all, any_rows_are, rows_wide, all_long, all_first, all_none, all_step}
 
 -- ---- columns that are there
 
@@ -83,19 +81,7 @@ label_exit b place label (Err e) told = tt
 label_exit b place label (Ok row) told =
     told ∙ (λ i. map (λ item. same_label place.attribute label item i) (items_at b.levels place.level))
 
--- ---- rows of several labels
-
-pub flat_step : {X Y Z : Type 0} (f : Y → Z) (g : X → List Y) (xs : List X) (i : ℕ) (x : X) (rows more : List Z) →
-    rows ≡ map f (flat_map g (take i xs)) → i < length xs → x ≡ get_or xs i x → more ≡ rows ++ map f (g x) →
-    more ≡ map f (flat_map g (take (i + 1) xs))
-flat_step f g xs i x rows more so_far h here put =
-    put ∙ ap (λ rs. rs ++ map f (g x)) so_far
-    ∙ sym (ap (λ ys. map f (flat_map g ys)) (take_more xs i x h ∙ ap (λ y. take i xs ++ y ∷ []) (sym here))
-    ∙ ap (map f) (flat_map-append g (take i xs) (x ∷ []) ∙ ap (λ ys. flat_map g (take i xs) ++ ys) one)
-    ∙ map-append f (flat_map g (take i xs)) (g x))
-  where
-    one : flat_map g (x ∷ []) ≡ g x
-    one = flat_map-cons g x [] ∙ append-nil (g x)
+-- ---- rows of several patterns
 
 pub any_exit : {X Y : Type 0} (p : Y → X → Bool) (xs : List X) (d : X) (n : ℕ) (ys : List Y) (rows : List (List Bool)) (any : List Bool) →
     rows ≡ map (λ y. map (p y) xs) ys → n ≡ length xs → any ≡ any_bits n rows → any ≡ map (λ x. list_any (λ y. p y x) ys) xs
@@ -106,40 +92,9 @@ pub wide_rows : {X Y : Type 0} (p : Y → X → Bool) (xs : List X) (n : ℕ) (y
 wide_rows p xs n ys rows are long =
     subst (λ (rs : List (List Bool)). All (λ row. length row ≡ n) rs) (sym are) (rows_wide p xs n long ys)
 
--- whether an item's label is this one; whether a pattern matches it
-abbrev pub is_label : ℕ → List ℕ → Item → Bool
-is_label attribute label item = same_text (label_of attribute item) label
-
+-- whether a pattern matches an item's label
 abbrev pub is_match : ℕ → List ℕ → Item → Bool
 is_match attribute pattern item = matches_label pattern (label_of attribute item)
-
--- ---- one label that is wanted
-
-one_text : (written : List (List ℕ)) (w : List ℕ) → length written ≡ 1 → w ≡ get_or written 0 w → written ≡ w ∷ []
-one_text [] w one is = absurd (omega arith)
-one_text (x ∷ []) w one is = ap (λ y. y ∷ []) (sym is)
-one_text (x ∷ y ∷ ws) w one is = absurd (omega arith)
-
-pub alone : (config : ConfigParts) (place : AttributePlace) (written : List (List ℕ)) (w : List ℕ) → length written ≡ 1 →
-    w ≡ get_or written 0 w → stands_for config place w ≡ w ∷ [] → IsAlone config place written
-alone config place written w one is stands = record {
-  one = one;
-  wanted =
-      ap (wanted_labels config place) (one_text written w one is)
-      ∙ flat_map-cons (stands_for config place) w [] ∙ append-nil (stands_for config place w) ∙ stands
-      ∙ sym (one_text written w one is);
-}
-
-wanted_one : (config : ConfigParts) (place : AttributePlace) (written : List (List ℕ)) (w label : List ℕ) → IsAlone config place written →
-    w ≡ get_or written 0 w → same_text label w ≡ is_wanted config place written label
-wanted_one config place written w label only is =
-    sym (ap (list_any (same_text label)) (only.wanted ∙ one_text written w only.one is) ∙ or_false (same_text label w))
-
-pub alone_exit : (config : ConfigParts) (place : AttributePlace) (b : BundleParts) (written : List (List ℕ)) (w : List ℕ) (row : List Bool) →
-    IsAlone config place written → w ≡ get_or written 0 w → row ≡ label_row b place w →
-    row ≡ map (λ item. is_wanted config place written (label_of place.attribute item)) (items_at b.levels place.level)
-alone_exit config place b written w row only is told =
-    told ∙ (λ i. map (λ item. wanted_one config place written w (label_of place.attribute item) only is i) (items_at b.levels place.level))
 
 -- ---- numbers of labels
 

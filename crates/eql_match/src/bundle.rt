@@ -15,6 +15,7 @@ ghost use Rattle.eql_match.specs.Inner.Shown.{is_bare};
 
 use crate::evaluate::evaluate;
 use crate::found::Found;
+use crate::matchers::Matchers;
 use bundle_index::Indexed;
 use db_config::Config;
 use eql_model::{MatchFault, Spans, Tuple, Tuples};
@@ -107,6 +108,30 @@ fn spans_of_found(
     }
 }
 
+/// The results of a query in a bundle, in order of first and last position, each once, worked out with the
+/// matchers of patterns that were made before. A matcher that is missing is made, and stays there.
+///
+/// The query was resolved by the configuration, whose levels and link definitions the bundle has.
+/// `TooManyTuples` comes exactly where some part of the query has over 1,000,000 tuples in the bundle.
+/// The only other refusal is want of memory.
+pub fn match_with<'q>(
+    alloc: Global,
+    config: &Config,
+    indexed: &Indexed,
+    asked: &Asked<'q>,
+    matchers: &mut Matchers<'q>,
+) -> Result<Spans, MatchFault>
+    requires resolved { IsResolvedBy config.now asked.now }
+    requires fits { FitsConfig config.now indexed.now.bundle }
+    ensures { Matches result config.now indexed.now.bundle asked.now.query }
+{
+    let query = asked.query();
+    match evaluate(alloc, config, indexed, query, matchers) {
+        Ok(found) => spans_of_found(alloc, config, indexed, query, found),
+        Err(fault) => Err(fault),
+    }
+}
+
 /// The results of a query in a bundle, in order of first and last position, each once.
 ///
 /// The query was resolved by the configuration, whose levels and link definitions the bundle has.
@@ -122,9 +147,6 @@ pub fn match_bundle(
     requires fits { FitsConfig config.now indexed.now.bundle }
     ensures { Matches result config.now indexed.now.bundle asked.now.query }
 {
-    let query = asked.query();
-    match evaluate(alloc, config, indexed, query) {
-        Ok(found) => spans_of_found(alloc, config, indexed, query, found),
-        Err(fault) => Err(fault),
-    }
+    let mut matchers = Matchers::new(alloc);
+    match_with(alloc, config, indexed, asked, &mut matchers)
 }

@@ -19,6 +19,7 @@ ghost use Rattle.eql_match.specs.Inner.Rows.{all_bits, IsUnsetFor};
 
 use crate::found::{Found, found_where};
 use crate::labels::set_label_bits;
+use crate::matchers::Matchers;
 use crate::patterns::set_pattern_bits;
 use crate::positions::{set_number_bits, set_position_bits};
 use crate::rows::{all_set, none_set, turn_unless};
@@ -55,13 +56,14 @@ fn set_labels_pass(
 
 /// Sets the bits of the items of a level whose label passes a test of patterns, in a row of which no bit is
 /// set. The only refusal is want of memory.
-fn set_patterns_pass(
+fn set_patterns_pass<'q>(
     alloc: Global,
     config: &Config,
     indexed: &Indexed,
     place: AttributePlace,
     found: bool,
-    patterns: &[Pattern],
+    patterns: &'q [Pattern],
+    matchers: &mut Matchers<'q>,
     row: &mut BitRow,
 ) -> Result<(), Memory>
     requires fits { FitsConfig config.now indexed.now.bundle }
@@ -71,20 +73,21 @@ fn set_patterns_pass(
         (label_of place.attribute item))) (items_at indexed.now.bundle.levels place.level)) }
 {
     let _levels = config.level_count();
-    set_pattern_bits(alloc, indexed, place, patterns, row)?;
+    set_pattern_bits(alloc, indexed, place, patterns, matchers, row)?;
     turn_unless(found, row);
     Ok(())
 }
 
 /// Sets the bits of the items of a level whose label passes a test, in a row of which no bit is set. The
 /// only refusal is want of memory.
-fn set_test_bits(
+fn set_test_bits<'q>(
     alloc: Global,
     config: &Config,
     indexed: &Indexed,
     place: AttributePlace,
     found: bool,
-    wanted: Wanted,
+    wanted: Wanted<'q>,
+    matchers: &mut Matchers<'q>,
     row: &mut BitRow,
 ) -> Result<(), Memory>
     requires fits { FitsConfig config.now indexed.now.bundle }
@@ -99,18 +102,21 @@ fn set_test_bits(
             set_labels_pass(alloc, config, indexed, place, found, labels, row)
         }
         Wanted::Patterns(patterns) => {
-            set_patterns_pass(alloc, config, indexed, place, found, patterns, row)
+            set_patterns_pass(
+                alloc, config, indexed, place, found, patterns, matchers, row,
+            )
         }
     }
 }
 
 /// Sets the bits of the items of a condition's level that meet the condition, in a row of which no bit is
 /// set. The only refusal is want of memory.
-fn set_term_bits(
+fn set_term_bits<'q>(
     alloc: Global,
     config: &Config,
     indexed: &Indexed,
-    term: &AskedTerm,
+    term: &AskedTerm<'q>,
+    matchers: &mut Matchers<'q>,
     row: &mut BitRow,
 ) -> Result<(), Memory>
     requires fits { FitsConfig config.now indexed.now.bundle }
@@ -125,7 +131,9 @@ fn set_term_bits(
             found,
             wanted,
             ..
-        } => set_test_bits(alloc, config, indexed, *place, *found, *wanted, row),
+        } => set_test_bits(
+            alloc, config, indexed, *place, *found, *wanted, matchers, row,
+        ),
         AskedTerm::Position {
             place,
             upper,
@@ -161,12 +169,13 @@ fn set_term_bits(
 
 /// Clears the bits of the items of a level that do not meet a condition on it. The only refusal is want
 /// of memory.
-fn clear_others(
+fn clear_others<'q>(
     alloc: Global,
     config: &Config,
     indexed: &Indexed,
     level: usize,
-    term: &AskedTerm,
+    term: &AskedTerm<'q>,
+    matchers: &mut Matchers<'q>,
     met: &mut BitRow,
 ) -> Result<(), Memory>
     requires fits { FitsConfig config.now indexed.now.bundle }
@@ -176,7 +185,7 @@ fn clear_others(
         (met_row config.now indexed.now.bundle level (term_in term.now))) }
 {
     let mut row = none_set(alloc, met.len())?;
-    set_term_bits(alloc, config, indexed, term, &mut row)?;
+    set_term_bits(alloc, config, indexed, term, matchers, &mut row)?;
     and_into(met, &row);
     Ok(())
 }
@@ -215,12 +224,13 @@ fn item_count(config: &Config, indexed: &Indexed, term: &AskedTerm) -> usize
 
 /// For each item of a level whether it meets a condition on that level. The only refusal is want of
 /// memory.
-fn met_row(
+fn met_row<'q>(
     alloc: Global,
     config: &Config,
     indexed: &Indexed,
     level: usize,
-    term: &AskedTerm,
+    term: &AskedTerm<'q>,
+    matchers: &mut Matchers<'q>,
 ) -> Result<BitRow, Memory>
     requires fits { FitsConfig config.now indexed.now.bundle }
     requires term { IsTermOn config.now level (term_in term.now) }
@@ -228,18 +238,19 @@ fn met_row(
         ≡ met_row config.now indexed.now.bundle level (term_in term.now)) }
 {
     let mut row = none_set(alloc, item_count(config, indexed, term))?;
-    set_term_bits(alloc, config, indexed, term, &mut row)?;
+    set_term_bits(alloc, config, indexed, term, matchers, &mut row)?;
     Ok(row)
 }
 
 /// For each item of a level whether it meets all conditions. Where no item meets the first ones, the
 /// others are not asked. The only refusal is want of memory.
-fn all_met(
+fn all_met<'q>(
     alloc: Global,
     config: &Config,
     indexed: &Indexed,
     level: usize,
-    terms: &[AskedTerm],
+    terms: &[AskedTerm<'q>],
+    matchers: &mut Matchers<'q>,
 ) -> Result<BitRow, Memory>
     requires fits { FitsConfig config.now indexed.now.bundle }
     requires level { level < length indexed.now.bundle.levels }
@@ -251,12 +262,14 @@ fn all_met(
     if terms.is_empty() {
         return all_set(alloc, eql_model::items_at(indexed.bundle(), level).len());
     }
-    let mut met = met_row(alloc, config, indexed, level, &terms[0])?;
+    let mut met = met_row(alloc, config, indexed, level, &terms[0], matchers)?;
     for at in 1..terms.len() {
         if met.first().is_none() {
             return Ok(met);
         }
-        clear_others(alloc, config, indexed, level, &terms[at], &mut met)?;
+        clear_others(
+            alloc, config, indexed, level, &terms[at], matchers, &mut met,
+        )?;
     }
     Ok(met)
 }
@@ -307,13 +320,14 @@ pub(crate) fn are_marked(terms: &[AskedTerm]) -> bool
 
 /// The items of a level that meet all conditions, or their tuples, where a condition is marked. The only
 /// refusal is want of memory.
-pub(crate) fn conjunction(
+pub(crate) fn conjunction<'q>(
     alloc: Global,
     config: &Config,
     indexed: &Indexed,
     level: usize,
     marked: bool,
-    terms: &[AskedTerm],
+    terms: &[AskedTerm<'q>],
+    matchers: &mut Matchers<'q>,
 ) -> Result<Found, Memory>
     requires fits { FitsConfig config.now indexed.now.bundle }
     requires level { level < length indexed.now.bundle.levels }
@@ -325,6 +339,6 @@ pub(crate) fn conjunction(
         IsRowOf (length (items_at indexed.now.bundle.levels level)) marked made) }
 {
     let _items = indexed.bundle().item_count();
-    let met = all_met(alloc, config, indexed, level, terms)?;
+    let met = all_met(alloc, config, indexed, level, terms, matchers)?;
     found_where(alloc, met, marked)
 }

@@ -8,6 +8,7 @@ ghost use Rattle.eql_match.specs.Inner.Found.{AreFoundFor, FindsAll};
 
 use crate::conditions::{are_marked, conjunction};
 use crate::found::{Found, Sides, dominating, follow, side_by_side};
+use crate::matchers::Matchers;
 use crate::ways::{dominance, sequence};
 use bundle_index::Indexed;
 use db_config::Config;
@@ -17,13 +18,14 @@ use lane_bits::BitRow;
 use std::alloc::Global;
 
 /// What a conjunction on a level finds, of which a condition is marked or none is.
-fn conjunction_found(
+fn conjunction_found<'q>(
     alloc: Global,
     config: &Config,
     indexed: &Indexed,
     level: usize,
     marked: bool,
-    conditions: &[AskedTerm],
+    conditions: &[AskedTerm<'q>],
+    matchers: &mut Matchers<'q>,
 ) -> Result<Found, MatchFault>
     requires fits { FitsConfig config.now indexed.now.bundle }
     requires within { IsQueryOf config.now (terms (map term_in conditions.now)) }
@@ -33,7 +35,7 @@ fn conjunction_found(
     ensures { FindsAll result config.now indexed.now.bundle (terms (map term_in conditions.now)) }
 {
     let _items = indexed.bundle().item_count();
-    match conjunction(alloc, config, indexed, level, marked, conditions) {
+    match conjunction(alloc, config, indexed, level, marked, conditions, matchers) {
         Ok(made) => Ok(made),
         Err(_) => Err(MatchFault::Memory),
     }
@@ -214,11 +216,12 @@ fn dominance_found(
 
 /// What a query finds. `TooManyTuples` comes exactly where the query or some part of it
 /// has over 1,000,000 tuples; the only other refusal is want of memory.
-pub(crate) fn evaluate(
+pub(crate) fn evaluate<'q>(
     alloc: Global,
     config: &Config,
     indexed: &Indexed,
-    query: &AskedQuery,
+    query: &AskedQuery<'q>,
+    matchers: &mut Matchers<'q>,
 ) -> Result<Found, MatchFault>
     requires fits { FitsConfig config.now indexed.now.bundle }
     requires within { IsQueryOf config.now (query_in query.now) }
@@ -233,24 +236,25 @@ pub(crate) fn evaluate(
             query.level(),
             are_marked(conditions.as_slice()),
             conditions.as_slice(),
+            matchers,
         ),
         AskedQuery::Sequence(left, right) => {
-            let lefts = match evaluate(alloc, config, indexed, left) {
+            let lefts = match evaluate(alloc, config, indexed, left, matchers) {
                 Ok(found) => found,
                 Err(fault) => return Err(fault),
             };
-            let rights = match evaluate(alloc, config, indexed, right) {
+            let rights = match evaluate(alloc, config, indexed, right, matchers) {
                 Ok(found) => found,
                 Err(fault) => return Err(fault),
             };
             sequence_found(alloc, config, indexed, left, right, lefts, rights)
         }
         AskedQuery::Dominance(left, right) => {
-            let lefts = match evaluate(alloc, config, indexed, left) {
+            let lefts = match evaluate(alloc, config, indexed, left, matchers) {
                 Ok(found) => found,
                 Err(fault) => return Err(fault),
             };
-            let rights = match evaluate(alloc, config, indexed, right) {
+            let rights = match evaluate(alloc, config, indexed, right, matchers) {
                 Ok(found) => found,
                 Err(fault) => return Err(fault),
             };

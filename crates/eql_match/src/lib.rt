@@ -7,6 +7,7 @@ mod conditions;
 mod evaluate;
 mod found;
 mod labels;
+mod matchers;
 mod patterns;
 mod positions;
 mod reach;
@@ -14,6 +15,7 @@ mod rows;
 mod runs;
 mod ways;
 
-pub use bundle::match_bundle;
+pub use bundle::{match_bundle, match_with};
 pub use bundle_index;
 pub use eql_model;
+pub use matchers::Matchers;

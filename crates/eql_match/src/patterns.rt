@@ -8,12 +8,13 @@ ghost use Rattle.label_match.specs.Pattern.{matches_label};
 ghost use Rattle.eql_match.specs.Inner.Labels.{AreAnswers, AreNumbersOf, HasColumn, label_at};
 ghost use Rattle.eql_match.specs.Inner.Rows.{IsUnsetFor};
 
+use crate::matchers::{Matcher, Matchers};
 use crate::rows::{none_set, set_any};
 use bundle_index::Indexed;
 use db_config::AttributePlace;
 use emu_names::{Memory, Series};
 use eql_model::label_of;
-use label_match::{Matching, Pattern};
+use label_match::Pattern;
 use lane_bits::BitRow;
 use level_items::Item;
 use std::alloc::Global;
@@ -22,7 +23,7 @@ use std::alloc::Global;
 /// number, else as the pattern answers, which is noted then.
 fn answer_at(
     answers: &mut Series<Option<bool>>,
-    matching: &mut Matching,
+    matcher: &mut Matcher,
     column: &[u32],
     attribute: usize,
     items: &[Item],
@@ -31,17 +32,17 @@ fn answer_at(
     requires at { at < length items.now }
     requires numbers { AreNumbersOf column.now (map (label_of attribute) items.now) }
     requires within { All (λ n. n < length answers.old) column.now }
-    requires answers { AreAnswers matching.old column.now (map (label_of attribute) items.now) answers.old }
-    ensures answer { result ≡ matches_label matching.old (label_at attribute items.now at) }
-    ensures answers { AreAnswers matching.old column.now (map (label_of attribute) items.now) answers.new }
+    requires answers { AreAnswers matcher.old column.now (map (label_of attribute) items.now) answers.old }
+    ensures answer { result ≡ matches_label matcher.old (label_at attribute items.now at) }
+    ensures answers { AreAnswers matcher.old column.now (map (label_of attribute) items.now) answers.new }
     ensures count { length answers.new ≡ length answers.old }
-    ensures same { matching.new ≡ matching.old }
+    ensures same { matcher.new ≡ matcher.old }
 {
     let number = column[at] as usize;
     if let Some(is) = *answers.get(number) {
         return is;
     }
-    let is = matching.matches(label_of(&items[at], attribute));
+    let is = matcher.matches(label_of(&items[at], attribute));
     answers.set(number, Some(is));
     is
 }
@@ -60,29 +61,30 @@ fn numbers_within(column: &[u32]) -> usize
 /// For each item whether the pattern matches its label. The only refusal is want of memory.
 fn matched_bits(
     alloc: Global,
-    matching: &mut Matching,
+    matcher: &mut Matcher,
     column: &[u32],
     attribute: usize,
     items: &[Item],
 ) -> Result<BitRow, Memory>
     requires numbers { AreNumbersOf column.now (map (label_of attribute) items.now) }
-    ensures { IfOk result (λ row. row ≡ matched_row attribute items.now matching.old) }
+    ensures { IfOk result (λ row. row ≡ matched_row attribute items.now matcher.old) }
 {
     let mut answers = Series::from_vec(vec![in alloc; None; numbers_within(column)]?);
     let mut row = none_set(alloc, items.len())?;
     for at in 0..items.len() {
-        let is = answer_at(&mut answers, matching, column, attribute, items, at);
+        let is = answer_at(&mut answers, matcher, column, attribute, items, at);
         row.set(at, is);
     }
     Ok(row)
 }
 
 /// For each item of a level whether a pattern matches its label. The only refusal is want of memory.
-fn pattern_row(
+fn pattern_row<'q>(
     alloc: Global,
     indexed: &Indexed,
     place: AttributePlace,
-    pattern: &Pattern,
+    pattern: &'q Pattern,
+    matchers: &mut Matchers<'q>,
 ) -> Result<BitRow, Memory>
     requires { HasColumn indexed.now.bundle place }
     ensures { IfOk result (λ row. row
@@ -90,18 +92,17 @@ fn pattern_row(
 {
     let column = indexed.column(place.level, place.attribute);
     let items = eql_model::items_at(indexed.bundle(), place.level);
-    match pattern.matcher(alloc) {
-        Ok(mut matching) => matched_bits(alloc, &mut matching, column, place.attribute, items),
-        Err(_) => Err(Memory),
-    }
+    let matcher = matchers.matcher(alloc, pattern)?;
+    matched_bits(alloc, matcher, column, place.attribute, items)
 }
 
 /// For each pattern the row of the items whose label it matches. The only refusal is want of memory.
-fn pattern_rows(
+fn pattern_rows<'q>(
     alloc: Global,
     indexed: &Indexed,
     place: AttributePlace,
-    patterns: &[Pattern],
+    patterns: &'q [Pattern],
+    matchers: &mut Matchers<'q>,
 ) -> Result<Series<BitRow>, Memory>
     requires { HasColumn indexed.now.bundle place }
     ensures { IfOk result (λ rows. rows ≡ map (matched_row place.attribute
@@ -109,18 +110,19 @@ fn pattern_rows(
 {
     let mut rows = Series::new(alloc);
     for pattern in patterns {
-        rows.push(pattern_row(alloc, indexed, place, pattern)?)?;
+        rows.push(pattern_row(alloc, indexed, place, pattern, matchers)?)?;
     }
     Ok(rows)
 }
 
 /// Sets the bits of the items of a level whose label some pattern matches, in a row of which no bit is set.
 /// The only refusal is want of memory.
-pub(crate) fn set_pattern_bits(
+pub(crate) fn set_pattern_bits<'q>(
     alloc: Global,
     indexed: &Indexed,
     place: AttributePlace,
-    patterns: &[Pattern],
+    patterns: &'q [Pattern],
+    matchers: &mut Matchers<'q>,
     row: &mut BitRow,
 ) -> Result<(), Memory>
     requires column { HasColumn indexed.now.bundle place }
@@ -128,7 +130,7 @@ pub(crate) fn set_pattern_bits(
     ensures { OnOk result (row.new ≡ map (λ item. is_matched patterns.now
         (label_of place.attribute item)) (items_at indexed.now.bundle.levels place.level)) }
 {
-    let rows = pattern_rows(alloc, indexed, place, patterns)?;
+    let rows = pattern_rows(alloc, indexed, place, patterns, matchers)?;
     set_any(rows.as_slice(), row);
     Ok(())
 }

@@ -13,7 +13,7 @@ use db_config::Config;
 use emu_names::Memory;
 use eql_match::bundle_index::Indexed;
 use eql_match::eql_model::{MatchFault, SegmentList, Span, Spans};
-use eql_match::match_bundle;
+use eql_match::{Matchers, match_with};
 use session_core::requery::{Reached, Target, reach_between, reach_near};
 use session_core::segment_list::rows_at;
 use std::alloc::Global;
@@ -79,17 +79,18 @@ fn rows_reached(
 
 /// The rows of what the results of a query reach in one bundle, in the order of the results. `TooManyTuples`
 /// comes exactly where the bundle has too many. The only other refusal is want of memory.
-pub(crate) fn carried_in(
+pub(crate) fn carried_in<'q>(
     alloc: Global,
     config: &Config,
     indexed: &Indexed,
-    reached: &Reached,
+    reached: &Reached<'q>,
+    matchers: &mut Matchers<'q>,
 ) -> Result<SegmentList, MatchFault>
     requires resolved { IsReachedBy config.now reached.now }
     requires fits { FitsConfig config.now indexed.now.bundle }
     ensures { Carries result config.now indexed.now.bundle reached.now }
 {
-    let spans = match match_bundle(alloc, config, indexed, reached.asked()) {
+    let spans = match match_with(alloc, config, indexed, reached.asked(), matchers) {
         Ok(spans) => spans,
         Err(fault) => return Err(fault),
     };

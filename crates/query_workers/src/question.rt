@@ -8,7 +8,7 @@ use crate::carried::carried_in;
 use db_config::Config;
 use eql_match::bundle_index::Indexed;
 use eql_match::eql_model::{MatchFault, SegmentList};
-use eql_match::match_bundle;
+use eql_match::{Matchers, match_with};
 use eql_resolve::Asked;
 use session_core::requery::Reached;
 use session_core::segment_list::rows_of;
@@ -25,17 +25,18 @@ pub(crate) enum Question<'q, 'a> {
 
 /// The rows of a query in one bundle, in order of first and last position, each result once.
 /// `TooManyTuples` comes exactly where the bundle has too many. The only other refusal is want of memory.
-fn rows_in(
+fn rows_in<'a>(
     alloc: Global,
     config: &Config,
     indexed: &Indexed,
-    asked: &Asked,
+    asked: &Asked<'a>,
+    matchers: &mut Matchers<'a>,
 ) -> Result<SegmentList, MatchFault>
     requires resolved { IsResolvedBy config.now asked.now }
     requires fits { FitsConfig config.now indexed.now.bundle }
     ensures { Answers result config.now indexed.now.bundle asked.now }
 {
-    let spans = match match_bundle(alloc, config, indexed, asked) {
+    let spans = match match_with(alloc, config, indexed, asked, matchers) {
         Ok(spans) => spans,
         Err(fault) => return Err(fault),
     };
@@ -45,7 +46,7 @@ fn rows_in(
     }
 }
 
-impl Question<'_, '_> {
+impl<'a> Question<'_, 'a> {
     /// The rows that are asked for in one bundle. `TooManyTuples` comes exactly where the bundle has too many.
     /// The only other refusal is want of memory.
     pub(crate) fn rows_in(
@@ -53,6 +54,7 @@ impl Question<'_, '_> {
         alloc: Global,
         config: &Config,
         indexed: &Indexed,
+        matchers: &mut Matchers<'a>,
     ) -> Result<SegmentList, MatchFault>
         requires resolved { IsAskedOf config.now self.now }
         requires fits { FitsConfig config.now indexed.now.bundle }
@@ -60,8 +62,8 @@ impl Question<'_, '_> {
             (too_many_for self.now config.now indexed.now.bundle) }
     {
         match self {
-            Question::Rows(asked) => rows_in(alloc, config, indexed, asked),
-            Question::Carried(reached) => carried_in(alloc, config, indexed, reached),
+            Question::Rows(asked) => rows_in(alloc, config, indexed, asked, matchers),
+            Question::Carried(reached) => carried_in(alloc, config, indexed, reached, matchers),
         }
     }
 }

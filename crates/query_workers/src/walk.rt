@@ -13,6 +13,7 @@ use crate::halves::{halves, runs_for};
 use crate::question::Question;
 use db_config::Config;
 use emu_io::{Gate, Moment};
+use eql_match::Matchers;
 use eql_match::bundle_index::Indexed;
 use eql_match::eql_model::{MatchFault, SegmentList};
 use eql_resolve::Asked;
@@ -24,19 +25,20 @@ use version_tree::Version;
 
 /// Puts the rows that are asked for in one bundle behind those of the bundles before it. `TooManyTuples` comes
 /// exactly where the bundle has too many. The only other refusal is want of memory.
-fn add_bundle(
+fn add_bundle<'a>(
     alloc: Global,
     list: &mut SegmentList,
     config: &Config,
     indexed: &Indexed,
-    question: &Question,
+    question: &Question<'_, 'a>,
+    matchers: &mut Matchers<'a>,
 ) -> Result<(), MatchFault>
     requires resolved { IsAskedOf config.now question.now }
     requires fits { FitsConfig config.now indexed.now.bundle }
     ensures { AddsRows result (rows_for question.now config.now indexed.now.bundle)
         (too_many_for question.now config.now indexed.now.bundle) list.old list.new }
 {
-    let more = match question.rows_in(alloc, config, indexed) {
+    let more = match question.rows_in(alloc, config, indexed, matchers) {
         Ok(more) => more,
         Err(fault) => return Err(fault),
     };
@@ -67,10 +69,11 @@ fn walk<G: Gate + Sync>(
 {
     let config = version.config();
     let mut list = SegmentList::new(alloc);
+    let mut matchers = Matchers::new(alloc);
     for place in from..to {
         gate.at(line, Moment::Piece(place as u32));
         let indexed = version.at(place);
-        match add_bundle(alloc, &mut list, config, indexed, question) {
+        match add_bundle(alloc, &mut list, config, indexed, question, &mut matchers) {
             Ok(()) => {}
             Err(fault) => return Err(fault),
         }

@@ -1,14 +1,12 @@
 -- Labels of items by rows and by numbers.
-use Rattle.std.specs.Prelude.{◌≡◌, ℕ, ◌<◌, Bool, List, [], Option, Some, length, get_or, map}
+use Rattle.std.specs.Prelude.{◌≡◌, ℕ, ◌<◌, ◌++◌, Bool, List, [], Option, Some, length, get_or, map}
 use Rattle.level_items.specs.declared.items.Item.{Item}
-use Rattle.std.specs.List.{slice_get}
+use Rattle.std.specs.List.{list_any, slice_get}
 use Rattle.db_config.specs.declared.parts.AttributePlace.{AttributePlace}
-use Rattle.db_config.specs.declared.parts.ConfigParts.{ConfigParts}
 use Rattle.emu_names.specs.Texts.{same_text}
 use Rattle.bundle_state.specs.Bundle.{BundleParts}
 use Rattle.bundle_index.specs.Inner.Index.{attributes_on}
 use Rattle.label_match.specs.Pattern.{matches_label}
-use Rattle.eql_model.specs.Labels.{wanted_labels}
 use Rattle.level_items.specs.Levels.{label_of, items_at}
 
 -- the level of an attribute is there, and the attribute is
@@ -21,10 +19,19 @@ abbrev pub label_row : BundleParts → AttributePlace → List ℕ → List Bool
 label_row b place label =
     map (λ item. same_text (label_of place.attribute item) label) (items_at b.levels place.level)
 
--- one label is written, and it alone is wanted
-pub record IsAlone (config : ConfigParts) (place : AttributePlace) (written : List (List ℕ)) : Type 0 where
-  pub one : length written ≡ 1
-  pub wanted : wanted_labels config place written ≡ written
+-- for each item of the attribute's level whether its label is one of these
+abbrev pub labels_row : BundleParts → AttributePlace → List (List ℕ) → List Bool
+labels_row b place labels =
+    map (λ item. list_any (same_text (label_of place.attribute item)) labels) (items_at b.levels place.level)
+
+-- two rows have a bit for each item of a level
+pub record AreLong (b : BundleParts) (level : ℕ) (spare row : List Bool) : Type 0 where
+  pub first : length spare ≡ length (items_at b.levels level)
+  pub second : length row ≡ length (items_at b.levels level)
+
+-- a row that had the items of some labels has those of further ones too
+pub record AddsLabels (b : BundleParts) (place : AttributePlace) (more : List (List ℕ)) (old new : List Bool) : Type 0 where
+  pub adds : (labels : List (List ℕ)) → old ≡ labels_row b place labels → new ≡ labels_row b place (labels ++ more)
 
 -- there is a number for each label, and labels of one number are the same
 pub record AreNumbersOf (column : List ℕ) (labels : List (List ℕ)) : Type 0 where

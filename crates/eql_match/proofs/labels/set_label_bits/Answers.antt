@@ -1,23 +1,33 @@
-use Rattle.std.proofs.Common.{length, refl, rules}
+use Rattle.std.proofs.Common.{arith}
 use Rattle.eql_model.specs.Labels.{wanted_labels}
-use Rattle.level_items.specs.Levels.{items_at}
-use Rattle.eql_model.proofs.MadeRows.{no_item}
-use Rattle.eql_match.proofs.Bits.{unset_own, unset_wide}
-use Rattle.eql_match.proofs.Tests.{any_exit, is_label, wide_rows}
+use Rattle.eql_match.proofs.Added.{added_to_none, adds_none, adds_written, both_long, only_written, wanted_all}
 use Rattle.eql_match.proofs.labels.set_label_bits.Goals as goal
 
-pub set_any-requires-clause-wide : goal.set_any-requires-clause-wide
-set_any-requires-clause-wide c =
-    wide_rows (is_label c.args.place.attribute) (items_at c.args.indexed.now.bundle.levels c.args.place.level) (length c.args.row.now)
-    (wanted_labels c.args.config.now c.args.place c.args.written.now) c.as_slice.result.now
-    (search (rules, c.as_slice.ensures, c.rows.view_is, c.in_ok-rows.ensures)) (unset_wide _ _ c.args.row.now c.requires.unset refl)
+pub returns-then-written-eq1 : goal.returns-then-written-eq1
+returns-then-written-eq1 c =
+    only_written c.args.config.now c.args.indexed.now.bundle c.args.place c.args.written.now c.index-written-0.result
+    c.set_only_written.new.row c.set_only_written.result c.if-written-eq1.true
+    c.index-written-0.is c.set_only_written.ensures
 
-pub set_any-requires-clause-unset : goal.set_any-requires-clause-unset
-set_any-requires-clause-unset c = unset_own _ c.args.row.now c.requires.unset
+pub loop-one-init : goal.loop-one-init
+loop-one-init c = record {
+  long = both_long c.args.indexed.now.bundle c.args.place.level c.len.result c.in_ok-spare.spare c.args.row.now c.in_ok-spare.ensures c.len.ensures
+      c.requires.unset;
+  added = adds_none c.args.indexed.now.bundle c.args.place c.args.row.now;
+}
+
+pub loop-one-preserved : goal.loop-one-preserved
+loop-one-preserved c = record {
+  long = c.add_written.ensures.long;
+  added =
+      adds_written c.args.config.now c.args.indexed.now.bundle c.args.place c.args.written.now c.loop-one.one-index c.one-item.result
+      c.args.row.now c.loop-one.row c.add_written.new.row c.loop-one.invariant.added c.loop-one-test.true c.one-item.is
+      c.add_written.ensures.added;
+}
 
 pub returns : goal.returns
 returns c =
-    any_exit (is_label c.args.place.attribute) (items_at c.args.indexed.now.bundle.levels c.args.place.level) no_item (length c.args.row.now)
-    (wanted_labels c.args.config.now c.args.place c.args.written.now) c.as_slice.result.now c.set_any.new.any
-    (search (rules, c.as_slice.ensures, c.rows.view_is, c.in_ok-rows.ensures)) (unset_wide _ _ c.args.row.now c.requires.unset refl)
-    c.set_any.ensures
+    added_to_none c.args.indexed.now.bundle c.args.place (wanted_labels c.args.config.now c.args.place c.args.written.now) c.args.row.now
+    c.loop-one.row c.requires.unset
+    (wanted_all c.args.config.now c.args.indexed.now.bundle c.args.place c.args.written.now c.loop-one.one-index c.args.row.now
+    c.loop-one.row (omega (arith, c.loop-one-test.false)) c.loop-one.invariant.added)

@@ -10,7 +10,7 @@ loop-at-init c =
     let is : c.from_vec-answers.result ≡ replicate c.numbers_within.result no_answer = search rules in
     record {
       same = refl;
-      noted = answers_none c.args.matching.now c.args.column.now (map (label_of c.args.attribute) c.args.items.now) c.numbers_within.result
+      noted = answers_none c.args.matcher.now c.args.column.now (map (label_of c.args.attribute) c.args.items.now) c.numbers_within.result
           c.from_vec-answers.result is;
       within = answers_within c.args.column.now c.numbers_within.result c.from_vec-answers.result is c.numbers_within.ensures;
       bits = filled_none _ _ _ _ c.in_ok-row.ensures refl;
@@ -18,5 +18,5 @@ loop-at-init c =
 
 pub returns : goal.returns
 returns c =
-    matched_all c.args.matching.now c.args.attribute c.args.items.now c.loop-at.row (length c.args.items.now) c.loop-at.at
+    matched_all c.args.matcher.now c.args.attribute c.args.items.now c.loop-at.row (length c.args.items.now) c.loop-at.at
     c.loop-at.invariant.bits refl (omega arith)
