@@ -1,5 +1,5 @@
 -- What items cover from end to end.
-use Rattle.std.proofs.Common.{◌≡◌, ℕ, List, [], ◌∷◌, Option, Some, None, option_map, refl, ap, ◌∙◌}
+use Rattle.std.proofs.Common.{◌≡◌, ℕ, List, [], ◌∷◌, Some, option_map, refl, ap, ◌∙◌}
 use Rattle.level_items.specs.declared.items.Item.{Item}
 use Rattle.level_items.specs.Levels.{first_of, last_of}
 use Rattle.level_items.specs.Times.{first_sample, last_sample}
