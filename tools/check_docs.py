@@ -8,6 +8,8 @@ import re
 import sys
 
 WIDTH = 140
+GUARDS = ("Guarded by", "Wrong body that guards it")
+FREE = re.compile(r"(none|(a )?law|each|the same|those above)\b|as `[a-z_]+`$")
 NAMED = re.compile(r"`(?:(?!specs/|proofs/)([a-z_0-9]+)/)?(?:specs/)?((?:Inner/)?[A-Z][A-Za-z0-9]*)\.antt`((?:[:,]? (?:and )?`[^`]+`(?=[:,;. )|]|$))*)")
 
 
@@ -69,25 +71,41 @@ def of_words(line, words):
             yield f"`{word}` stands nowhere in the code"
 
 
-def of_guards(path, header, line, edits, crates):
-    """What stands in a column of guards has to be an edit."""
-    if "Guarded by" not in header:
+def guards_of(path, cell, edits, crates):
+    """What is wrong with a guard: it names edits of its own crate, crates that have some, crates of tests or examples, or says that there is none."""
+    cell = cell.strip()
+    if not cell.strip("-: ") or FREE.match(cell):
         return
-    places = [number for number, cell in enumerate(header.split("|")) if "Guarded by" in cell]
+    own, named = crate_of(path), False
+    for word in re.findall(r"[a-z0-9]+(?:[-_][a-z0-9]+)+", re.sub(r"`examples/[^`]*`", "", cell)):
+        named = True
+        if word in crates:
+            if not word.startswith("test_") and word not in set().union(*edits.values()):
+                yield f"`{word}` has no edit"
+        elif word not in edits:
+            yield f"no edit `{word}`"
+        elif own and own not in edits[word]:
+            yield f"`{word}` is no edit of `{own}`"
+    if not named and "`examples/" not in cell:
+        yield f"no guard: {cell}"
+
+
+def of_guards(path, header, line, edits, crates):
+    """What stands in a column of guards has to be there."""
     cells = re.split(r"(?<!\\)\|", line)
-    for place in places:
-        if place < len(cells):
-            for word in re.findall(r"[a-z0-9]+(?:[-_][a-z0-9]+)+", cells[place]):
-                if word not in edits and word not in crates:
-                    yield f"no edit `{word}`"
+    for place, title in enumerate(header.split("|")):
+        if place < len(cells) and any(it in title for it in GUARDS):
+            yield from guards_of(path, cells[place], edits, crates)
 
 
 def main():
     os.chdir(os.path.dirname(os.path.dirname(os.path.abspath(__file__))))
     words = words_of_code()
     crates = set(os.listdir("crates"))
-    edits = {os.path.basename(it)[:-5] for it in tracked(".edit")}
-    words |= edits
+    edits = {}
+    for it in tracked(".edit"):
+        edits.setdefault(os.path.basename(it)[:-5], set()).add(crate_of(it))
+    words |= set(edits)
     faults = []
     for path in tracked(".md"):
         header, fenced = "", False

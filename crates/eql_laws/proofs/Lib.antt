@@ -4,3 +4,4 @@ mod Parts
 mod Grouped
 mod Ends
 mod Forward
+mod Covered

@@ -1,8 +1,10 @@
 -- What a user can check of the tuples, results and rows of queries that go together (EMU-SDMS Manual, "The EMU
 -- Query Language (EQL)": conjunction, sequence, domination, position and count functions, the columns of a
 -- segment list), each law said by itself.
-use Rattle.std.specs.Prelude.{◌≡◌, ◌≤◌, ◌<◌, ◌↔◌, not, ℕ, Bool, true, false, List, length, filter, All, Contains, Option, Some, None, if◌then◌else◌}
+use Rattle.std.specs.Prelude.{◌≡◌, ◌≤◌, ◌<◌, ◌↔◌, not, ℕ, Bool, true, false, List, [], length, filter, All, Contains, Option, Some, None, if◌then◌else◌}
 use Rattle.level_items.specs.declared.items.Item.{Item}
+use Rattle.level_items.specs.Levels.{first_of, last_of}
+use Rattle.level_items.specs.Times.{first_sample, last_sample}
 use Rattle.db_config.specs.declared.parts.AttributePlace.{AttributePlace}
 use Rattle.db_config.specs.declared.parts.ConfigParts.{ConfigParts}
 use Rattle.bundle_state.specs.Bundle.{BundleParts}
@@ -18,7 +20,7 @@ use Rattle.eql_model.specs.declared.row.Row.{Row}
 use Rattle.eql_model.specs.Positions.{below, makes_stand}
 use Rattle.eql_model.specs.Meaning.{meets, tuples}
 use Rattle.eql_model.specs.Results.{stretches, results}
-use Rattle.eql_model.specs.Rows.{row_of, segment_list}
+use Rattle.eql_model.specs.Rows.{end_to_end, row_of, segment_list}
 
 -- ---- conjunctions
 
@@ -98,6 +100,15 @@ OneIsBothEnds =
     ↔ (standing b lower Start item ≡ standing b lower End item)
 
 -- ---- rows
+
+-- What items cover from end to end goes from the first sample of the first item to the last sample of the
+-- last one, whatever stands between them; no items cover nothing.
+abbrev pub EndToEndIsFirstToLast : Type 0
+EndToEndIsFirstToLast =
+    (end_to_end [] ≡ None)
+    × ((items : List Item) (first last : Item) →
+    first_of items ≡ Some first → last_of items ≡ Some last →
+    end_to_end items ≡ Some (first_sample first.time, last_sample last.time))
 
 -- both are there, and the first is not past the second; or neither is there
 abbrev pub IsNotPast : Option ℕ → Option ℕ → Type 0

@@ -1,7 +1,7 @@
 //! Laws with nothing to run: what a user can check of the tuples, results and rows of queries that go together
 //! (EMU-SDMS Manual, "The EMU Query Language (EQL)": conjunction, sequence, domination, position and count
 //! functions, the columns of a segment list).
-ghost use Rattle.eql_laws.specs.Laws.{OrderIsFree, DominanceSelects, MarkedPartSelects, BracketsAreFree, OneStartOneEnd, OneIsBothEnds, RowsGoForward, SegmentListsGoForward};
+ghost use Rattle.eql_laws.specs.Laws.{OrderIsFree, DominanceSelects, MarkedPartSelects, BracketsAreFree, OneStartOneEnd, OneIsBothEnds, EndToEndIsFirstToLast, RowsGoForward, SegmentListsGoForward};
 
 /// `[A == a & B == b]` and `[B == b & A == a]` find the same items: neither the order of conditions nor one
 /// that stands twice changes a tuple. What is shown of them is the attribute of the marked condition, else
@@ -37,6 +37,13 @@ pub fn one_start_one_end()
 /// These two are one item exactly where the item above them meets `Num(..) == 1`.
 pub fn one_is_both_ends()
     ensures { OneIsBothEnds }
+{}
+
+/// What items cover from end to end goes from the first sample of the first item to the last sample of the
+/// last one, whatever stands between them; no items cover nothing. It is what the row of a stretch of
+/// segments or events has as its samples.
+pub fn end_to_end_is_first_to_last()
+    ensures { EndToEndIsFirstToLast }
 {}
 
 /// The row of a stretch of items has a `start` and an `end` or neither, and its `start` is not past its

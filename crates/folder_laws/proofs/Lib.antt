@@ -1,0 +1,4 @@
+mod Members
+mod Ordered
+mod Stems
+mod Listed
