@@ -4,7 +4,7 @@ ghost use Rattle.std.specs.Prelude.{◌≤◌};
 use emu_names::LevelKind;
 use level_items::{Annot, AnnotItem, AnnotLevel, Time};
 use std::alloc::{AllocError, Global};
-use textgrid::{GridFault, read_textgrid, to_annot};
+use textgrid::{Grid, GridFault, read_textgrid, to_annot};
 
 /// A fault, with its place.
 fn fault_told(alloc: Global, fault: GridFault) -> Result<String, AllocError> {
@@ -13,7 +13,7 @@ fn fault_told(alloc: Global, fault: GridFault) -> Result<String, AllocError> {
         GridFault::BadText(at) => format!(in alloc; "BadText {at}"),
         GridFault::TooManyDigits(at) => format!(in alloc; "TooManyDigits {at}"),
         GridFault::Expected { at, what } => {
-            let word = what.word();
+            let word = what.copy().word();
             format!(in alloc; "Expected {at} {word}")
         }
         GridFault::NegativeTime { tier, entry } => format!(in alloc; "NegativeTime {tier} {entry}"),
@@ -64,6 +64,14 @@ fn annot_told(alloc: Global, annot: &Annot) -> Result<String, AllocError> {
     Ok(told)
 }
 
+/// Whether a copy of a grid is made, which has as many tiers.
+fn is_copied(alloc: Global, grid: &Grid) -> bool {
+    match grid.copy(alloc) {
+        Ok(copied) => copied.tiers.len() == grid.tiers.len(),
+        Err(_) => false,
+    }
+}
+
 /// What is answered of the bytes of a file at this rate.
 pub fn told(alloc: Global, rate: u32, bytes: &[u8]) -> Result<String, AllocError>
     requires rate_above { 1 ≤ rate }
@@ -73,10 +81,15 @@ pub fn told(alloc: Global, rate: u32, bytes: &[u8]) -> Result<String, AllocError
         return format!(in alloc; "too many bytes");
     }
     match read_textgrid(alloc, bytes) {
-        Err(fault) => fault_told(alloc, fault),
-        Ok(grid) => match to_annot(alloc, rate, &grid) {
-            Err(fault) => fault_told(alloc, fault),
-            Ok(annot) => annot_told(alloc, &annot),
-        },
+        Err(fault) => fault_told(alloc, fault.copy()),
+        Ok(grid) => {
+            if !is_copied(alloc, &grid) {
+                return format!(in alloc; "no copy");
+            }
+            match to_annot(alloc, rate, &grid) {
+                Err(fault) => fault_told(alloc, fault),
+                Ok(annot) => annot_told(alloc, &annot),
+            }
+        }
     }
 }

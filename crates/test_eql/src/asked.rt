@@ -3,7 +3,7 @@
 use crate::made::{config_of, prepared_of};
 use db_config::Config;
 use emu_names::{Memory, Text};
-use eql_resolve::{Asked, Prepared, resolve};
+use eql_resolve::{AskFault, Asked, Prepared, resolve};
 use std::alloc::{AllocError, Global};
 use std::process::Abort;
 use std::test::Fail;
@@ -76,6 +76,14 @@ fn told(alloc: Global, asked: &Asked) -> Result<String, AllocError> {
     }
 }
 
+/// The text of a copy of a fault.
+fn fault_told(alloc: Global, fault: &AskFault) -> Result<String, AllocError> {
+    match fault.copy(alloc) {
+        Ok(copied) => format!(in alloc; "{copied}"),
+        Err(_) => Err(AllocError),
+    }
+}
+
 /// What a prepared query asks of the database, or why it cannot be asked.
 fn answer(
     alloc: Global,
@@ -85,7 +93,7 @@ fn answer(
 ) -> Result<String, AllocError> {
     match resolve(alloc, config, prepared, time) {
         Ok(asked) => told(alloc, &asked),
-        Err(fault) => format!(in alloc; "{fault}"),
+        Err(fault) => fault_told(alloc, &fault),
     }
 }
 

@@ -88,8 +88,10 @@ fn tried<P: PatternMaker>(
     text: &str,
     label: &str,
 ) -> Result<bool, PatternFault> {
-    let pattern = maker.compile(alloc, text)?;
-    said(alloc, &pattern, label)
+    match maker.compile(alloc, text) {
+        Ok(pattern) => said(alloc, &pattern, label),
+        Err(fault) => Err(fault.copy()),
+    }
 }
 
 fn answer(alloc: Global, text: &str, label: &str) -> Result<Says, PatternFault> {

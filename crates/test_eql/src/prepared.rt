@@ -49,6 +49,14 @@ fn pattern_count<P: PatternMaker>(
     Ok(count)
 }
 
+/// The same answer, with a copy of its fault.
+fn copied(answer: Result<usize, PrepareFault>) -> Result<usize, PrepareFault> {
+    match answer {
+        Ok(count) => Ok(count),
+        Err(fault) => Err(fault.copy()),
+    }
+}
+
 /// Prepares a text, and compares the number of patterns.
 fn expect_count<P: PatternMaker>(
     rt: &impl Abort,
@@ -57,7 +65,7 @@ fn expect_count<P: PatternMaker>(
     text: &str,
     wanted: Result<usize, PrepareFault>,
 ) {
-    let found = pattern_count(alloc, maker, text);
+    let found = copied(pattern_count(alloc, maker, text));
     assert_eq!(rt; found, wanted, "{text}");
 }
 

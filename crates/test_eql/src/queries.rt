@@ -171,7 +171,10 @@ static PRINTS: [(&str, &str); 44] = [
 
 /// Compares the fault of a text, or that it has none.
 pub(crate) fn check_fault(rt: &impl Abort, alloc: Global, text: &str, wanted: Option<QueryFault>) {
-    let found = read_query(alloc, text).err();
+    let found = match read_query(alloc, text) {
+        Ok(_) => None,
+        Err(fault) => Some(fault.copy()),
+    };
     assert!(rt; found == wanted, "{found:?} in {text}");
 }
 
