@@ -36,42 +36,39 @@ const fn piece(place: u32) -> LineMoment {
     }
 }
 
-/// Runs the script by two workers behind a gate of these holds: the gate sees all its moments and does not give up, and
-/// the output is the one wanted.
+/// Each of the two bundles is held until the other is looked at.
+const HOLDS: [Hold; 2] = [
+    Hold {
+        first: piece(0),
+        second: piece(1),
+    },
+    Hold {
+        first: piece(1),
+        second: piece(0),
+    },
+];
+
+/// Runs the script by so many workers: the output is the one wanted, and the gate of the holds sees all its moments, but
+/// gives up or not.
 fn expect_held<R: Abort + Threads + Wait + Sync>(
     rt: &R,
     alloc: Global,
-    holds: &[Hold],
+    workers: &str,
+    gives_up: bool,
 ) -> Result<(), Fail> {
-    let gate = HoldGate::new(alloc, holds)?;
+    let gate = HoldGate::new(alloc, &HOLDS)?;
     let disk = MemoryDisk::new(alloc, &[])?;
-    let ran = run_on(
-        rt,
-        alloc,
-        &["live", "--workers", "2"],
-        &TWO,
-        &[],
-        disk,
-        &gate,
-    )?;
-    assert!(rt; ran.gave(0, &TWO_OUTPUT) && gate.saw_all() && !gate.gave_up());
+    let words = ["live", "--workers", workers];
+    let ran = run_on(rt, alloc, &words, &TWO, &[], disk, &gate)?;
+    assert!(rt; ran.gave(0, &TWO_OUTPUT) && gate.saw_all() && gate.gave_up() == gives_up);
     Ok(())
 }
 
-/// Each of the two bundles is held until the other is looked at, so one thread could not go through both.
+/// One thread could not go through both bundles: by one worker the gate gives up.
 #[test]
 fn two_workers_look_at_two_bundles_at_once(rt: HostRuntime) -> Result<(), Fail> {
-    let holds = [
-        Hold {
-            first: piece(0),
-            second: piece(1),
-        },
-        Hold {
-            first: piece(1),
-            second: piece(0),
-        },
-    ];
-    expect_held(&rt, rt.alloc(), &holds)
+    expect_held(&rt, rt.alloc(), "2", false)?;
+    expect_held(&rt, rt.alloc(), "1", true)
 }
 
 /// The line of a bundle up to its name, from there to the label of its second segment, and behind that.
