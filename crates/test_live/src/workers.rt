@@ -36,27 +36,25 @@ const fn piece(place: u32) -> LineMoment {
     }
 }
 
-/// Each of the two bundles is held until the other is looked at.
-const HOLDS: [Hold; 2] = [
-    Hold {
-        first: piece(0),
-        second: piece(1),
-    },
-    Hold {
-        first: piece(1),
-        second: piece(0),
-    },
-];
-
-/// Runs the script by so many workers: the output is the one wanted, and the gate of the holds sees all its moments, but
-/// gives up or not.
+/// Runs the script by so many workers, behind a gate that holds each of the two bundles until the other is looked at: the
+/// output is the one wanted, and the gate sees all its moments, but gives up or not.
 fn expect_held<R: Abort + Threads + Wait + Sync>(
     rt: &R,
     alloc: Global,
     workers: &str,
     gives_up: bool,
 ) -> Result<(), Fail> {
-    let gate = HoldGate::new(alloc, &HOLDS)?;
+    let holds = [
+        Hold {
+            first: piece(0),
+            second: piece(1),
+        },
+        Hold {
+            first: piece(1),
+            second: piece(0),
+        },
+    ];
+    let gate = HoldGate::new(alloc, &holds)?;
     let disk = MemoryDisk::new(alloc, &[])?;
     let words = ["live", "--workers", workers];
     let ran = run_on(rt, alloc, &words, &TWO, &[], disk, &gate)?;
