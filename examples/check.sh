@@ -3,7 +3,7 @@
 # its status with that of the last line, or 0 where the last line has none. NAME.args has further words of the command line.
 # A file NAME.cases has many scripts, parted by empty lines: a line '# TITLE' says what a script shows, '$ WORDS' gives the words of the
 # command line where they are not 'run', '<' stands before each line of the script, and '>' before each line of the output.
-# Then it asks the queries of make-wide.sh, where 1,000,000 tuples are answered and more are not, fills a history, walks over a store (store.sh),
+# Then it asks the queries of make-wide.sh, where 1,000,000 tuples are answered and more are not, fills a history, takes back the longest lists (make-undo.sh), walks over a store (store.sh),
 # tries the tools for tables, TextGrids and pictures (tools.sh), stores that are cut or altered (damage.py), and a store of the first version (first-version.py). BINARY is crates/emu/out/emu where it is not given. The last line says how many agreed; the status is 0 where all did.
 # check.sh --try [NAME.cases ..] compares what 'rt try' gives for the scripts NAME.jsonl, or for the cases of these files, in a minute or two:
 # nothing is built and nothing is proved, statuses are not looked at, and cases with other words are left out.
@@ -123,6 +123,11 @@ same "a word that is no text" "$("$binary" ask $'\xff' </dev/null | tr -d '\n'; 
 # A history of 100,000 edits takes none more, of an item that is there or of one that is not: its last three replies.
 same "make-history.sh" "$(sh ./make-history.sh 99999 | "$binary" run | tail -n 3 | paste -s -d ' ')" \
     '{"line":100001,"n":100000,"ok":"set_label"} {"line":100002,"n":100000,"refused":{"rule":"HistoryFull"}} {"line":100003,"n":100000,"refused":{"rule":"HistoryFull"}}'
+# What takes a list or a merge back has at most 65,536 edits: the reply to its undo, and the query after it.
+undone() { sh ./make-undo.sh "$1" "$2" | "$binary" run | tail -n 2 | paste -s -d ' '; }
+same "make-undo.sh 65533 0" "$(undone 65533 0)" '{"line":4,"n":3,"ok":"undo"} {"line":5,"n":3,"segments":[{"attribute":"Phonetic","bundle":"b1","end":340175,"endItem":2,"endPos":1,"labels":"V->m","level":"Phonetic","sampleEnd":6803,"sampleRate":20000,"sampleStart":3749,"session":"s1","start":187425,"startItem":1,"startPos":0}]}'
+same "make-undo.sh 65533 1" "$(undone 65533 1)" '{"line":4,"refused":{"rule":"TooManyEdits"}} {"line":5,"n":2,"segments":[]}'
+same "make-undo.sh 0 65534" "$(undone 0 65534)" '{"line":4,"refused":{"rule":"TooManyEdits"}} {"line":5,"n":2,"segments":[]}'
 # The walk over a store.
 bash ./store.sh "$binary" >"$wrote"
 agree store.sh store.stdout
