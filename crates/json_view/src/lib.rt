@@ -4,6 +4,7 @@
 
 mod faults;
 mod laws;
+mod path;
 mod text_views;
 mod views;
 mod wants;

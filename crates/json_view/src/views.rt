@@ -8,20 +8,21 @@ ghost use Rattle.json_view.specs.Parts.{elements_at, list_in, member_of, object_
 ghost use Rattle.json_view.specs.Inner.Parts.{optional_text, text_member, text_member_as, whole_member, whole_member_as};
 ghost use Rattle.json_view.specs.Paths.{root_path, member_path, element_path};
 ghost use Rattle.json_view.specs.Seen.{seen};
-ghost use Rattle.json_view.specs.Inner.Seen.{seen_at};
+ghost use Rattle.json_view.specs.Inner.Seen.{path_of, seen_at};
 
 use crate::faults::{PathText, Shape, ViewFault};
+use crate::path::Path;
 use crate::text_views::TextViews;
 use crate::wants::Wanted;
 use serde_json::Value;
-use std::alloc::{AllocError, Global};
+use std::alloc::Global;
 
 /// A place in a JSON value: the value that stands there, and its path.
 #[derive(Drop)]
 pub struct View<'a> {
     alloc: Global,
     value: &'a Value,
-    path: String,
+    path: Path<'a>,
 }
 
 impl<'a> View<'a> {
@@ -30,23 +31,22 @@ impl<'a> View<'a> {
         ensures all { IfOk result (λ v. seen_at v ≡ seen (view value.now) root_path) }
         ensures memory { IfErr result (λ e. e ≡ ViewFault.Memory) }
     {
-        let path = String::from_str(alloc, "$")?;
-        Ok(View { alloc, value, path })
+        Ok(View {
+            alloc,
+            value,
+            path: Path::Whole,
+        })
     }
 
     /// The member of this name. Where the value is no object, or has no such member, or `null`
     /// there, the fault is a `Shape` with the member's path and the form that is wanted of it.
     #[tactic(auto, unfolding(crate::specs::Parts::member_of))]
-    pub fn member(&self, name: &str, wanted: Wanted) -> Result<View<'a>, ViewFault>
+    pub fn member<'b>(&'b self, name: &'b str, wanted: Wanted) -> Result<View<'b>, ViewFault>
         ensures { Gives seen_at result (member_of name.now wanted (seen_at self.now)) }
     {
-        let path = self.path_of_member(name)?;
         match self.present(name) {
-            Some(value) => Ok(self.below(value, path)),
-            None => Err(ViewFault::Shape(Shape {
-                path: PathText::of(path),
-                wanted,
-            })),
+            Some(value) => Ok(self.below(value, Path::Member(&self.path, name))),
+            None => Err(self.refuse_member(name, wanted)),
         }
     }
 
@@ -67,17 +67,14 @@ impl<'a> View<'a> {
     /// `null` there. Where the value is no object, the fault is a `Shape` with this view's path and
     /// the form `Object`.
     #[tactic(auto, unfolding(crate::specs::Parts::optional_of))]
-    pub fn optional(&self, name: &str) -> Result<Option<View<'a>>, ViewFault>
+    pub fn optional<'b>(&'b self, name: &'b str) -> Result<Option<View<'b>>, ViewFault>
         ensures { Gives (option_map seen_at) result (optional_of name.now (seen_at self.now)) }
     {
         if !self.value.is_object() {
             return Err(self.refuse(Wanted::Object));
         }
         match self.present(name) {
-            Some(value) => {
-                let path = self.path_of_member(name)?;
-                Ok(Some(self.below(value, path)))
-            }
+            Some(value) => Ok(Some(self.below(value, Path::Member(&self.path, name)))),
             None => Ok(None),
         }
     }
@@ -98,26 +95,21 @@ impl<'a> View<'a> {
 
     /// The element at this place of a list, counted from 0. It fails only for want of memory.
     #[tactic(auto, using(crate::proofs::Elements::element_listed))]
-    pub fn at(&self, place: usize) -> Result<View<'a>, ViewFault>
+    pub fn at(&self, place: usize) -> Result<View<'_>, ViewFault>
         requires { place < length (list_in (seen_at self.now).value) }
         ensures element { IfOk result (λ v.
             element_of place (seen_at self.now) ≡ Some (seen_at v)) }
         ensures memory { IfErr result (λ e. e ≡ ViewFault.Memory) }
     {
-        let path = format!(in self.alloc; "{}[{}]", self.path, place)?;
-        Ok(self.below(&self.listed()[place], path))
+        Ok(self.below(&self.listed()[place], Path::Element(&self.path, place)))
     }
 
     /// The text. Where the value is no text, the fault is a `Shape` with this view's path and the
     /// form `Text`.
-    #[tactic(auto, unfolding(crate::specs::Parts::text_at))]
     pub fn text(&self) -> Result<&'a str, ViewFault>
         ensures { Gives (λ t. t.now) result (text_at (seen_at self.now)) }
     {
-        match self.value.as_str() {
-            Some(text) => Ok(text),
-            None => Err(self.refuse(Wanted::Text)),
-        }
+        text_in(self.alloc, self.value, &self.path)
     }
 
     /// The whole number, from 0 to `most`. Where the value is no such number, the fault is a
@@ -152,13 +144,7 @@ impl<'a> View<'a> {
     pub fn refuse(&self, wanted: Wanted) -> ViewFault
         ensures { Tells result (shape (seen_at self.now).path wanted) }
     {
-        match String::from_str(self.alloc, self.path.as_str()) {
-            Ok(text) => ViewFault::Shape(Shape {
-                path: PathText::of(text),
-                wanted,
-            }),
-            Err(_) => ViewFault::Memory,
-        }
+        shape_at(self.alloc, &self.path, wanted)
     }
 }
 
@@ -240,13 +226,7 @@ impl<'a> View<'a> {
     pub fn refuse_member(&self, name: &str, wanted: Wanted) -> ViewFault
         ensures { Tells result (shape (member_path (seen_at self.now).path name.now) wanted) }
     {
-        match self.path_of_member(name) {
-            Ok(path) => ViewFault::Shape(Shape {
-                path: PathText::of(path),
-                wanted,
-            }),
-            Err(_) => ViewFault::Memory,
-        }
+        shape_at(self.alloc, &Path::Member(&self.path, name), wanted)
     }
 }
 
@@ -274,20 +254,14 @@ impl<'a> View<'a> {
     }
 
     // A place below this one.
-    fn below(&self, value: &'a Value, path: String) -> View<'a>
-        ensures { seen_at result ≡ seen (view value.now) (string_bytes path) }
+    fn below<'b>(&self, value: &'b Value, path: Path<'b>) -> View<'b>
+        ensures { seen_at result ≡ seen (view value.now) (path_of path.entry) }
     {
         View {
             alloc: self.alloc,
             value,
             path,
         }
-    }
-
-    fn path_of_member(&self, name: &str) -> Result<String, AllocError>
-        ensures { IfOk result (λ p. string_bytes p ≡ member_path (seen_at self.now).path name.now) }
-    {
-        format!(in self.alloc; "{}.{}", self.path, name)
     }
 
     fn lone_text(&self, text: &'a str) -> Result<TextViews<'a>, ViewFault>
@@ -299,19 +273,43 @@ impl<'a> View<'a> {
         Ok(texts)
     }
 
-    #[tactic(auto, using(crate::proofs::Each::each_steps), unfolding(crate::specs::Lists::each_of))]
+    #[tactic(auto, using(crate::proofs::Each::each_steps, crate::proofs::Elements::element_listed), unfolding(crate::specs::Lists::each_of))]
     fn listed_texts(&self) -> Result<TextViews<'a>, ViewFault>
         ensures { Gives (λ t. t) result (each_of text_at (seen_at self.now)) }
     {
         let count = self.list_len()?;
         let mut texts = TextViews::new(self.alloc);
         for place in 0..count {
-            let part = self.at(place)?;
-            match part.text() {
+            let value = &self.listed()[place];
+            match text_in(self.alloc, value, &Path::Element(&self.path, place)) {
                 Ok(text) => texts.push(text)?,
                 Err(fault) => return Err(fault),
             }
         }
         Ok(texts)
+    }
+}
+
+// The fault that another form was wanted at a place.
+fn shape_at(alloc: Global, path: &Path, wanted: Wanted) -> ViewFault
+    ensures { Tells result (shape (path_of path.now) wanted) }
+{
+    match path.text(alloc) {
+        Ok(text) => ViewFault::Shape(Shape {
+            path: PathText::of(text),
+            wanted,
+        }),
+        Err(_) => ViewFault::Memory,
+    }
+}
+
+// The text at a place.
+#[tactic(auto, unfolding(crate::specs::Parts::text_at))]
+fn text_in<'a>(alloc: Global, value: &'a Value, path: &Path) -> Result<&'a str, ViewFault>
+    ensures { Gives (λ t. t.now) result (text_at (seen (view value.now) (path_of path.now))) }
+{
+    match value.as_str() {
+        Some(text) => Ok(text),
+        None => Err(shape_at(alloc, path, Wanted::Text)),
     }
 }
