@@ -37,10 +37,18 @@ impl Edits {
     pub fn one(alloc: Global, edit: Edit) -> Result<Edits, Memory>
         ensures { IfOk result (λ made. made ≡ edit ∷ []) }
     {
-        let mut series = Series::new(alloc);
-        series.push(edit)?;
-        let list = Shared::new(alloc, series)?;
-        Ok(Edits { list })
+        match Vec::with_capacity(alloc, 1) {
+            Ok(items) => {
+                let mut series = Series::from_vec(items);
+                series.push(edit)?;
+                let list = Shared::new(alloc, series)?;
+                Ok(Edits { list })
+            }
+            Err(_) => {
+                drop(edit);
+                Err(Memory)
+            }
+        }
     }
 
     /// Puts an edit last. The only refusal is want of memory, which changes nothing.

@@ -18,9 +18,17 @@ use std::alloc::Global;
 pub(crate) fn one(alloc: Global, edit: Edit) -> Result<Series<Edit>, Memory>
     ensures { IfOk result (λ made. made ≡ edit ∷ []) }
 {
-    let mut made = Series::new(alloc);
-    made.push(edit)?;
-    Ok(made)
+    match Vec::with_capacity(alloc, 1) {
+        Ok(items) => {
+            let mut made = Series::from_vec(items);
+            made.push(edit)?;
+            Ok(made)
+        }
+        Err(_) => {
+            drop(edit);
+            Err(Memory)
+        }
+    }
 }
 
 /// The position that an item is put back at, or none where its time gives the place.

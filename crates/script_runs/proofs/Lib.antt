@@ -1,5 +1,6 @@
 mod AnswerLemmas
 mod CutLemmas
+mod LineEnds
 mod ParseLemmas
 mod ReadLemmas
 mod NextLemmas

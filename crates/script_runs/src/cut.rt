@@ -3,19 +3,18 @@ ghost use Rattle.std.specs.Prelude.{◌≡◌, ◌<◌, ◌≤◌, ◌∷◌, []
 ghost use Rattle.script_runs.specs.Cuts.{cut};
 ghost use Rattle.script_runs.specs.Inner.Cuts.{line_len};
 
+use memchr::memchr;
+
 /// How many bytes come before the first line feed, or how many there are.
+#[tactic(auto, using(crate::proofs::LineEnds::feed_at, crate::proofs::LineEnds::no_feed))]
 fn line_len(bytes: &[u8]) -> usize
     ensures value { result ≡ line_len bytes.now }
     ensures bound { result ≤ length bytes.now }
 {
-    let mut len = 0;
-    for byte in bytes {
-        if *byte == b'\n' {
-            return len;
-        }
-        len += 1;
+    match memchr(b'\n', bytes) {
+        Some(len) => len,
+        None => bytes.len(),
     }
-    len
 }
 
 /// The first line of these bytes without its line feed, and the bytes behind it. There is none at
