@@ -1,4 +1,5 @@
 pub mod Undoing
+pub mod Rising
 pub mod Turns
 pub mod Places
 pub mod SlotPlaces

@@ -297,16 +297,15 @@ passed_back s line acts place kept low is other =
     ∙ ap (λ (b : Bool). found_later (cond b (Some kept.inverse) None) (latest_of s line (take place acts))) other
 
 -- the same where the place was counted down
-pub found_at : (s line : ℕ) (acts items : List KeptAct) (place : ℕ) (kept : KeptAct) → items ≡ acts → 0 < place → place ≤ length acts → kept ≡ get_or items (place - 1) kept
+pub found_at : (s line : ℕ) (acts : List KeptAct) (place : ℕ) (kept : KeptAct) → 0 < place → place ≤ length acts → kept ≡ get_or acts (place - 1) kept
     → is_kept_of s line kept ≡ true → latest_of s line (take place acts) ≡ Some kept.inverse
-found_at s line acts items place kept same some within is own =
+found_at s line acts place kept some within is own =
     let next : suc (place - 1) ≡ place = omega arith in
-    subst (λ (k : ℕ). latest_of s line (take k acts) ≡ Some kept.inverse) next
-    (found_back s line acts (place - 1) kept (omega arith) (is ∙ ap (λ (xs : List KeptAct). get_or xs (place - 1) kept) same) own)
+    subst (λ (k : ℕ). latest_of s line (take k acts) ≡ Some kept.inverse) next (found_back s line acts (place - 1) kept (omega arith) is own)
 
-pub passed_at : (s line : ℕ) (acts items : List KeptAct) (place : ℕ) (kept : KeptAct) → items ≡ acts → 0 < place → place ≤ length acts → kept ≡ get_or items (place - 1) kept
+pub passed_at : (s line : ℕ) (acts : List KeptAct) (place : ℕ) (kept : KeptAct) → 0 < place → place ≤ length acts → kept ≡ get_or acts (place - 1) kept
     → is_kept_of s line kept ≡ false → latest_of s line (take (place - 1) acts) ≡ latest_of s line (take place acts)
-passed_at s line acts items place kept same some within is other =
+passed_at s line acts place kept some within is other =
     let next : suc (place - 1) ≡ place = omega arith in
     subst (λ (k : ℕ). latest_of s line (take (place - 1) acts) ≡ latest_of s line (take k acts)) next
-    (sym (passed_back s line acts (place - 1) kept (omega arith) (is ∙ ap (λ (xs : List KeptAct). get_or xs (place - 1) kept) same) other))
+    (sym (passed_back s line acts (place - 1) kept (omega arith) is other))

@@ -3,3 +3,4 @@ pub mod Steps
 pub mod Stops
 pub mod Undone
 pub mod Room
+pub mod Rising

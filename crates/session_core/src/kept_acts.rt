@@ -1,6 +1,7 @@
 //! What takes back the accepted changes of a run, kept for its `undo` lines.
-ghost use Rattle.std.specs.Prelude.{◌≡◌, ◌<◌, ◌≤◌, ◌+◌, ◌∷◌, ◌++◌, [], IfOk, OnErr, OnOk, option_copied};
+ghost use Rattle.std.specs.Prelude.{◌≡◌, ◌<◌, ◌≤◌, ◌+◌, ◌∷◌, ◌++◌, true, [], All, IfOk, OnErr, OnOk, option_copied};
 ghost use Rattle.session_core.specs.Undos.{is_kept_of, kept_act, latest_of};
+ghost use Rattle.session_core.specs.Inner.Rising.{AreRising};
 
 use edit_undo::NoUndo;
 use edit_undo::edit_rules::Act;
@@ -28,20 +29,63 @@ impl KeptAct {
     }
 }
 
+/// Whether this line is above all that are kept, where their lines rise: the last of them is asked.
+fn is_above(list: &[KeptAct], line: u32) -> bool
+    requires { AreRising list.now }
+    ensures { result ≡ true → All (λ kept. kept.line < line) list.now }
+{
+    match list.last() {
+        Some(last) => last.line < line,
+        None => true,
+    }
+}
+
+/// What takes back the change of this line of this session, where the lines rise: it is searched for by halves.
+fn find_risen(list: &[KeptAct], session: SessionNo, line: u32) -> Option<&Result<Act, NoUndo>>
+    requires { AreRising list.now }
+    ensures { option_copied result ≡ latest_of session.0 line list.now }
+{
+    let place = list.partition_point(|kept| kept.line < line);
+    match list.get(place) {
+        Some(kept) if kept.is_of(session, line) => Some(&kept.inverse),
+        _ => None,
+    }
+}
+
+/// What takes back the change of this line of this session, in any order of the lines: of several, the last one.
+fn find_back(list: &[KeptAct], session: SessionNo, line: u32) -> Option<&Result<Act, NoUndo>>
+    ensures { option_copied result ≡ latest_of session.0 line list.now }
+{
+    let mut place = list.len();
+    while place > 0 {
+        place -= 1;
+        let kept = &list[place];
+        if kept.is_of(session, line) {
+            return Some(&kept.inverse);
+        }
+    }
+    None
+}
+
 /// What takes back the accepted changes of a run, in the order of the history. Room for one more is made before
 /// the change is committed, so that what is accepted is kept without asking for memory.
 #[derive(Drop)]
 pub struct KeptActs {
     list: Vec<KeptAct>,
+    /// Whether each line is greater than the ones before it, as those of a run are.
+    rising: bool,
 }
 
 impl Model for KeptActs {
     ghost use Rattle.std.specs.Prelude.{◌-◌, vec_capacity, vec_len};
     ghost use Rattle.session_core.specs.Inner.Room.{KeptParts};
+    ghost use Rattle.session_core.specs.Inner.Rising.{RiseWhere};
 
     ghost Value = { KeptParts };
 
     ghost view = { λ k. record { acts = k.list.items; room = vec_capacity k.list - vec_len k.list } };
+
+    ghost invariant = { λ k. RiseWhere k.rising k.list.items };
 }
 
 impl KeptActs {
@@ -51,6 +95,7 @@ impl KeptActs {
     {
         KeptActs {
             list: Vec::new(alloc),
+            rising: true,
         }
     }
 
@@ -60,7 +105,7 @@ impl KeptActs {
         ensures room { IfOk result (λ kept. room ≤ kept.room) }
     {
         let list = Vec::with_capacity(alloc, room)?;
-        Ok(KeptActs { list })
+        Ok(KeptActs { list, rising: true })
     }
 
     /// Makes room for one more. The only refusal is want of memory; what is kept stays in any case.
@@ -79,25 +124,23 @@ impl KeptActs {
         ensures acts { self.new.acts ≡ self.old.acts ++ kept_act session line inverse ∷ [] }
         ensures room { self.new.room + 1 ≡ self.old.room }
     {
+        let rising = self.rising && is_above(&self.list, line);
         self.list.push_reserved(KeptAct {
             session,
             line,
             inverse,
         });
+        self.rising = rising;
     }
 
     /// What takes back the change of this line of this session, where it was accepted: of several, the last one.
     pub fn find(&self, session: SessionNo, line: u32) -> Option<&Result<Act, NoUndo>>
         ensures { option_copied result ≡ latest_of session.0 line self.now.acts }
     {
-        let mut place = self.list.len();
-        while place > 0 {
-            place -= 1;
-            let kept = &self.list[place];
-            if kept.is_of(session, line) {
-                return Some(&kept.inverse);
-            }
+        if self.rising {
+            find_risen(&self.list, session, line)
+        } else {
+            find_back(&self.list, session, line)
         }
-        None
     }
 }
