@@ -4,12 +4,12 @@ ghost use Rattle.level_items.specs.Inner.Marked.{is_marked};
 
 use emu_names::{ItemId, Memory};
 use std::alloc::{AllocError, Global};
-use std::collections::BTreeMap;
+use std::collections::HashMap;
 
 /// A map from ids to marks. Of a mark nothing is promised: it tells where to look first.
 #[derive(Drop)]
 pub(crate) struct Marks {
-    marks: BTreeMap<u32, u64>,
+    marks: HashMap<u32, u64>,
 }
 
 impl Marks {
@@ -18,7 +18,7 @@ impl Marks {
         ensures { (q : ℕ) → is_marked result q ≡ false }
     {
         Marks {
-            marks: BTreeMap::new(alloc),
+            marks: HashMap::new(alloc),
         }
     }
 
