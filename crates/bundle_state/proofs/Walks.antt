@@ -2,7 +2,6 @@
 use Rattle.std.proofs.Common.{◌≡◌, ℕ, suc, ◌+◌, ◌<◌, Bool, true, false, ◌||◌, List, [], ◌∷◌, ◌++◌, length, get_or, take, drop, drop-cons, refl, sym, ap, ◌∙◌, add-one, cond, nat_eq}
 use Rattle.std.proofs.lemmas.List.{take_more}
 use Rattle.std.specs.List.{list_any}
-use Rattle.std.specs.Ordering.{nat_cmp, is_eq}
 use Rattle.std.proofs.lemmas.List.Folds.{list_any-append}
 use Rattle.std.proofs.lemmas.Bool.Decides.{nat_tests}
 use Rattle.std.proofs.Common.{arith}
@@ -18,19 +17,11 @@ take_at xs i x low is = take_more xs i x low ∙ ap (λ y. take i xs ++ y ∷ []
 
 -- an id more in a set of ids
 pub id_more : (xs ys : List ℕ) (id q : ℕ) →
-    list_any (λ k. is_eq (nat_cmp q k)) ys ≡ cond (is_eq (nat_cmp id q)) true (list_any (λ k. is_eq (nat_cmp q k)) xs) →
+    list_any (nat_eq q) ys ≡ cond (nat_eq id q) true (list_any (nat_eq q) xs) →
     list_any (nat_eq q) ys ≡ list_any (nat_eq q) (xs ++ id ∷ [])
-id_more xs ys id q h =
-    sym (by_cmp q ys) ∙ h ∙ ap (λ b. cond (is_eq (nat_cmp id q)) true b) (by_cmp q xs) ∙ last (is_eq (nat_cmp id q)) (nat_eq q id) (list_any (nat_eq q) xs) (alike id q) ∙ sym (list_any-append (nat_eq q) xs (id ∷ []))
+id_more xs ys id q h = h ∙ last (nat_eq id q) (nat_eq q id) (list_any (nat_eq q) xs) (alike id q) ∙ sym (list_any-append (nat_eq q) xs (id ∷ []))
   where
-    same : (a b : ℕ) → is_eq (nat_cmp a b) ≡ nat_eq a b
-    same a b = grind (arith, nat_tests)
-
-    by_cmp : (a : ℕ) (zs : List ℕ) → list_any (λ k. is_eq (nat_cmp a k)) zs ≡ list_any (nat_eq a) zs
-    by_cmp a [] = refl
-    by_cmp a (z ∷ zs) = rw (same a z, by_cmp a zs) refl
-
-    alike : (a b : ℕ) → is_eq (nat_cmp a b) ≡ nat_eq b a
+    alike : (a b : ℕ) → nat_eq a b ≡ nat_eq b a
     alike a b = grind (arith, nat_tests)
 
     last : (a b there : Bool) → a ≡ b → cond a true there ≡ (there || (b || false))

@@ -11,12 +11,12 @@ use bundle_lists::Handle;
 use emu_names::{ItemId, Memory};
 use level_items::{Item, LevelList};
 use std::alloc::{AllocError, Global};
-use std::collections::BTreeMap;
+use std::collections::HashMap;
 
 /// The number of the level of each id, which fits a byte, since there are at most 64 levels.
 #[derive(Drop)]
 pub(crate) struct Places {
-    levels: BTreeMap<u32, u8>,
+    levels: HashMap<u32, u8>,
 }
 
 impl Places {
@@ -25,7 +25,7 @@ impl Places {
         ensures { (q : ℕ) → level_in result q ≡ None }
     {
         Places {
-            levels: BTreeMap::new(alloc),
+            levels: HashMap::new(alloc),
         }
     }
 

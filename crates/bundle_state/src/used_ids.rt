@@ -4,13 +4,13 @@ ghost use Rattle.std.specs.List.{list_any};
 
 use emu_names::{ItemId, Memory};
 use std::alloc::Global;
-use std::collections::BTreeSet;
+use std::collections::HashSet;
 use std::marker::Model;
 
 /// A set of ids, which contracts see as a list whose order says nothing.
 #[derive(Drop)]
 pub(crate) struct UsedIds {
-    ids: BTreeSet<u32>,
+    ids: HashSet<u32>,
 }
 
 impl Model for UsedIds {
@@ -27,7 +27,7 @@ impl UsedIds {
         ensures { result ≡ [] }
     {
         UsedIds {
-            ids: BTreeSet::new(alloc),
+            ids: HashSet::new(alloc),
         }
     }
 
