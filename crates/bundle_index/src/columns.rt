@@ -22,12 +22,21 @@ pub struct LevelColumns {
     pub ends: Series<u64>,
 }
 
-/// The numbers of the items' labels for an attribute. The only refusal is want of memory, or of a
-/// number for a label.
+/// The number at a place, or 0 where there is none.
+fn near_at(near: &[u32], place: usize) -> u32 {
+    match near.get(place) {
+        Some(number) => *number,
+        None => 0,
+    }
+}
+
+/// The numbers of the items' labels for an attribute. The numbers of `near` are tried first, each at its place; of
+/// them nothing is promised. The only refusal is want of memory, or of a number for a label.
 fn label_column(
     alloc: Global,
     items: &[Item],
     attribute: usize,
+    near: &[u32],
     labels: &mut Labels,
 ) -> Result<Series<u32>, Memory>
     requires { All (λ i. attribute < length i.labels) items.now }
@@ -37,18 +46,30 @@ fn label_column(
 {
     let mut column = Vec::with_capacity(alloc, items.len())?;
     for item in items {
-        let number = labels.number(alloc, item.labels.get(attribute).as_str())?;
+        let near = near_at(near, column.len());
+        let number = labels.number_near(alloc, item.labels.get(attribute).as_str(), near)?;
         column.push(number)?;
     }
     Ok(Series::from_vec(column))
 }
 
-/// The columns of the first `count` attributes of the items. The only refusal is want of memory, or of
-/// a number for a label.
+/// The numbers of labels for an attribute in columns, or none.
+fn near_column(near: Option<&LevelColumns>, attribute: usize) -> &[u32] {
+    match near {
+        Some(columns) if attribute < columns.labels.len() => {
+            columns.labels.get(attribute).as_slice()
+        }
+        _ => &[],
+    }
+}
+
+/// The columns of the first `count` attributes of the items, for which the numbers of `near` are tried first. The only
+/// refusal is want of memory, or of a number for a label.
 fn label_columns(
     alloc: Global,
     items: &[Item],
     count: usize,
+    near: Option<&LevelColumns>,
     labels: &mut Labels,
 ) -> Result<Series<Series<u32>>, Memory>
     requires { All (λ i. length i.labels ≡ count) items.now }
@@ -57,7 +78,13 @@ fn label_columns(
 {
     let mut columns = Series::new(alloc);
     for attribute in 0..count {
-        let column = label_column(alloc, items, attribute, labels)?;
+        let column = label_column(
+            alloc,
+            items,
+            attribute,
+            near_column(near, attribute),
+            labels,
+        )?;
         columns.push(column)?;
     }
     Ok(columns)
@@ -157,10 +184,12 @@ fn with_times(
     })
 }
 
-/// The columns of a level. The only refusal is want of memory, or of a number for a label.
+/// The columns of a level. The numbers of labels in `near` are tried first, as columns of the level before an edit;
+/// of them nothing is promised. The only refusal is want of memory, or of a number for a label.
 pub fn columns_of(
     alloc: Global,
     level: &LevelList,
+    near: Option<&LevelColumns>,
     labels: &mut Labels,
 ) -> Result<LevelColumns, Memory>
     requires { KeepsLevelRule level.now }
@@ -168,6 +197,6 @@ pub fn columns_of(
     ensures grown { OnOk result (HasGrown labels.old labels.new) }
 {
     let items = level.as_slice();
-    let made = label_columns(alloc, items, label_count(items), labels)?;
+    let made = label_columns(alloc, items, label_count(items), near, labels)?;
     with_times(alloc, items, made)
 }

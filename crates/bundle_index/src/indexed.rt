@@ -11,6 +11,7 @@ ghost use Rattle.level_items.specs.Levels.{Level, items_at, label_of};
 ghost use Rattle.bundle_index.specs.Inner.Columns.{AreColumnsBut, AreColumnsFor, AreColumnsOf, AreKeptOf, AreOtherwiseSame, AreSameBut, ends_of, starts_of};
 ghost use Rattle.bundle_index.specs.Inner.Keys.{AreKeysOf};
 
+use crate::columns::LevelColumns;
 use crate::labels::Labels;
 use crate::shared::SharedColumns;
 use crate::short_keys::ShortKeys;
@@ -339,7 +340,7 @@ fn all_columns(
 {
     let mut all = Series::new(alloc);
     for level in 0..bundle.level_count() {
-        let columns = SharedColumns::of_level(alloc, bundle.level(level), labels)?;
+        let columns = SharedColumns::of_level(alloc, bundle.level(level), None, labels)?;
         all.push(columns)?;
     }
     Ok(all)
@@ -366,6 +367,15 @@ fn is_marked(marked: &BitRow, level: usize) -> bool
     level < marked.len() && marked.get(level)
 }
 
+/// The columns at a place, if there are so many.
+fn columns_at(all: &Series<SharedColumns>, place: usize) -> Option<&LevelColumns> {
+    if place < all.len() {
+        Some(all.get(place).as_ref())
+    } else {
+        None
+    }
+}
+
 /// The columns of a level: made anew where it is marked, else those that were there. The only refusal is want of
 /// memory, or of a number for a label.
 #[tactic(auto, using(crate::proofs::Asked::still_there, crate::proofs::Asked::still, crate::proofs::Asked::grown_self))]
@@ -384,7 +394,7 @@ fn changed_level(
     ensures grown { OnOk result (HasGrown labels.old labels.new) }
 {
     if is_marked(marked, level) {
-        SharedColumns::of_level(alloc, bundle.level(level), labels)
+        SharedColumns::of_level(alloc, bundle.level(level), columns_at(old, level), labels)
     } else {
         old.get(level).copy()
     }

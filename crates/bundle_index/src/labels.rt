@@ -1,5 +1,5 @@
 //! The distinct labels of a bundle, each with its number, as indexed bundles share them.
-ghost use Rattle.std.specs.Prelude.{◌≡◌, ◌<◌, [], IfOk, OnOk, length, position, slice_get, Some};
+ghost use Rattle.std.specs.Prelude.{◌≡◌, ◌<◌, [], IfOk, IsTrue, OnOk, length, position, slice_get, Some};
 ghost use Rattle.std.specs.Str.{bytes_eq};
 ghost use Rattle.bundle_index.specs.Inner.Numbered.{AreNumbered, HasGrown};
 
@@ -155,6 +155,24 @@ impl Labels {
             Some(number) => Ok(number),
             None => self.put(alloc, label),
         }
+    }
+
+    /// The number of a label, as by [`Labels::number`]. This number is tried first, of which nothing is promised.
+    pub fn number_near(&mut self, alloc: Global, label: &str, near: u32) -> Result<u32, Memory>
+        ensures number { IfOk result (λ n. slice_get self.new n ≡ Some label.now) }
+        ensures grown { OnOk result (HasGrown self.old self.new) }
+    {
+        if self.has_at(near as usize, label) {
+            return Ok(near);
+        }
+        self.number(alloc, label)
+    }
+
+    /// Whether this label has this number.
+    fn has_at(&self, place: usize, label: &str) -> bool
+        ensures { IsTrue result → slice_get self.now place ≡ Some label.now }
+    {
+        place < self.len() && self.get(place) == label
     }
 
     /// Puts a label last, and answers its number. The only refusal is want of memory, or of a number.

@@ -36,17 +36,19 @@ impl SharedColumns {
         Ok(SharedColumns { inside })
     }
 
-    /// The columns of a level. The only refusal is want of memory, or of a number for a label.
+    /// The columns of a level. The numbers of labels in `near` are tried first, of which nothing is promised. The only
+    /// refusal is want of memory, or of a number for a label.
     pub fn of_level(
         alloc: Global,
         level: &LevelList,
+        near: Option<&LevelColumns>,
         labels: &mut Labels,
     ) -> Result<SharedColumns, Memory>
         requires { KeepsLevelRule level.now }
         ensures columns { IfOk result (λ columns. AreColumnsOf labels.new level.now columns) }
         ensures grown { OnOk result (HasGrown labels.old labels.new) }
     {
-        let columns = columns_of(alloc, level, labels)?;
+        let columns = columns_of(alloc, level, near, labels)?;
         SharedColumns::new(alloc, columns)
     }
 
