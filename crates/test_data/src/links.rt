@@ -94,7 +94,9 @@ fn check(rt: &impl Abort, links: &Links, state: &State) {
     for place in 0..links.len() {
         let link = links.get(place).copy();
         assert_eq!(rt; (link.from.0, link.to.0), pairs[place]);
+        assert_eq!(rt; links.place(link.from, link.to), Some(place));
     }
+    assert_eq!(rt; links.place(ItemId(2), ItemId(1)), None);
     check_ends(rt, links.parents(ItemId(id)), parents);
     check_ends(rt, links.children(ItemId(id)), children);
 }
@@ -167,7 +169,17 @@ fn many_links_are_soon_there(rt: HostRuntime) -> Result<(), Fail> {
     Ok(())
 }
 
-/// Whether links are taken out one by one in far less time than the square of their number takes.
+/// Asserts that links behind those that were taken out have moved up.
+fn expect_places(rt: &impl Abort, links: &Links) {
+    for step in 0..4_096u32 {
+        let number = 65_536 + 48 * step;
+        let place = links.place(ItemId(number / 512), ItemId(1_000_000 + number % 512));
+        assert_eq!(rt; place, Some((48 * step) as usize));
+    }
+}
+
+/// Whether links are taken out one by one, and the places of others found, in far less time than the square of
+/// their number takes.
 #[test]
 fn many_links_are_soon_taken_out(rt: HostRuntime) -> Result<(), Fail> {
     let mut links = full(rt.alloc(), 512)?;
@@ -176,5 +188,6 @@ fn many_links_are_soon_taken_out(rt: HostRuntime) -> Result<(), Fail> {
         assert!(rt; removed.is_ok());
     }
     assert_eq!(rt; links.len(), 196_608);
+    expect_places(&rt, &links);
     Ok(())
 }
