@@ -84,12 +84,12 @@ count_fits blocks i block within is =
     let here = ap length is in
     omega arith
 
-get_left : (xs ys : List Link) (n : ℕ) → n < length xs → slice_get (xs ++ ys) n ≡ slice_get xs n
+pub get_left : (xs ys : List Link) (n : ℕ) → n < length xs → slice_get (xs ++ ys) n ≡ slice_get xs n
 get_left [] ys n within = let no : ⊥ = omega arith in absurd no
 get_left (x ∷ xs) ys zero within = refl
 get_left (x ∷ xs) ys (suc n) within = get_left xs ys n (omega arith)
 
-get_right : (xs ys : List Link) (n m : ℕ) → length xs + m ≡ n → slice_get (xs ++ ys) n ≡ slice_get ys m
+pub get_right : (xs ys : List Link) (n m : ℕ) → length xs + m ≡ n → slice_get (xs ++ ys) n ≡ slice_get ys m
 get_right [] ys n m is = ap (slice_get ys) (omega arith)
 get_right (x ∷ xs) ys zero m is = let no : ⊥ = omega arith in absurd no
 get_right (x ∷ xs) ys (suc n) m is = get_right xs ys n m (omega arith)

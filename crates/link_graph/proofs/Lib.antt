@@ -9,3 +9,4 @@ pub mod Taking
 pub mod Inserted
 pub mod Counted
 pub mod Placed
+pub mod PairPlaces

@@ -3,6 +3,7 @@ ghost use Rattle.std.specs.Prelude.{◌≡◌, ◌<◌, ◌≤◌, ◌++◌, ◌
 ghost use Rattle.std.specs.List.{filter, list_any};
 ghost use Rattle.link_graph.specs.Link.{joins};
 ghost use Rattle.link_graph.specs.Inner.Ends.{has_end};
+ghost use Rattle.link_graph.specs.Inner.Link.{IsPairPlace};
 
 use crate::ends::End;
 use crate::link::Link;
@@ -103,6 +104,13 @@ impl Block {
         has_pair(self.links.as_slice(), from, to)
     }
 
+    /// The place of the link of a pair, counted from 0, if it is here.
+    pub(crate) fn place(&self, from: ItemId, to: ItemId) -> Option<usize>
+        ensures { IsPairPlace from to self.now result }
+    {
+        pair_place(self.links.as_slice(), from, to)
+    }
+
     /// Takes the link of a pair out.
     pub(crate) fn take_pair(&mut self, from: ItemId, to: ItemId)
         ensures { self.new ≡ filter (λ link. not (joins from to link)) self.old }
@@ -150,4 +158,24 @@ fn has_pair(links: &[Link], from: ItemId, to: ItemId) -> bool
         }
     }
     false
+}
+
+/// Whether a link leads from the one item to the other.
+fn is_pair(link: Link, from: ItemId, to: ItemId) -> bool
+    ensures { result ≡ joins from to link }
+{
+    link.from == from && link.to == to
+}
+
+/// The place of the link of a pair among some links, if it is there.
+#[tactic(auto, using(crate::proofs::PairPlaces::pair_here))]
+fn pair_place(links: &[Link], from: ItemId, to: ItemId) -> Option<usize>
+    ensures { IsPairPlace from to links.now result }
+{
+    for place in 0..links.len() {
+        if is_pair(links[place], from, to) {
+            return Some(place);
+        }
+    }
+    None
 }

@@ -1,8 +1,9 @@
 //! A list of links in blocks, from which a link is taken out without moving all that follow.
-ghost use Rattle.std.specs.Prelude.{◌≡◌, ◌<◌, ◌≤◌, ◌+◌, ◌++◌, ◌∷◌, ℕ, [], length, take, insert, not, true, false, slice_get, slice_set, get_or, Some, IfOk, IfSome, IfNone, OnOk, OnErr};
+ghost use Rattle.std.specs.Prelude.{◌≡◌, ◌<◌, ◌≤◌, ◌+◌, ◌++◌, ◌∷◌, ℕ, [], length, take, drop, insert, not, true, false, slice_get, slice_set, get_or, Some, IfOk, IfSome, IfNone, OnOk, OnErr};
 ghost use Rattle.std.specs.List.{filter, list_any};
 ghost use Rattle.link_graph.specs.Inner.Blocks.{joined, IsBlockPlace};
 ghost use Rattle.link_graph.specs.Inner.Ends.{has_end};
+ghost use Rattle.link_graph.specs.Inner.Link.{IsPairPlace};
 ghost use Rattle.link_graph.specs.Link.{ArePairsApart, joins};
 ghost use Rattle.link_graph.specs.declared.link.Link.{Link as OneLink};
 
@@ -109,6 +110,13 @@ impl Blocks {
         ensures { result ≡ length (filter (has_end end id.0) (take place self.now)) }
     {
         count_before(self.blocks.as_slice(), place, end, id)
+    }
+
+    /// The place of the link of a pair, which is looked for at this block first.
+    pub(crate) fn place(&self, guess: usize, from: ItemId, to: ItemId) -> Option<usize>
+        ensures { IsPairPlace from to self.now result }
+    {
+        pair_place(self.blocks.as_slice(), guess, from, to)
     }
 
     /// Takes the link of a pair out, which is looked for at this block first.
@@ -294,22 +302,55 @@ fn count_before(blocks: &[Block], place: usize, end: End, id: ItemId) -> usize
     total
 }
 
-/// The block with the link of a pair, for which `guess` is tried first.
+/// The first block from one on that has the link of a pair.
+#[tactic(auto, using(crate::proofs::PairPlaces::pair_past))]
+fn find_from(blocks: &[Block], first: usize, from: ItemId, to: ItemId) -> Option<usize>
+    ensures within { IfSome result (λ at. at < length blocks.now) }
+    ensures there { IfSome result
+        (λ at. list_any (joins from to) (get_or blocks.now at []) ≡ true) }
+    ensures none { IfNone result (list_any (joins from to) (joined (drop first blocks.now)) ≡ false) }
+{
+    for at in first..blocks.len() {
+        if blocks[at].has(from, to) {
+            return Some(at);
+        }
+    }
+    None
+}
+
+/// The block with the link of a pair, which is looked for from `guess` on, and then from the first one on.
 fn find_block(blocks: &[Block], guess: usize, from: ItemId, to: ItemId) -> Option<usize>
     ensures within { IfSome result (λ at. at < length blocks.now) }
     ensures there { IfSome result
         (λ at. list_any (joins from to) (get_or blocks.now at []) ≡ true) }
     ensures none { IfNone result (list_any (joins from to) (joined blocks.now) ≡ false) }
 {
-    if guess < blocks.len() && blocks[guess].has(from, to) {
-        return Some(guess);
+    match find_from(blocks, guess, from, to) {
+        Some(at) => Some(at),
+        None => find_from(blocks, 0, from, to),
     }
-    for at in 0..blocks.len() {
-        if blocks[at].has(from, to) {
-            return Some(at);
-        }
-    }
-    None
+}
+
+/// The place among all links of the link of a pair, which the block at a place has.
+#[tactic(auto, using(crate::proofs::PairPlaces::few_before, crate::proofs::PairPlaces::no_pair_there))]
+fn place_in(blocks: &[Block], at: usize, from: ItemId, to: ItemId) -> Option<usize>
+    requires few { length (joined blocks.now) ≤ BUNDLE_LINKS }
+    requires within { at < length blocks.now }
+    requires there { list_any (joins from to) (get_or blocks.now at []) ≡ true }
+    ensures { IsPairPlace from to (joined blocks.now) result }
+{
+    let place = blocks[at].place(from, to)?;
+    let (before, _behind) = blocks.split_at(at);
+    Some(count_of(before) + place)
+}
+
+/// The place of the link of a pair, which is looked for at this block first.
+fn pair_place(blocks: &[Block], guess: usize, from: ItemId, to: ItemId) -> Option<usize>
+    requires { length (joined blocks.now) ≤ BUNDLE_LINKS }
+    ensures { IsPairPlace from to (joined blocks.now) result }
+{
+    let at = find_block(blocks, guess, from, to)?;
+    place_in(blocks, at, from, to)
 }
 
 /// Takes the link of a pair out of the block at a place.

@@ -3,7 +3,7 @@ ghost use Rattle.std.specs.Prelude.{◌≡◌, ◌<◌, ◌≤◌, ◌↔◌, �
 ghost use Rattle.std.specs.List.{filter, find, list_any};
 ghost use Rattle.emu_names.specs.declared.rules.Broken.{Broken as Rule};
 ghost use Rattle.link_graph.specs.Link.{ArePairsApart, joins, names_item, children_of, parent_fault, child_fault, add_fault, link_of};
-ghost use Rattle.link_graph.specs.Inner.Link.{parents_of, is_among};
+ghost use Rattle.link_graph.specs.Inner.Link.{parents_of, is_among, IsPairPlace};
 
 use crate::blocks::Blocks;
 use crate::ends::Ends;
@@ -68,6 +68,16 @@ impl Links {
         ensures { result ≡ list_any (joins from to) self.now }
     {
         self.index.pairs.has(from, to)
+    }
+
+    /// The place of the link of a pair, counted from 0, if it is there.
+    pub fn place(&self, from: ItemId, to: ItemId) -> Option<usize>
+        ensures { IsPairPlace from to self.now result }
+    {
+        if !self.index.pairs.has(from, to) {
+            return None;
+        }
+        self.links.place(self.index.pairs.block(from, to), from, to)
     }
 
     /// The items that link to `id`, in the order of adding.
