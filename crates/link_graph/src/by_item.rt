@@ -8,13 +8,13 @@ use crate::item_links::ItemLinks;
 use crate::link::Link;
 use emu_names::{ItemId, Memory};
 use std::alloc::Global;
-use std::collections::BTreeMap;
+use std::collections::HashMap;
 
 /// A list of links for each item that has some. An item without an entry has none.
 #[derive(Drop)]
 pub(crate) struct ByItem {
     alloc: Global,
-    lists: BTreeMap<u32, ItemLinks>,
+    lists: HashMap<u32, ItemLinks>,
 }
 
 impl ByItem {
@@ -24,7 +24,7 @@ impl ByItem {
     {
         ByItem {
             alloc,
-            lists: BTreeMap::new(alloc),
+            lists: HashMap::new(alloc),
         }
     }
 

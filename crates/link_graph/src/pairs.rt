@@ -4,13 +4,13 @@ ghost use Rattle.link_graph.specs.Inner.Index.{has_pair};
 
 use emu_names::{ItemId, Memory};
 use std::alloc::Global;
-use std::collections::BTreeMap;
+use std::collections::HashMap;
 
 /// A set of pairs of ids, the upper item's first. Each has the number of a block of the list of links, a
 /// hint of which nothing is promised, nor that there is such a block.
 #[derive(Drop)]
 pub(crate) struct Pairs {
-    blocks: BTreeMap<(u32, u32), u32>,
+    blocks: HashMap<(u32, u32), u32>,
 }
 
 impl Pairs {
@@ -19,7 +19,7 @@ impl Pairs {
         ensures { (from to : ℕ) → has_pair result from to ≡ false }
     {
         Pairs {
-            blocks: BTreeMap::new(alloc),
+            blocks: HashMap::new(alloc),
         }
     }
 

@@ -1,9 +1,7 @@
 -- Words of contracts and loops beside `specs/Index.antt`; no promise of the program rests on them.
-use Rattle.std.specs.Prelude.{◌≡◌, ℕ, Bool, List, [], ◌∷◌, Option, None, Some, ◌==◌, not, if◌then◌else◌}
+use Rattle.std.specs.Prelude.{◌≡◌, ℕ, Bool, List, [], ◌∷◌, Option, None, Some, ◌==◌, ◌&&◌, nat_eq, not, if◌then◌else◌}
 use Rattle.std.specs.List.{filter, list_any}
-use Rattle.std.specs.declared.cmp.Ordering.{Ordering}
-use Rattle.std.specs.Ordering.{nat_cmp, ordering_then}
-use Rattle.std.specs.BTreeMap.{get}
+use Rattle.std.specs.HashMap.{get}
 use Rattle.std.specs.Option.{is_some}
 use Rattle.emu_names.specs.declared.kinds.ItemId.{ItemId}
 use Rattle.link_graph.specs.declared.link.Link.{Link}
@@ -28,20 +26,16 @@ elements (Some links) = links_of links
 
 -- the links that are kept at an item's id
 abbrev pub links_at : ByItem → ℕ → List Link
-links_at by_item id = elements (get nat_cmp by_item.lists id)
+links_at by_item id = elements (get nat_eq by_item.lists id)
 
 -- the links without those that name an item, where that is wanted
 abbrev pub forgotten : Bool → ItemId → List Link → List Link
 forgotten wanted id links =
     if wanted then filter (λ link. not (names_item id link)) links else links
 
--- by the first ids, and then by the second
-abbrev pub pair_cmp : ℕ × ℕ → ℕ × ℕ → Ordering
-pair_cmp a b = ordering_then (nat_cmp a.0 b.0) (nat_cmp a.1 b.1)
-
 -- whether the pair of ids is kept
 abbrev pub has_pair : Pairs → ℕ → ℕ → Bool
-has_pair pairs from to = is_some (get pair_cmp pairs.blocks (from, to))
+has_pair pairs from to = is_some (get (λ a b. nat_eq a.0 b.0 && nat_eq a.1 b.1) pairs.blocks (from, to))
 
 -- the index holds what the list has, and no more
 pub record Indexes (index : Index) (links : List Link) : Type 0 where
