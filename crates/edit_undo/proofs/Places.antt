@@ -1,9 +1,7 @@
 -- The places of links.
-use Rattle.std.proofs.Common.{◌≡◌, ◌≤◌, ℕ, zero, suc, ◌+◌, ◌==◌, ◌&&◌, ◌||◌, Bool, true, false, List, [], ◌∷◌, ◌++◌, length, take, drop, Some, refl, ap, sym, ◌∙◌, add-one, eqb-true, arith}
+use Rattle.std.proofs.Common.{◌≡◌, ℕ, zero, suc, ◌+◌, ◌==◌, ◌&&◌, Bool, true, false, List, [], ◌∷◌, ◌++◌, take, drop, Some, refl, ap, sym, ◌∙◌, eqb-true, arith}
 use Rattle.std.specs.List.{list_any, slice_get, AllByRecursion}
 use Rattle.std.proofs.lemmas.Bool.{true≢false, and_parts, or_parts, or_from}
-use Rattle.std.proofs.lemmas.List.{take_all}
-use Rattle.std.proofs.lemmas.List.Folds.{list_any-append}
 use Rattle.std.proofs.lemmas.Map.Keys.{IsDistinct-head, IsDistinct-tail}
 use Rattle.emu_names.specs.declared.kinds.ItemId.{ItemId}
 use Rattle.emu_names.specs.declared.names.BundleKey.{BundleKey}
@@ -11,22 +9,9 @@ use Rattle.link_graph.specs.declared.link.Link.{Link}
 use Rattle.link_graph.specs.Link.{joins, ArePairsApart}
 use Rattle.bundle_edits.specs.declared.edit.Edit.{Edit}
 use Rattle.bundle_edits.proofs.Spans.{some_same}
-use Rattle.annot_json.proofs.Shown.{take_one}
 use Rattle.edit_undo.specs.Inverse.{link_again, links_again}
 use Rattle.edit_undo.specs.Inner.Links.{again_from}
 use Rattle.edit_undo.proofs.Joins.{if_passing, first_again}
-
--- none that passes, one more that does not
-pub none_more : (from to : ItemId) (links : List Link) (place : ℕ) (link : Link) → list_any (joins from to) (take place links) ≡ false → slice_get links place ≡ Some link →
-    joins from to link ≡ false → list_any (joins from to) (take (place + 1) links) ≡ false
-none_more from to links place link none here fails =
-    ap (λ (n : ℕ). list_any (joins from to) (take n links)) (add-one place)
-    ∙ ap (list_any (joins from to)) (take_one links place link here)
-    ∙ list_any-append (joins from to) (take place links) (link ∷ [])
-    ∙ or_from (list_any (joins from to) (take place links)) (joins from to link || false) none (or_from (joins from to link) false fails refl)
-
-pub none_in_all : (from to : ItemId) (links : List Link) (place : ℕ) → list_any (joins from to) (take place links) ≡ false → length links ≤ place → list_any (joins from to) links ≡ false
-none_in_all from to links place none past = ap (list_any (joins from to)) (sym (take_all place links past)) ∙ none
 
 again_none : (key : BundleKey) (test : Link → Bool) (n : ℕ) (links : List Link) → list_any test links ≡ false → again_from key test n links ≡ []
 again_none key test n [] none = refl

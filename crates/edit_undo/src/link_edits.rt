@@ -7,7 +7,7 @@ ghost use Rattle.link_graph.specs.Link.{joins, names_item};
 ghost use Rattle.edit_undo.specs.Inner.Links.{if_named, if_new, new_out, HaveTimes};
 
 use crate::item_edits::one;
-use crate::link_places::{has_links, pair_place};
+use crate::link_places::has_links;
 use crate::reversed::reversed;
 use bundle_edits::Edit;
 use bundle_state::Bundle;
@@ -86,7 +86,7 @@ pub(crate) fn link_of_pair(
     ensures { IfOk result (λ made. made ≡ links_again key.now (joins from to) links.now) }
 {
     let _count = links.len();
-    match pair_place(links, from, to) {
+    match links.place(from, to) {
         Some(place) => {
             let link = links.get(place);
             let key = key.copy(alloc)?;

@@ -1,13 +1,13 @@
 -- Words of loops over links.
-use Rattle.std.specs.Prelude.{◌≡◌, ◌≢◌, ℕ, Bool, not, List, [], ◌∷◌, map, reverse, true, false, Option, Some, None, if◌then◌else◌}
-use Rattle.std.specs.List.{enumerate_from, filter, list_any, slice_get}
+use Rattle.std.specs.Prelude.{◌≡◌, ◌≢◌, ℕ, Bool, not, List, [], ◌∷◌, map, reverse, Some, if◌then◌else◌}
+use Rattle.std.specs.List.{enumerate_from, filter, slice_get}
 use Rattle.emu_names.specs.declared.kinds.ItemId.{ItemId}
 use Rattle.emu_names.specs.declared.kinds.LevelKind.TheVariants as kinds
 use Rattle.emu_names.specs.declared.names.BundleKey.{BundleKey}
 use Rattle.level_items.specs.declared.annot.AnnotLink.{AnnotLink}
 use Rattle.level_items.specs.Levels.{Level}
 use Rattle.link_graph.specs.declared.link.Link.{Link}
-use Rattle.link_graph.specs.Link.{joins, names_item}
+use Rattle.link_graph.specs.Link.{names_item}
 use Rattle.bundle_edits.specs.declared.edit.Edit.{Edit}
 use Rattle.bundle_edits.specs.Changes.{is_linked}
 use Rattle.edit_undo.specs.Inverse.{link_again, pair_out}
@@ -38,8 +38,3 @@ abbrev pub HaveTimes : List Level → ℕ → ℕ → Type 0
 HaveTimes levels upper lower =
     (one other : Level) → slice_get levels upper ≡ Some one → slice_get levels lower ≡ Some other →
     (one.kind ≡ kinds.Segment) × (other.kind ≢ kinds.Item)
-
--- the place of the link of a pair, or that there is none
-abbrev pub IsPairPlace : ItemId → ItemId → List Link → Option ℕ → Type 0
-IsPairPlace from to links None = list_any (joins from to) links ≡ false
-IsPairPlace from to links (Some place) = (link : Link) × (slice_get links place ≡ Some link) × (joins from to link ≡ true)
