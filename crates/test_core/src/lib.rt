@@ -8,6 +8,10 @@ mod counts;
 #[cfg(test)]
 mod databases;
 #[cfg(test)]
+mod in_order;
+#[cfg(test)]
 mod made;
+#[cfg(test)]
+mod merged;
 #[cfg(test)]
 mod replies;

@@ -1,8 +1,9 @@
-//! A configuration, keys and annotations of it.
+//! A configuration, keys and annotations of it, and rows.
 use config_json::read_config;
 use db_config::Config;
 use edit_rules::{Edit, Edits};
 use emu_names::{BundleKey, ItemId, LevelKind, Memory, Name, NameFault, Series, Text};
+use eql_model::Row;
 use json_view::View;
 use level_items::{Annot, AnnotItem, AnnotLevel, Time};
 use serde_json::Value;
@@ -62,4 +63,29 @@ pub fn adding(alloc: Global, count: u32) -> Result<Edits, Fail> {
     let key = key(alloc, "s1", "b1")?;
     let annot = words(alloc, count)?;
     Ok(Edits::one(alloc, Edit::AddBundle { key, annot })?)
+}
+
+/// The row of one item of a level `Phonetic`.
+pub fn row(alloc: Global, session: &str, bundle: &str, labels: &str) -> Result<Row, Memory> {
+    let session = Text::new(alloc, session)?;
+    let bundle = Text::new(alloc, bundle)?;
+    let level = Text::new(alloc, "Phonetic")?;
+    let attribute = Text::new(alloc, "Phonetic")?;
+    let labels = Text::new(alloc, labels)?;
+    Ok(Row {
+        session,
+        bundle,
+        level,
+        attribute,
+        labels,
+        start: Some(256_925),
+        end: Some(340_175),
+        sample_start: Some(5_139),
+        sample_end: Some(6_803),
+        rate: 20_000,
+        start_item: ItemId(2),
+        end_item: ItemId(2),
+        start_pos: 1,
+        end_pos: 1,
+    })
 }

@@ -1,5 +1,6 @@
 //! What no clause says: the printed bytes, and that the calls succeed where memory is ample.
-use emu_names::{Broken, ItemId, Memory, SessionNo, Text, What};
+use crate::made::row;
+use emu_names::{Broken, Memory, SessionNo, Text, What};
 use eql_model::{Row, SegmentList};
 use eql_resolve::AskFault;
 use reply_texts::print_reply;
@@ -18,31 +19,6 @@ fn reply(line: u32, n: Option<u64>, answer: Answer) -> Reply {
     }
 }
 
-/// The row of one item of a level `Phonetic`, in a bundle of the session `s1`.
-fn row(alloc: Global, bundle: &str, labels: &str) -> Result<Row, Memory> {
-    let session = Text::new(alloc, "s1")?;
-    let bundle = Text::new(alloc, bundle)?;
-    let level = Text::new(alloc, "Phonetic")?;
-    let attribute = Text::new(alloc, "Phonetic")?;
-    let labels = Text::new(alloc, labels)?;
-    Ok(Row {
-        session,
-        bundle,
-        level,
-        attribute,
-        labels,
-        start: Some(256_925),
-        end: Some(340_175),
-        sample_start: Some(5_139),
-        sample_end: Some(6_803),
-        rate: 20_000,
-        start_item: ItemId(2),
-        end_item: ItemId(2),
-        start_pos: 1,
-        end_pos: 1,
-    })
-}
-
 fn expect_reply(rt: &impl Abort, alloc: Global, reply: Reply, wanted: &str) -> Result<(), Fail> {
     let text = print_reply(alloc, &reply)?;
     assert_eq!(rt; text.as_str(), wanted);
@@ -58,7 +34,7 @@ fn segments(alloc: Global, row: Row) -> Result<Answer, Memory> {
 
 /// A row without times, whose names and labels have escapes.
 fn timeless(alloc: Global) -> Result<Row, Memory> {
-    let mut timeless = row(alloc, "b\"\\", "a\"\\\n\u{1f}\u{e9}\u{1f600}")?;
+    let mut timeless = row(alloc, "s1", "b\"\\", "a\"\\\n\u{1f}\u{e9}\u{1f600}")?;
     timeless.start = None;
     timeless.end = None;
     timeless.sample_start = None;
@@ -75,7 +51,7 @@ const TIMELESS: &str =
 #[test]
 fn rows_in_order(rt: HostRuntime) -> Result<(), Fail> {
     let alloc = rt.alloc();
-    let timed = segments(alloc, row(alloc, "b1", "m")?)?;
+    let timed = segments(alloc, row(alloc, "s1", "b1", "m")?)?;
     expect_reply(&rt, alloc, reply(3, Some(1), timed), TIMED)?;
     let timeless = segments(alloc, timeless(alloc)?)?;
     expect_reply(&rt, alloc, reply(4, Some(u64::MAX), timeless), TIMELESS)
