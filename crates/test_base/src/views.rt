@@ -170,7 +170,7 @@ fn expect_of_member(
 }
 
 /// The element at this place of a list of three.
-fn element<'v>(rt: &impl Abort, list: &View<'v>, place: usize) -> Result<View<'v>, ViewFault> {
+fn element<'v>(rt: &impl Abort, list: &'v View, place: usize) -> Result<View<'v>, ViewFault> {
     let count = list.list_len()?;
     assert!(rt; count == 3 && place < count);
     list.at(place)
