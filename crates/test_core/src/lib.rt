@@ -8,8 +8,6 @@ mod counts;
 #[cfg(test)]
 mod databases;
 #[cfg(test)]
-mod in_order;
-#[cfg(test)]
 mod made;
 #[cfg(test)]
 mod merged;
