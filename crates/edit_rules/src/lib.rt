@@ -3,6 +3,7 @@
 #![tactic(auto)]
 
 mod acts;
+mod commit_fault;
 mod config_change;
 mod database;
 mod effects;
@@ -11,6 +12,7 @@ mod list_change;
 
 pub use acts::{Act, Breach, ChangeFault, ConfigEdit, Edits, Entries, Entry};
 pub use bundle_edits::{Counts, Edit};
+pub use commit_fault::EditFault;
 pub use config_change::change_config;
 pub use database::Database;
 pub use effects::{apply, check};

@@ -10,8 +10,8 @@ use Rattle.emu_disk.proofs.Moments.{joined, weaker}
 use Rattle.edit_journal.specs.declared.journal.Journal.{Journal}
 use Rattle.edit_journal.specs.Held.{disk_of, Holds}
 use Rattle.edit_journal.proofs.Kept.{stands_may}
-use Rattle.script_runs.specs.live_book.declared.fault.EditFault.{EditFault}
-use Rattle.script_runs.specs.live_book.declared.fault.EditFault.TheVariants as edit_faults
+use Rattle.version_tree.specs.edit_rules.declared.commit_fault.EditFault.{EditFault}
+use Rattle.version_tree.specs.edit_rules.declared.commit_fault.EditFault.TheVariants as edit_faults
 use Rattle.script_runs.specs.live_book.Histories.{IsBare}
 use Rattle.script_runs.specs.live_book.Kept.{BookParts, CrashLeaves, KeepsIn, StandsOrLost, faults_in}
 use Rattle.script_runs.specs.live_book.Commits.{Commits, DuringCommit}

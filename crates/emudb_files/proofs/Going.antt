@@ -11,8 +11,8 @@ use Rattle.store_texts.specs.edit_rules.declared.acts.Entry.{Entry}
 use Rattle.emu_disk.proofs.Moments.{joined, weaker}
 use Rattle.edit_journal.specs.declared.journal.Journal.{Journal}
 use Rattle.edit_journal.specs.Held.{disk_of}
-use Rattle.book_opening.specs.live_book.declared.fault.EditFault.{EditFault}
-use Rattle.book_opening.specs.live_book.declared.fault.EditFault.TheVariants as edit_faults
+use Rattle.store_texts.specs.edit_rules.declared.commit_fault.EditFault.{EditFault}
+use Rattle.store_texts.specs.edit_rules.declared.commit_fault.EditFault.TheVariants as edit_faults
 use Rattle.book_opening.specs.live_book.Histories.{Stands}
 use Rattle.book_opening.specs.live_book.Kept.{BookParts, CrashLeaves, KeepsIn}
 use Rattle.book_opening.specs.live_book.Commits.{Commits, DuringCommit, IsAnswer, IsWelcome, has_journal}

@@ -5,8 +5,8 @@ use Rattle.emu_io.specs.declared.tree.Stored.{Stored}
 use Rattle.store_texts.specs.session_core.declared.line.Refusal.TheVariants as requests
 use Rattle.store_texts.specs.session_core.declared.line.Command.TheVariants as commands
 use Rattle.store_texts.specs.session_core.Answers.{rule_refusal}
-use Rattle.book_opening.specs.live_book.declared.fault.EditFault.{EditFault}
-use Rattle.book_opening.specs.live_book.declared.fault.EditFault.TheVariants as edit_faults
+use Rattle.store_texts.specs.edit_rules.declared.commit_fault.EditFault.{EditFault}
+use Rattle.store_texts.specs.edit_rules.declared.commit_fault.EditFault.TheVariants as edit_faults
 use Rattle.book_opening.specs.declared.fault.OpenFault.{OpenFault}
 use Rattle.book_opening.specs.declared.fault.OpenFault.TheVariants as open_faults
 use Rattle.store_texts.specs.declared.faults.FileFault.TheVariants as file_faults

@@ -8,7 +8,7 @@ use Rattle.db_config.specs.declared.parts.ConfigParts.{ConfigParts}
 use Rattle.store_texts.specs.edit_rules.declared.acts.Act.{Act}
 use Rattle.store_texts.specs.edit_rules.declared.acts.Entry.{Entry}
 use Rattle.edit_journal.specs.declared.journal.Journal.{Journal}
-use Rattle.book_opening.specs.live_book.declared.fault.EditFault.{EditFault}
+use Rattle.store_texts.specs.edit_rules.declared.commit_fault.EditFault.{EditFault}
 use Rattle.book_opening.specs.declared.fault.OpenFault.{OpenFault}
 use Rattle.book_opening.specs.live_book.Histories.{IsBare, Stands}
 use Rattle.book_opening.specs.live_book.Kept.{BookParts, CrashLeaves, Keeps}

@@ -6,7 +6,7 @@ use Rattle.version_gate.specs.declared.entry.Entry.{Entry as Numbered}
 use Rattle.version_gate.specs.Lists.{Numbered as IsNumbered}
 use Rattle.version_gate.proofs.Beginnings.{prefix_self}
 use Rattle.version_gate.proofs.Numbers.{same_start}
-use Rattle.live_book.specs.declared.fault.EditFault.{EditFault}
+use Rattle.version_steps.specs.edit_rules.declared.commit_fault.EditFault.{EditFault}
 use Rattle.live_book.specs.declared.kept.Kept.{Kept}
 use Rattle.live_book.specs.declared.published.Published.{Published}
 use Rattle.live_book.specs.Live.{Opened}

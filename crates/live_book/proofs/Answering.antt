@@ -6,8 +6,8 @@ use Rattle.version_steps.specs.edit_rules.declared.acts.Entry.{Entry}
 use Rattle.edit_journal.specs.declared.journal.Journal.{Journal}
 use Rattle.version_gate.specs.Lists.{entry}
 use Rattle.version_steps.specs.version_tree.Version.{VersionParts}
-use Rattle.live_book.specs.declared.fault.EditFault.{EditFault}
-use Rattle.live_book.specs.declared.fault.EditFault.TheVariants as edit_faults
+use Rattle.version_steps.specs.edit_rules.declared.commit_fault.EditFault.{EditFault}
+use Rattle.version_steps.specs.edit_rules.declared.commit_fault.EditFault.TheVariants as edit_faults
 use Rattle.live_book.specs.declared.published.Published.{Published}
 use Rattle.live_book.specs.Kept.{BookParts, KeepsIn, IsAsBefore, CrashLeaves, faults_in}
 use Rattle.live_book.specs.Commits.{has_journal, IsWelcome, Reaches, DuringCommit, Commits}

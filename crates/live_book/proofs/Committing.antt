@@ -19,8 +19,8 @@ use Rattle.version_gate.specs.Lists.{entry}
 use Rattle.version_gate.specs.Inner.Lists.{Board}
 use Rattle.version_steps.specs.version_tree.Version.{VersionParts, state_of}
 use Rattle.live_book.specs.declared.commit.Ready.{Ready}
-use Rattle.live_book.specs.declared.fault.EditFault.{EditFault}
-use Rattle.live_book.specs.declared.fault.EditFault.TheVariants as edit_faults
+use Rattle.version_steps.specs.edit_rules.declared.commit_fault.EditFault.{EditFault}
+use Rattle.version_steps.specs.edit_rules.declared.commit_fault.EditFault.TheVariants as edit_faults
 use Rattle.live_book.specs.declared.published.Published.{Published}
 use Rattle.live_book.specs.Published.{IsStateAfter, IsShown, AreShown}
 use Rattle.live_book.specs.Kept.{BookParts, KeepsIn, IsAsBefore, CrashLeaves}

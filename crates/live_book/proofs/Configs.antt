@@ -25,7 +25,7 @@ use Rattle.version_gate.specs.Lists.{EndsIn, entry}
 use Rattle.version_steps.specs.version_tree.Version.{VersionParts, state_of}
 use Rattle.version_steps.specs.declared.draft.Draft.{Draft}
 use Rattle.version_steps.specs.Inner.Drafts.{IsAddedBy, IsDraftOf, MayServe}
-use Rattle.live_book.specs.declared.fault.EditFault.{EditFault}
+use Rattle.version_steps.specs.edit_rules.declared.commit_fault.EditFault.{EditFault}
 use Rattle.live_book.specs.declared.parts.Parts.{Parts}
 use Rattle.live_book.specs.declared.published.Published.{Published}
 use Rattle.live_book.specs.Published.{IsStateAfter, IsShown, AreShown, AreShownBehind}

@@ -20,7 +20,7 @@ use Rattle.edit_undo.specs.Inverse.{bundle_for, inverse_at}
 use Rattle.edit_undo.specs.Before.{IsBefore, IsOfOneBundle}
 use Rattle.edit_undo.proofs.Passing.{acts_before}
 use Rattle.version_steps.specs.version_tree.Version.{VersionParts, state_of}
-use Rattle.live_book.specs.declared.fault.EditFault.{EditFault}
+use Rattle.version_steps.specs.edit_rules.declared.commit_fault.EditFault.{EditFault}
 use Rattle.live_book.specs.declared.kept.Kept.{Kept}
 use Rattle.live_book.specs.Commits.{BreaksNone, Commits}
 use Rattle.live_book.specs.Inner.Inverses.{IsTogether, KeepsInverse, numbered}

@@ -3,6 +3,7 @@ mod Codes
 pub mod Configs
 mod Ahead
 pub mod Storing
+pub mod Sizes
 mod Showing
 mod Inverses
 pub mod Committing

@@ -8,8 +8,8 @@ use Rattle.version_steps.specs.edit_rules.declared.acts.Entry.{Entry}
 use Rattle.version_steps.specs.edit_rules.Effects.{edited}
 use Rattle.version_steps.specs.edit_rules.Database.{DatabaseParts}
 use Rattle.edit_journal.specs.declared.journal.Journal.{Journal}
-use Rattle.live_book.specs.declared.fault.EditFault.{EditFault}
-use Rattle.live_book.specs.declared.fault.EditFault.TheVariants.{HistoryFull, Broken, StoreFull, Disk, Memory}
+use Rattle.version_steps.specs.edit_rules.declared.commit_fault.EditFault.{EditFault}
+use Rattle.version_steps.specs.edit_rules.declared.commit_fault.EditFault.TheVariants.{HistoryFull, Broken, StoreFull, Disk, Memory}
 use Rattle.live_book.specs.Histories.{PassesLimit, Stands}
 use Rattle.version_gate.specs.declared.entry.Entry.{Entry as Numbered}
 use Rattle.version_gate.specs.Lists.{entry}

@@ -11,7 +11,6 @@ ghost use Rattle.live_book.specs.Inner.Inverses.{numbered, KeepsInverse};
 ghost use Rattle.live_book.specs.Inner.Drafts.{IsDraftIn};
 
 use crate::commit::{commit_in, commit_kept_in, own_entry, serving};
-use crate::fault::EditFault;
 use crate::kept::Kept;
 use crate::parts::Parts;
 use crate::published::Published;
@@ -23,7 +22,7 @@ use std::marker::Model;
 use std::sync::{Arc, Wait};
 use version_gate::{Note, Pass};
 use version_steps::Draft;
-use version_steps::edit_rules::{Act, Entries};
+use version_steps::edit_rules::{Act, EditFault, Entries};
 
 /// A book: the configuration of its opening, a history of at most 100,000 entries, the version after all of them,
 /// the gate that publishes each version, and, if there is one, the journal that holds the codes of that

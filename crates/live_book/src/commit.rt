@@ -18,7 +18,6 @@ ghost use Rattle.version_steps.specs.Inner.Drafts.{MayServe};
 ghost use Rattle.live_book.specs.Inner.Drafts.{serving};
 ghost use Rattle.live_book.specs.Inner.Prepared.{IsFrameOf, IsReady, IsTest, HasRoomFor, HoldsSome, ForStoreIn, refusal_of, entries_behind};
 
-use crate::fault::EditFault;
 use crate::inverse::inverse_over;
 use crate::kept::Kept;
 use crate::parts::Parts;
@@ -33,7 +32,7 @@ use emu_names::{Fault, Memory, SessionNo};
 use std::alloc::Global;
 use std::sync::{Arc, Wait};
 use version_steps::bundle_index::Indexed;
-use version_steps::edit_rules::{Act, ChangeFault, Entries, Entry};
+use version_steps::edit_rules::{Act, ChangeFault, EditFault, Entries, Entry};
 use version_steps::next_drafted;
 use version_steps::version_tree::Version;
 

@@ -4,7 +4,6 @@
 
 mod book;
 mod commit;
-mod fault;
 mod inverse;
 mod kept;
 pub mod law;
@@ -15,9 +14,9 @@ mod store;
 
 pub use book::Book;
 pub use edit_code;
-pub use fault::EditFault;
 pub use kept::Kept;
 pub use live::{Live, MadeLive, Opening, Share};
 pub use parts::Parts;
 pub use published::Published;
+pub use version_steps::edit_rules::EditFault;
 pub use version_steps::next_version;

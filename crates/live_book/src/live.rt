@@ -13,7 +13,6 @@ ghost use Rattle.live_book.specs.Published.{AreShown};
 ghost use Rattle.version_gate.specs.Lists.{Numbered as IsNumbered};
 
 use crate::book::Book;
-use crate::fault::EditFault;
 use crate::kept::Kept;
 use crate::published::Published;
 use emu_disk::Disk;
@@ -24,7 +23,7 @@ use std::sync::ledger::{self, Blank, Ledger};
 use std::sync::{Mutex, MutexGuard, Wait};
 use version_gate::Pass;
 use version_steps::Draft;
-use version_steps::edit_rules::Act;
+use version_steps::edit_rules::{Act, EditFault};
 
 /// Which opening it is: the book as it is at the moment at which threads begin to edit it. It is also the ledger of
 /// the edits that are accepted. Its members are plain values, which contracts alone see.

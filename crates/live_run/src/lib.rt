@@ -12,5 +12,4 @@ mod run;
 pub use live_seats::Marks;
 pub use live_seats::live_book::{Book, Published};
 pub use live_seats::session_core::{Answer, Ask, Command, Line, Lines, Replies, Reply, Request};
-pub use live_seats::session_run::{InOrder, new_in_order};
 pub use run::{Ended, LiveEnd, run_live};

@@ -1,7 +1,7 @@
 -- What a share counts of an answer.
 use Rattle.std.proofs.Common.{◌≡◌, ℕ, suc, ◌+◌, Bool, true, false, List, [], ◌++◌, length, Option, Some, None, Result, Ok, Err, cond, refl, ap, ◌∙◌, arith}
 use Rattle.textgrid.specs.declared.fault.GridFault.{GridFault}
-use Rattle.session_run.specs.edit_rules.Database.{DatabaseParts}
+use Rattle.edit_undo.specs.edit_rules.Database.{DatabaseParts}
 use Rattle.edit_undo.specs.declared.faults.NoUndo.{NoUndo}
 use Rattle.edit_undo.specs.declared.faults.NoUndo.TheVariants as reasons
 use Rattle.eql_resolve.specs.declared.faults.AskFault.{AskFault}
@@ -15,27 +15,27 @@ use Rattle.requery.specs.Target.{ReachedParts}
 use Rattle.requery.specs.Asks.{reached}
 use Rattle.requery.specs.Carried.{carried_list}
 use Rattle.requery.specs.eql_model.Rows.{segment_list, any_has_too_many}
-use Rattle.session_run.specs.session_core.declared.line.Answer.{Answer}
-use Rattle.session_run.specs.session_core.declared.line.Answer.TheVariants.{Done, Refused}
-use Rattle.session_run.specs.session_core.declared.line.Ask.{Ask}
-use Rattle.session_run.specs.session_core.declared.line.Line.{Line}
-use Rattle.session_run.specs.session_core.declared.line.Refusal.{Refusal}
-use Rattle.session_run.specs.session_core.declared.line.Refusal.TheVariants as refusals
-use Rattle.session_run.specs.session_core.declared.line.Reply.{Reply}
-use Rattle.session_run.specs.session_core.declared.line.Request.{Request}
-use Rattle.session_run.specs.session_core.declared.line.Request.TheVariants as requests
-use Rattle.session_run.specs.session_core.declared.slots.Held.{Held}
-use Rattle.session_run.specs.session_core.Answers.{answer_over, asked_answer, grid_answer, grid_number, listed_answer, memory, prepare_answer, prepared_answer, reached_answer, reply_to, resolved_answer, rule_refusal}
-use Rattle.session_run.specs.session_core.Inner.Kept.{held_answer, look_answer, look_closed}
-use Rattle.session_run.specs.session_core.Legal.{accepting, is_disk, makes_entry, told_mark}
-use Rattle.session_run.specs.session_core.Undos.{undo_refusal}
-use Rattle.session_run.specs.session_core.Queries.{is_memory_of, lacks_memory}
-use Rattle.session_run.proofs.of_session_core.Turns.{disk_of, disks_push}
-use Rattle.session_run.specs.session_core.Worlds.{Turn}
-use Rattle.session_run.specs.live_book.declared.fault.EditFault.{EditFault}
-use Rattle.session_run.specs.live_book.declared.fault.EditFault.TheVariants as faults
-use Rattle.session_run.specs.live_book.Inner.Live.{Count, count_behind}
-use Rattle.session_run.specs.Inner.Orders.{commit_reply}
+use Rattle.query_workers.specs.session_core.declared.line.Answer.{Answer}
+use Rattle.query_workers.specs.session_core.declared.line.Answer.TheVariants.{Done, Refused}
+use Rattle.query_workers.specs.session_core.declared.line.Ask.{Ask}
+use Rattle.query_workers.specs.session_core.declared.line.Line.{Line}
+use Rattle.query_workers.specs.session_core.declared.line.Refusal.{Refusal}
+use Rattle.query_workers.specs.session_core.declared.line.Refusal.TheVariants as refusals
+use Rattle.query_workers.specs.session_core.declared.line.Reply.{Reply}
+use Rattle.query_workers.specs.session_core.declared.line.Request.{Request}
+use Rattle.query_workers.specs.session_core.declared.line.Request.TheVariants as requests
+use Rattle.query_workers.specs.session_core.declared.slots.Held.{Held}
+use Rattle.query_workers.specs.session_core.Answers.{answer_over, asked_answer, grid_answer, grid_number, listed_answer, memory, prepare_answer, prepared_answer, reached_answer, reply_to, resolved_answer, rule_refusal}
+use Rattle.query_workers.specs.session_core.Inner.Kept.{held_answer, look_answer, look_closed}
+use Rattle.query_workers.specs.session_core.Legal.{accepting, is_disk, makes_entry, told_mark}
+use Rattle.query_workers.specs.session_core.Undos.{undo_refusal}
+use Rattle.query_workers.specs.session_core.Queries.{is_memory_of, lacks_memory}
+use Rattle.query_workers.proofs.of_session_core.Turns.{disk_of, disks_push}
+use Rattle.query_workers.specs.session_core.Worlds.{Turn}
+use Rattle.edit_undo.specs.edit_rules.declared.commit_fault.EditFault.{EditFault}
+use Rattle.edit_undo.specs.edit_rules.declared.commit_fault.EditFault.TheVariants as faults
+use Rattle.live_book.specs.Inner.Live.{Count, count_behind}
+use Rattle.query_workers.specs.session_core.Inner.Told.{commit_reply}
 use Rattle.live_seats.specs.Inner.Seats.{accepts_at, counted_by, disk_at}
 
 -- a turn of a line

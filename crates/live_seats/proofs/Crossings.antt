@@ -10,18 +10,18 @@ use Rattle.std.proofs.Crossing.{crosses, Arc-send, Vec-send}
 use Rattle.std.proofs.option.Option.TheSendSync as option
 use Rattle.std.proofs.sync.OnceToken.TheSendSync as token
 use Rattle.eql_resolve.proofs.Threads.{prepared_sync}
-use Rattle.session_run.proofs.of_edit_rules.acts.Act.TheSendSync as act
+use Rattle.edit_undo.proofs.of_edit_rules.acts.Act.TheSendSync as act
 use Rattle.textgrid.proofs.fault.GridFault.TheSendSync as fault
 use Rattle.requery.proofs.target.Requery.TheSendSync as requery
 use Rattle.version_gate.proofs.pass.Pass.TheSendSync as pass
-use Rattle.session_run.proofs.of_live_book.live.Share.TheSendSync as share
-use Rattle.session_run.proofs.of_live_book.published.Published.TheSendSync as published
-use Rattle.session_run.proofs.of_session_core.kept_acts.KeptActs.TheSendSync as kept_acts
-use Rattle.session_run.proofs.of_session_core.Threads.{reply_send}
-use Rattle.session_run.proofs.of_session_core.slots.Slots.TheSendSync as slots
-use Rattle.session_run.specs.session_core.contracts.line.Ask as ask
-use Rattle.session_run.specs.session_core.contracts.line.Request as request
-use Rattle.session_run.specs.session_core.contracts.line.Line as line
+use Rattle.live_book.proofs.live.Share.TheSendSync as share
+use Rattle.live_book.proofs.published.Published.TheSendSync as published
+use Rattle.query_workers.proofs.of_session_core.kept_acts.KeptActs.TheSendSync as kept_acts
+use Rattle.query_workers.proofs.of_session_core.Threads.{reply_send}
+use Rattle.query_workers.proofs.of_session_core.slots.Slots.TheSendSync as slots
+use Rattle.query_workers.specs.session_core.contracts.line.Ask as ask
+use Rattle.query_workers.specs.session_core.contracts.line.Request as request
+use Rattle.query_workers.specs.session_core.contracts.line.Line as line
 use Rattle.live_seats.specs.contracts.answered.Answered as answered
 use Rattle.live_seats.specs.contracts.looks.Look as look
 use Rattle.live_seats.specs.contracts.notes.Told as told

@@ -4,39 +4,39 @@ use Rattle.std.proofs.Math.Seq.{take-append_seam}
 use Rattle.std.proofs.lemmas.List.{take_all}
 use mathlib.Core.List.{IsPrefix}
 use Rattle.emu_names.specs.declared.limits.TheConstants.{HISTORY_EDITS}
-use Rattle.session_run.specs.edit_rules.Database.{DatabaseParts}
-use Rattle.session_run.specs.edit_rules.Effects.{database_after, edited}
-use Rattle.session_run.specs.edit_rules.declared.acts.Act.{Act}
-use Rattle.session_run.specs.edit_rules.declared.acts.Entry.{Entry}
+use Rattle.edit_undo.specs.edit_rules.Database.{DatabaseParts}
+use Rattle.edit_undo.specs.edit_rules.Effects.{database_after, edited}
+use Rattle.edit_undo.specs.edit_rules.declared.acts.Act.{Act}
+use Rattle.edit_undo.specs.edit_rules.declared.acts.Entry.{Entry}
 use Rattle.edit_undo.specs.Inverse.{inverse_at}
 use Rattle.version_gate.specs.declared.entry.Entry.{Entry as Numbered}
-use Rattle.session_run.specs.session_core.declared.kept_acts.KeptAct.{KeptAct}
-use Rattle.session_run.specs.session_core.declared.line.Answer.TheVariants.{Done, Refused}
-use Rattle.session_run.specs.session_core.declared.line.Line.{Line}
-use Rattle.session_run.specs.session_core.declared.line.Refusal.{Refusal}
-use Rattle.session_run.specs.session_core.declared.line.Refusal.TheVariants as refusals
-use Rattle.session_run.specs.session_core.declared.line.Reply.{Reply}
-use Rattle.session_run.specs.session_core.declared.line.Request.{Request}
-use Rattle.session_run.specs.session_core.declared.slots.Held.{Held}
-use Rattle.session_run.specs.session_core.Answers.{entry_of, reply_to, rule_refusal}
-use Rattle.session_run.specs.session_core.Inner.Kept.{opened_in}
-use Rattle.session_run.specs.session_core.Inner.Undone.{AreKept, IsKeptOf}
-use Rattle.session_run.specs.session_core.Legal.{IsRightRefusal, Mark, accepting, makes_entry, mark_of, told_mark}
-use Rattle.session_run.specs.session_core.Steps.{session_places}
-use Rattle.session_run.specs.session_core.Undos.{kept_act}
-use Rattle.session_run.specs.session_core.Worlds.{passes_store}
-use Rattle.session_run.specs.live_book.declared.fault.EditFault.{EditFault}
-use Rattle.session_run.specs.live_book.declared.fault.EditFault.TheVariants as faults
-use Rattle.session_run.specs.live_book.declared.kept.Kept.{Kept}
-use Rattle.session_run.specs.live_book.declared.published.Published.{Published}
-use Rattle.session_run.specs.live_book.Commits.{IsAnswer, history_behind}
-use Rattle.session_run.specs.live_book.Inner.Inverses.{KeepsInverse}
-use Rattle.session_run.specs.live_book.Inner.Inverses.{numbered as number_in}
-use Rattle.session_run.specs.live_book.Live.{Opened}
-use Rattle.session_run.specs.live_book.Inner.Live.{Count}
-use Rattle.session_run.specs.Inner.Orders.{commit_reply}
-use Rattle.session_run.proofs.of_session_core.Undoing.{are_kept_push, slice_get_last}
-use Rattle.session_run.proofs.Sizes.{passes_so}
+use Rattle.query_workers.specs.session_core.declared.kept_acts.KeptAct.{KeptAct}
+use Rattle.query_workers.specs.session_core.declared.line.Answer.TheVariants.{Done, Refused}
+use Rattle.query_workers.specs.session_core.declared.line.Line.{Line}
+use Rattle.query_workers.specs.session_core.declared.line.Refusal.{Refusal}
+use Rattle.query_workers.specs.session_core.declared.line.Refusal.TheVariants as refusals
+use Rattle.query_workers.specs.session_core.declared.line.Reply.{Reply}
+use Rattle.query_workers.specs.session_core.declared.line.Request.{Request}
+use Rattle.query_workers.specs.session_core.declared.slots.Held.{Held}
+use Rattle.query_workers.specs.session_core.Answers.{entry_of, reply_to, rule_refusal}
+use Rattle.query_workers.specs.session_core.Inner.Kept.{opened_in}
+use Rattle.query_workers.specs.session_core.Inner.Undone.{AreKept, IsKeptOf}
+use Rattle.query_workers.specs.session_core.Legal.{IsRightRefusal, Mark, accepting, makes_entry, mark_of, told_mark}
+use Rattle.query_workers.specs.session_core.Steps.{session_places}
+use Rattle.query_workers.specs.session_core.Undos.{kept_act}
+use Rattle.query_workers.specs.session_core.Worlds.{passes_store}
+use Rattle.edit_undo.specs.edit_rules.declared.commit_fault.EditFault.{EditFault}
+use Rattle.edit_undo.specs.edit_rules.declared.commit_fault.EditFault.TheVariants as faults
+use Rattle.live_book.specs.declared.kept.Kept.{Kept}
+use Rattle.live_book.specs.declared.published.Published.{Published}
+use Rattle.live_book.specs.Commits.{IsAnswer, history_behind}
+use Rattle.live_book.specs.Inner.Inverses.{KeepsInverse}
+use Rattle.live_book.specs.Inner.Inverses.{numbered as number_in}
+use Rattle.live_book.specs.Live.{Opened}
+use Rattle.live_book.specs.Inner.Live.{Count}
+use Rattle.query_workers.specs.session_core.Inner.Told.{commit_reply}
+use Rattle.query_workers.proofs.of_session_core.Undoing.{are_kept_push, slice_get_last}
+use Rattle.live_book.proofs.Sizes.{passes_so}
 use Rattle.live_laws.specs.Lanes.{IsStep}
 use Rattle.live_laws.proofs.Replies.{accepted_step, disk_step, refused_step, undo_accepted_step, undo_disk_step, undo_refused_step, want_of_memory_step}
 use Rattle.live_seats.specs.Inner.Replies.{IsTried, RepliesTo, WantsAct, kept_with}

@@ -7,24 +7,24 @@ use Rattle.version_gate.specs.declared.entry.Entry.{Entry as Numbered}
 use Rattle.version_gate.specs.Lists.{Numbered as IsNumbered}
 use Rattle.version_tree.specs.Version.{state_of}
 use Rattle.edit_undo.specs.declared.faults.NoUndo.{NoUndo}
-use Rattle.session_run.specs.session_core.declared.kept_acts.KeptAct.{KeptAct}
-use Rattle.session_run.specs.session_core.declared.line.Answer.TheVariants.{Refused}
-use Rattle.session_run.specs.session_core.declared.line.Ask.{Ask}
-use Rattle.session_run.specs.session_core.declared.line.Line.{Line}
-use Rattle.session_run.specs.session_core.declared.line.Refusal.TheVariants as refusals
-use Rattle.session_run.specs.session_core.declared.line.Reply.{Reply}
-use Rattle.session_run.specs.session_core.declared.line.Request.TheVariants as requests
-use Rattle.session_run.specs.session_core.declared.slots.Held.{Held}
-use Rattle.session_run.specs.session_core.Answers.{is_want_of_memory, memory, reply_to}
-use Rattle.session_run.specs.session_core.Inner.Kept.{look_answer, look_closed, opened_in}
-use Rattle.session_run.specs.session_core.Queries.{lacks_memory}
-use Rattle.session_run.specs.session_core.Steps.{session_places, slot}
-use Rattle.session_run.specs.session_core.Undos.{latest_of, undo_refusal}
-use Rattle.session_run.proofs.of_session_core.SlotPlaces.{length_put_slot}
-use Rattle.session_run.specs.live_book.declared.published.Published.{Published}
-use Rattle.session_run.specs.live_book.Live.{Opened}
-use Rattle.session_run.specs.live_book.Inner.Live.{Count}
-use Rattle.session_run.specs.Inner.Taken.{head_of, or_memory}
+use Rattle.query_workers.specs.session_core.declared.kept_acts.KeptAct.{KeptAct}
+use Rattle.query_workers.specs.session_core.declared.line.Answer.TheVariants.{Refused}
+use Rattle.query_workers.specs.session_core.declared.line.Ask.{Ask}
+use Rattle.query_workers.specs.session_core.declared.line.Line.{Line}
+use Rattle.query_workers.specs.session_core.declared.line.Refusal.TheVariants as refusals
+use Rattle.query_workers.specs.session_core.declared.line.Reply.{Reply}
+use Rattle.query_workers.specs.session_core.declared.line.Request.TheVariants as requests
+use Rattle.query_workers.specs.session_core.declared.slots.Held.{Held}
+use Rattle.query_workers.specs.session_core.Answers.{is_want_of_memory, memory, reply_to}
+use Rattle.query_workers.specs.session_core.Inner.Kept.{look_answer, look_closed, opened_in}
+use Rattle.query_workers.specs.session_core.Queries.{lacks_memory}
+use Rattle.query_workers.specs.session_core.Steps.{session_places, slot}
+use Rattle.query_workers.specs.session_core.Undos.{latest_of, undo_refusal}
+use Rattle.query_workers.proofs.of_session_core.SlotPlaces.{length_put_slot}
+use Rattle.live_book.specs.declared.published.Published.{Published}
+use Rattle.live_book.specs.Live.{Opened}
+use Rattle.live_book.specs.Inner.Live.{Count}
+use Rattle.query_workers.specs.session_core.Inner.Told.{head_of, or_memory}
 use Rattle.live_laws.specs.Lanes.{IsStep}
 use Rattle.live_seats.specs.Inner.Replies.{Finishes, GoesOn, IsGridRefused, IsQueried, LooksAt, RepliesTo, look_held}
 use Rattle.live_seats.specs.Inner.Seats.{TakesLine, answered_step, counted_by}

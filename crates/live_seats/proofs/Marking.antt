@@ -1,7 +1,7 @@
 -- The marks of entries, one after another.
 use Rattle.std.proofs.Common.{◌≡◌, ℕ, zero, suc, ◌+◌, ◌≤◌, List, [], ◌∷◌, ◌++◌, length, drop, Some, arith, refl, sym, ap, ◌∙◌, add-one, append_assoc, append-nil, drop_of_length-le}
 use Rattle.std.specs.List.{slice_get}
-use Rattle.session_run.specs.edit_rules.declared.acts.Entry.{Entry}
+use Rattle.edit_undo.specs.edit_rules.declared.acts.Entry.{Entry}
 use Rattle.live_seats.specs.declared.marks.Mark.{Mark}
 use Rattle.live_seats.specs.Marks.{marks_from}
 

@@ -5,36 +5,36 @@ use Rattle.std.proofs.lemmas.List.{length-map, take_all}
 use mathlib.Core.List.{IsPrefix}
 use Rattle.db_config.specs.declared.parts.ConfigParts.{ConfigParts}
 use Rattle.textgrid.specs.declared.fault.GridFault.{GridFault}
-use Rattle.session_run.specs.edit_rules.declared.acts.Entry.{Entry}
-use Rattle.session_run.specs.edit_rules.Database.{DatabaseParts}
-use Rattle.session_run.specs.edit_rules.Effects.{after}
+use Rattle.edit_undo.specs.edit_rules.declared.acts.Entry.{Entry}
+use Rattle.edit_undo.specs.edit_rules.Database.{DatabaseParts}
+use Rattle.edit_undo.specs.edit_rules.Effects.{after}
 use Rattle.version_gate.specs.declared.entry.Entry.{Entry as Numbered}
 use Rattle.version_gate.specs.Lists.{EndsIn, entry}
 use Rattle.version_tree.specs.Version.{state_of}
 use Rattle.edit_undo.specs.declared.faults.NoUndo.{NoUndo}
-use Rattle.session_run.specs.session_core.declared.kept_acts.KeptAct.{KeptAct}
-use Rattle.session_run.specs.session_core.declared.line.Answer.{Answer}
-use Rattle.session_run.specs.session_core.declared.line.Answer.TheVariants.{Done, Refused}
-use Rattle.session_run.specs.session_core.declared.line.Ask.{Ask}
-use Rattle.session_run.specs.session_core.declared.line.Line.{Line}
-use Rattle.session_run.specs.session_core.declared.line.Refusal.TheVariants as refusals
-use Rattle.session_run.specs.session_core.declared.line.Reply.{Reply}
-use Rattle.session_run.specs.session_core.declared.line.Request.{Request}
-use Rattle.session_run.specs.session_core.declared.line.Request.TheVariants as requests
-use Rattle.session_run.specs.session_core.declared.slots.Held.{Held}
-use Rattle.session_run.specs.session_core.Answers.{answer_at, answer_over, grid_answer, grid_number, is_want_of_memory, memory, reply_to}
-use Rattle.session_run.specs.session_core.Inner.Kept.{AreHeld, IsHeld, IsMoment, held_answer, look_answer, look_closed, opened_by, opened_in}
-use Rattle.session_run.specs.session_core.Inner.Undone.{AreKept}
-use Rattle.session_run.specs.session_core.Legal.{Mark, accepting}
-use Rattle.session_run.specs.session_core.Queries.{lacks_memory}
-use Rattle.session_run.specs.session_core.Steps.{Opened as Look, put_slot, session_places, slot}
-use Rattle.session_run.specs.session_core.Undos.{latest_of, undo_refusal}
-use Rattle.session_run.proofs.of_session_core.Keeping.{looked_kept, slots_longer}
-use Rattle.session_run.proofs.of_session_core.Undoing.{are_kept_more}
-use Rattle.session_run.proofs.of_session_core.SlotPlaces.{length_put_slot, put_slot_map, slot_map, slot_put}
-use Rattle.session_run.specs.live_book.declared.published.Published.{Published}
-use Rattle.session_run.specs.live_book.Live.{Opened}
-use Rattle.session_run.specs.Inner.Taken.{head_of}
+use Rattle.query_workers.specs.session_core.declared.kept_acts.KeptAct.{KeptAct}
+use Rattle.query_workers.specs.session_core.declared.line.Answer.{Answer}
+use Rattle.query_workers.specs.session_core.declared.line.Answer.TheVariants.{Done, Refused}
+use Rattle.query_workers.specs.session_core.declared.line.Ask.{Ask}
+use Rattle.query_workers.specs.session_core.declared.line.Line.{Line}
+use Rattle.query_workers.specs.session_core.declared.line.Refusal.TheVariants as refusals
+use Rattle.query_workers.specs.session_core.declared.line.Reply.{Reply}
+use Rattle.query_workers.specs.session_core.declared.line.Request.{Request}
+use Rattle.query_workers.specs.session_core.declared.line.Request.TheVariants as requests
+use Rattle.query_workers.specs.session_core.declared.slots.Held.{Held}
+use Rattle.query_workers.specs.session_core.Answers.{answer_at, answer_over, grid_answer, grid_number, is_want_of_memory, memory, reply_to}
+use Rattle.query_workers.specs.session_core.Inner.Kept.{AreHeld, IsHeld, IsMoment, held_answer, look_answer, look_closed, opened_by, opened_in}
+use Rattle.query_workers.specs.session_core.Inner.Undone.{AreKept}
+use Rattle.query_workers.specs.session_core.Legal.{Mark, accepting}
+use Rattle.query_workers.specs.session_core.Queries.{lacks_memory}
+use Rattle.query_workers.specs.session_core.Steps.{Opened as Look, put_slot, session_places, slot}
+use Rattle.query_workers.specs.session_core.Undos.{latest_of, undo_refusal}
+use Rattle.query_workers.proofs.of_session_core.Keeping.{looked_kept, slots_longer}
+use Rattle.query_workers.proofs.of_session_core.Undoing.{are_kept_more}
+use Rattle.query_workers.proofs.of_session_core.SlotPlaces.{length_put_slot, put_slot_map, slot_map, slot_put}
+use Rattle.live_book.specs.declared.published.Published.{Published}
+use Rattle.live_book.specs.Live.{Opened}
+use Rattle.query_workers.specs.session_core.Inner.Told.{head_of}
 use Rattle.live_laws.specs.Lanes.{IsStep}
 use Rattle.live_laws.proofs.Replies.{after_step, finish_step, grid_step, look_open_step, look_step, no_look_step, query_step, undo_no_inverse_step, undo_not_accepted_step, want_of_memory_step}
 use Rattle.live_laws.proofs.Steps.{begins_length}

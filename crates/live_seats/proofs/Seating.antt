@@ -2,23 +2,23 @@
 use Rattle.std.proofs.Common.{◌≡◌, ℕ, zero, suc, ◌+◌, ◌<◌, ◌≤◌, List, [], ◌∷◌, ◌++◌, length, replicate, append-nil, Option, None, refl, sym, ap, ◌∙◌, subst, arith, length-append}
 use Rattle.std.proofs.lemmas.List.{length-replicate}
 use mathlib.Core.List.{IsPrefix}
-use Rattle.session_run.specs.edit_rules.declared.acts.Entry.{Entry}
+use Rattle.edit_undo.specs.edit_rules.declared.acts.Entry.{Entry}
 use Rattle.version_gate.specs.declared.entry.Entry.{Entry as Numbered}
 use Rattle.version_gate.specs.Lists.{Numbered as IsNumbered}
 use Rattle.version_gate.proofs.Numbers.{same_start}
-use Rattle.session_run.specs.session_core.declared.kept_acts.KeptAct.{KeptAct}
-use Rattle.session_run.specs.session_core.declared.line.Line.{Line}
-use Rattle.session_run.specs.session_core.declared.slots.Held.{Held}
-use Rattle.session_run.specs.session_core.Inner.Kept.{opened_in}
-use Rattle.session_run.specs.session_core.Inner.Undone.{AreKept}
-use Rattle.session_run.specs.session_core.Legal.{Mark, accepted, accepting, disk_replies, replies_in}
-use Rattle.session_run.specs.session_core.Steps.{Opened as Look, session_places}
-use Rattle.session_run.specs.session_core.Worlds.{Turn}
-use Rattle.session_run.proofs.of_session_core.Keeping.{slots_empty}
-use Rattle.session_run.proofs.of_session_core.Turns.{accepted_push, disks_push}
-use Rattle.session_run.specs.live_book.declared.published.Published.{Published}
-use Rattle.session_run.specs.live_book.Live.{Opened, Shows}
-use Rattle.session_run.specs.live_book.Inner.Live.{Count}
+use Rattle.query_workers.specs.session_core.declared.kept_acts.KeptAct.{KeptAct}
+use Rattle.query_workers.specs.session_core.declared.line.Line.{Line}
+use Rattle.query_workers.specs.session_core.declared.slots.Held.{Held}
+use Rattle.query_workers.specs.session_core.Inner.Kept.{opened_in}
+use Rattle.query_workers.specs.session_core.Inner.Undone.{AreKept}
+use Rattle.query_workers.specs.session_core.Legal.{Mark, accepted, accepting, disk_replies, replies_in}
+use Rattle.query_workers.specs.session_core.Steps.{Opened as Look, session_places}
+use Rattle.query_workers.specs.session_core.Worlds.{Turn}
+use Rattle.query_workers.proofs.of_session_core.Keeping.{slots_empty}
+use Rattle.query_workers.proofs.of_session_core.Turns.{accepted_push, disks_push}
+use Rattle.live_book.specs.declared.published.Published.{Published}
+use Rattle.live_book.specs.Live.{Opened, Shows}
+use Rattle.live_book.specs.Inner.Live.{Count}
 use Rattle.live_laws.specs.Lanes.{IsLane, Step, accepts, turns_of}
 use Rattle.live_laws.proofs.Steps.{begins, begins_length, takes_step, turns_push}
 use Rattle.live_seats.specs.Inner.Seats.{IsSeat, KeepsLane, SeatParts, TakesLine, accepts_at, disk_at, seat_of}

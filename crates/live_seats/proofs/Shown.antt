@@ -1,15 +1,15 @@
 -- What the list of a pass shows.
 use Rattle.std.proofs.Common.{◌≡◌, ℕ, ◌≤◌, List, length}
 use mathlib.Core.List.{IsPrefix}
-use Rattle.session_run.specs.edit_rules.declared.acts.Entry.{Entry}
+use Rattle.edit_undo.specs.edit_rules.declared.acts.Entry.{Entry}
 use Rattle.version_gate.specs.declared.entry.Entry.{Entry as Numbered}
 use Rattle.version_gate.specs.Lists.{EndsIn, Numbered as IsNumbered, entry}
 use Rattle.version_gate.proofs.Numbers.{numbered_once}
-use Rattle.session_run.specs.live_book.declared.published.Published.{Published}
-use Rattle.session_run.specs.live_book.Laws.{ShowsBeginning}
-use Rattle.session_run.specs.live_book.Live.{Opened, Shows}
-use Rattle.session_run.specs.live_book.Published.{IsStateAfter}
-use Rattle.session_run.proofs.of_live_book.Lists.{histories_begin, lists_are_numbered, lists_begin, lists_end}
+use Rattle.live_book.specs.declared.published.Published.{Published}
+use Rattle.live_book.specs.Laws.{ShowsBeginning}
+use Rattle.live_book.specs.Live.{Opened, Shows}
+use Rattle.live_book.specs.Published.{IsStateAfter}
+use Rattle.live_book.proofs.Lists.{histories_begin, lists_are_numbered, lists_begin, lists_end}
 
 -- a longer list shows a history that goes on
 pub goes_on : (o : Opened) (before history : List Entry) (old new : List (Numbered Published)) → Shows o before old → Shows o history new → IsPrefix old new → IsPrefix before history

@@ -3,15 +3,15 @@ use Rattle.std.proofs.Common.{◌≡◌, ◌≢◌, ⊎_elim, ℕ, zero, suc, �
 use Rattle.std.specs.Option.{option_map}
 use Rattle.std.proofs.lemmas.Bool.{cases_eq}
 use Rattle.std.proofs.lemmas.List.{map-append}
-use Rattle.session_run.specs.session_core.declared.line.Line.{Line}
-use Rattle.session_run.specs.session_core.declared.line.Request.{Request}
-use Rattle.session_run.specs.session_core.declared.line.Request.TheVariants as requests
-use Rattle.session_run.specs.session_core.Steps.{put_slot, slot}
-use Rattle.session_run.specs.session_core.Worlds.{Each, Turn}
-use Rattle.session_run.specs.session_core.Legal.{lines_in}
-use Rattle.session_run.proofs.of_session_core.Places.{put_length, slot_other, slot_put}
-use Rattle.session_run.proofs.of_session_core.SlotPlaces.{put_slot_set, slot_get_or, slot_map}
-use Rattle.session_run.proofs.of_session_core.Turns.{each_map, each_of_map}
+use Rattle.query_workers.specs.session_core.declared.line.Line.{Line}
+use Rattle.query_workers.specs.session_core.declared.line.Request.{Request}
+use Rattle.query_workers.specs.session_core.declared.line.Request.TheVariants as requests
+use Rattle.query_workers.specs.session_core.Steps.{put_slot, slot}
+use Rattle.query_workers.specs.session_core.Worlds.{Each, Turn}
+use Rattle.query_workers.specs.session_core.Legal.{lines_in}
+use Rattle.query_workers.proofs.of_session_core.Places.{put_length, slot_other, slot_put}
+use Rattle.query_workers.proofs.of_session_core.SlotPlaces.{put_slot_set, slot_get_or, slot_map}
+use Rattle.query_workers.proofs.of_session_core.Turns.{each_map, each_of_map}
 use Rattle.live_laws.proofs.Eaches.{each_flat, each_left, each_right}
 use Rattle.live_laws.specs.Lanes.{Agrees, Step, all_steps, all_turns, turns_of}
 use Rattle.live_seats.specs.Inner.Notes.{IsTold, Note, note, noted_in, noted_of, number_or_none}

@@ -1,6 +1,6 @@
 -- The marks of the entries that came in a run.
 use Rattle.std.specs.Prelude.{ℕ, ◌+◌, List, [], ◌∷◌}
-use Rattle.session_run.specs.edit_rules.declared.acts.Entry.{Entry}
+use Rattle.edit_undo.specs.edit_rules.declared.acts.Entry.{Entry}
 use Rattle.live_seats.specs.declared.marks.Mark.{Mark}
 
 -- a mark of each entry, the first of which has this place in the history, counted from 1

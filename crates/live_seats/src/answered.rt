@@ -1,12 +1,12 @@
 //! A line that was answered.
 ghost use Rattle.std.specs.Prelude.{◌≡◌, IfSome, IsNone, None, Some};
 ghost use Rattle.std.specs.Option.{option_map};
-ghost use Rattle.session_run.specs.session_core.declared.line.Request.TheVariants as requests;
+ghost use Rattle.query_workers.specs.session_core.declared.line.Request.TheVariants as requests;
 ghost use Rattle.live_seats.specs.Inner.Notes.{IsHeardFor, note, noted_of};
 ghost use Rattle.live_seats.specs.Inner.Seats.{answered_step};
 
 use crate::notes::{Row, Told};
-use session_run::session_core::{Line, Reply};
+use query_workers::session_core::{Line, Reply};
 use std::marker::Model;
 
 /// A line with its reply, what was noted for it, and, for an `after`, what was heard of the line that it names.

@@ -5,7 +5,7 @@ ghost use Rattle.live_seats.specs.Inner.Seats.{AreCells};
 use crate::notes::Row;
 use emu_disk::Disk;
 use emu_io::Gate;
-use session_run::live_book::{Live, Opening};
+use live_book::{Live, Opening};
 use std::alloc::Global;
 use std::marker::PhantomData;
 use std::sync::OnceLock;

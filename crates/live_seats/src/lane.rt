@@ -1,9 +1,9 @@
 //! Which lines a lane answers.
 ghost use Rattle.std.specs.Prelude.{◌≡◌, ◌%◌, length};
-ghost use Rattle.session_run.specs.session_core.Legal.{makes_entry};
+ghost use Rattle.query_workers.specs.session_core.Legal.{makes_entry};
 ghost use Rattle.live_seats.specs.Inner.Seats.{changes_of, lines_of, takes};
 
-use session_run::session_core::{Line, Lines, Request};
+use query_workers::session_core::{Line, Lines, Request};
 
 /// Which lines a lane answers.
 #[derive(Clone, Copy)]

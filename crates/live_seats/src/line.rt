@@ -4,16 +4,15 @@ ghost use Rattle.std.specs.Arc.{arc_value};
 ghost use Rattle.std.specs.Option.{option_map};
 ghost use mathlib.Core.List.{IsPrefix};
 ghost use Rattle.version_tree.specs.Version.{state_of};
-ghost use Rattle.session_run.specs.session_core.declared.kept_acts.KeptAct.{KeptAct};
-ghost use Rattle.session_run.specs.session_core.declared.line.Request.TheVariants as requests;
-ghost use Rattle.session_run.specs.session_core.declared.slots.Held.{Held};
-ghost use Rattle.session_run.specs.session_core.Answers.{answer_over, reply_to};
-ghost use Rattle.session_run.specs.session_core.Steps.{session_places, slot};
-ghost use Rattle.session_run.specs.Inner.Orders.{commit_reply};
-ghost use Rattle.session_run.specs.Inner.Taken.{head_of};
+ghost use Rattle.query_workers.specs.session_core.declared.kept_acts.KeptAct.{KeptAct};
+ghost use Rattle.query_workers.specs.session_core.declared.line.Request.TheVariants as requests;
+ghost use Rattle.query_workers.specs.session_core.declared.slots.Held.{Held};
+ghost use Rattle.query_workers.specs.session_core.Answers.{answer_over, reply_to};
+ghost use Rattle.query_workers.specs.session_core.Steps.{session_places, slot};
+ghost use Rattle.query_workers.specs.session_core.Inner.Told.{commit_reply, head_of};
 ghost use Rattle.version_gate.specs.Lists.{EndsIn, entry};
-ghost use Rattle.session_run.specs.live_book.Inner.Inverses.{numbered};
-ghost use Rattle.session_run.specs.live_book.Inner.Live.{Count};
+ghost use Rattle.live_book.specs.Inner.Inverses.{numbered};
+ghost use Rattle.live_book.specs.Inner.Live.{Count};
 ghost use Rattle.live_seats.specs.Inner.Notes.{IsHeardFor, noted_of};
 ghost use Rattle.live_seats.specs.Inner.Replies.{Finishes, GoesOn, IsGridRefused, IsQueried, IsTried, LooksAt, RepliesTo, kept_with};
 ghost use Rattle.live_seats.specs.Inner.Seats.{IsAsked, TakesLine};
@@ -22,16 +21,16 @@ use crate::answered::Answered;
 use crate::around::Around;
 use crate::looks::Look;
 use crate::notes::{Row, Told, hear, tell};
+use edit_undo::edit_rules::Act;
 use emu_disk::Disk;
 use emu_io::{Gate, Moment};
 use emu_names::Memory;
-use session_run::edit_rules::Act;
-use session_run::live_book::{EditFault, Kept, Opening, Published, Share};
-use session_run::session_core::{
-    Answer, Ask, Head, KeptActs, Line, Refusal, Reply, Request, Slots, lacks_memory, memory_reply,
-    refuse_grid, refuse_undo,
+use live_book::{EditFault, Kept, Opening, Published, Share};
+use query_workers::answer_over;
+use query_workers::session_core::{
+    Answer, Ask, Head, KeptActs, Line, Refusal, Reply, Request, Slots, commit_reply, lacks_memory,
+    memory_reply, or_memory, refuse_grid, refuse_undo,
 };
-use session_run::{answer_over, commit_reply, or_memory};
 use std::sync::Wait;
 use std::sync::ledger::Ledger;
 use std::thread::Threads;

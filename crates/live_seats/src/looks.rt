@@ -1,16 +1,16 @@
 //! An open look of a lane: a query of its script, and the version of its moment.
 ghost use Rattle.std.specs.Prelude.{◌≡◌, ◌≤◌, Some, IfOk};
 ghost use Rattle.std.specs.Arc.{arc_value};
-ghost use Rattle.session_run.specs.session_core.Inner.Kept.{held_answer};
-ghost use Rattle.session_run.specs.session_core.Queries.{lacks_memory};
-ghost use Rattle.session_run.specs.session_core.Steps.{reply_of};
+ghost use Rattle.query_workers.specs.session_core.Inner.Kept.{held_answer};
+ghost use Rattle.query_workers.specs.session_core.Queries.{lacks_memory};
+ghost use Rattle.query_workers.specs.session_core.Steps.{reply_of};
 ghost use Rattle.live_seats.specs.Inner.Replies.{look_over};
 
 use emu_io::Gate;
 use emu_names::{Memory, SessionNo};
-use session_run::answer_over;
-use session_run::live_book::Published;
-use session_run::session_core::{Ask, Reply, lacks_memory};
+use live_book::Published;
+use query_workers::answer_over;
+use query_workers::session_core::{Ask, Reply, lacks_memory};
 use std::alloc::Global;
 use std::marker::Model;
 use std::sync::Arc;
@@ -30,7 +30,7 @@ impl<'a> Model for Look<'a> {
     ghost use Rattle.std.specs.Coded.{codes};
     ghost use Rattle.eql_resolve.specs.Inner.Codes.{tree_code};
     ghost use Rattle.version_tree.specs.Version.{state_of};
-    ghost use Rattle.session_run.specs.session_core.declared.slots.Held.{Held};
+    ghost use Rattle.query_workers.specs.session_core.declared.slots.Held.{Held};
 
     ghost Value = { Held };
 

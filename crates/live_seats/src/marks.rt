@@ -2,8 +2,8 @@
 ghost use Rattle.std.specs.Prelude.{◌≡◌, ◌≤◌, ◌+◌, ◌-◌, drop, length, IfOk, vec_capacity, vec_len};
 ghost use Rattle.live_seats.specs.Marks.{marks_from};
 
+use edit_undo::edit_rules::Entries;
 use emu_names::{Memory, Series, SessionNo};
-use session_run::edit_rules::Entries;
 use std::alloc::Global;
 
 /// Where an entry stands in the history, and the line that it came from.

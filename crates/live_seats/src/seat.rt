@@ -3,9 +3,9 @@
 ghost use Rattle.std.specs.Prelude.{◌≡◌, ℕ, ◌<◌, ◌≤◌, [], length, replicate, vec_capacity, None};
 ghost use Rattle.version_gate.specs.Lists.{Numbered};
 ghost use Rattle.live_laws.specs.Lanes.{turns_of};
-ghost use Rattle.session_run.specs.session_core.Legal.{lines_in};
-ghost use Rattle.session_run.specs.session_core.Steps.{session_places};
-ghost use Rattle.session_run.specs.session_core.Worlds.{Each};
+ghost use Rattle.query_workers.specs.session_core.Legal.{lines_in};
+ghost use Rattle.query_workers.specs.session_core.Steps.{session_places};
+ghost use Rattle.query_workers.specs.session_core.Worlds.{Each};
 ghost use Rattle.live_seats.specs.Inner.Seats.{IsAsked, IsBehindLine, IsSeat, lines_of};
 
 use crate::answered::Answered;
@@ -16,8 +16,8 @@ use crate::looks::Look;
 use crate::notes::Row;
 use emu_disk::Disk;
 use emu_io::Gate;
-use session_run::live_book::{Opening, Published, Share};
-use session_run::session_core::{KeptActs, Line, Lines, Slots};
+use live_book::{Opening, Published, Share};
+use query_workers::session_core::{KeptActs, Line, Lines, Slots};
 use std::marker::Model;
 use std::sync::Wait;
 use std::sync::ledger::Ledger;

@@ -1,8 +1,8 @@
 //! The numbers that all lanes noted for lines, in one table.
 ghost use Rattle.std.specs.Prelude.{◌≡◌, ◌<◌, None, Some, true, false, length, map, replicate, IfOk, IfSome};
-ghost use Rattle.session_run.specs.session_core.Legal.{lines_in};
-ghost use Rattle.session_run.specs.session_core.Steps.{put_slot, slot};
-ghost use Rattle.session_run.specs.session_core.Worlds.{Each};
+ghost use Rattle.query_workers.specs.session_core.Legal.{lines_in};
+ghost use Rattle.query_workers.specs.session_core.Steps.{put_slot, slot};
+ghost use Rattle.query_workers.specs.session_core.Worlds.{Each};
 ghost use Rattle.live_laws.specs.Lanes.{Agrees, all_steps, all_turns, turns_of};
 ghost use Rattle.live_seats.specs.Inner.Notes.{IsTold, Note, noted_in};
 ghost use Rattle.live_seats.specs.Inner.Seats.{IsAsked};

@@ -12,8 +12,8 @@ use Rattle.edit_journal.specs.declared.journal.Journal.{Journal}
 use Rattle.live_run.specs.live_book.Kept.{KeepsIn, faults_in}
 use Rattle.live_run.specs.live_book.Commits.{has_journal}
 use Rattle.book_opening.specs.Inner.Opens.{IsEmpty}
-use Rattle.live_run.specs.session_run.Orders.{IsDiskRefused}
-use Rattle.live_run.specs.session_run.Inner.Orders.{LeftBehind, state_of}
+use Rattle.session_run.specs.Orders.{IsDiskRefused}
+use Rattle.session_run.specs.Inner.Orders.{LeftBehind, state_of}
 use Rattle.script_lines.specs.declared.faults.ReadLine.TheVariants as reads
 use Rattle.script_runs.specs.declared.running.Running.{Running}
 use Rattle.script_runs.specs.Scripts.{Parsed, read_from, with_read}

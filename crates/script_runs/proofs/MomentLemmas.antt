@@ -15,14 +15,15 @@ use Rattle.emu_disk.specs.declared.disk.Disk as disks
 use Rattle.emu_disk.proofs.Moments.{joined, weaker}
 use Rattle.edit_journal.specs.declared.journal.Journal.{Journal}
 use Rattle.edit_journal.specs.Held.{disk_of}
-use Rattle.live_run.specs.live_book.declared.fault.EditFault.{EditFault}
-use Rattle.live_run.specs.live_book.declared.fault.EditFault.TheVariants as faults
+use Rattle.live_run.specs.edit_rules.declared.commit_fault.EditFault.{EditFault}
+use Rattle.live_run.specs.edit_rules.declared.commit_fault.EditFault.TheVariants as faults
 use Rattle.live_run.specs.live_book.Histories.{Stands}
 use Rattle.live_run.specs.live_book.Kept.{BookParts, CrashLeaves, KeepsIn, StandsOrLost, faults_in}
 use Rattle.live_run.specs.live_book.Commits.{Commits, DuringCommit, has_journal}
 use Rattle.book_opening.specs.Inner.Opens.{IsEmpty}
-use Rattle.live_run.specs.session_run.Orders.{IsDiskRefused}
-use Rattle.live_run.specs.session_run.Inner.Orders.{ChangesBook, commit_reply, state_of}
+use Rattle.session_run.specs.Orders.{IsDiskRefused}
+use Rattle.session_run.specs.Inner.Orders.{ChangesBook, state_of}
+use Rattle.live_run.specs.session_core.Inner.Told.{commit_reply}
 use Rattle.script_lines.specs.declared.faults.ReadLine.TheVariants as reads
 use Rattle.script_runs.specs.declared.running.Running.{Running}
 use Rattle.script_runs.specs.Scripts.{Parsed, read_from, with_read}

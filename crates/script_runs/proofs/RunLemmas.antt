@@ -17,7 +17,7 @@ use Rattle.edit_journal.specs.declared.journal.Journal.{Journal}
 use Rattle.live_run.specs.live_book.Kept.{KeepsIn, faults_in}
 use Rattle.live_run.specs.live_book.Commits.{has_journal}
 use Rattle.book_opening.specs.Inner.Opens.{IsEmpty}
-use Rattle.live_run.specs.session_run.Inner.Orders.{state_of}
+use Rattle.session_run.specs.Inner.Orders.{state_of}
 use Rattle.script_lines.specs.declared.faults.LineFault.TheVariants as faults_of
 use Rattle.script_lines.specs.declared.faults.ReadLine.{ReadLine}
 use Rattle.script_lines.specs.declared.faults.ReadLine.TheVariants as reads

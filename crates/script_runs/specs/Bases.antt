@@ -5,7 +5,7 @@ use Rattle.live_run.specs.edit_rules.declared.acts.Entry.{Entry}
 use Rattle.live_run.specs.session_core.declared.line.Line.{Line}
 use Rattle.live_run.specs.session_core.InOrder.{Outage, one_turn}
 use Rattle.live_run.specs.session_core.Steps.{State, start}
-use Rattle.live_run.specs.session_run.Orders.{IsDiskRefused}
+use Rattle.session_run.specs.Orders.{IsDiskRefused}
 use Rattle.live_run.specs.live_book.Histories.{OfRead, Stands, IsBare}
 use Rattle.live_run.specs.live_book.Kept.{StandsOrLost}
 

@@ -1,4 +1,5 @@
 pub mod Kept
+pub mod Told
 pub mod Steps
 pub mod Stops
 pub mod Undone

@@ -1,14 +1,16 @@
-//! Where a request comes from, and the replies to it that are refusals.
+//! Where a request comes from, and the replies to it that are no answers of a query.
 ghost use Rattle.session_core.specs.Undos.{undo_refusal};
-ghost use Rattle.session_core.specs.Inner.Kept.{grid_told, head_reply};
+ghost use Rattle.session_core.specs.declared.line.Request.{Request};
+ghost use Rattle.session_core.specs.Inner.Kept.{grid_told, head_line, head_reply};
+ghost use Rattle.session_core.specs.Inner.Told.{commit_reply, or_memory};
 ghost use Rattle.session_core.specs.Answers.{memory, place_shown, rule_refusal};
 ghost use Rattle.session_core.specs.Steps.{reply_of};
 ghost use Rattle.std.specs.Prelude.{◌≡◌, None};
 
 use crate::line::{Answer, Command, Refusal, Reply};
 use edit_undo::NoUndo;
-use edit_undo::edit_rules::Breach;
-use emu_names::SessionNo;
+use edit_undo::edit_rules::{Breach, EditFault};
+use emu_names::{Memory, SessionNo};
 use textgrid::GridFault;
 
 /// Where a request comes from, and its command.
@@ -87,5 +89,33 @@ pub fn memory_reply(line: u32, session: SessionNo) -> Reply
         session,
         n: None,
         answer: Answer::Refused(Refusal::Memory),
+    }
+}
+
+/// The reply that was made for a line, or that memory ran out at it.
+pub fn or_memory(head: Head, made: Result<Reply, Memory>) -> Reply
+    ensures { result ≡ or_memory head made }
+{
+    match made {
+        Ok(reply) => reply,
+        Err(_) => memory_reply(head.line, head.session),
+    }
+}
+
+/// The reply to a line whose act was committed with this answer.
+pub fn commit_reply(head: Head, made: Result<u64, EditFault>) -> Reply
+    ensures { (request : Request) → result ≡ commit_reply (head_line head request) made }
+{
+    match made {
+        Ok(n) => head.reply(Some(n), Answer::Done(head.command)),
+        Err(EditFault::HistoryFull(n)) => {
+            head.reply(Some(n), Answer::Refused(Refusal::HistoryFull))
+        }
+        Err(EditFault::Broken(breach, n)) => {
+            head.reply(Some(n), Answer::Refused(refuse_rule(head.command, breach)))
+        }
+        Err(EditFault::StoreFull(n)) => head.reply(Some(n), Answer::Refused(Refusal::StoreFull)),
+        Err(EditFault::Disk) => head.reply(None, Answer::Refused(Refusal::Disk)),
+        Err(EditFault::Memory) => head.reply(None, Answer::Refused(Refusal::Memory)),
     }
 }

@@ -11,7 +11,9 @@ mod queries;
 mod slots;
 
 pub use event::{Event, Events};
-pub use head::{Head, memory_reply, refuse_grid, refuse_rule, refuse_undo};
+pub use head::{
+    Head, commit_reply, memory_reply, or_memory, refuse_grid, refuse_rule, refuse_undo,
+};
 pub use kept_acts::{KeptAct, KeptActs};
 pub use law::{
     a_run_in_order_has_one_reading, an_example_is_legal, every_core_run_is_legal,

@@ -27,16 +27,17 @@ use Rattle.query_workers.specs.session_core.Steps.{State, edit_made, edit_step, 
 use Rattle.query_workers.specs.session_core.Undos.{latest_of, undo_refusal}
 use Rattle.query_workers.specs.session_core.Worlds.{Trouble, act_back, act_wanted, untroubled, store_full, disk_failed, passes_store}
 use Rattle.query_workers.proofs.of_session_core.Keeping.{slots_longer}
-use Rattle.live_book.specs.declared.fault.EditFault.{EditFault}
-use Rattle.live_book.specs.declared.fault.EditFault.TheVariants as faults
+use Rattle.edit_rules.specs.declared.commit_fault.EditFault.{EditFault}
+use Rattle.edit_rules.specs.declared.commit_fault.EditFault.TheVariants as faults
 use Rattle.live_book.specs.Commits.{Commits, HasRoom, IsSameBook, IsTooMuch, LeavesKept, has_journal, history_behind}
 use Rattle.live_book.specs.Inner.Inverses.{numbered}
 use Rattle.live_book.specs.Kept.{BookParts, KeepsIn, faults_in}
-use Rattle.session_run.specs.Inner.Orders.{ChangesBook, LeftBehind, commit_reply}
-use Rattle.session_run.specs.Inner.Taken.{CommitsAct, EditsBook, IsTaken, KeepsActs, LeavesBook, UndoesBook, base_of, head_of}
+use Rattle.session_run.specs.Inner.Orders.{ChangesBook, LeftBehind}
+use Rattle.query_workers.specs.session_core.Inner.Told.{commit_reply, head_of}
+use Rattle.session_run.specs.Inner.Taken.{CommitsAct, EditsBook, IsTaken, KeepsActs, LeavesBook, UndoesBook, base_of}
 use Rattle.session_run.proofs.Others.{at, calm, quiet_at, taken_so}
 use Rattle.session_run.proofs.Undos.{acts_now, base_now}
-use Rattle.session_run.proofs.Sizes.{fits_so, passes_so}
+use Rattle.live_book.proofs.Sizes.{fits_so, passes_so}
 
 -- What keeps an edit from its step.
 

@@ -25,7 +25,8 @@ use Rattle.query_workers.proofs.of_session_core.Keeping.{answered_step, begun_st
 use Rattle.live_book.specs.Commits.{has_journal}
 use Rattle.live_book.specs.Kept.{BookParts, faults_in}
 use Rattle.session_run.specs.Inner.Orders.{ChangesBook}
-use Rattle.session_run.specs.Inner.Taken.{IsAnsweredAt, IsLookedAt, IsTaken, KeepsActs, base_of, head_of, or_memory}
+use Rattle.session_run.specs.Inner.Taken.{IsAnsweredAt, IsLookedAt, IsTaken, KeepsActs, base_of}
+use Rattle.query_workers.specs.session_core.Inner.Told.{head_of, or_memory}
 
 -- no query is under way
 abbrev none_asked : List (Option Held)

@@ -9,7 +9,7 @@ use Rattle.query_workers.specs.session_core.declared.head.Head.{Head}
 use Rattle.query_workers.specs.session_core.Inner.Kept.{head_entry}
 use Rattle.query_workers.specs.session_core.Undos.{kept_act, kept_behind, kept_of}
 use Rattle.query_workers.proofs.of_session_core.Undoing.{kept_none, kept_push}
-use Rattle.live_book.specs.declared.fault.EditFault.{EditFault}
+use Rattle.edit_rules.specs.declared.commit_fault.EditFault.{EditFault}
 use Rattle.live_book.specs.declared.kept.Kept.{Kept}
 use Rattle.live_book.specs.Commits.{history_behind}
 use Rattle.live_book.specs.Inner.Inverses.{KeepsInverse, numbered}

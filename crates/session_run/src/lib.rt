@@ -6,8 +6,4 @@ mod looks;
 mod shown;
 mod turns;
 
-pub use edit_rules;
 pub use in_order::{InOrder, new_in_order};
-pub use live_book;
-pub use query_workers::{answer_over, session_core};
-pub use turns::{commit_reply, or_memory};

@@ -2,12 +2,12 @@
 ghost use Rattle.std.specs.Prelude.{◌≡◌, ◌<◌, length, Ok, IfOk, OnErr};
 ghost use Rattle.edit_rules.specs.Effects.{after};
 ghost use Rattle.query_workers.specs.session_core.declared.line.Request.{Request};
-ghost use Rattle.query_workers.specs.session_core.Inner.Kept.{AreHeld, held_at, look_closed};
+ghost use Rattle.query_workers.specs.session_core.Inner.Kept.{AreHeld, head_line, held_at, look_closed};
+ghost use Rattle.query_workers.specs.session_core.Inner.Told.{commit_reply, or_memory};
 ghost use Rattle.query_workers.specs.session_core.Steps.{session_places, slot};
 ghost use Rattle.query_workers.specs.session_core.Undos.{latest_of};
 ghost use Rattle.live_book.specs.Inner.Inverses.{numbered};
-ghost use Rattle.session_run.specs.Inner.Orders.{commit_reply};
-ghost use Rattle.session_run.specs.Inner.Taken.{CommitsAct, EditsBook, IsAnsweredAt, IsLookedAt, IsTaken, KeepsActs, UndoesBook, acts_behind, line_of, or_memory};
+ghost use Rattle.session_run.specs.Inner.Taken.{CommitsAct, EditsBook, IsAnsweredAt, IsLookedAt, IsTaken, KeepsActs, UndoesBook, acts_behind};
 
 use crate::looks::Look;
 use crate::shown::look_at;
@@ -16,8 +16,8 @@ use emu_disk::Disk;
 use emu_names::Memory;
 use live_book::{Book, EditFault, Kept, Published};
 use query_workers::session_core::{
-    Answer, Ask, Head, KeptActs, Line, Refusal, Reply, Request, Slots, memory_reply, refuse_grid,
-    refuse_rule, refuse_undo,
+    Answer, Ask, Head, KeptActs, Line, Refusal, Reply, Request, Slots, commit_reply, memory_reply,
+    or_memory, refuse_grid, refuse_undo,
 };
 use std::alloc::Global;
 use std::sync::Wait;
@@ -25,38 +25,10 @@ use std::thread::Threads;
 use textgrid::GridFault;
 use version_gate::Pass;
 
-/// The reply that was made for a line, or that memory ran out at it.
-pub fn or_memory(head: Head, made: Result<Reply, Memory>) -> Reply
-    ensures { result ≡ or_memory head made }
-{
-    match made {
-        Ok(reply) => reply,
-        Err(_) => memory_reply(head.line, head.session),
-    }
-}
-
-/// The reply to a line whose act was committed with this answer.
-pub fn commit_reply(head: Head, made: Result<u64, EditFault>) -> Reply
-    ensures { (request : Request) → result ≡ commit_reply (line_of head request) made }
-{
-    match made {
-        Ok(n) => head.reply(Some(n), Answer::Done(head.command)),
-        Err(EditFault::HistoryFull(n)) => {
-            head.reply(Some(n), Answer::Refused(Refusal::HistoryFull))
-        }
-        Err(EditFault::Broken(breach, n)) => {
-            head.reply(Some(n), Answer::Refused(refuse_rule(head.command, breach)))
-        }
-        Err(EditFault::StoreFull(n)) => head.reply(Some(n), Answer::Refused(Refusal::StoreFull)),
-        Err(EditFault::Disk) => head.reply(None, Answer::Refused(Refusal::Disk)),
-        Err(EditFault::Memory) => head.reply(None, Answer::Refused(Refusal::Memory)),
-    }
-}
-
 /// The reply to a line whose act was committed with this answer. What takes an accepted act back is kept.
 fn keep_made(kept: &mut KeptActs, head: Head, made: Result<Kept, EditFault>) -> Reply
     requires { 0 < kept.old.room }
-    ensures reply { (request : Request) → result ≡ commit_reply (line_of head request) (numbered made) }
+    ensures reply { (request : Request) → result ≡ commit_reply (head_line head request) (numbered made) }
     ensures acts { kept.new.acts ≡ acts_behind kept.old.acts head made }
 {
     match made {

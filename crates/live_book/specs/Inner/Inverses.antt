@@ -8,7 +8,7 @@ use Rattle.version_steps.specs.edit_rules.declared.acts.Entry.{Entry}
 use Rattle.version_steps.specs.edit_rules.Effects.{database_after}
 use Rattle.version_steps.specs.edit_rules.Inner.Acts.{AreTogether}
 use Rattle.edit_undo.specs.Inverse.{inverse_at}
-use Rattle.live_book.specs.declared.fault.EditFault.{EditFault}
+use Rattle.version_steps.specs.edit_rules.declared.commit_fault.EditFault.{EditFault}
 use Rattle.live_book.specs.declared.kept.Kept.{Kept}
 
 -- the answer of a commit that keeps what takes its act back, with the number alone

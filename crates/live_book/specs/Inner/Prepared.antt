@@ -9,8 +9,8 @@ use Rattle.edit_code.specs.Codes.{entry_code}
 use Rattle.edit_journal.specs.declared.journal.Journal.{Journal}
 use Rattle.version_gate.specs.Lists.{entry}
 use Rattle.live_book.specs.declared.commit.Ready.{Ready}
-use Rattle.live_book.specs.declared.fault.EditFault.{EditFault}
-use Rattle.live_book.specs.declared.fault.EditFault.TheVariants as edit_faults
+use Rattle.version_steps.specs.edit_rules.declared.commit_fault.EditFault.{EditFault}
+use Rattle.version_steps.specs.edit_rules.declared.commit_fault.EditFault.TheVariants as edit_faults
 use Rattle.live_book.specs.Histories.{IsCoded}
 use Rattle.live_book.specs.Published.{IsStateAfter}
 use Rattle.live_book.specs.Commits.{IsTooMuch, has_journal}

@@ -1,8 +1,8 @@
 -- Numbers that are noted for lines, each once, and that other threads hear.
 use Rattle.std.specs.Prelude.{◌≡◌, ℕ, List, Option, Some, None}
-use Rattle.session_run.specs.session_core.declared.line.Request.{Request}
-use Rattle.session_run.specs.session_core.declared.line.Request.TheVariants as requests
-use Rattle.session_run.specs.session_core.Steps.{slot}
+use Rattle.query_workers.specs.session_core.declared.line.Request.{Request}
+use Rattle.query_workers.specs.session_core.declared.line.Request.TheVariants as requests
+use Rattle.query_workers.specs.session_core.Steps.{slot}
 
 -- what was noted for a line
 pub record Note : Type 0 where

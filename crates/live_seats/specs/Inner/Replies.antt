@@ -2,34 +2,34 @@
 -- product: they say how the steps of the code lead to those.
 use Rattle.std.specs.Prelude.{◌≡◌, ◌⊎◌, ℕ, ◌≤◌, List, [], ◌∷◌, ◌++◌, false, Option, Some, None, Result, Ok, Err, length}
 use mathlib.Core.List.{IsPrefix}
-use Rattle.session_run.specs.edit_rules.declared.acts.Act.{Act}
-use Rattle.session_run.specs.edit_rules.declared.acts.Entry.{Entry}
+use Rattle.edit_undo.specs.edit_rules.declared.acts.Act.{Act}
+use Rattle.edit_undo.specs.edit_rules.declared.acts.Entry.{Entry}
 use Rattle.textgrid.specs.declared.fault.GridFault.{GridFault}
 use Rattle.version_gate.specs.declared.entry.Entry.{Entry as Numbered}
 use Rattle.version_gate.specs.Lists.{EndsIn, Numbered as IsNumbered, entry}
 use Rattle.version_tree.specs.Version.{state_of}
-use Rattle.session_run.specs.session_core.declared.kept_acts.KeptAct.{KeptAct}
-use Rattle.session_run.specs.session_core.declared.line.Answer.TheVariants.{Done, Refused}
-use Rattle.session_run.specs.session_core.declared.line.Ask.{Ask}
-use Rattle.session_run.specs.session_core.declared.line.Line.{Line}
-use Rattle.session_run.specs.session_core.declared.line.Refusal.TheVariants as refusals
-use Rattle.session_run.specs.session_core.declared.line.Reply.{Reply}
-use Rattle.session_run.specs.session_core.declared.line.Request.TheVariants as requests
-use Rattle.session_run.specs.session_core.declared.slots.Held.{Held}
-use Rattle.session_run.specs.session_core.Answers.{answer_over, reply_to}
-use Rattle.session_run.specs.session_core.Inner.Kept.{AreHeld, grid_told, look_closed, opened_in}
-use Rattle.session_run.specs.session_core.Legal.{Mark}
-use Rattle.session_run.specs.session_core.Queries.{lacks_memory}
-use Rattle.session_run.specs.session_core.Steps.{put_slot, slot}
-use Rattle.session_run.specs.session_core.Undos.{kept_act, latest_of}
-use Rattle.session_run.specs.live_book.declared.fault.EditFault.{EditFault}
-use Rattle.session_run.specs.live_book.declared.kept.Kept.{Kept}
-use Rattle.session_run.specs.live_book.declared.published.Published.{Published}
-use Rattle.session_run.specs.live_book.Commits.{entry_of}
-use Rattle.session_run.specs.live_book.Inner.Inverses.{numbered as number_in}
-use Rattle.session_run.specs.live_book.Live.{Opened}
-use Rattle.session_run.specs.live_book.Inner.Live.{Count, EditsKept, count_behind}
-use Rattle.session_run.specs.Inner.Taken.{head_of}
+use Rattle.query_workers.specs.session_core.declared.kept_acts.KeptAct.{KeptAct}
+use Rattle.query_workers.specs.session_core.declared.line.Answer.TheVariants.{Done, Refused}
+use Rattle.query_workers.specs.session_core.declared.line.Ask.{Ask}
+use Rattle.query_workers.specs.session_core.declared.line.Line.{Line}
+use Rattle.query_workers.specs.session_core.declared.line.Refusal.TheVariants as refusals
+use Rattle.query_workers.specs.session_core.declared.line.Reply.{Reply}
+use Rattle.query_workers.specs.session_core.declared.line.Request.TheVariants as requests
+use Rattle.query_workers.specs.session_core.declared.slots.Held.{Held}
+use Rattle.query_workers.specs.session_core.Answers.{answer_over, reply_to}
+use Rattle.query_workers.specs.session_core.Inner.Kept.{AreHeld, grid_told, look_closed, opened_in}
+use Rattle.query_workers.specs.session_core.Legal.{Mark}
+use Rattle.query_workers.specs.session_core.Queries.{lacks_memory}
+use Rattle.query_workers.specs.session_core.Steps.{put_slot, slot}
+use Rattle.query_workers.specs.session_core.Undos.{kept_act, latest_of}
+use Rattle.edit_undo.specs.edit_rules.declared.commit_fault.EditFault.{EditFault}
+use Rattle.live_book.specs.declared.kept.Kept.{Kept}
+use Rattle.live_book.specs.declared.published.Published.{Published}
+use Rattle.live_book.specs.Commits.{entry_of}
+use Rattle.live_book.specs.Inner.Inverses.{numbered as number_in}
+use Rattle.live_book.specs.Live.{Opened}
+use Rattle.live_book.specs.Inner.Live.{Count, EditsKept, count_behind}
+use Rattle.query_workers.specs.session_core.Inner.Told.{head_of}
 use Rattle.live_laws.specs.Lanes.{IsStep}
 use Rattle.live_seats.specs.Inner.Seats.{KeepsMore, SeesMore, answered_step, counted_by}
 

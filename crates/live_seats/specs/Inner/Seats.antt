@@ -1,24 +1,24 @@
 -- Lanes as the code runs them: what each has seen, counted and answered.
 use Rattle.std.specs.Prelude.{◌≡◌, ℕ, ◌+◌, ◌<◌, ◌≤◌, ◌%◌, min, List, [], ◌∷◌, ◌++◌, length, filter, Bool, true, ◌&&◌, Option, nat_eq, nat_le}
 use mathlib.Core.List.{IsPrefix}
-use Rattle.session_run.specs.edit_rules.declared.acts.Entry.{Entry}
+use Rattle.edit_undo.specs.edit_rules.declared.acts.Entry.{Entry}
 use Rattle.version_gate.specs.declared.entry.Entry.{Entry as Numbered}
 use Rattle.version_gate.specs.Lists.{Numbered as IsNumbered}
-use Rattle.session_run.specs.session_core.declared.kept_acts.KeptAct.{KeptAct}
-use Rattle.session_run.specs.session_core.declared.line.Line.{Line}
-use Rattle.session_run.specs.session_core.declared.line.Reply.{Reply}
-use Rattle.session_run.specs.session_core.declared.line.Request.{Request}
-use Rattle.session_run.specs.session_core.declared.line.Request.TheVariants as requests
-use Rattle.session_run.specs.session_core.declared.slots.Held.{Held}
-use Rattle.session_run.specs.session_core.Commands.{is_command_of}
-use Rattle.session_run.specs.session_core.Inner.Kept.{AreHeld, opened_in}
-use Rattle.session_run.specs.session_core.Inner.Undone.{AreKept}
-use Rattle.session_run.specs.session_core.Legal.{Mark, accepted, accepting, disk_replies, makes_entry, replies_in}
-use Rattle.session_run.specs.session_core.Steps.{session_places, slot}
-use Rattle.session_run.specs.session_core.Worlds.{Turn}
-use Rattle.session_run.specs.live_book.declared.published.Published.{Published}
-use Rattle.session_run.specs.live_book.Live.{Opened, Shows}
-use Rattle.session_run.specs.live_book.Inner.Live.{Count}
+use Rattle.query_workers.specs.session_core.declared.kept_acts.KeptAct.{KeptAct}
+use Rattle.query_workers.specs.session_core.declared.line.Line.{Line}
+use Rattle.query_workers.specs.session_core.declared.line.Reply.{Reply}
+use Rattle.query_workers.specs.session_core.declared.line.Request.{Request}
+use Rattle.query_workers.specs.session_core.declared.line.Request.TheVariants as requests
+use Rattle.query_workers.specs.session_core.declared.slots.Held.{Held}
+use Rattle.query_workers.specs.session_core.Commands.{is_command_of}
+use Rattle.query_workers.specs.session_core.Inner.Kept.{AreHeld, opened_in}
+use Rattle.query_workers.specs.session_core.Inner.Undone.{AreKept}
+use Rattle.query_workers.specs.session_core.Legal.{Mark, accepted, accepting, disk_replies, makes_entry, replies_in}
+use Rattle.query_workers.specs.session_core.Steps.{session_places, slot}
+use Rattle.query_workers.specs.session_core.Worlds.{Turn}
+use Rattle.live_book.specs.declared.published.Published.{Published}
+use Rattle.live_book.specs.Live.{Opened, Shows}
+use Rattle.live_book.specs.Inner.Live.{Count}
 use Rattle.live_seats.specs.declared.lane.Lane.{Lane}
 use Rattle.live_seats.specs.declared.lane.Lane.TheVariants as lanes
 use Rattle.live_laws.specs.Lanes.{IsLane, IsLookIn, IsStep, Step, accepts, turns_of}

@@ -1,6 +1,6 @@
 -- A table of what all lanes noted for lines.
 use Rattle.std.specs.Prelude.{◌≡◌, ℕ, suc, List, [], ◌∷◌, length, Option, None, Some}
-use Rattle.session_run.specs.session_core.declared.line.Request.TheVariants as requests
+use Rattle.query_workers.specs.session_core.declared.line.Request.TheVariants as requests
 use Rattle.live_laws.specs.Lanes.{Step}
 use Rattle.live_seats.specs.Inner.Notes.{IsTold, Note, note}
 

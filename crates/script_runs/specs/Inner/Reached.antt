@@ -18,7 +18,7 @@ use Rattle.live_run.specs.live_book.Kept.{KeepsIn, faults_in}
 use Rattle.live_run.specs.live_book.Commits.{has_journal}
 use Rattle.book_opening.specs.Opens.{DuringNew}
 use Rattle.book_opening.specs.Inner.Opens.{IsEmpty}
-use Rattle.live_run.specs.session_run.Inner.Orders.{state_of}
+use Rattle.session_run.specs.Inner.Orders.{state_of}
 use Rattle.script_lines.specs.declared.faults.ReadLine.TheVariants as reads
 use Rattle.program_output.specs.declared.ended.Ended.{Ended}
 use Rattle.program_output.specs.declared.ended.Ended.TheVariants as ends

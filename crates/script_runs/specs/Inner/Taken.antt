@@ -2,7 +2,7 @@
 use Rattle.std.specs.Prelude.{◌≡◌, ℕ, ◌+◌, [], ◌∷◌, ◌++◌, List}
 use Rattle.live_run.specs.session_core.declared.line.Line.{Line}
 use Rattle.live_run.specs.session_core.declared.line.Reply.{Reply}
-use Rattle.live_run.specs.session_run.Inner.Orders.{Answers}
+use Rattle.session_run.specs.Inner.Orders.{Answers}
 use Rattle.script_runs.specs.declared.running.Running.{Running}
 use Rattle.script_runs.specs.Scripts.{earlier_line}
 

@@ -1,18 +1,16 @@
 -- Words of contracts and loops beside `specs/Orders.antt`; no promise of the program rests on them.
-use Rattle.std.specs.Prelude.{◌≡◌, ◌⊎◌, ◌≤◌, ℕ, List, [], ◌∷◌, replicate, Option, None, Some, Result, Ok, Err}
+use Rattle.std.specs.Prelude.{◌≡◌, ◌⊎◌, ◌≤◌, ℕ, List, [], ◌∷◌, replicate, Option, None, Some, Result}
 use Rattle.emu_names.specs.Count.{RoseBy}
 use Rattle.edit_rules.specs.declared.acts.Act.{Act}
 use Rattle.edit_rules.specs.declared.acts.Entry.{Entry}
-use Rattle.query_workers.specs.session_core.declared.line.Answer.TheVariants.{Done, Refused}
 use Rattle.query_workers.specs.session_core.declared.line.Line.{Line}
-use Rattle.query_workers.specs.session_core.declared.line.Refusal.TheVariants as refusals
 use Rattle.query_workers.specs.session_core.declared.line.Reply.{Reply}
-use Rattle.query_workers.specs.session_core.Answers.{entry_of, memory, reply_to, rule_refusal}
+use Rattle.query_workers.specs.session_core.Answers.{entry_of}
+use Rattle.query_workers.specs.session_core.Inner.Told.{commit_reply}
 use Rattle.query_workers.specs.session_core.InOrder.{Outage, one_turn, disk_outages}
 use Rattle.query_workers.specs.session_core.Steps.{Opened, State, session_places}
 use Rattle.query_workers.specs.session_core.Worlds.{act_wanted}
-use Rattle.live_book.specs.declared.fault.EditFault.{EditFault}
-use Rattle.live_book.specs.declared.fault.EditFault.TheVariants as faults
+use Rattle.edit_rules.specs.declared.commit_fault.EditFault.{EditFault}
 use Rattle.live_book.specs.Kept.{BookParts, KeepsIn, faults_in}
 use Rattle.live_book.specs.Commits.{Commits, ForKept, IsSameBook, has_journal}
 use Rattle.session_run.specs.Orders.{IsDiskRefused}
@@ -34,15 +32,6 @@ state_of run = record {
 }
 
 -- The line of an edit.
-
--- the reply to a line whose act was committed with this answer
-abbrev pub commit_reply : Line → Result ℕ EditFault → Reply
-commit_reply l (Ok n) = reply_to l (Some n) (Done l.command)
-commit_reply l (Err (faults.HistoryFull n)) = reply_to l (Some n) (Refused refusals.HistoryFull)
-commit_reply l (Err (faults.Broken breach n)) = reply_to l (Some n) (Refused (rule_refusal l.command breach))
-commit_reply l (Err (faults.StoreFull n)) = reply_to l (Some n) (Refused refusals.StoreFull)
-commit_reply l (Err faults.Disk) = reply_to l None (Refused refusals.Disk)
-commit_reply l (Err faults.Memory) = reply_to l None memory
 
 -- the act of a line was committed, and the reply tells the commit's answer
 pub record IsCommitted {D : Type 0} (may_leave : D → List ℕ → Type 0) (moment : D → ℕ)

@@ -1,7 +1,6 @@
 -- What the code keeps of a run in order, and what it does to the parts at a line. These are no definitions of
 -- the product: they say how the steps of the code lead to those.
 use Rattle.std.specs.Prelude.{◌≡◌, ℕ, ◌-◌, List, [], ◌∷◌, ◌++◌, Option, Some, None, Result, Ok, Err, length, take, drop}
-use Rattle.emu_names.specs.declared.shortage.Memory.{Memory}
 use Rattle.db_config.specs.declared.parts.ConfigParts.{ConfigParts}
 use Rattle.textgrid.specs.declared.fault.GridFault.{GridFault}
 use Rattle.edit_rules.specs.declared.acts.Act.{Act}
@@ -18,17 +17,17 @@ use Rattle.query_workers.specs.session_core.declared.line.Reply.{Reply}
 use Rattle.query_workers.specs.session_core.declared.head.Head.{Head}
 use Rattle.query_workers.specs.session_core.declared.slots.Held.{Held}
 use Rattle.query_workers.specs.session_core.declared.line.Request.{Request}
-use Rattle.query_workers.specs.session_core.Answers.{memory}
-use Rattle.query_workers.specs.session_core.Inner.Kept.{AreHeld, held_at, grid_told, head_entry, head_reply, looked, opened_in, query_reply}
+use Rattle.query_workers.specs.session_core.Inner.Kept.{AreHeld, held_at, grid_told, head_entry, head_line, head_reply, looked, opened_in, query_reply}
+use Rattle.query_workers.specs.session_core.Inner.Told.{commit_reply}
 use Rattle.query_workers.specs.session_core.Queries.{lacks_memory}
-use Rattle.query_workers.specs.session_core.Steps.{reply_of, slot}
+use Rattle.query_workers.specs.session_core.Steps.{slot}
 use Rattle.query_workers.specs.session_core.Undos.{kept_act, kept_behind, undo_refusal}
-use Rattle.live_book.specs.declared.fault.EditFault.{EditFault}
+use Rattle.edit_rules.specs.declared.commit_fault.EditFault.{EditFault}
 use Rattle.live_book.specs.declared.kept.Kept.{Kept}
 use Rattle.live_book.specs.Commits.{Commits}
 use Rattle.live_book.specs.Inner.Inverses.{KeepsInverse, numbered}
 use Rattle.live_book.specs.Kept.{BookParts}
-use Rattle.session_run.specs.Inner.Orders.{Answers, OrderParts, commit_reply}
+use Rattle.session_run.specs.Inner.Orders.{Answers, OrderParts}
 
 -- how many entries a history began with, where this is kept of those that came
 abbrev pub base_of : List Entry → List KeptAct → ℕ
@@ -42,20 +41,6 @@ KeepsActs config history acts =
 -- the run of a book, of the looks that are kept, each with the database of its moment, and of what is kept of its entries
 abbrev pub run_of : {D : Type 0} → BookParts D → List (Option Held) → List KeptAct → OrderParts D
 run_of book looks acts = record { book = book; base = base_of book.history acts; looks = opened_in looks }
-
--- the line of a head and a request
-abbrev pub line_of : Head → Request → Line
-line_of head request =
-    record { line = head.line; session = head.session; command = head.command; request = request }
-
--- the head of a line
-abbrev pub head_of : Line → Head
-head_of l = record { line = l.line; session = l.session; command = l.command }
-
--- the reply that was made, or that memory ran out
-abbrev pub or_memory : Head → Result Reply Memory → Reply
-or_memory head (Ok reply) = reply
-or_memory head (Err want) = reply_of head.line head.session None memory
 
 -- a look over the state after this history, which is held
 pub record IsLookedAt (config : ConfigParts) (history : List Entry) (head : Head) (ask : Ask)
@@ -84,7 +69,7 @@ pub record CommitsAct {D : Type 0} (may_leave : D → List ℕ → Type 0) (mome
   pub made : Result Kept EditFault
   pub commits : Commits may_leave moment left_since faults old (head_entry head act) (numbered made) new
   pub inverse : KeepsInverse old.config old.history act made
-  pub told : (request : Request) → reply ≡ commit_reply (line_of head request) (numbered made)
+  pub told : (request : Request) → reply ≡ commit_reply (head_line head request) (numbered made)
   pub behind : acts_now ≡ acts_behind acts head made
 
 -- a line that leaves the book and what is kept of it, and is answered so

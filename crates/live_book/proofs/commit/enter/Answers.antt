@@ -1,6 +1,6 @@
 use Rattle.std.proofs.Common.{◌≡◌, [], ◌∷◌, ◌++◌, None, Ok, Err, inl, inr, refl, sym, subst}
 use Rattle.version_steps.specs.edit_rules.declared.acts.Entry.{Entry}
-use Rattle.live_book.specs.declared.fault.EditFault.TheVariants as edit_faults
+use Rattle.version_steps.specs.edit_rules.declared.commit_fault.EditFault.TheVariants as edit_faults
 use Rattle.live_book.specs.Kept.{KeepsIn, IsAsBefore, CrashLeaves}
 use Rattle.live_book.specs.Inner.Kept.{DuringStore}
 use Rattle.live_book.specs.Commits.{has_journal, DuringCommit}

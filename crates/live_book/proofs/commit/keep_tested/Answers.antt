@@ -4,7 +4,7 @@ use Rattle.version_steps.specs.edit_rules.Database.{DatabaseParts, KeepsDatabase
 use Rattle.version_steps.specs.edit_rules.Effects.{effect}
 use Rattle.edit_undo.specs.Inverse.{inverse_at}
 use Rattle.version_steps.specs.version_tree.Version.{state_of}
-use Rattle.live_book.specs.declared.fault.EditFault.TheVariants as edit_faults
+use Rattle.version_steps.specs.edit_rules.declared.commit_fault.EditFault.TheVariants as edit_faults
 use Rattle.live_book.specs.declared.published.Published.{Published}
 use Rattle.live_book.specs.Inner.Kept.{book_of, config_in}
 use Rattle.live_book.proofs.Committing.{refused_commits}

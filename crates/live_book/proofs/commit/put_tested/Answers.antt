@@ -1,4 +1,4 @@
-use Rattle.live_book.specs.declared.fault.EditFault.TheVariants as edit_faults
+use Rattle.version_steps.specs.edit_rules.declared.commit_fault.EditFault.TheVariants as edit_faults
 use Rattle.live_book.specs.Inner.Kept.{book_of}
 use Rattle.live_book.proofs.Committing.{refused_commits}
 use Rattle.live_book.proofs.Answering.{memory_is_none}

@@ -2,7 +2,7 @@ use Rattle.std.proofs.Common.{◌≡◌, Bool, false, Err, sym, subst, rules, ar
 use Rattle.std.specs.Arc.{arc_value}
 use Rattle.version_steps.specs.edit_rules.Database.{KeepsDatabaseRules}
 use Rattle.version_steps.specs.version_tree.Version.{state_of}
-use Rattle.live_book.specs.declared.fault.EditFault.{EditFault}
+use Rattle.version_steps.specs.edit_rules.declared.commit_fault.EditFault.{EditFault}
 use Rattle.live_book.specs.declared.published.Published.{Published}
 use Rattle.live_book.specs.Published.{IsStateAfter}
 use Rattle.live_book.specs.Inner.Kept.{config_in}

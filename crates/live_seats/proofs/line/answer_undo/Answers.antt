@@ -1,11 +1,11 @@
 use Rattle.std.proofs.Common.{◌≡◌, inr, None, Some, Ok, Err, ap, ◌∙◌, refl, rules}
-use Rattle.session_run.specs.session_core.declared.line.Answer.TheVariants.{Refused}
-use Rattle.session_run.specs.session_core.declared.line.Refusal.{Refusal}
-use Rattle.session_run.specs.session_core.declared.line.Refusal.TheVariants as refusals
-use Rattle.session_run.specs.session_core.declared.head.Head.{Head}
-use Rattle.session_run.specs.session_core.Answers.{reply_to}
-use Rattle.session_run.specs.session_core.Inner.Kept.{head_reply}
-use Rattle.session_run.specs.session_core.Undos.{latest_of, undo_refusal}
+use Rattle.query_workers.specs.session_core.declared.line.Answer.TheVariants.{Refused}
+use Rattle.query_workers.specs.session_core.declared.line.Refusal.{Refusal}
+use Rattle.query_workers.specs.session_core.declared.line.Refusal.TheVariants as refusals
+use Rattle.query_workers.specs.session_core.declared.head.Head.{Head}
+use Rattle.query_workers.specs.session_core.Answers.{reply_to}
+use Rattle.query_workers.specs.session_core.Inner.Kept.{head_reply}
+use Rattle.query_workers.specs.session_core.Undos.{latest_of, undo_refusal}
 use Rattle.live_seats.specs.Inner.Replies.{AsksBack}
 use Rattle.live_seats.proofs.Edits.{act_told}
 use Rattle.live_seats.proofs.Lines.{no_undo_told, not_accepted_told}

@@ -1,7 +1,7 @@
 use Rattle.std.proofs.Common.{[], None, append-nil, ap, sym, ◌∙◌, subst}
-use Rattle.session_run.specs.session_core.declared.line.Reply.{Reply}
-use Rattle.session_run.specs.session_core.declared.head.Head.{Head}
-use Rattle.session_run.specs.Inner.Taken.{or_memory}
+use Rattle.query_workers.specs.session_core.declared.line.Reply.{Reply}
+use Rattle.query_workers.specs.session_core.declared.head.Head.{Head}
+use Rattle.query_workers.specs.session_core.Inner.Told.{or_memory}
 use Rattle.live_seats.specs.Inner.Replies.{RepliesTo}
 use Rattle.live_seats.proofs.Lines.{finish_replies, look_replies, query_replies}
 use Rattle.live_seats.proofs.line.reply_to_line.Goals as goal

@@ -1,11 +1,11 @@
 use Rattle.std.proofs.Common.{Result, None, ap, sym, ◌∙◌, subst}
 use Rattle.textgrid.specs.declared.fault.GridFault.{GridFault}
-use Rattle.session_run.specs.edit_rules.declared.acts.Act.{Act}
-use Rattle.session_run.specs.session_core.declared.line.Reply.{Reply}
-use Rattle.session_run.specs.session_core.declared.line.Request.{Request}
-use Rattle.session_run.specs.session_core.declared.line.Request.TheVariants as requests
-use Rattle.session_run.specs.session_core.declared.head.Head.{Head}
-use Rattle.session_run.specs.Inner.Taken.{or_memory}
+use Rattle.edit_undo.specs.edit_rules.declared.acts.Act.{Act}
+use Rattle.query_workers.specs.session_core.declared.line.Reply.{Reply}
+use Rattle.query_workers.specs.session_core.declared.line.Request.{Request}
+use Rattle.query_workers.specs.session_core.declared.line.Request.TheVariants as requests
+use Rattle.query_workers.specs.session_core.declared.head.Head.{Head}
+use Rattle.query_workers.specs.session_core.Inner.Told.{or_memory}
 use Rattle.live_seats.specs.Inner.Replies.{RepliesTo}
 use Rattle.live_seats.proofs.Lines.{grid_replies}
 use Rattle.live_seats.proofs.line.take_edit.Goals as goal

@@ -1,5 +1,5 @@
 use Rattle.std.proofs.Common.{List, None, subst}
-use Rattle.session_run.specs.session_core.declared.kept_acts.KeptAct.{KeptAct}
+use Rattle.query_workers.specs.session_core.declared.kept_acts.KeptAct.{KeptAct}
 use Rattle.live_seats.specs.Inner.Replies.{RepliesTo}
 use Rattle.live_seats.proofs.Lines.{memory_told}
 use Rattle.live_seats.proofs.line.take_undo.Goals as goal

@@ -1,7 +1,7 @@
 use Rattle.std.proofs.Common.{◌∙◌, refl, sym, subst, List, ap}
 use Rattle.query_workers.specs.session_core.declared.kept_acts.KeptAct.{KeptAct}
 use Rattle.query_workers.specs.session_core.Inner.Kept.{head_entry}
-use Rattle.live_book.specs.declared.fault.EditFault.TheVariants as faults
+use Rattle.edit_rules.specs.declared.commit_fault.EditFault.TheVariants as faults
 use Rattle.live_book.proofs.Answering.{memory_is_none}
 use Rattle.live_book.proofs.Committing.{refused_commits}
 use Rattle.session_run.specs.Inner.Taken.{acts_behind}

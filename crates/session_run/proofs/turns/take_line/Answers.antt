@@ -1,6 +1,6 @@
 use Rattle.std.proofs.Common.{refl, ◌∙◌}
 use Rattle.query_workers.specs.session_core.Undos.{latest_of}
-use Rattle.session_run.specs.Inner.Taken.{head_of}
+use Rattle.query_workers.specs.session_core.Inner.Told.{head_of}
 use Rattle.session_run.proofs.Commits.{edit_taken, gate_kept, gate_undone, undo_taken}
 use Rattle.session_run.proofs.Others.{after_taken, finish_taken, look_taken, query_taken}
 use Rattle.session_run.proofs.turns.take_line.Goals as goal

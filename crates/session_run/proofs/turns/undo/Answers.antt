@@ -3,7 +3,7 @@ use Rattle.edit_rules.specs.declared.acts.Act.{Act}
 use Rattle.live_book.specs.edit_undo.declared.faults.NoUndo.{NoUndo}
 use Rattle.query_workers.specs.session_core.Inner.Kept.{head_entry}
 use Rattle.query_workers.specs.session_core.Undos.{latest_of}
-use Rattle.live_book.specs.declared.fault.EditFault.TheVariants as faults
+use Rattle.edit_rules.specs.declared.commit_fault.EditFault.TheVariants as faults
 use Rattle.live_book.proofs.Answering.{memory_is_none}
 use Rattle.live_book.proofs.Committing.{refused_commits}
 use Rattle.session_run.specs.Inner.Taken.{UndoesBook}

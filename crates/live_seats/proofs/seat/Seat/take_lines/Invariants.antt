@@ -1,5 +1,5 @@
 use Rattle.std.proofs.Common.{◌≡◌, ◌≤◌, ◌++◌, drop, length}
-use Rattle.session_run.specs.session_core.Legal.{lines_in}
+use Rattle.query_workers.specs.session_core.Legal.{lines_in}
 use Rattle.live_laws.specs.Lanes.{turns_of}
 use Rattle.live_seats.specs.Inner.Seats.{lines_of}
 use Rattle.live_seats.proofs.seat.Seat.take_lines.Given as goal

@@ -1,9 +1,9 @@
 use Rattle.std.proofs.Common.{ℕ, add-one, length, subst, sym, take}
-use Rattle.session_run.specs.session_core.Worlds.{Each}
+use Rattle.query_workers.specs.session_core.Worlds.{Each}
 use Rattle.live_laws.specs.Lanes.{Step}
 use Rattle.live_seats.specs.Inner.Seats.{IsAsked}
 use Rattle.live_seats.specs.Inner.Tables.{TellsStep}
-use Rattle.session_run.proofs.of_session_core.Turns.{each_map}
+use Rattle.query_workers.proofs.of_session_core.Turns.{each_map}
 use Rattle.live_seats.proofs.Telling.{asked_steps, each_at, each_more, keeps_more, tells_still}
 use Rattle.live_seats.proofs.table.Table.add_lane.Goals as goal
 

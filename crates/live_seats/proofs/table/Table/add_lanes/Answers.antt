@@ -1,6 +1,6 @@
 use Rattle.std.proofs.Common.{ℕ, List, add-one, length, map, subst, sym, take}
-use Rattle.session_run.specs.session_core.Legal.{lines_in}
-use Rattle.session_run.specs.session_core.Worlds.{Each}
+use Rattle.query_workers.specs.session_core.Legal.{lines_in}
+use Rattle.query_workers.specs.session_core.Worlds.{Each}
 use Rattle.live_laws.specs.Lanes.{Step, turns_of}
 use Rattle.live_seats.specs.Inner.Seats.{IsAsked}
 use Rattle.live_seats.specs.Inner.Tables.{TellsStep}

@@ -1,5 +1,5 @@
 use Rattle.std.proofs.Common.{List, map, take}
-use Rattle.session_run.specs.session_core.Worlds.{Each}
+use Rattle.query_workers.specs.session_core.Worlds.{Each}
 use Rattle.live_laws.specs.Lanes.{Step}
 use Rattle.live_seats.specs.Inner.Tables.{KeepsTelling, TellsStep}
 use Rattle.live_seats.proofs.table.Table.add_lanes.Given as goal

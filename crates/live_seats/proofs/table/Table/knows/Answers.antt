@@ -1,6 +1,6 @@
 use Rattle.std.proofs.Common.{◌<◌, ℕ, Option, Some, ◌∙◌, ap, length, subst, sym}
 use Rattle.std.specs.Option.{option_map}
-use Rattle.session_run.specs.session_core.Steps.{slot}
+use Rattle.query_workers.specs.session_core.Steps.{slot}
 use Rattle.live_seats.specs.Inner.Notes.{Note, noted_of}
 use Rattle.live_seats.proofs.Telling.{table_line, table_slot}
 use Rattle.live_seats.proofs.table.Table.knows.Goals as goal

@@ -1,5 +1,5 @@
 use Rattle.std.proofs.Common.{ℕ, Some, ◌∙◌, ap, sym}
-use Rattle.session_run.specs.session_core.Steps.{put_slot}
+use Rattle.query_workers.specs.session_core.Steps.{put_slot}
 use Rattle.live_seats.specs.Inner.Notes.{Note}
 use Rattle.live_seats.proofs.Telling.{table_put, table_still}
 use Rattle.live_seats.proofs.table.Table.put.Goals as goal

@@ -1,11 +1,11 @@
-//! Why a book refuses an edit.
+//! Why an act was not committed.
 ghost use Rattle.std.specs.Prelude.{◌≡◌};
-ghost use Rattle.live_book.specs.declared.fault.EditFault.TheVariants as Fault;
+ghost use Rattle.edit_rules.specs.declared.commit_fault.EditFault.TheVariants as Fault;
 
-use edit_journal::Memory;
+use crate::acts::Breach;
+use emu_names::Memory;
 use std::alloc::{AllocError, AllocFailed};
 use thiserror::Error;
-use version_steps::edit_rules::Breach;
 
 /// Why an act was not accepted. The number says how many entries stand in the book.
 #[derive(Debug, Drop, PartialEq, Eq, Error)]
