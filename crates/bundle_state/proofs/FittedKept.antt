@@ -19,7 +19,7 @@ use Rattle.link_graph.specs.Kind.{of_definition, KeepKind}
 use Rattle.db_config.specs.declared.parts.LevelDef.{LevelDef}
 use Rattle.db_config.specs.declared.parts.LinkDef.{LinkDef}
 use Rattle.db_config.specs.declared.parts.ConfigParts.{ConfigParts}
-use Rattle.db_config.specs.Added.{Begins, ExtendLevels}
+use Rattle.db_config.specs.Extends.{Begins, ExtendLevels}
 use Rattle.bundle_state.specs.declared.places.Places.{Places}
 use Rattle.bundle_state.specs.Inner.Placed.{level_in}
 use Rattle.bundle_state.specs.Inner.Kept.{IsKept}

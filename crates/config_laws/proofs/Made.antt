@@ -17,12 +17,12 @@ use Rattle.db_config.specs.declared.attributes.AttributeDef.{AttributeDef}
 use Rattle.db_config.specs.declared.parts.ConfigParts.{ConfigParts}
 use Rattle.db_config.specs.declared.parts.LevelDef.{LevelDef}
 use Rattle.db_config.specs.Above.{leads_round}
-use Rattle.db_config.specs.Added.{unless_double, level_added, new_names, with_attribute, level_with, attribute_put, attribute_added, definition_of, definition_between, unless_round, definition_added, end_named}
+use Rattle.config_additions.specs.Added.{unless_double, level_added, new_names, with_attribute, level_with, attribute_put, attribute_added, definition_of, definition_between, unless_round, definition_added, end_named}
 use Rattle.db_config.specs.Lookups.{level_named}
 use Rattle.db_config.specs.Made.{is_attribute, are_attributes, is_level, are_levels, are_groups, is_made}
 use Rattle.db_config.specs.Names.{names_of, all_names, first_double}
 use Rattle.db_config.specs.Valid.{same_levels, is_valid, is_config}
-use Rattle.db_config.proofs.Grown.{level_valid, attribute_valid, definition_valid}
+use Rattle.config_additions.proofs.Grown.{level_valid, attribute_valid, definition_valid}
 use Rattle.config_laws.specs.Laws.{LevelsMakeConfigs, AttributesMakeConfigs, DefinitionsMakeConfigs}
 
 -- ---- what lets a change pass

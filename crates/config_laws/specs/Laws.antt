@@ -5,7 +5,7 @@ use Rattle.emu_names.specs.declared.rules.Broken.{Broken}
 use Rattle.db_config.specs.declared.attributes.AttributeDef.{AttributeDef}
 use Rattle.db_config.specs.declared.parts.ConfigParts.{ConfigParts}
 use Rattle.db_config.specs.declared.parts.LevelDef.{LevelDef}
-use Rattle.db_config.specs.Added.{level_added, attribute_added, definition_added}
+use Rattle.config_additions.specs.Added.{level_added, attribute_added, definition_added}
 use Rattle.db_config.specs.Made.{is_attribute, is_level}
 use Rattle.db_config.specs.Valid.{is_config}
 

@@ -1,8 +1,9 @@
 -- A name stands twice exactly where the names are not distinct.
-use Rattle.std.proofs.Common.{◌≡◌, ℕ, Bool, true, false, not, ◌&&◌, ◌||◌, cond, List, [], ◌∷◌, ◌++◌, refl, sym, ap, ◌∙◌, Option, Some, None, is_none}
+use Rattle.std.proofs.Common.{◌≡◌, ℕ, Bool, true, false, not, ◌&&◌, ◌||◌, cond, List, [], ◌∷◌, ◌++◌, length, take, drop, refl, sym, ap, ◌∙◌, Option, Some, None, is_none}
 use Rattle.std.specs.List.{list_any}
 use Rattle.std.proofs.lemmas.List.Folds.{list_any-append}
 use Rattle.std.proofs.lemmas.Cmp.{nat_list_eq_equiv}
+use Rattle.std.proofs.Math.Seq.{take-append_seam, drop-append_seam}
 use Rattle.db_config.specs.Names.{first_double, are_distinct}
 use Rattle.emu_names.specs.Texts.{same_text}
 use Rattle.db_config.specs.Laws.{DoublesAreFound}
@@ -75,3 +76,13 @@ doubles_found names = doubles [] names ∙ ap (λ b. b && are_distinct names) (a
 -- without a double the names are distinct
 pub no_double : (names : List (List ℕ)) (found : Option (List ℕ)) → found ≡ first_double [] names → found ≡ None → are_distinct names ≡ true
 no_double names found is none = sym (doubles_found names) ∙ ap is_none (sym is ∙ none)
+
+-- the first double behind a list of names
+pub behind_names : (found : Option (List ℕ)) (all own both : List (List ℕ)) (count : ℕ) → both ≡ all ++ own → count ≡ length all → found ≡ first_double (take count both) (drop count both) →
+    found ≡ first_double all own
+behind_names found all own both count is size answer =
+    answer
+    ∙ ap (λ n. first_double (take n both) (drop n both)) size
+    ∙ ap (λ ns. first_double (take (length all) ns) (drop (length all) ns)) is
+    ∙ ap (λ ns. first_double ns (drop (length all) (all ++ own))) (take-append_seam all own)
+    ∙ ap (first_double all) (drop-append_seam all own)

@@ -2,5 +2,3 @@ pub mod Doubles
 pub mod Tables
 pub mod Tests
 pub mod Above
-pub mod Grown
-pub mod Steps

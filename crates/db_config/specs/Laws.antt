@@ -1,9 +1,5 @@
 -- What the tests of a configuration come to, each said by itself.
-use Rattle.std.specs.Prelude.{◌≡◌, ℕ, false, List, [], ◌↔◌, IsTrue, is_none, Result, Ok}
-use Rattle.emu_names.specs.declared.rules.Broken.{Broken}
-use Rattle.db_config.specs.declared.parts.ConfigParts.{ConfigParts}
-use Rattle.db_config.specs.Added.{Extends}
-use Rattle.db_config.specs.Valid.{is_valid}
+use Rattle.std.specs.Prelude.{◌≡◌, ℕ, false, List, [], ◌↔◌, IsTrue, is_none}
 use Rattle.db_config.specs.declared.parts.LinkDef.{LinkDef}
 use Rattle.db_config.specs.Names.{first_double, are_distinct}
 use Rattle.db_config.specs.Above.{IsAbove, is_above, leads_round}
@@ -25,13 +21,3 @@ CyclesAreFound = (defs : List LinkDef) → leads_round defs ≡ false ↔ HasNoC
 -- a name stands twice exactly where the names are not distinct
 abbrev pub DoublesAreFound : Type 0
 DoublesAreFound = (names : List (List ℕ)) → is_none (first_double [] names) ≡ are_distinct names
-
--- a configuration that keeps the rules keeps them also where something is added to it
-abbrev pub AdditionsKeepRules : (ConfigParts → Result ConfigParts Broken) → Type 0
-AdditionsKeepRules change =
-    (before after : ConfigParts) →
-    IsTrue (is_valid before) → change before ≡ Ok after → IsTrue (is_valid after)
-
--- what is added leaves all that was there as it was
-abbrev pub AdditionsExtend : (ConfigParts → Result ConfigParts Broken) → Type 0
-AdditionsExtend change = (before after : ConfigParts) → change before ≡ Ok after → Extends before after

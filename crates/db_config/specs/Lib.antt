@@ -3,6 +3,6 @@ pub mod Names
 pub mod Above
 pub mod Valid
 pub mod Lookups
-pub mod Added
+pub mod Extends
 pub mod Laws
 pub mod Inner

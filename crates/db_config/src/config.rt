@@ -1,23 +1,19 @@
 //! The configuration of a database, valid by its type.
 ghost use Rattle.std.specs.Prelude.{◌≡◌, ◌<◌, ℕ, IsTrue, IsSome, IfOk, IfSome, length, true, false, Some, option_map, option_and_then};
 ghost use Rattle.std.specs.List.{slice_get, position};
-ghost use Rattle.emu_names.specs.Inner.Gives.{GivesOrBroken};
-ghost use Rattle.db_config.specs.Added.{level_added, attribute_added, definition_added};
 ghost use Rattle.db_config.specs.Valid.{is_config, is_valid, keeps_rules};
 ghost use Rattle.db_config.specs.Above.{is_above, leads_round};
 ghost use Rattle.db_config.specs.Inner.Kept.{IsKept};
 ghost use Rattle.db_config.specs.Lookups.{level_named, attribute_named, name_place, attribute_at, is_legal_for, group_values, leads};
 
-use crate::additions::{attribute_added, definition_between, level_added};
-use crate::attributes::AttributeDef;
 use crate::faults::PartsFault;
 use crate::groups::GroupValues;
 use crate::made::parts_are;
-use crate::parts::{AttributePlace, ConfigParts, LevelDef};
+use crate::parts::{AttributePlace, ConfigParts};
 use crate::paths::{Rows, entry, leads_round, rows_of};
 use crate::places::{attribute_named, definition_leading, level_named, name_place, values_named};
 use crate::rules::keeps_rules;
-use emu_names::{Broken, Fault, LevelKind, LinkKind, Memory, PlainData, Text};
+use emu_names::{LevelKind, LinkKind, Memory, PlainData};
 use std::alloc::Global;
 use std::marker::Model;
 
@@ -69,6 +65,17 @@ impl Config {
         ensures not_valid { result ≡ Err PartsFault.NotValid → leads_round parts.links ≡ true }
     {
         match kept_rows(alloc, &parts) {
+            Ok(above) => Ok(Config { parts, above }),
+            Err(fault) => Err(fault),
+        }
+    }
+
+    /// The configuration of parts that keep all rules. The only refusal is want of memory.
+    pub fn from_valid(alloc: Global, parts: ConfigParts) -> Result<Config, Memory>
+        requires { is_valid parts ≡ true }
+        ensures { IfOk result (λ c. c ≡ parts) }
+    {
+        match valid_above(alloc, &parts) {
             Ok(above) => Ok(Config { parts, above }),
             Err(fault) => Err(fault),
         }
@@ -196,70 +203,6 @@ impl Config {
             upper,
             lower,
         )
-    }
-
-    /// This configuration with a level put last.
-    ///
-    /// Refused are, in this order: a level over 64 (`TooMany`), and the first of the new names, the level's
-    /// before those of its attributes, that an earlier level or attribute has (`DoubleName`).
-    #[tactic(auto, using(crate::proofs::Grown::level_valid_by))]
-    pub fn with_level(&self, alloc: Global, def: &LevelDef) -> Result<Config, Fault>
-        ensures { GivesOrBroken result (level_added def.now self.now) }
-    {
-        let parts = level_added(alloc, &self.parts, def)?;
-        Ok(Config::of_valid(alloc, parts)?)
-    }
-
-    /// This configuration with an attribute put last on the level of a name.
-    ///
-    /// Refused are, in this order: a level that is not there (`NoLevel`), an attribute over 16 (`TooMany`),
-    /// and a name that a level or attribute has (`DoubleName`). One attribute of a level may share its name.
-    #[tactic(auto, using(crate::proofs::Grown::attribute_valid_by))]
-    pub fn with_attribute(
-        &self,
-        alloc: Global,
-        level: &Text,
-        attribute: &AttributeDef,
-    ) -> Result<Config, Fault>
-        ensures { GivesOrBroken result (attribute_added level.now attribute.now self.now) }
-    {
-        let parts = attribute_added(alloc, &self.parts, level, attribute)?;
-        Ok(Config::of_valid(alloc, parts)?)
-    }
-
-    /// This configuration with a link definition from the level of the one name to that of the other put
-    /// last.
-    ///
-    /// Refused are, in this order: a level that is not there (`UnknownLevel`, of the upper level first), a
-    /// definition over 64 (`TooMany`), one between levels that have one (`DoubleLink`), and one with which a
-    /// path of definitions leads from a level to itself (`LevelCycle`).
-    #[tactic(auto, using(crate::proofs::Grown::between_keeps, crate::proofs::Grown::added_sound, crate::proofs::Grown::added_round, crate::proofs::Grown::added_refused))]
-    pub fn with_definition(
-        &self,
-        alloc: Global,
-        kind: LinkKind,
-        upper: &Text,
-        lower: &Text,
-    ) -> Result<Config, Fault>
-        ensures { GivesOrBroken result (definition_added kind upper.now lower.now self.now) }
-    {
-        let parts = definition_between(alloc, &self.parts, kind, upper, lower)?;
-        match Config::from_kept(alloc, parts) {
-            Ok(config) => Ok(config),
-            Err(PartsFault::NotValid) => Err(Fault::Broken(Broken::LevelCycle)),
-            Err(PartsFault::Memory) => Err(Fault::Memory),
-        }
-    }
-
-    /// The configuration of parts that keep all rules. The only refusal is want of memory.
-    fn of_valid(alloc: Global, parts: ConfigParts) -> Result<Config, Memory>
-        requires { is_valid parts ≡ true }
-        ensures { IfOk result (λ c. c ≡ parts) }
-    {
-        match valid_above(alloc, &parts) {
-            Ok(above) => Ok(Config { parts, above }),
-            Err(fault) => Err(fault),
-        }
     }
 
     /// The same configuration again. The only refusal is want of memory.

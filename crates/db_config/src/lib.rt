@@ -2,7 +2,6 @@
 //! Manual, "The emuDB format": `_DBconfig.json`).
 #![tactic(auto)]
 
-mod additions;
 mod attributes;
 mod config;
 mod faults;
@@ -19,11 +18,9 @@ pub use attributes::{AttributeDef, AttributeDefs};
 pub use config::Config;
 pub use faults::PartsFault;
 pub use groups::{GroupDef, GroupDefs, GroupValues};
-pub use laws::{
-    above_is_by_paths, additions_extend, additions_keep_rules, cycles_are_found, doubles_are_found,
-};
+pub use laws::{above_is_by_paths, cycles_are_found, doubles_are_found};
 pub use made::{attribute_is, level_is};
-pub use names::double_name;
+pub use names::{all_names, double_name, double_of_level, is_among};
 pub use parts::{AttributePlace, ConfigParts, LevelDef, LevelDefs, LinkDef, LinkDefs, TrackNames};
 pub use places::level_named;
-pub use rules::are_apart;
+pub use rules::{are_apart, has_levels};

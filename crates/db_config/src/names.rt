@@ -1,11 +1,9 @@
 //! The names that the levels of a configuration take.
-ghost use Rattle.std.specs.Prelude.{◌≡◌, ◌≤◌, ◌&&◌, ◌++◌, ◌∷◌, ℕ, [], not, take, drop, length, IfOk, OnOk, option_map, is_none};
-ghost use Rattle.db_config.specs.Added.{has_attribute, new_names};
+ghost use Rattle.std.specs.Prelude.{◌≡◌, ◌≤◌, ◌++◌, ◌∷◌, ℕ, [], take, drop, length, IfOk, OnOk, option_map, is_none};
 ghost use Rattle.std.specs.List.{list_any, flat_map};
 ghost use Rattle.db_config.specs.Names.{names_of, all_names, first_double, are_distinct};
 ghost use Rattle.emu_names.specs.Texts.{same_text};
 
-use crate::attributes::AttributeDef;
 use crate::parts::LevelDef;
 use emu_names::{Memory, Series, Text};
 use std::alloc::Global;
@@ -34,7 +32,7 @@ fn put_names(alloc: Global, names: &mut Series<Text>, def: &LevelDef) -> Result<
 }
 
 /// The names that the levels take, in reading order. The only refusal is want of memory.
-pub(crate) fn all_names(alloc: Global, levels: &[LevelDef]) -> Result<Series<Text>, Memory>
+pub fn all_names(alloc: Global, levels: &[LevelDef]) -> Result<Series<Text>, Memory>
     ensures { IfOk result (λ names. names ≡ all_names levels.now) }
 {
     let mut names = Series::new(alloc);
@@ -45,7 +43,7 @@ pub(crate) fn all_names(alloc: Global, levels: &[LevelDef]) -> Result<Series<Tex
 }
 
 /// Whether a text is among some texts.
-pub(crate) fn is_among(text: &str, texts: &[Text]) -> bool
+pub fn is_among(text: &str, texts: &[Text]) -> bool
     ensures { result ≡ list_any (same_text text.now) texts.now }
 {
     for other in texts {
@@ -107,8 +105,8 @@ pub fn double_name(alloc: Global, levels: &[LevelDef]) -> Result<Option<Text>, M
 
 /// The first name of a level behind these that an earlier level or attribute has, in reading order. The
 /// only refusal is want of memory.
-#[tactic(auto, using(crate::proofs::Grown::behind_names))]
-pub(crate) fn double_of_level(
+#[tactic(auto, using(crate::proofs::Doubles::behind_names))]
+pub fn double_of_level(
     alloc: Global,
     levels: &[LevelDef],
     def: &LevelDef,
@@ -119,46 +117,4 @@ pub(crate) fn double_of_level(
     let count = names.len();
     put_names(alloc, &mut names, def)?;
     copied_double(alloc, names.as_slice(), count)
-}
-
-/// Whether a level has an attribute of this name.
-fn has_attribute(defs: &[AttributeDef], name: &str) -> bool
-    ensures { result ≡ list_any (λ a. same_text a.name name.now) defs.now }
-{
-    for def in defs {
-        if def.name.as_str() == name {
-            return true;
-        }
-    }
-    false
-}
-
-/// Whether an attribute of this name would be the first to share its level's name.
-fn shares_first(def: &LevelDef, name: &str) -> bool
-    ensures { result ≡ (same_text def.now.name name.now && not (has_attribute name.now def.now)) }
-{
-    def.name.as_str() == name && !has_attribute(def.attributes.as_slice(), name)
-}
-
-/// The name of a new attribute of one of these levels, where an earlier level or attribute has it; it may
-/// be the first to share its level's name. The only refusal is want of memory.
-#[tactic(auto, using(crate::proofs::Grown::shares_none, crate::proofs::Grown::one_double, crate::proofs::Grown::one_fresh))]
-pub(crate) fn double_of_attribute(
-    alloc: Global,
-    levels: &[LevelDef],
-    def: &LevelDef,
-    name: &str,
-) -> Result<Option<Text>, Memory>
-    ensures { IfOk result (λ found. found
-        ≡ first_double (all_names levels.now) (new_names def.now name.now)) }
-{
-    if shares_first(def, name) {
-        return Ok(None);
-    }
-    let names = all_names(alloc, levels)?;
-    if is_among(name, names.as_slice()) {
-        Ok(Some(Text::new(alloc, name)?))
-    } else {
-        Ok(None)
-    }
 }

@@ -40,7 +40,7 @@ fn are_in_range(count: usize, links: &[LinkDef]) -> bool
 }
 
 /// Whether one of the definitions has the levels of this one.
-pub(crate) fn has_levels(def: &LinkDef, links: &[LinkDef]) -> bool
+pub fn has_levels(def: &LinkDef, links: &[LinkDef]) -> bool
     ensures { result ≡ list_any (same_levels def.now) links.now }
 {
     for other in links {

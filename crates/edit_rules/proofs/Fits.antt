@@ -6,9 +6,9 @@ use Rattle.std.proofs.lemmas.List.Elements.{All-nil, All-cons, All-head, All-tai
 use Rattle.emu_names.specs.declared.rules.Broken.{Broken}
 use Rattle.emu_names.specs.Steps.{onward}
 use Rattle.db_config.specs.declared.parts.ConfigParts.{ConfigParts}
-use Rattle.db_config.specs.Added.{Extends}
+use Rattle.db_config.specs.Extends.{Extends}
 use Rattle.db_config.specs.Valid.{is_valid}
-use Rattle.db_config.proofs.Grown.{level_valid, attribute_valid, definition_valid, level_extends, attribute_extends, definition_extends}
+use Rattle.config_additions.proofs.Grown.{level_valid, attribute_valid, definition_valid, level_extends, attribute_extends, definition_extends}
 use Rattle.bundle_state.specs.Bundle.{BundleParts, item_count}
 use Rattle.bundle_state.specs.Fitted.{fitted, CanFit}
 use Rattle.bundle_state.proofs.FittedKept.{extensions_can_fit, fitted_fits, fitted_rules, same_count}

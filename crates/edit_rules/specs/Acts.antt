@@ -3,7 +3,7 @@ use Rattle.std.specs.Prelude.{Bool, Result}
 use Rattle.emu_names.specs.declared.names.BundleKey.{BundleKey}
 use Rattle.emu_names.specs.declared.rules.Broken.{Broken}
 use Rattle.db_config.specs.declared.parts.ConfigParts.{ConfigParts}
-use Rattle.db_config.specs.Added.{level_added, attribute_added, definition_added}
+use Rattle.config_additions.specs.Added.{level_added, attribute_added, definition_added}
 use Rattle.bundle_edits.specs.declared.edit.Edit.{Edit}
 use Rattle.bundle_edits.specs.Edits.{key_of}
 use Rattle.edit_rules.specs.declared.acts.ConfigEdit.{ConfigEdit}

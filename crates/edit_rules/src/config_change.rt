@@ -3,6 +3,7 @@ ghost use Rattle.emu_names.specs.Inner.Gives.{GivesOrBroken};
 ghost use Rattle.edit_rules.specs.Acts.{config_changed};
 
 use crate::acts::ConfigEdit;
+use config_additions::{with_attribute, with_definition, with_level};
 use db_config::Config;
 use emu_names::Fault;
 use std::alloc::Global;
@@ -12,12 +13,12 @@ pub fn change_config(alloc: Global, config: &Config, edit: &ConfigEdit) -> Resul
     ensures { GivesOrBroken result (config_changed edit.now config.now) }
 {
     match edit {
-        ConfigEdit::AddLevel { level } => config.with_level(alloc, level),
+        ConfigEdit::AddLevel { level } => with_level(alloc, config, level),
         ConfigEdit::AddAttribute { level, attribute } => {
-            config.with_attribute(alloc, level, attribute)
+            with_attribute(alloc, config, level, attribute)
         }
         ConfigEdit::AddLinkDefinition { kind, upper, lower } => {
-            config.with_definition(alloc, *kind, upper, lower)
+            with_definition(alloc, config, *kind, upper, lower)
         }
     }
 }

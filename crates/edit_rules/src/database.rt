@@ -4,7 +4,7 @@ ghost use Rattle.std.specs.List.{slice_get};
 ghost use Rattle.std.specs.List.Sorted.{IsPartitionPoint};
 ghost use Rattle.bundle_state.specs.Built.{FitsConfig};
 ghost use Rattle.bundle_state.specs.Fitted.{CanFit, fitted};
-ghost use Rattle.db_config.specs.Added.{Extends};
+ghost use Rattle.db_config.specs.Extends.{Extends};
 ghost use Rattle.db_config.specs.Valid.{is_valid};
 ghost use Rattle.edit_rules.specs.Effects.{fitted_database};
 ghost use Rattle.edit_rules.specs.Database.{empty_database, with_bundles, is_before, same_key, bundle_with, all_items, counts_of, KeepsDatabaseRules};

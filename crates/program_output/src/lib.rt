@@ -11,6 +11,5 @@ mod status;
 pub use ended::Ended;
 pub use ending::Ending;
 pub use last::{close_run, damaged, finish, usage};
-pub use output::{write_config, write_reply, write_text};
+pub use output::{write_config, write_from, write_mark, write_reply};
 pub use status::{Status, code};
-pub use store_texts::{print_from, print_mark};

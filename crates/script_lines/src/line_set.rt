@@ -1,7 +1,6 @@
 //! The request lines that came before.
 ghost use Rattle.std.specs.Prelude.{◌≡◌, ◌<◌, Bool, false, [], ◌∷◌, ◌++◌, All, IfSome, OnOk, OnErr, nat_eq};
 ghost use Rattle.std.specs.List.{list_any};
-ghost use Rattle.session_core.specs.Commands.{is_change};
 ghost use Rattle.script_lines.specs.Earlier.{is_change_of, is_line};
 ghost use Rattle.script_lines.specs.Inner.Earlier.{passes_any};
 ghost use Rattle.script_lines.specs.declared.line_set.EarlierLine.{EarlierLine};
@@ -20,35 +19,6 @@ pub struct EarlierLine {
     pub session: SessionNo,
     /// Its command.
     pub command: Command,
-}
-
-/// Whether a command asks for a change, which an `undo` may take back.
-fn is_change(command: Command) -> bool
-    ensures { result ≡ is_change command }
-{
-    match command {
-        Command::Config | Command::Query | Command::Look | Command::Finish | Command::After =>
-            false,
-        Command::AddBundle
-        | Command::AddTextgrid
-        | Command::DropBundle
-        | Command::AddItem
-        | Command::RemoveItem
-        | Command::SetLabel
-        | Command::SetSegment
-        | Command::MoveBoundary
-        | Command::SetPoint
-        | Command::Split
-        | Command::Merge
-        | Command::AddLink
-        | Command::RemoveLink
-        | Command::LinkTimes
-        | Command::Edits
-        | Command::AddLevel
-        | Command::AddAttribute
-        | Command::AddLinkDefinition
-        | Command::Undo => true,
-    }
 }
 
 /// Earlier request lines, whose numbers rise.
@@ -123,7 +93,7 @@ impl LineSet {
         ensures { result ≡ list_any (is_change_of session.0 line) self.now }
     {
         match self.find(line) {
-            Some(it) => it.session == session && is_change(it.command),
+            Some(it) => it.session == session && it.command.is_change(),
             None => false,
         }
     }

@@ -2,17 +2,14 @@
 ghost use Rattle.std.specs.Prelude.{◌≤◌, IfErr};
 ghost use Rattle.std.specs.List.{flat_map};
 ghost use Rattle.program_output.specs.reply_texts.Texts.{reply_text};
-ghost use Rattle.program_output.specs.Texts.{from_text, mark_text};
-ghost use Rattle.program_output.specs.Inner.Written.{EndHasCause, WritesText, WritesTexts};
+ghost use Rattle.program_output.specs.Inner.Written.{EndHasCause, WritesTexts};
 ghost use Rattle.script_runs.specs.LiveTexts.{ended_text, entries_text, given_text, live_text, text_of_mark};
 ghost use Rattle.script_runs.specs.Inner.LiveTexts.{AnswersLive};
 
 use emu_io::Sink;
-use emu_names::{Memory, SessionNo};
+use emu_names::Memory;
 use live_run::{Ended as LiveEnded, Marks, Replies};
-use program_output::{
-    Ended, Status, print_from, print_mark, write_config, write_reply, write_text,
-};
+use program_output::{Ended, Status, write_config, write_from, write_mark, write_reply};
 use std::alloc::Global;
 
 /// Writes the reply of the configuration, where the script gave one.
@@ -42,37 +39,6 @@ fn write_replies<K: Sink>(alloc: Global, replies: &Replies, out: &mut K) -> Resu
         }
     }
     Ok(())
-}
-
-/// Writes how many entries stood before the run.
-fn write_from<K: Sink>(alloc: Global, from: u64, out: &mut K) -> Result<(), Ended>
-    ensures output { WritesText result (K.written out.old) (K.written out.new) (from_text from) }
-    ensures cause { IfErr result (λ end. EndHasCause end (K.faults out.old) (K.faults out.new)) }
-    ensures later { K.faults out.old ≤ K.faults out.new }
-{
-    match print_from(alloc, from) {
-        Ok(text) => write_text(out, &text),
-        Err(_) => Err(Ended::Memory),
-    }
-}
-
-/// Writes the line of a new entry.
-fn write_mark<K: Sink>(
-    alloc: Global,
-    out: &mut K,
-    at: u64,
-    line: u32,
-    session: SessionNo,
-) -> Result<(), Ended>
-    ensures output { WritesText result (K.written out.old) (K.written out.new)
-        (mark_text at line session.0) }
-    ensures cause { IfErr result (λ end. EndHasCause end (K.faults out.old) (K.faults out.new)) }
-    ensures later { K.faults out.old ≤ K.faults out.new }
-{
-    match print_mark(alloc, at, line, session) {
-        Ok(text) => write_text(out, &text),
-        Err(_) => Err(Ended::Memory),
-    }
 }
 
 /// Writes the lines of the new entries, one after another.

@@ -1,4 +1,7 @@
 //! The lines of a script as the core takes them, and the replies that it gives.
+ghost use Rattle.std.specs.Prelude.{◌≡◌};
+ghost use Rattle.session_core.specs.Commands.{is_change};
+
 use edit_undo::edit_rules::Act;
 use emu_names::{Broken, Series, SessionNo, Text};
 use eql_resolve::{AskFault, PrepareFault, Prepared};
@@ -57,6 +60,37 @@ pub enum Command {
     Finish,
     /// `after`: goes on from all that a line's session had seen.
     After,
+}
+
+impl Command {
+    /// Whether it asks for a change, which an `undo` may take back.
+    pub fn is_change(self) -> bool
+        ensures { result ≡ is_change self }
+    {
+        match self {
+            Command::Config | Command::Query | Command::Look | Command::Finish | Command::After =>
+                false,
+            Command::AddBundle
+            | Command::AddTextgrid
+            | Command::DropBundle
+            | Command::AddItem
+            | Command::RemoveItem
+            | Command::SetLabel
+            | Command::SetSegment
+            | Command::MoveBoundary
+            | Command::SetPoint
+            | Command::Split
+            | Command::Merge
+            | Command::AddLink
+            | Command::RemoveLink
+            | Command::LinkTimes
+            | Command::Edits
+            | Command::AddLevel
+            | Command::AddAttribute
+            | Command::AddLinkDefinition
+            | Command::Undo => true,
+        }
+    }
 }
 
 /// A query, the level of its times, and where its results are carried.

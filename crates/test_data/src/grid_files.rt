@@ -105,8 +105,7 @@ fn encodings(rt: HostRuntime) -> Result<(), Fail> {
     Ok(())
 }
 
-/// What a cut of the example is answered: the text that is open does not end, or else what comes next
-/// is missed where the cut ends.
+/// What a cut of the example is answered: the open text does not end, or else what comes next is missed at its end.
 fn cut_told(alloc: Global, open: Option<usize>, end: usize) -> Result<String, AllocError> {
     match open {
         Some(quote) => format!(in alloc; "BadText {quote}"),

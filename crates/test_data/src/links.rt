@@ -178,8 +178,7 @@ fn expect_places(rt: &impl Abort, links: &Links) {
     }
 }
 
-/// Whether links are taken out one by one, and the places of others found, in far less time than the square of
-/// their number takes.
+/// Links are taken out one by one, and the others found, in far less time than the square of their number takes.
 #[test]
 fn many_links_are_soon_taken_out(rt: HostRuntime) -> Result<(), Fail> {
     let mut links = full(rt.alloc(), 512)?;

@@ -242,7 +242,7 @@ fn bundles_come_and_go(rt: HostRuntime) -> Result<(), Fail> {
 
 /// The version under its configuration with a level more.
 fn with_level(alloc: Global, version: &Version, def: &LevelDef) -> Result<Version, Fail> {
-    let config = version.config().with_level(alloc, def)?;
+    let config = config_additions::with_level(alloc, version.config(), def)?;
     Ok(version.with_config(alloc, config)?)
 }
 

@@ -1,5 +1,4 @@
-//! Whole numbers from 0 to 65,536, of which a TextGrid has one before its tiers and before the entries
-//! of each.
+//! Whole numbers from 0 to 65,536: a TextGrid has one before its tiers, and one before the entries of each.
 ghost use Rattle.emu_names.specs.declared.limits.TheConstants.{GRID_ENTRIES};
 ghost use Rattle.std.specs.Prelude.{◌≡◌, ◌≤◌, ◌*◌, ◌/◌, ◌%◌, ◌^◌, IfSome};
 ghost use Rattle.std.specs.Option.{SomeIff};

@@ -4,7 +4,7 @@ use Rattle.emu_names.specs.Inner.Gives.{GivesOrBroken}
 use Rattle.emu_names.specs.declared.rules.Fault.{Fault}
 use Rattle.emu_names.specs.declared.rules.Fault.TheVariants as faults
 use Rattle.db_config.specs.declared.parts.ConfigParts.{ConfigParts}
-use Rattle.db_config.specs.Added.{Extends}
+use Rattle.db_config.specs.Extends.{Extends}
 use Rattle.edit_rules.specs.declared.acts.ChangeFault.{ChangeFault}
 use Rattle.edit_rules.specs.declared.acts.ConfigEdit.{ConfigEdit}
 use Rattle.edit_rules.specs.Acts.{config_changed}

@@ -7,7 +7,7 @@ use Rattle.std.proofs.lemmas.Option.{slice_get-get_or}
 use Rattle.emu_names.specs.declared.limits.TheConstants.{BUNDLES}
 use Rattle.emu_names.specs.declared.names.BundleKey.{BundleKey}
 use Rattle.db_config.specs.declared.parts.ConfigParts.{ConfigParts}
-use Rattle.db_config.specs.Added.{Extends}
+use Rattle.db_config.specs.Extends.{Extends}
 use Rattle.bundle_state.specs.Bundle.{BundleParts}
 use Rattle.bundle_state.specs.Fitted.{CanFit, fitted}
 use Rattle.bundle_state.proofs.FittedKept.{extensions_can_fit}

@@ -3,7 +3,7 @@ ghost use Rattle.std.specs.Prelude.{◌≡◌, ◌≢◌, ◌<◌, [], length, I
 ghost use Rattle.std.specs.List.{slice_get};
 ghost use Rattle.std.specs.Option.{option_map};
 ghost use Rattle.emu_names.specs.declared.limits.TheConstants.{BUNDLES};
-ghost use Rattle.db_config.specs.Added.{Extends};
+ghost use Rattle.db_config.specs.Extends.{Extends};
 ghost use Rattle.bundle_state.specs.Built.{FitsConfig};
 ghost use Rattle.bundle_state.specs.Valid.{KeepsBundleRules};
 ghost use Rattle.edit_rules.specs.Database.{bundle_with, counts_of, empty_database};

@@ -1,7 +1,7 @@
 use Rattle.std.proofs.Common.{subst}
 use Rattle.db_config.specs.declared.parts.ConfigParts.{ConfigParts}
-use Rattle.db_config.specs.Added.{Extends}
-use Rattle.db_config.proofs.Grown.{level_extends}
+use Rattle.db_config.specs.Extends.{Extends}
+use Rattle.config_additions.proofs.Grown.{level_extends}
 use Rattle.test_store.proofs.versions.with_level.Goals as goal
 
 pub with_config-requires : goal.with_config-requires

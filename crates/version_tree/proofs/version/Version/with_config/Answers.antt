@@ -1,6 +1,6 @@
 use Rattle.std.proofs.Common.{◌≡◌, ◌∙◌, ap, sym, subst}
 use Rattle.db_config.specs.declared.parts.ConfigParts.{ConfigParts}
-use Rattle.db_config.specs.Added.{Extends}
+use Rattle.db_config.specs.Extends.{Extends}
 use Rattle.version_tree.specs.Version.{VersionParts, bundles_of}
 use Rattle.version_tree.specs.Inner.Under.{fitted_of}
 use Rattle.version_tree.specs.Inner.Version.{next_number}

@@ -12,7 +12,7 @@ use Rattle.db_config.specs.declared.attributes.AttributeDef.{AttributeDef}
 use Rattle.db_config.specs.declared.parts.ConfigParts.{ConfigParts}
 use Rattle.db_config.specs.declared.parts.LevelDef.{LevelDef}
 use Rattle.db_config.specs.Lookups.{level_named}
-use Rattle.db_config.specs.Added.{level_with, attribute_put, attribute_added, end_named, definition_of, definition_put, definition_between}
+use Rattle.config_additions.specs.Added.{level_with, attribute_put, attribute_added, end_named, definition_of, definition_put, definition_between}
 
 abbrev Answer : Type 0
 Answer = Result ConfigParts Fault

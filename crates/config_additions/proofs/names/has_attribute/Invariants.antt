@@ -1,7 +1,7 @@
 use Rattle.std.proofs.Common.{◌≡◌, drop}
 use Rattle.std.specs.List.{list_any}
 use Rattle.emu_names.specs.Texts.{same_text}
-use Rattle.db_config.proofs.names.has_attribute.Given as goal
+use Rattle.config_additions.proofs.names.has_attribute.Given as goal
 
 -- an attribute of all has the name where one of the rest has
 abbrev pub invariant-loop-def : goal.invariant-loop-def

@@ -2,13 +2,13 @@
 ghost use Rattle.std.specs.Prelude.{◌≡◌, ◌<◌, ◌≤◌, ◌++◌, ◌∷◌, [], length, IfOk, OnOk};
 ghost use Rattle.emu_names.specs.declared.limits.TheConstants.{ATTRIBUTES, LEVELS};
 ghost use Rattle.emu_names.specs.Inner.Gives.{GivesOrBroken};
-ghost use Rattle.db_config.specs.Added.{level_added, attribute_added, attribute_put, definition_between, definition_put, with_attribute, end_named};
+ghost use Rattle.config_additions.specs.Added.{level_added, attribute_added, attribute_put, definition_between, definition_put, with_attribute, end_named};
 
-use crate::attributes::{AttributeDef, AttributeDefs};
-use crate::names::{double_of_attribute, double_of_level};
-use crate::parts::{ConfigParts, LevelDef, LevelDefs, LinkDef};
-use crate::places::level_named;
-use crate::rules::has_levels;
+use crate::names::double_of_attribute;
+use db_config::{
+    AttributeDef, AttributeDefs, ConfigParts, LevelDef, LevelDefs, LinkDef, double_of_level,
+    has_levels, level_named,
+};
 use emu_names::limits::{ATTRIBUTES, LEVELS, LINK_DEFINITIONS};
 use emu_names::{Broken, Fault, LinkKind, Memory, Text, What};
 use std::alloc::Global;

@@ -8,7 +8,6 @@ use Rattle.std.proofs.lemmas.Cmp.{nat_list_eq_equiv}
 use Rattle.std.proofs.lemmas.List.{append-nil, append_assoc, map-append, length-append, length-set}
 use Rattle.std.proofs.lemmas.List.Folds.{list_any-append, list_all-append}
 use Rattle.std.proofs.lemmas.Grind.{flat_map-append}
-use Rattle.std.proofs.Math.Seq.{take-append_seam, drop-append_seam}
 use Rattle.std.proofs.lemmas.List.Quantifiers.{position-Some}
 use Rattle.std.specs.Cmp.Lexicographic.{same_text as text_is}
 use Rattle.emu_names.specs.declared.kinds.LevelKind.TheVariants as kinds
@@ -30,8 +29,9 @@ use Rattle.db_config.specs.Names.{attribute_names, without_first, names_of, all_
 use Rattle.db_config.specs.Lookups.{level_named}
 use Rattle.db_config.specs.Above.{leads_round}
 use Rattle.db_config.specs.Valid.{are_within_limits, is_in_range, same_levels, are_apart, keeps_rules, is_valid}
-use Rattle.db_config.specs.Added.{unless_double, level_added, has_attribute, new_names, with_attribute, level_with, attribute_put, attribute_added, definition_of, definition_between, unless_round, definition_added, end_named, Begins, ExtendsLevel, ExtendLevels, Extends}
-use Rattle.db_config.specs.Laws.{AdditionsKeepRules, AdditionsExtend}
+use Rattle.db_config.specs.Extends.{Begins, ExtendsLevel, ExtendLevels, Extends}
+use Rattle.config_additions.specs.Added.{unless_double, level_added, has_attribute, new_names, with_attribute, level_with, attribute_put, attribute_added, definition_of, definition_between, unless_round, definition_added, end_named}
+use Rattle.config_additions.specs.Laws.{AdditionsKeepRules, AdditionsExtend}
 use Rattle.db_config.proofs.Doubles.{doubles_found, no_double}
 
 -- ---- lists
@@ -486,16 +486,6 @@ pub added_refused : (kind : LinkKind) (upper lower : List ℕ) (before : ConfigP
     IsFaultOf (broken_in fault) (definition_added kind upper lower before)
 added_refused kind upper lower before (faults.Broken rule) is = ap (λ r. onward r unless_round) is
 added_refused kind upper lower before faults.Memory is = tt
-
--- the first double behind a list of names
-pub behind_names : (found : Option (List ℕ)) (all own both : List (List ℕ)) (count : ℕ) → both ≡ all ++ own → count ≡ length all → found ≡ first_double (take count both) (drop count both) →
-    found ≡ first_double all own
-behind_names found all own both count is size answer =
-    answer
-    ∙ ap (λ n. first_double (take n both) (drop n both)) size
-    ∙ ap (λ ns. first_double (take (length all) ns) (drop (length all) ns)) is
-    ∙ ap (λ ns. first_double ns (drop (length all) (all ++ own))) (take-append_seam all own)
-    ∙ ap (first_double all) (drop-append_seam all own)
 
 -- an attribute that is the first to share its level's name takes no name
 pub shares_none : (seen : List (List ℕ)) (def : LevelDef) (name : List ℕ) → true ≡ (same_text def.name name && not (has_attribute name def)) → None ≡ first_double seen (new_names def name)

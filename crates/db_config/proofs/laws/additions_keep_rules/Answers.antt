@@ -1,5 +1,0 @@
-use Rattle.db_config.proofs.Grown.{level_valid, attribute_valid, definition_valid}
-use Rattle.db_config.proofs.laws.additions_keep_rules.Goals as goal
-
-pub returns : goal.returns
-returns c = record { levels = level_valid; attributes = attribute_valid; definitions = definition_valid }
