@@ -5,8 +5,8 @@ use Rattle.std.proofs.lemmas.Str.{IsCharBoundary-end, IsCharBoundary-before_asci
 use Rattle.std.proofs.lemmas.Bool.{eqb-true, cases_lt}
 use Rattle.std.proofs.lemmas.Bool.Decides.{nat_tests}
 use Rattle.std.proofs.lemmas.List.Sums.{prefix_len_stops}
-use Rattle.eql_syntax.specs.declared.token.Token.{Token}
-use Rattle.eql_syntax.specs.Tokens.{front, word_len, quoted_len, is_unquoted, symbol, is_space, is_mark, is_arrow, ends_word}
+use Rattle.eql_tokens.specs.declared.token.Token.{Token}
+use Rattle.eql_tokens.specs.Tokens.{front, word_len, quoted_len, is_unquoted, symbol, is_space, is_mark, is_arrow, ends_word}
 
 one_cut : (b : ℕ) (bs : List ℕ) → IsUtf8 (b ∷ bs) → b < 128 → IsCharBoundary (b ∷ bs) 1
 one_cut b bs utf8 ascii = IsCharBoundary-after_ascii (b ∷ bs) 0 utf8 (omega arith) ascii

@@ -1,8 +1,8 @@
 use Rattle.std.proofs.Common.{◌≡◌, ◌+◌, ◌++◌, length}
 use denote.Shadow.{shadow}
 use denote.Text.{Utf8}
-use Rattle.eql_syntax.specs.Tokens.{tokens_from, tokens_of}
-use Rattle.eql_syntax.proofs.lexer.read_tokens.Given as goal
+use Rattle.eql_tokens.specs.Tokens.{tokens_from, tokens_of}
+use Rattle.eql_tokens.proofs.lexer.read_tokens.Given as goal
 
 abbrev pub invariant-loop-rest : goal.invariant-loop-rest
 invariant-loop-rest l = record {

@@ -2,10 +2,10 @@
 -- EMU Query Language version 2".)
 use Rattle.std.specs.Prelude.{ℕ, zero, suc, ◌+◌, ◌-◌, ◌==◌, nat_lt, ◌||◌, ◌&&◌, not, Bool, true, false, List, [], ◌∷◌, length, take, if◌then◌else◌, Option, Some, None}
 use Rattle.std.specs.List.{prefix_len}
-use Rattle.eql_syntax.specs.declared.token.Sign.TheVariants as signs
-use Rattle.eql_syntax.specs.declared.token.Placed.{Placed}
-use Rattle.eql_syntax.specs.declared.token.Token.{Token}
-use Rattle.eql_syntax.specs.declared.token.Token.TheVariants.{Open, Close, LeftParen, RightParen, Comma, And, Or, Above, Arrow, Hash, Sign as Between, Word, Wrong}
+use Rattle.eql_tokens.specs.declared.token.Sign.TheVariants as signs
+use Rattle.eql_tokens.specs.declared.token.Placed.{Placed}
+use Rattle.eql_tokens.specs.declared.token.Token.{Token}
+use Rattle.eql_tokens.specs.declared.token.Token.TheVariants.{Open, Close, LeftParen, RightParen, Comma, And, Or, Above, Arrow, Hash, Sign as Between, Word, Wrong}
 
 -- space, tab, line feed and carriage return
 abbrev pub is_space : ℕ → Bool

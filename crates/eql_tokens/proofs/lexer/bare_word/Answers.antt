@@ -1,9 +1,9 @@
 use Rattle.std.proofs.Common.{◌≡◌, ◌+◌, ◌-◌, ◌<◌, List, length, take, drop, arith, ap, ◌∙◌, sym, subst, ℕ, refl}
 use Rattle.std.specs.Str.{IsCharBoundary}
 use Rattle.std.proofs.lemmas.Slice.{between_to_end}
-use Rattle.eql_syntax.specs.Tokens.{word_len}
-use Rattle.eql_syntax.proofs.Cuts.{word_cut}
-use Rattle.eql_syntax.proofs.lexer.bare_word.Goals as goal
+use Rattle.eql_tokens.specs.Tokens.{word_len}
+use Rattle.eql_tokens.proofs.Cuts.{word_cut}
+use Rattle.eql_tokens.proofs.lexer.bare_word.Goals as goal
 
 cut : (text bytes : List ℕ) (n : ℕ) → 0 < length text → bytes ≡ text → n ≡ word_len (take (length bytes - 1) (drop 1 bytes)) → IsCharBoundary text (n + 1)
 cut text bytes n some same is =

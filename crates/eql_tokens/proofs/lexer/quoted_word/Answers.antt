@@ -1,8 +1,8 @@
 use Rattle.std.proofs.Common.{◌≡◌, ◌<◌, ◌+◌, length, drop, arith, ap, ◌∙◌, sym, subst, ℕ}
 use Rattle.std.specs.Str.{IsCharBoundary}
-use Rattle.eql_syntax.specs.Tokens.{quoted_len}
-use Rattle.eql_syntax.proofs.Cuts.{closing_cut, front_some}
-use Rattle.eql_syntax.proofs.lexer.quoted_word.Goals as goal
+use Rattle.eql_tokens.specs.Tokens.{quoted_len}
+use Rattle.eql_tokens.proofs.Cuts.{closing_cut, front_some}
+use Rattle.eql_tokens.proofs.lexer.quoted_word.Goals as goal
 
 pub returns-clause-cut : goal.returns-clause-cut
 returns-clause-cut c =

@@ -1,6 +1,6 @@
 use Rattle.std.proofs.Common.{◌≡◌, ◌+◌, length}
-use Rattle.eql_syntax.specs.Tokens.{word_len}
-use Rattle.eql_syntax.proofs.lexer.word_len.Given as goal
+use Rattle.eql_tokens.specs.Tokens.{word_len}
+use Rattle.eql_tokens.proofs.lexer.word_len.Given as goal
 
 abbrev pub invariant-loop-rest : goal.invariant-loop-rest
 invariant-loop-rest l = record {

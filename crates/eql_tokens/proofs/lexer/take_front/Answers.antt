@@ -1,8 +1,8 @@
 use Rattle.std.proofs.Common.{◌≡◌, ◌++◌, ℕ, Bool, List, drop, true, false, arith, ap, ◌∙◌, sym}
-use Rattle.eql_syntax.specs.Tokens.{front, is_space}
-use Rattle.eql_syntax.proofs.Cuts.{space_cut}
-use Rattle.eql_syntax.proofs.Behind.{token_len, token_next, space_step}
-use Rattle.eql_syntax.proofs.lexer.take_front.Goals as goal
+use Rattle.eql_tokens.specs.Tokens.{front, is_space}
+use Rattle.eql_tokens.proofs.Cuts.{space_cut}
+use Rattle.eql_tokens.proofs.Behind.{token_len, token_next, space_step}
+use Rattle.eql_tokens.proofs.lexer.take_front.Goals as goal
 
 -- whether the text begins with white space
 space_is : (text bytes : List ℕ) (b : ℕ) (result space : Bool) → bytes ≡ text → b ≡ front bytes → result ≡ is_space b → result ≡ space → is_space (front text) ≡ space

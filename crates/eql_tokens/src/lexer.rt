@@ -1,8 +1,8 @@
 //! The token at the front of a text.
 ghost use Rattle.std.specs.Prelude.{◌≡◌, ℕ, ◌+◌, ◌<◌, ◌≤◌, length, drop, slice_index, IfOk, IfSome, MatchOption, None, Some, true, false, [], ◌∷◌, ◌++◌, ◌^◌};
 ghost use Rattle.std.specs.Str.{IsCharBoundary};
-ghost use Rattle.eql_syntax.specs.Tokens.{is_space, is_mark, is_arrow, ends_word, word_len, symbol, quoted_len, is_unquoted, quoted, bare, token_at, front, tokens_from, tokens_of};
-ghost use Rattle.eql_syntax.specs.Inner.Tokens.{IsToken};
+ghost use Rattle.eql_tokens.specs.Tokens.{is_space, is_mark, is_arrow, ends_word, word_len, symbol, quoted_len, is_unquoted, quoted, bare, token_at, front, tokens_from, tokens_of};
+ghost use Rattle.eql_tokens.specs.Inner.Tokens.{IsToken};
 
 use crate::token::{Placed, Sign, Token, Tokens};
 use emu_names::{Memory, Text};

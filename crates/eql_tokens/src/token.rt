@@ -72,7 +72,7 @@ pub struct Tokens {
 
 impl Model for Tokens {
     ghost use Rattle.std.specs.Prelude.{List};
-    ghost use Rattle.eql_syntax.specs.declared.token.Placed.{Placed};
+    ghost use Rattle.eql_tokens.specs.declared.token.Placed.{Placed};
 
     ghost Value = { List Placed };
 

@@ -1,8 +1,8 @@
 use Rattle.std.proofs.Common.{◌≡◌, length, drop, arith, ap, ◌∙◌, subst, ℕ, Some}
 use Rattle.std.proofs.lemmas.Slice.{between_to_end}
-use Rattle.eql_syntax.specs.Tokens.{front, symbol}
-use Rattle.eql_syntax.proofs.Cuts.{symbol_cut}
-use Rattle.eql_syntax.proofs.lexer.token.Goals as goal
+use Rattle.eql_tokens.specs.Tokens.{front, symbol}
+use Rattle.eql_tokens.proofs.Cuts.{symbol_cut}
+use Rattle.eql_tokens.proofs.lexer.token.Goals as goal
 
 pub returns-in-Some-clause-cut : goal.returns-in-Some-clause-cut
 returns-in-Some-clause-cut c =

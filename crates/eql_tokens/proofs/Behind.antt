@@ -1,9 +1,9 @@
 -- The tokens behind the first one.
 use Rattle.std.proofs.Common.{◌≡◌, ℕ, zero, suc, ◌+◌, ◌-◌, ◌<◌, ◌≤◌, Bool, true, false, cond, eqb, ltb, ◌&&◌, List, [], ◌∷◌, ◌++◌, length, drop, take, Option, Some, None, refl, sym, ap, ◌∙◌, subst, arith, append_assoc}
-use Rattle.eql_syntax.specs.declared.token.Token.{Token}
-use Rattle.eql_syntax.specs.declared.token.Token.TheVariants.{Word, Wrong}
-use Rattle.eql_syntax.specs.declared.token.Placed.{Placed}
-use Rattle.eql_syntax.specs.Tokens.{front, symbol, symbol_or_word, quoted, quoted_len, bare, token_at, is_space, tokens_from}
+use Rattle.eql_tokens.specs.declared.token.Token.{Token}
+use Rattle.eql_tokens.specs.declared.token.Token.TheVariants.{Word, Wrong}
+use Rattle.eql_tokens.specs.declared.token.Placed.{Placed}
+use Rattle.eql_tokens.specs.Tokens.{front, symbol, symbol_or_word, quoted, quoted_len, bare, token_at, is_space, tokens_from}
 
 -- a symbol has a byte or two
 abbrev IsLong : Option (Token × ℕ) → Type 0
