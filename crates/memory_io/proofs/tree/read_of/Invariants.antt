@@ -1,6 +1,6 @@
 use Rattle.std.proofs.Common.{◌≡◌, drop}
 use Rattle.emu_io.specs.Folders.{file_at}
-use Rattle.emu_io.proofs.tree.read_of.Given as goal
+use Rattle.memory_io.proofs.tree.read_of.Given as goal
 
 -- no file was at the path so far
 abbrev pub invariant-stored : goal.invariant-stored

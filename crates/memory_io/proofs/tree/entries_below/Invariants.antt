@@ -1,6 +1,6 @@
 use Rattle.std.proofs.Common.{◌≡◌, ◌≤◌, length, drop}
 use Rattle.emu_io.specs.Folders.{entries_below}
-use Rattle.emu_io.proofs.tree.entries_below.Given as goal
+use Rattle.memory_io.proofs.tree.entries_below.Given as goal
 
 -- the entries are those of what is stored from `at` on
 abbrev pub invariant-stored : goal.invariant-stored

@@ -4,9 +4,8 @@ ghost use Rattle.emu_names.specs.Inner.Count.{next_count};
 ghost use Rattle.emu_io.specs.Folders.{HasFolderCause, IsAnswer, file_answer, list_answer};
 ghost use Rattle.emu_io.specs.Inner.Folders.{faults_after, misses_after};
 
-use crate::entries::{FileBytes, FolderEntries};
-use crate::folder::{Folder, FolderFault, count_miss};
-use crate::tree::{Stored, list_of, read_of};
+use crate::tree::{list_of, read_of};
+use emu_io::{FileBytes, Folder, FolderEntries, FolderFault, Stored, count_miss};
 use std::alloc::Global;
 use std::marker::Model;
 
@@ -21,7 +20,7 @@ pub struct MapFolder {
 }
 
 impl Model for MapFolder {
-    ghost use Rattle.emu_io.specs.Inner.InMemory.{ListedFolder};
+    ghost use Rattle.memory_io.specs.Inner.InMemory.{ListedFolder};
 
     ghost Value = { ListedFolder };
 
@@ -134,7 +133,7 @@ pub struct SureFolder {
 }
 
 impl Model for SureFolder {
-    ghost use Rattle.emu_io.specs.Inner.InMemory.{CountedFolder};
+    ghost use Rattle.memory_io.specs.Inner.InMemory.{CountedFolder};
 
     ghost Value = { CountedFolder };
 

@@ -6,8 +6,7 @@ ghost use Rattle.emu_names.specs.Count.{HasCause};
 ghost use Rattle.emu_names.specs.Inner.Count.{next_count};
 
 use crate::copying::copy_front;
-use crate::faults::{Failed, Memory};
-use crate::traits::{Sink, Source};
+use emu_io::{Failed, Memory, Sink, Source};
 use std::alloc::Global;
 use std::marker::Model;
 
@@ -78,7 +77,7 @@ pub struct SureSink {
 impl Model for SureSink {
     ghost use Rattle.std.specs.Prelude.{◌≤◌, length};
     ghost use Rattle.std.specs.Vec.{vec_capacity};
-    ghost use Rattle.emu_io.specs.Inner.InMemory.{RoomySink};
+    ghost use Rattle.memory_io.specs.Inner.InMemory.{RoomySink};
 
     ghost Value = { RoomySink };
 

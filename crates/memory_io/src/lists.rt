@@ -6,8 +6,7 @@ ghost use Rattle.emu_names.specs.Count.{HasCause};
 ghost use Rattle.emu_names.specs.Inner.Count.{next_count};
 
 use crate::copying::copy_front;
-use crate::faults::Failed;
-use crate::traits::{Sink, Source};
+use emu_io::{Failed, Sink, Source};
 use std::alloc::Global;
 use std::marker::Model;
 
@@ -24,7 +23,7 @@ pub struct ListSource {
 
 impl Model for ListSource {
     ghost use Rattle.std.specs.Prelude.{◌≤◌, drop, length};
-    ghost use Rattle.emu_io.specs.Inner.InMemory.{ListedSource};
+    ghost use Rattle.memory_io.specs.Inner.InMemory.{ListedSource};
 
     ghost Value = { ListedSource };
 
@@ -112,7 +111,7 @@ pub struct ListSink {
 }
 
 impl Model for ListSink {
-    ghost use Rattle.emu_io.specs.Inner.InMemory.{ListedSink};
+    ghost use Rattle.memory_io.specs.Inner.InMemory.{ListedSink};
 
     ghost Value = { ListedSink };
 

@@ -1,7 +1,7 @@
 use Rattle.std.proofs.Common.{arith, ◌++◌, ◌∙◌, ap, sym}
 use Rattle.std.proofs.lemmas.Str.Pattern.{strip_prefix_char}
-use Rattle.emu_io.proofs.PathLemmas.{behind_none, behind_slash}
-use Rattle.emu_io.proofs.tree.below.Goals as goal
+use Rattle.memory_io.proofs.PathLemmas.{behind_none, behind_slash}
+use Rattle.memory_io.proofs.tree.below.Goals as goal
 
 pub returns-in_err-rest : goal.returns-in_err-rest
 returns-in_err-rest c =
