@@ -109,8 +109,8 @@ pub(crate) fn count_fault<T>(faults: u64, answer: &Result<T, FolderFault>) -> u6
     }
 }
 
-/// The count of misses after an answer.
-pub(crate) fn count_miss<T>(misses: u64, answer: &Result<T, FolderFault>) -> u64
+/// The count of misses after an answer: one more where that is `Absent` or `TooLarge`, up to 2^64 - 1.
+pub fn count_miss<T>(misses: u64, answer: &Result<T, FolderFault>) -> u64
     ensures { result ≡ misses_after misses answer.now }
 {
     match answer {

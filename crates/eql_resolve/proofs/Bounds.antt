@@ -4,10 +4,10 @@ use Rattle.emu_names.specs.declared.limits.TheConstants.{QUERY_BYTES}
 use Rattle.eql_syntax.specs.declared.query.Op.{Op}
 use Rattle.eql_syntax.specs.declared.query.Op.TheVariants.{Is, IsNot, Like, NotLike}
 use Rattle.eql_syntax.specs.declared.query.Term.{Term}
-use Rattle.eql_syntax.specs.declared.token.Placed.{Placed}
-use Rattle.eql_syntax.specs.declared.token.Token.{Token}
+use Rattle.eql_tokens.specs.declared.token.Placed.{Placed}
+use Rattle.eql_tokens.specs.declared.token.Token.{Token}
 use Rattle.eql_syntax.specs.Tree.{Tree}
-use Rattle.eql_syntax.specs.Tokens.{is_space, token_at, tokens_from, tokens_of}
+use Rattle.eql_tokens.specs.Tokens.{is_space, token_at, tokens_from, tokens_of}
 use Rattle.eql_syntax.specs.Fault.{kinds}
 use Rattle.eql_syntax.specs.Answer.{IsQuery}
 use Rattle.eql_syntax.specs.Grammar.{SpellsLabels, last_label, label_or, SpellsBody, test, place, count, SpellsTerm, plain, marked, SpellsTerms, last_term, term_and, SpellsThen, conjunction, brackets, sequence, dominance}

@@ -10,9 +10,9 @@ use Rattle.eql_syntax.specs.declared.query.Compare.TheVariants as compares
 use Rattle.eql_syntax.specs.declared.query.Place.{Place}
 use Rattle.eql_syntax.specs.declared.query.Term.{Term}
 use Rattle.eql_syntax.specs.declared.query.Term.TheVariants as terms
-use Rattle.eql_syntax.specs.declared.token.Sign.TheVariants as signs
-use Rattle.eql_syntax.specs.declared.token.Token.{Token}
-use Rattle.eql_syntax.specs.declared.token.Token.TheVariants.{Close, LeftParen, RightParen, Comma, And, Above, Arrow, Sign as Between, Word}
+use Rattle.eql_tokens.specs.declared.token.Sign.TheVariants as signs
+use Rattle.eql_tokens.specs.declared.token.Token.{Token}
+use Rattle.eql_tokens.specs.declared.token.Token.TheVariants.{Close, LeftParen, RightParen, Comma, And, Above, Arrow, Sign as Between, Word}
 use Rattle.eql_syntax.specs.Tree.{Tree, Conjunction, Sequence, Dominance}
 use Rattle.eql_syntax.specs.Words.{place_of, is_count}
 use Rattle.eql_syntax.specs.Grammar.{SpellsLabels, last_label, label_or, SpellsBody, test, place, count, SpellsTerm, plain, marked, SpellsTerms, last_term, term_and, SpellsThen, conjunction, brackets, sequence, dominance, Spells, Begins}

@@ -1,6 +1,4 @@
 mod Accepts
-mod Behind
-mod Cuts
 mod Enclosed
 mod Exact
 mod Faults

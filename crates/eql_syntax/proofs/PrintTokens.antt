@@ -16,13 +16,13 @@ use Rattle.eql_syntax.specs.declared.query.Place.{Place}
 use Rattle.eql_syntax.specs.declared.query.Place.TheVariants as places
 use Rattle.eql_syntax.specs.declared.query.Term.{Term}
 use Rattle.eql_syntax.specs.declared.query.Term.TheVariants as terms
-use Rattle.eql_syntax.specs.declared.token.Sign.{Sign}
-use Rattle.eql_syntax.specs.declared.token.Sign.TheVariants as signs
-use Rattle.eql_syntax.specs.declared.token.Placed.{Placed}
-use Rattle.eql_syntax.specs.declared.token.Token.{Token}
-use Rattle.eql_syntax.specs.declared.token.Token.TheVariants.{Open, Close, LeftParen, RightParen, Comma, And, Or, Above, Arrow, Hash, Sign as Between, Word, Wrong}
+use Rattle.eql_tokens.specs.declared.token.Sign.{Sign}
+use Rattle.eql_tokens.specs.declared.token.Sign.TheVariants as signs
+use Rattle.eql_tokens.specs.declared.token.Placed.{Placed}
+use Rattle.eql_tokens.specs.declared.token.Token.{Token}
+use Rattle.eql_tokens.specs.declared.token.Token.TheVariants.{Open, Close, LeftParen, RightParen, Comma, And, Or, Above, Arrow, Hash, Sign as Between, Word, Wrong}
 use Rattle.eql_syntax.specs.Tree.{Tree, Conjunction, Sequence, Dominance}
-use Rattle.eql_syntax.specs.Tokens.{front, symbol, symbol_or_word, quoted, quoted_len, is_unquoted, bare, word_len, ends_word, token_at, is_space, tokens_from, tokens_of}
+use Rattle.eql_tokens.specs.Tokens.{front, symbol, symbol_or_word, quoted, quoted_len, is_unquoted, bare, word_len, ends_word, token_at, is_space, tokens_from, tokens_of}
 use Rattle.eql_syntax.specs.Fault.{kinds}
 use Rattle.eql_syntax.specs.Inner.Print.{op_text, compare_text, place_text, mark_text, bit_text, quoted_text, labels_text, names_text, term_text, query_text}
 use Rattle.eql_syntax.proofs.Numbers.{own}

@@ -1,8 +1,8 @@
 -- The print of a query that some text spells within the limits is a text of that query.
 use Rattle.std.proofs.Common.{◌≡◌, ℕ, ◌≤◌, true, false, List, [], length, Result, Ok, Err, IfOk, refl, sym, subst}
-use Rattle.eql_syntax.specs.declared.token.Token.{Token}
+use Rattle.eql_tokens.specs.declared.token.Token.{Token}
 use Rattle.eql_syntax.specs.Tree.{Tree}
-use Rattle.eql_syntax.specs.Tokens.{tokens_of}
+use Rattle.eql_tokens.specs.Tokens.{tokens_of}
 use Rattle.eql_syntax.specs.Grammar.{Spells}
 use Rattle.eql_syntax.specs.Fault.{kinds, is_within}
 use Rattle.eql_syntax.specs.Answer.{IsQuery}

@@ -4,10 +4,10 @@ use Rattle.std.proofs.lemmas.List.{at_drop_more}
 use Rattle.eql_syntax.specs.declared.query.Query.{Query}
 use Rattle.eql_syntax.specs.declared.query.QueryFault.{QueryFault}
 use Rattle.eql_syntax.specs.declared.query.QueryFault.TheVariants as faults
-use Rattle.eql_syntax.specs.declared.token.Placed.{Placed}
+use Rattle.eql_tokens.specs.declared.token.Placed.{Placed}
 use Rattle.eql_syntax.specs.Tree.{Tree}
 use Rattle.eql_syntax.specs.Inner.Tree.{tree_of}
-use Rattle.eql_syntax.specs.Tokens.{tokens_of}
+use Rattle.eql_tokens.specs.Tokens.{tokens_of}
 use Rattle.eql_syntax.specs.Inner.Reading.{Reading, read, reads, taken, at_start}
 use Rattle.eql_syntax.specs.Inner.View.{Gives}
 use Rattle.eql_syntax.specs.Answer.{IsQuery, IsFault}

@@ -5,10 +5,10 @@ use Rattle.eql_syntax.specs.declared.query.Compare.{Compare}
 use Rattle.eql_syntax.specs.declared.query.Place.{Place}
 use Rattle.eql_syntax.specs.declared.query.Term.{Term}
 use Rattle.eql_syntax.specs.declared.query.Term.TheVariants as terms
-use Rattle.eql_syntax.specs.declared.token.Sign.{Sign}
-use Rattle.eql_syntax.specs.declared.token.Sign.TheVariants as signs
-use Rattle.eql_syntax.specs.declared.token.Token.{Token}
-use Rattle.eql_syntax.specs.declared.token.Token.TheVariants.{Open, Close, LeftParen, RightParen, Comma, And, Or, Above, Arrow, Hash, Sign as Between, Word}
+use Rattle.eql_tokens.specs.declared.token.Sign.{Sign}
+use Rattle.eql_tokens.specs.declared.token.Sign.TheVariants as signs
+use Rattle.eql_tokens.specs.declared.token.Token.{Token}
+use Rattle.eql_tokens.specs.declared.token.Token.TheVariants.{Open, Close, LeftParen, RightParen, Comma, And, Or, Above, Arrow, Hash, Sign as Between, Word}
 use Rattle.eql_syntax.specs.Tree.{Tree, Conjunction, Sequence, Dominance}
 use Rattle.eql_syntax.specs.Words.{op_of, compare_of, place_of, is_count, bit_of, number_of}
 use Rattle.eql_syntax.specs.Grammar.{SpellsLabels, last_label, label_or, SpellsBody, test, place, count, SpellsTerm, plain, marked, SpellsTerms, last_term, term_and, SpellsThen, conjunction, brackets, sequence, dominance}

@@ -4,7 +4,7 @@ use Rattle.emu_names.specs.declared.limits.TheConstants.{QUERY_BYTES}
 use Rattle.eql_syntax.specs.declared.query.QueryFault.{QueryFault}
 use Rattle.eql_syntax.specs.declared.query.QueryFault.TheVariants.{TextTooLong}
 use Rattle.eql_syntax.specs.Tree.{Tree}
-use Rattle.eql_syntax.specs.Tokens.{tokens_of}
+use Rattle.eql_tokens.specs.Tokens.{tokens_of}
 use Rattle.eql_syntax.specs.Grammar.{Spells}
 use Rattle.eql_syntax.specs.Fault.{kinds, is_within, FirstFault}
 

@@ -3,9 +3,9 @@ use Rattle.std.specs.Prelude.{◌≡◌, ℕ, ◌+◌, ◌-◌, ◌≤◌, ◌�
 use Rattle.emu_names.specs.declared.limits.TheConstants.{OPEN_BRACKETS}
 use Rattle.eql_syntax.specs.declared.query.QueryFault.{QueryFault}
 use Rattle.eql_syntax.specs.declared.query.QueryFault.TheVariants.{Syntax, TooDeep, TwoMarks}
-use Rattle.eql_syntax.specs.declared.token.Placed.{Placed}
-use Rattle.eql_syntax.specs.declared.token.Token.{Token}
-use Rattle.eql_syntax.specs.declared.token.Token.TheVariants.{Open, Close, Hash}
+use Rattle.eql_tokens.specs.declared.token.Placed.{Placed}
+use Rattle.eql_tokens.specs.declared.token.Token.{Token}
+use Rattle.eql_tokens.specs.declared.token.Token.TheVariants.{Open, Close, Hash}
 use Rattle.eql_syntax.specs.Tree.{Tree}
 use Rattle.eql_syntax.specs.Grammar.{Spells, Begins}
 

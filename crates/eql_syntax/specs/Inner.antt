@@ -1,6 +1,5 @@
 pub mod Machine
 pub mod Print
 pub mod Reading
-pub mod Tokens
 pub mod Tree
 pub mod View

@@ -1,4 +1,3 @@
-pub mod Tokens
 pub mod Tree
 pub mod Words
 pub mod Grammar

@@ -10,8 +10,8 @@ use Rattle.eql_syntax.specs.declared.query.Compare.{Compare}
 use Rattle.eql_syntax.specs.declared.query.Compare.TheVariants as compares
 use Rattle.eql_syntax.specs.declared.query.Place.{Place}
 use Rattle.eql_syntax.specs.declared.query.Place.TheVariants as places
-use Rattle.eql_syntax.specs.declared.token.Sign.{Sign}
-use Rattle.eql_syntax.specs.declared.token.Sign.TheVariants as signs
+use Rattle.eql_tokens.specs.declared.token.Sign.{Sign}
+use Rattle.eql_tokens.specs.declared.token.Sign.TheVariants as signs
 
 -- the operator of a label test
 abbrev pub op_of : Sign → Option Op

@@ -7,10 +7,10 @@ ghost use Rattle.eql_syntax.specs.Inner.Machine.{function_of, after, after_terms
 ghost use Rattle.eql_syntax.specs.Inner.Machine.{Beginning, Marked, Named, Tested, Labelled, Parted, Called, Upper, Split, Lower, Sided, Asked, Counted};
 ghost use Rattle.eql_syntax.specs.Inner.View.{function_view, bracket_view, spot_view, stack, Moves, Steps};
 
-use crate::query::{Compare, Op, Place, Query, Term, Terms, Words};
-use crate::token::{Sign, Token};
+use crate::query::{Compare, Op, Place, Query, Term, Terms};
 use crate::words::{bit_of, compare_of, function_of, number_of, op_of};
 use emu_names::{Memory, Text};
+use eql_tokens::{Sign, Token, Words};
 use std::alloc::Global;
 
 /// A function with two names.

@@ -5,7 +5,7 @@ ghost use Rattle.eql_syntax.specs.Inner.Tree.{tree_of};
 ghost use Rattle.eql_syntax.specs.Answer.{IsQuery};
 ghost use Rattle.eql_syntax.specs.Inner.Print.{op_text, compare_text, place_text, mark_text, bit_text, quoted_text, labels_text, names_text, term_text, query_text, Gains};
 ghost use Rattle.eql_syntax.specs.Grammar.{Spells};
-ghost use Rattle.eql_syntax.specs.Tokens.{tokens_of};
+ghost use Rattle.eql_tokens.specs.Tokens.{tokens_of};
 ghost use Rattle.eql_syntax.specs.Fault.{kinds};
 
 use crate::query::{Compare, Op, Place, Query, Term};

@@ -3,18 +3,17 @@ ghost use Rattle.std.specs.Prelude.{◌≡◌, ◌≢◌, ℕ, ◌+◌, ◌<◌,
 ghost use Rattle.eql_syntax.specs.Fault.{fits, depth_step, mark_step};
 ghost use Rattle.eql_syntax.specs.Tree.{Tree};
 ghost use Rattle.eql_syntax.specs.Inner.Tree.{tree_of};
-ghost use Rattle.eql_syntax.specs.Tokens.{tokens_of};
+ghost use Rattle.eql_tokens.specs.Tokens.{tokens_of};
 ghost use Rattle.eql_syntax.specs.Inner.Machine.{ended_at};
 ghost use Rattle.eql_syntax.specs.Inner.Reading.{limit_at, taken, query_or, finished, reads, read};
 ghost use Rattle.eql_syntax.specs.Answer.{IsQuery, IsFault};
 ghost use Rattle.eql_syntax.specs.Inner.View.{spot_view, reading_view, Takes, Gives};
 
-use crate::lexer::read_tokens;
 use crate::machine::{Bracket, Spot, State, pop, step};
 use crate::query::{Query, QueryFault, Term};
-use crate::token::{Placed, Token};
 use emu_names::Memory;
 use emu_names::limits::{OPEN_BRACKETS, QUERY_BYTES};
+use eql_tokens::{Placed, Token, read_tokens};
 use std::alloc::Global;
 
 /// The state of the reader, how many brackets are open, and whether a mark stands.

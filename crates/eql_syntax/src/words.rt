@@ -8,7 +8,7 @@ ghost use Rattle.eql_syntax.specs.Inner.View.{function_view};
 
 use crate::machine::Function;
 use crate::query::{Compare, Op, Place};
-use crate::token::Sign;
+use eql_tokens::Sign;
 
 /// The operator of a label test.
 pub fn op_of(sign: Sign) -> Option<Op>

@@ -1,9 +1,7 @@
 //! What no clause says: that calls succeed where memory is ample, faults in turn at each call, and
 //! the adapters over readers and writers in memory.
-use emu_io::{
-    Failed, InputSource, ListSink, ListSource, Memory, OutputSink, ReadFault, Sink, SureSink,
-    SureSource, read_front, write_all,
-};
+use emu_io::{Failed, InputSource, Memory, OutputSink, ReadFault, Sink, read_front, write_all};
+use memory_io::{ListSink, ListSource, SureSink, SureSource};
 use std::alloc::Global;
 use std::io::{self, ErrorKind, Read, Write};
 use std::process::Abort;

@@ -1,7 +1,8 @@
 //! Commands on a store, over a folder and a disk in memory: each call failing once, and the store read again.
 use crate::runs::{Ran, over_files, run};
 use emu_disk::MemoryDisk;
-use emu_io::{ListSource, Stored};
+use emu_io::Stored;
+use memory_io::ListSource;
 use std::alloc::{AllocError, Global};
 use std::process::Abort;
 use std::sync::Wait;

@@ -1,8 +1,9 @@
 //! Runs of the program by its words over a script, files and a disk in memory.
 use emu_cli::{Exit, emu};
 use emu_disk::MemoryDisk;
-use emu_io::{ListSink, ListSource, MapFolder, OpenGate, Source, Stored};
+use emu_io::{OpenGate, Source, Stored};
 use label_match::{PatternMaker, RegexMaker};
+use memory_io::{ListSink, ListSource, MapFolder};
 use std::alloc::{AllocError, Global};
 use std::sync::Wait;
 use std::thread::Threads;

@@ -1,8 +1,9 @@
 //! Lines of scripts, and live runs of the program over sources and sinks in memory.
 use emu_cli::{Exit, emu};
 use emu_disk::MemoryDisk;
-use emu_io::{Gate, ListSink, ListSource, SureFolder};
+use emu_io::Gate;
 use label_match::RegexMaker;
+use memory_io::{ListSink, ListSource, SureFolder};
 use std::alloc::{AllocError, Global};
 use std::sync::Wait;
 use std::test::Fail;

@@ -1,9 +1,10 @@
 //! What no clause of folders and gates says: that calls succeed where memory is ample, the real
 //! folder on what is not there, and what a gate that holds notes.
 use emu_io::{
-    Folder, FolderEntries, FolderFault, Gate, Hold, HoldGate, LineMoment, MapFolder, Memory,
-    Moment, OpenGate, RealFolder, Stored, SureFolder,
+    Folder, FolderEntries, FolderFault, Gate, Hold, HoldGate, LineMoment, Memory, Moment, OpenGate,
+    RealFolder, Stored,
 };
+use memory_io::{MapFolder, SureFolder};
 use std::alloc::Global;
 use std::process::Abort;
 use std::test::Fail;

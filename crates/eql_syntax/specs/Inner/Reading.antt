@@ -3,9 +3,9 @@
 use Rattle.std.specs.Prelude.{ℕ, Bool, false, if◌then◌else◌, List, [], ◌∷◌, Option, Some, None, Result, Ok, Err}
 use Rattle.eql_syntax.specs.declared.query.QueryFault.{QueryFault}
 use Rattle.eql_syntax.specs.declared.query.QueryFault.TheVariants.{Syntax, TooDeep, TwoMarks}
-use Rattle.eql_syntax.specs.declared.token.Placed.{Placed}
-use Rattle.eql_syntax.specs.declared.token.Token.{Token}
-use Rattle.eql_syntax.specs.declared.token.Token.TheVariants.{Open}
+use Rattle.eql_tokens.specs.declared.token.Placed.{Placed}
+use Rattle.eql_tokens.specs.declared.token.Token.{Token}
+use Rattle.eql_tokens.specs.declared.token.Token.TheVariants.{Open}
 use Rattle.eql_syntax.specs.Tree.{Tree}
 use Rattle.eql_syntax.specs.Fault.{fits, depth_step, mark_step}
 use Rattle.eql_syntax.specs.Inner.Machine.{Bracket, Spot, Beginning, State, step, ended_at}

@@ -10,7 +10,7 @@ use Rattle.eql_syntax.specs.declared.machine.Spot.TheVariants as spots
 use Rattle.eql_syntax.specs.declared.machine.State.{State as CodeState}
 use Rattle.eql_syntax.specs.declared.reader.Reading.{Reading as CodeReading}
 use Rattle.eql_syntax.specs.declared.query.Query.{Query}
-use Rattle.eql_syntax.specs.declared.token.Token.{Token}
+use Rattle.eql_tokens.specs.declared.token.Token.{Token}
 use Rattle.eql_syntax.specs.declared.query.QueryFault.{QueryFault}
 use Rattle.eql_syntax.specs.declared.query.QueryFault.TheVariants as faults
 use Rattle.eql_syntax.specs.Tree.{Tree}
