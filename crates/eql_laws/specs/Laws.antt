@@ -1,7 +1,7 @@
 -- What a user can check of the tuples, results and rows of queries that go together (EMU-SDMS Manual, "The EMU
 -- Query Language (EQL)": conjunction, sequence, domination, position and count functions, the columns of a
 -- segment list), each law said by itself.
-use Rattle.std.specs.Prelude.{◌≡◌, ◌≤◌, ◌<◌, ◌↔◌, not, ℕ, Bool, true, false, List, [], length, filter, All, Contains, Option, Some, None, if◌then◌else◌}
+use Rattle.std.specs.Prelude.{◌≡◌, ◌≤◌, ◌<◌, ◌↔◌, not, ℕ, Bool, true, false, List, [], length, filter, All, Contains, Option, Some, None, if◌then◌else◌, ◌∷◌, ◌++◌}
 use Rattle.level_items.specs.declared.items.Item.{Item}
 use Rattle.level_items.specs.Levels.{first_of, last_of}
 use Rattle.level_items.specs.Times.{first_sample, last_sample}
@@ -15,12 +15,13 @@ use Rattle.eql_syntax.specs.declared.query.Compare.TheVariants.{Eq}
 use Rattle.eql_syntax.specs.declared.query.Place.{Place}
 use Rattle.eql_syntax.specs.declared.query.Place.TheVariants.{Start, End}
 use Rattle.eql_resolve.specs.Asked.{AskedTerm, number, AskedQuery, terms, sequence, dominance, AskedParts, is_marked, shown_place, AreOnOneLevel}
-use Rattle.eql_model.specs.declared.tuple.Span.{Span}
-use Rattle.eql_model.specs.declared.row.Row.{Row}
+use Rattle.eql_rows.specs.declared.span.Span.{Span}
+use Rattle.eql_rows.specs.declared.row.Row.{Row}
 use Rattle.eql_model.specs.Positions.{below, makes_stand}
 use Rattle.eql_model.specs.Meaning.{meets, tuples}
 use Rattle.eql_model.specs.Results.{stretches, results}
-use Rattle.eql_model.specs.Rows.{end_to_end, row_of, segment_list}
+use Rattle.eql_rows.specs.Rows.{end_to_end}
+use Rattle.eql_model.specs.Rows.{row_of, segment_list, rows}
 
 -- ---- conjunctions
 
@@ -62,6 +63,15 @@ MarkedPartSelects =
     is_marked p ≡ not (is_marked q) →
     AreAmong (results c b (sequence p q)) (results c b (marked_part p q))
     × AreAmong (results c b (dominance p q)) (results c b (marked_part p q))
+
+-- ---- dominance
+
+-- a dominance has the same results as the one with its two parts in each other's place, where one of
+-- the two parts has the mark: `[A == a ^ #B == b]` and `[#B == b ^ A == a]`
+abbrev pub MirrorsAgree : Type 0
+MirrorsAgree =
+    (c : ConfigParts) (b : BundleParts) (p q : AskedQuery) →
+    is_marked p ≡ not (is_marked q) → results c b (dominance p q) ≡ results c b (dominance q p)
 
 -- ---- sequences
 
@@ -136,3 +146,10 @@ abbrev pub SegmentListsGoForward : Type 0
 SegmentListsGoForward =
     (c : ConfigParts) (bundles : List BundleParts) (a : AskedParts) →
     All (IsBundleOf c) bundles → All GoesForward (segment_list c bundles a)
+
+-- a bundle that is put in or taken out changes no row of the others, nor their order
+abbrev pub BundlesKeepTheirRows : Type 0
+BundlesKeepTheirRows =
+    (c : ConfigParts) (before behind : List BundleParts) (b : BundleParts) (a : AskedParts) →
+    (segment_list c (before ++ behind) a ≡ segment_list c before a ++ segment_list c behind a)
+    × (segment_list c (before ++ b ∷ behind) a ≡ segment_list c before a ++ (rows c b a ++ segment_list c behind a))

@@ -1,7 +1,7 @@
 //! Laws with nothing to run: what a user can check of the tuples, results and rows of queries that go together
 //! (EMU-SDMS Manual, "The EMU Query Language (EQL)": conjunction, sequence, domination, position and count
 //! functions, the columns of a segment list).
-ghost use Rattle.eql_laws.specs.Laws.{OrderIsFree, DominanceSelects, MarkedPartSelects, BracketsAreFree, OneStartOneEnd, OneIsBothEnds, EndToEndIsFirstToLast, RowsGoForward, SegmentListsGoForward};
+ghost use Rattle.eql_laws.specs.Laws.{OrderIsFree, DominanceSelects, MarkedPartSelects, BracketsAreFree, OneStartOneEnd, OneIsBothEnds, EndToEndIsFirstToLast, RowsGoForward, SegmentListsGoForward, MirrorsAgree, BundlesKeepTheirRows};
 
 /// `[A == a & B == b]` and `[B == b & A == a]` find the same items: neither the order of conditions nor one
 /// that stands twice changes a tuple. What is shown of them is the attribute of the marked condition, else
@@ -20,6 +20,13 @@ pub fn dominance_selects()
 /// longer results than its parts.
 pub fn marked_part_selects()
     ensures { MarkedPartSelects }
+{}
+
+/// A dominance of which one part has the mark has the same results with its parts in each other's place:
+/// `[A == a ^ #B == b]` and `[#B == b ^ A == a]`. Where no part has it, the results are those of the left
+/// part, and so others. The two may differ in whether they have over 1,000,000 tuples.
+pub fn mirrors_agree()
+    ensures { MirrorsAgree }
 {}
 
 /// `[[A -> B] -> C]` and `[A -> [B -> C]]` have the same tuples and the same results. The two may differ in
@@ -55,4 +62,9 @@ pub fn rows_go_forward()
 /// No row of a segment list starts past its end.
 pub fn segment_lists_go_forward()
     ensures { SegmentListsGoForward }
+{}
+
+/// A bundle that is put in or taken out changes no row of the others, nor their order.
+pub fn bundles_keep_their_rows()
+    ensures { BundlesKeepTheirRows }
 {}

@@ -7,7 +7,7 @@ use Rattle.level_items.specs.declared.items.Item.{Item}
 use Rattle.db_config.specs.declared.parts.ConfigParts.{ConfigParts}
 use Rattle.bundle_state.specs.Bundle.{BundleParts}
 use Rattle.eql_resolve.specs.Asked.{AskedTerm, is_marked_term}
-use Rattle.eql_model.specs.Inner.Flags.{flag_at}
+use Rattle.eql_rows.specs.Inner.Flags.{flag_at}
 use Rattle.eql_model.specs.Meaning.{single, singles}
 use Rattle.level_items.specs.Levels.{items_at}
 use Rattle.eql_model.specs.Inner.Meaning.{met_row}

@@ -9,7 +9,7 @@ use Rattle.db_config.specs.Above.{is_above}
 use Rattle.bundle_state.specs.Bundle.{BundleParts}
 use Rattle.bundle_state.specs.Valid.{KeepsBundleRules}
 use Rattle.hier_closure.specs.Dominance.{closure_of}
-use Rattle.eql_model.specs.Inner.Flags.{flag_at}
+use Rattle.eql_rows.specs.Inner.Flags.{flag_at}
 use Rattle.eql_model.specs.Inner.Joins.{bit_at}
 use Rattle.level_items.specs.Levels.{items_at}
 use Rattle.eql_model.proofs.Between.{rows_count, rows_wide}

@@ -20,7 +20,7 @@ use Rattle.hier_closure.proofs.Ids.{ids_different}
 use Rattle.eql_syntax.specs.declared.query.Compare.{Compare}
 use Rattle.eql_syntax.specs.declared.query.Place.{Place}
 use Rattle.eql_syntax.specs.declared.query.Place.TheVariants.{Start, Medial, End}
-use Rattle.eql_model.specs.Inner.Flags.{flag_at}
+use Rattle.eql_rows.specs.Inner.Flags.{flag_at}
 use Rattle.eql_model.specs.Positions.{has_place, is_first, is_last, stands}
 use Rattle.eql_model.specs.Inner.Bits.{row_counts, row_stands, rows_place}
 use Rattle.eql_model.proofs.Between.{ids_are, position_exit, rows_wide}

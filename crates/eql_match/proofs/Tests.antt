@@ -28,8 +28,8 @@ use Rattle.bundle_index.proofs.Callers.{attributes_asked}
 use Rattle.label_match.specs.Pattern.{matches_label}
 use Rattle.eql_resolve.specs.Asked.{AskedTerm, term_level}
 use Rattle.lane_bits.specs.Inner.Row.{IsFirst}
-use Rattle.eql_model.specs.declared.tuple.Tuple.{Tuple}
-use Rattle.eql_model.specs.Inner.Flags.{flag_at}
+use Rattle.eql_tuples.specs.declared.tuple.Tuple.{Tuple}
+use Rattle.eql_rows.specs.Inner.Flags.{flag_at}
 use Rattle.eql_model.specs.Labels.{is_as}
 use Rattle.eql_model.specs.Inner.Labels.{matched_row}
 use Rattle.eql_model.specs.Meaning.{meets, single}

@@ -9,7 +9,7 @@ ghost use Rattle.bundle_state.specs.Built.{FitsConfig};
 ghost use Rattle.eql_resolve.specs.Asked.{is_marked_term, term_level};
 ghost use Rattle.eql_resolve.specs.Sound.{IsTermOf};
 ghost use Rattle.eql_resolve.specs.Inner.View.{labels_in, op_in, term_in};
-ghost use Rattle.eql_model.specs.Inner.Flags.{flag_at};
+ghost use Rattle.eql_rows.specs.Inner.Flags.{flag_at};
 ghost use Rattle.eql_model.specs.Labels.{is_as, is_matched, is_wanted, passes};
 ghost use Rattle.level_items.specs.Levels.{label_of, items_at};
 ghost use Rattle.eql_model.specs.Meaning.{meets, single, singles};
@@ -26,8 +26,8 @@ use crate::rows::{all_set, none_set, turn_unless};
 use bundle_index::Indexed;
 use db_config::{AttributePlace, Config};
 use emu_names::{Memory, Series, Text};
-use eql_model::Tuples;
 use eql_resolve::{AskedTerm, Wanted};
+use eql_tuples::Tuples;
 use label_match::Pattern;
 use lane_bits::{BitRow, and_into};
 use std::alloc::Global;
@@ -195,7 +195,7 @@ fn level_count(indexed: &Indexed, level: usize) -> usize
     requires { level < length indexed.now.bundle.levels }
     ensures { result ≡ length (items_at indexed.now.bundle.levels level) }
 {
-    eql_model::items_at(indexed.bundle(), level).len()
+    eql_rows::items_at(indexed.bundle(), level).len()
 }
 
 /// How many items the level of an attribute has, by the column of its labels.
@@ -260,7 +260,7 @@ fn all_met<'q>(
         (map (λ t. met_row config.now indexed.now.bundle level (term_in t)) terms.now)) }
 {
     if terms.is_empty() {
-        return all_set(alloc, eql_model::items_at(indexed.bundle(), level).len());
+        return all_set(alloc, eql_rows::items_at(indexed.bundle(), level).len());
     }
     let mut met = met_row(alloc, config, indexed, level, &terms[0], matchers)?;
     for at in 1..terms.len() {

@@ -12,8 +12,8 @@ use crate::matchers::Matchers;
 use crate::ways::{dominance, sequence};
 use bundle_index::Indexed;
 use db_config::Config;
-use eql_model::{MatchFault, Tuple};
 use eql_resolve::{AskedQuery, AskedTerm};
+use eql_tuples::{MatchFault, Tuple};
 use lane_bits::BitRow;
 use std::alloc::Global;
 

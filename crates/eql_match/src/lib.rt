@@ -18,4 +18,6 @@ mod ways;
 pub use bundle::{match_bundle, match_with};
 pub use bundle_index;
 pub use eql_model;
+pub use eql_rows;
+pub use eql_tuples;
 pub use matchers::Matchers;

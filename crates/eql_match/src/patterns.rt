@@ -13,7 +13,7 @@ use crate::rows::{none_set, set_any};
 use bundle_index::Indexed;
 use db_config::AttributePlace;
 use emu_names::{Memory, Series};
-use eql_model::label_of;
+use eql_rows::label_of;
 use label_match::Pattern;
 use lane_bits::BitRow;
 use level_items::Item;
@@ -91,7 +91,7 @@ fn pattern_row<'q>(
         ≡ matched_row place.attribute (items_at indexed.now.bundle.levels place.level) pattern.now) }
 {
     let column = indexed.column(place.level, place.attribute);
-    let items = eql_model::items_at(indexed.bundle(), place.level);
+    let items = eql_rows::items_at(indexed.bundle(), place.level);
     let matcher = matchers.matcher(alloc, pattern)?;
     matched_bits(alloc, matcher, column, place.attribute, items)
 }

@@ -166,7 +166,7 @@ pub(crate) fn set_position_bits(
     let (upper, lower) = levels;
     let bundle = indexed.bundle();
     let _items = bundle.item_count();
-    let count = eql_model::items_at(bundle, upper).len();
+    let count = eql_rows::items_at(bundle, upper).len();
     if let Some(rows) = indexed.kept_closure(config, upper, lower) {
         return set_place_bits(alloc, rows, count, place, wanted, row);
     }

@@ -3,7 +3,7 @@ use Rattle.std.specs.Prelude.{◌≡◌, ℕ, Bool, true, ◌||◌, List, length
 use Rattle.std.specs.List.{list_any, range_with_len}
 use Rattle.level_items.specs.Levels.{are_different}
 use Rattle.eql_syntax.specs.declared.query.Place.{Place}
-use Rattle.eql_model.specs.Inner.Flags.{flag_at}
+use Rattle.eql_rows.specs.Inner.Flags.{flag_at}
 use Rattle.eql_model.specs.Inner.Bits.{row_stands, rows_place}
 
 -- a row is the one of a test of positions, for any items of so many different ids

@@ -2,7 +2,7 @@
 use Rattle.std.specs.Prelude.{◌≡◌, ℕ, Bool, false, List, length, map, replicate}
 use Rattle.std.specs.List.{list_all, list_any, range_with_len}
 use Rattle.bundle_state.specs.Bundle.{BundleParts}
-use Rattle.eql_model.specs.Inner.Flags.{flag_at}
+use Rattle.eql_rows.specs.Inner.Flags.{flag_at}
 use Rattle.level_items.specs.Levels.{items_at}
 
 -- for each of so many places whether some row has its bit

@@ -1,6 +1,6 @@
 use Rattle.std.proofs.Common.{true, ◌∙◌, arith}
 use Rattle.std.proofs.lemmas.Option.{slice_get_within}
-use Rattle.eql_model.specs.Inner.Flags.{flag_at}
+use Rattle.eql_rows.specs.Inner.Flags.{flag_at}
 use Rattle.eql_model.specs.Meaning.{single}
 use Rattle.eql_model.proofs.Conditions.{singles_step}
 use Rattle.eql_match.proofs.Ends.{none_before, none_set, all_set_before}
