@@ -27,7 +27,7 @@ use Rattle.eql_tuples.proofs.Members.{once_is, once_sorted, joined_has, same_sor
 use Rattle.eql_rows.proofs.Walk.{none_among, range_split}
 use Rattle.eql_match.specs.Inner.Found.{above_some, followed, is_above_some, is_below_some, items_of, neighbours, with_below, AreDominant}
 use Rattle.eql_match.proofs.Bare.{less_by_first}
-use Rattle.eql_match.proofs.Standing.{flag_in}
+use Rattle.eql_columns.proofs.Standing.{flag_in}
 use Rattle.eql_match.proofs.Order.{From}
 
 -- ---- tuples of places, in order

@@ -16,8 +16,8 @@ use Rattle.eql_model.proofs.Between.{rows_count, rows_wide}
 use Rattle.eql_model.proofs.Conditions.{level_few}
 use Rattle.eql_match.specs.Inner.Found.{above_some, is_above_some, is_below_some, AreDominant}
 use Rattle.eql_match.proofs.Aside.{no_bit_aside}
-use Rattle.eql_match.proofs.Bits.{or_false}
-use Rattle.eql_match.proofs.Standing.{flag_in}
+use Rattle.eql_columns.proofs.Bits.{or_false}
+use Rattle.eql_columns.proofs.Standing.{flag_in}
 use Rattle.eql_match.proofs.Steps.{none_any}
 
 and_last : (a b : Bool) → b ≡ false → (a && b) ≡ false

@@ -16,7 +16,7 @@ use Rattle.eql_model.specs.Inner.Joins.{bit_at}
 use Rattle.eql_tuples.specs.declared.tuple.Tuple.{Tuple}
 use Rattle.eql_rows.proofs.Walk.{range_split, same_places, one_place_more, no_flag, NextFlag, NoneFrom}
 use Rattle.eql_match.specs.Inner.Found.{followed, is_above_some, neighbours, with_below}
-use Rattle.eql_match.proofs.Bits.{flags_are, or_false}
+use Rattle.eql_columns.proofs.Bits.{flags_are, or_false}
 
 -- ---- what a test finds among the first places
 

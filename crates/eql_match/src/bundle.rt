@@ -15,9 +15,9 @@ ghost use Rattle.eql_match.specs.Inner.Shown.{is_bare};
 
 use crate::evaluate::evaluate;
 use crate::found::Found;
-use crate::matchers::Matchers;
 use bundle_index::Indexed;
 use db_config::Config;
+use eql_columns::Matchers;
 use eql_resolve::{Asked, AskedQuery};
 use eql_rows::Spans;
 use eql_tuples::{MatchFault, Tuple, Tuples};

@@ -9,11 +9,11 @@ ghost use Rattle.eql_model.specs.Meaning.{single};
 ghost use Rattle.level_items.specs.Levels.{items_at};
 ghost use Rattle.eql_match.specs.Inner.Found.{above_some, followed, neighbours, tuples_in, with_below, AreDominant, AreSides, IsClearWhere, IsRowOf, IsShort};
 
-use crate::conditions::singles_where;
-use crate::rows::none_set;
+use crate::conjunction::singles_where;
 use bundle_index::Indexed;
 use db_config::Config;
 use emu_names::{Memory, Series};
+use eql_columns::none_set;
 use eql_tuples::{Tuple, Tuples};
 use hier_closure::Closure;
 use lane_bits::{BitRow, and_into, meet, or_into};

@@ -11,10 +11,11 @@ ghost use Rattle.session_core.specs.requery.Inner.Sound.{IsReachedBy};
 
 use db_config::Config;
 use emu_names::Memory;
-use eql_match::{Matchers, match_with};
 use eql_match::bundle_index::Indexed;
+use eql_match::eql_columns::Matchers;
 use eql_match::eql_rows::{SegmentList, Span, Spans};
 use eql_match::eql_tuples::MatchFault;
+use eql_match::match_with;
 use session_core::requery::{Reached, Target, reach_between, reach_near};
 use session_core::segment_list::rows_at;
 use std::alloc::Global;
