@@ -11,8 +11,7 @@ use Rattle.hier_closure.specs.Dominance.{dominates, ids_at}
 use Rattle.eql_model.specs.Labels.{stands_for}
 use Rattle.eql_model.specs.Positions.{below}
 use Rattle.eql_model.specs.Rows.{rows}
-use Rattle.eql_laws.specs.Conditions.{GroupsAreTheirValues, LabelsAreAlternatives, NumbersCompare, ZeroIsNone}
-use Rattle.eql_laws.specs.Laws.{BundlesKeepTheirRows}
+use Rattle.eql_laws.specs.Laws.{GroupsAreTheirValues, LabelsAreAlternatives, NumbersCompare, ZeroIsNone, BundlesKeepTheirRows}
 
 -- ---- labels
 

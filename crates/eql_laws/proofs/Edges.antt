@@ -6,7 +6,7 @@ use Rattle.hier_closure.specs.Dominance.{dominates, ids_at}
 use Rattle.eql_syntax.specs.declared.query.Place.{Place}
 use Rattle.eql_syntax.specs.declared.query.Place.TheVariants.{Start, Medial, End}
 use Rattle.eql_model.specs.Positions.{below, is_first, is_last, stands, has_place}
-use Rattle.eql_laws.specs.Conditions.{above, EdgesAreNotMedial, MedialIsNoEdge, PlacesAreToldBelow}
+use Rattle.eql_laws.specs.Laws.{above, EdgesAreNotMedial, MedialIsNoEdge, PlacesAreToldBelow}
 
 -- ---- what dominates an item
 

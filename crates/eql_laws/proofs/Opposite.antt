@@ -15,7 +15,7 @@ use Rattle.eql_model.specs.Labels.{is_wanted, is_matched}
 use Rattle.level_items.specs.Levels.{label_of, items_at}
 use Rattle.eql_model.specs.Meaning.{meets, meets_all, single}
 use Rattle.eql_tuples.specs.Shown.{bare}
-use Rattle.eql_laws.specs.Conditions.{opposite, TestsAreOpposite, QueriesAreOpposite}
+use Rattle.eql_laws.specs.Laws.{opposite, TestsAreOpposite, QueriesAreOpposite}
 use Rattle.eql_tuples.proofs.Members.{same_tuple, tuples_total}
 
 not_not : (b : Bool) → b ≡ not (not b)

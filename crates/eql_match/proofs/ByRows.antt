@@ -17,7 +17,8 @@ use Rattle.hier_closure.specs.Dominance.{ids_at, closure_of}
 use Rattle.eql_tuples.specs.declared.tuple.Tuple.{Tuple}
 use Rattle.eql_rows.specs.Inner.Flags.{flag_at}
 use Rattle.eql_model.specs.Inner.Joins.{bit_at, bits_cover, is_under}
-use Rattle.eql_tuples.specs.Tuples.{positions, fits_in, follows, both, left_with, pairs_with, joined}
+use Rattle.eql_tuples.specs.Inner.Stretches.{positions}
+use Rattle.eql_tuples.specs.Tuples.{fits_in, follows, both, left_with, pairs_with, joined}
 use Rattle.eql_model.specs.Meaning.{single}
 use Rattle.eql_tuples.specs.Sets.{tuple_cmp, each_once, is_over}
 use Rattle.eql_tuples.specs.Inner.Sets.{GivesSet}

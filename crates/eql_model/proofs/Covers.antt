@@ -11,7 +11,8 @@ use Rattle.bundle_state.specs.Bundle.{BundleParts}
 use Rattle.hier_closure.specs.Dominance.{dominates, ids_at, closure_row, closure_rows}
 use Rattle.eql_tuples.specs.declared.tuple.Tuple.{Tuple}
 use Rattle.eql_tuples.specs.Sets.{each_once}
-use Rattle.eql_tuples.specs.Tuples.{stretch, fits_in, left_with, pairs_with, joined, positions}
+use Rattle.eql_tuples.specs.Tuples.{stretch, fits_in, left_with, pairs_with, joined}
+use Rattle.eql_tuples.specs.Inner.Stretches.{positions}
 use Rattle.eql_tuples.proofs.Stretches.{stretch_is}
 use Rattle.eql_model.specs.Covers.{covers, one_covers}
 use Rattle.eql_model.specs.Inner.Joins.{bit_at, is_under, bits_cover, goes_with, makes, both_ways}

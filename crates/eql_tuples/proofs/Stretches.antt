@@ -4,7 +4,8 @@ use Rattle.std.specs.List.{range_with_len}
 use Rattle.std.proofs.lemmas.Bool.{and_parts, leb-true, ltb-true}
 use Rattle.std.proofs.lemmas.List.{drop_more}
 use Rattle.eql_tuples.specs.declared.tuple.Tuple.{Tuple}
-use Rattle.eql_tuples.specs.Tuples.{stretch, fits_in, positions}
+use Rattle.eql_tuples.specs.Tuples.{stretch, fits_in}
+use Rattle.eql_tuples.specs.Inner.Stretches.{positions}
 
 pub taken_by : {X : Type 0} (xs : List X) (d : X) (k n : ℕ) → k + n ≤ length xs →
     take n (drop k xs) ≡ map (λ i. get_or xs i d) (range_with_len k n)

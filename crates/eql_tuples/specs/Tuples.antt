@@ -1,7 +1,7 @@
 -- Tuples of a query in one bundle, and what joins two of them (EMU-SDMS Manual, "The EMU Query Language
 -- (EQL)": sequence and dominance).
 use Rattle.std.specs.Prelude.{ℕ, ◌+◌, ◌-◌, Bool, ◌&&◌, ◌==◌, List, map, take, drop, nat_le, nat_lt}
-use Rattle.std.specs.List.{filter, flat_map, range_with_len}
+use Rattle.std.specs.List.{filter, flat_map}
 use Rattle.std.specs.Option.{option_or}
 use Rattle.eql_tuples.specs.declared.tuple.Tuple.{Tuple}
 use Rattle.eql_tuples.specs.Sets.{each_once}
@@ -13,10 +13,6 @@ from_to items first last = take (last + 1 - first) (drop first items)
 -- the stretch of a tuple
 abbrev pub stretch : {A : Type 0} → List A → Tuple → List A
 stretch items t = from_to items t.first t.last
-
--- the positions of a tuple's stretch
-abbrev pub positions : Tuple → List ℕ
-positions t = range_with_len t.first (t.last + 1 - t.first)
 
 -- the stretch lies on a level of so many items, and has one item at least
 abbrev pub fits_in : ℕ → Tuple → Bool

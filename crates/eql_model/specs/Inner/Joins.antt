@@ -4,7 +4,8 @@ use Rattle.std.specs.List.{list_all, list_any}
 use Rattle.bundle_state.specs.Bundle.{BundleParts}
 use Rattle.hier_closure.specs.Dominance.{closure_of}
 use Rattle.eql_tuples.specs.declared.tuple.Tuple.{Tuple}
-use Rattle.eql_tuples.specs.Tuples.{positions, fits_in, follows, both, left_with}
+use Rattle.eql_tuples.specs.Inner.Stretches.{positions}
+use Rattle.eql_tuples.specs.Tuples.{fits_in, follows, both, left_with}
 use Rattle.eql_model.specs.declared.joins.Join.{Join}
 use Rattle.eql_model.specs.declared.joins.Join.TheVariants.{Sequence, Dominance}
 
