@@ -3,7 +3,7 @@ use Rattle.std.proofs.Common.{◌≡◌, ℕ, List, [], ◌∷◌, Some, option_
 use Rattle.level_items.specs.declared.items.Item.{Item}
 use Rattle.level_items.specs.Levels.{first_of, last_of}
 use Rattle.level_items.specs.Times.{first_sample, last_sample}
-use Rattle.eql_model.specs.Rows.{end_to_end}
+use Rattle.eql_rows.specs.Rows.{end_to_end}
 use Rattle.eql_laws.specs.Laws.{EndToEndIsFirstToLast}
 
 -- from the first item of a list on, up to its last one

@@ -20,10 +20,11 @@ use Rattle.bundle_state.specs.Bundle.{BundleParts}
 use Rattle.bundle_state.specs.Built.{FitsConfig, form_of, form_asked}
 use Rattle.bundle_state.specs.Valid.{KeepsBundleRules}
 use Rattle.eql_resolve.specs.Asked.{AskedParts}
-use Rattle.eql_model.specs.declared.tuple.Span.{Span}
-use Rattle.eql_model.specs.declared.row.Row.{Row}
+use Rattle.eql_rows.specs.declared.span.Span.{Span}
+use Rattle.eql_rows.specs.declared.row.Row.{Row}
 use Rattle.eql_model.specs.Results.{results}
-use Rattle.eql_model.specs.Rows.{kind_of, items_of, end_to_end, least, greatest, extent, items_below, samples_of, start_of, end_of, row_of, rows, segment_list}
+use Rattle.eql_rows.specs.Rows.{kind_of, items_of, end_to_end, least, greatest, extent, start_of, end_of}
+use Rattle.eql_model.specs.Rows.{items_below, samples_of, row_of, rows, segment_list}
 use Rattle.eql_laws.specs.Laws.{IsNotPast, GoesForward, IsBundleOf, RowsGoForward, SegmentListsGoForward}
 
 -- ---- microseconds

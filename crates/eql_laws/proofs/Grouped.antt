@@ -7,12 +7,13 @@ use Rattle.std.specs.BTreeMap.{is_at}
 use Rattle.db_config.specs.declared.parts.ConfigParts.{ConfigParts}
 use Rattle.bundle_state.specs.Bundle.{BundleParts}
 use Rattle.eql_resolve.specs.Asked.{AskedQuery, sequence, is_marked, mark_place, first_place, shown_place}
-use Rattle.eql_model.specs.declared.tuple.Tuple.{Tuple}
-use Rattle.eql_model.specs.Sets.{tuple_cmp, each_once}
-use Rattle.eql_model.specs.Tuples.{follows, both, pairs_with, joined}
+use Rattle.eql_tuples.specs.declared.tuple.Tuple.{Tuple}
+use Rattle.eql_tuples.specs.Sets.{tuple_cmp, each_once}
+use Rattle.eql_tuples.specs.Tuples.{follows, both, pairs_with, joined}
 use Rattle.eql_model.specs.Meaning.{tuples}
-use Rattle.eql_model.specs.Results.{shown, span_at}
-use Rattle.eql_model.proofs.Members.{joined_any, has_once, same_once}
+use Rattle.eql_tuples.specs.Shown.{shown}
+use Rattle.eql_rows.specs.Spans.{span_at}
+use Rattle.eql_tuples.proofs.Members.{joined_any, has_once, same_once}
 use Rattle.eql_laws.specs.Laws.{BracketsAreFree}
 
 -- ---- of three, the first that is there

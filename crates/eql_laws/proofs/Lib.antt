@@ -1,7 +1,11 @@
-mod Members
-mod Terms
-mod Parts
-mod Grouped
+mod Checkable
+mod Covered
+mod Edges
 mod Ends
 mod Forward
-mod Covered
+mod Grouped
+mod Members
+mod Mirrored
+mod Opposite
+mod Parts
+mod Terms

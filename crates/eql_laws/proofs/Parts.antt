@@ -18,14 +18,17 @@ use Rattle.bundle_state.specs.Bundle.{BundleParts}
 use Rattle.hier_closure.specs.Dominance.{ids_at}
 use Rattle.eql_resolve.specs.Asked.{AskedQuery, terms, sequence, dominance, is_marked_term, is_marked, mark_place, first_place, shown_place, level_of}
 use Rattle.eql_resolve.proofs.Marks.{mark_some}
-use Rattle.eql_model.specs.declared.tuple.Tuple.{Tuple}
-use Rattle.eql_model.specs.declared.tuple.Span.{Span}
-use Rattle.eql_model.specs.Sets.{tuple_cmp, has, each_once}
-use Rattle.eql_model.specs.Tuples.{follows, both, left_with, one_covers, joined}
+use Rattle.eql_tuples.specs.declared.tuple.Tuple.{Tuple}
+use Rattle.eql_rows.specs.declared.span.Span.{Span}
+use Rattle.eql_tuples.specs.Sets.{tuple_cmp, has, each_once}
+use Rattle.eql_tuples.specs.Tuples.{follows, both, left_with, joined}
+use Rattle.eql_model.specs.Covers.{one_covers}
 use Rattle.eql_model.specs.Meaning.{meets_all, single, tuples}
-use Rattle.eql_model.specs.Results.{marked_item, shown, span_at, results}
-use Rattle.eql_model.proofs.Fitting.{all_joined}
-use Rattle.eql_model.proofs.Members.{joined_any, has_once, same_tuple, tuples_total}
+use Rattle.eql_tuples.specs.Shown.{marked_item, shown}
+use Rattle.eql_rows.specs.Spans.{span_at}
+use Rattle.eql_model.specs.Results.{results}
+use Rattle.eql_tuples.proofs.AllOf.{all_joined}
+use Rattle.eql_tuples.proofs.Members.{joined_any, has_once, same_tuple, tuples_total}
 use Rattle.eql_model.proofs.Shown.{singles_marks}
 use Rattle.eql_laws.specs.Laws.{AreAmong, marked_part, DominanceSelects, MarkedPartSelects}
 use Rattle.eql_laws.proofs.Members.{in_map, any_at, any_hit}

@@ -7,9 +7,11 @@ use Rattle.level_items.specs.Levels.{items_at}
 use Rattle.db_config.specs.declared.parts.ConfigParts.{ConfigParts}
 use Rattle.bundle_state.specs.Bundle.{BundleParts}
 use Rattle.eql_resolve.specs.Asked.{AskedTerm, terms, is_marked_term, is_on, term_level, level_of, AreOnOneLevel, shown_place}
-use Rattle.eql_model.specs.Sets.{each_once}
+use Rattle.eql_tuples.specs.Sets.{each_once}
 use Rattle.eql_model.specs.Meaning.{meets, meets_all, single, tuples}
-use Rattle.eql_model.specs.Results.{shown, span_at, stretches, results}
+use Rattle.eql_tuples.specs.Shown.{shown}
+use Rattle.eql_rows.specs.Spans.{span_at}
+use Rattle.eql_model.specs.Results.{stretches, results}
 use Rattle.eql_laws.specs.Laws.{HaveSameTerms, OrderIsFree}
 use Rattle.eql_laws.proofs.Members.{here, all_at, same_all, same_any}
 

@@ -1,26 +1,75 @@
 -- What a user can check of the tuples, results and rows of queries that go together (EMU-SDMS Manual, "The EMU
--- Query Language (EQL)": conjunction, sequence, domination, position and count functions, the columns of a
--- segment list), each law said by itself.
-use Rattle.std.specs.Prelude.{◌≡◌, ◌≤◌, ◌<◌, ◌↔◌, not, ℕ, Bool, true, false, List, [], length, filter, All, Contains, Option, Some, None, if◌then◌else◌}
+-- Query Language (EQL)": simple queries, conjunction, sequence, domination, position and count functions, the
+-- columns of a segment list), each law said by itself.
+use Rattle.std.specs.Prelude.{◌≡◌, ◌≤◌, ◌<◌, ◌↔◌, not, ℕ, Bool, true, false, List, [], length, filter, All, Contains, Option, Some, None, if◌then◌else◌, ◌∷◌, ◌++◌, ◌&&◌, ◌||◌, ◌+◌}
 use Rattle.level_items.specs.declared.items.Item.{Item}
-use Rattle.level_items.specs.Levels.{first_of, last_of}
+use Rattle.level_items.specs.Levels.{first_of, last_of, items_at}
 use Rattle.level_items.specs.Times.{first_sample, last_sample}
 use Rattle.db_config.specs.declared.parts.AttributePlace.{AttributePlace}
 use Rattle.db_config.specs.declared.parts.ConfigParts.{ConfigParts}
 use Rattle.bundle_state.specs.Bundle.{BundleParts}
 use Rattle.bundle_state.specs.Built.{FitsConfig}
 use Rattle.bundle_state.specs.Valid.{KeepsBundleRules}
-use Rattle.hier_closure.specs.Dominance.{ids_at}
-use Rattle.eql_syntax.specs.declared.query.Compare.TheVariants.{Eq}
+use Rattle.hier_closure.specs.Dominance.{ids_at, dominates}
+use Rattle.eql_syntax.specs.declared.query.Compare.TheVariants.{Eq, Ne, Lt, Le, Gt, Ge}
 use Rattle.eql_syntax.specs.declared.query.Place.{Place}
-use Rattle.eql_syntax.specs.declared.query.Place.TheVariants.{Start, End}
-use Rattle.eql_resolve.specs.Asked.{AskedTerm, number, AskedQuery, terms, sequence, dominance, AskedParts, is_marked, shown_place, AreOnOneLevel}
-use Rattle.eql_model.specs.declared.tuple.Span.{Span}
-use Rattle.eql_model.specs.declared.row.Row.{Row}
+use Rattle.eql_syntax.specs.declared.query.Place.TheVariants.{Start, End, Medial}
+use Rattle.eql_resolve.specs.Asked.{AskedTerm, number, AskedQuery, terms, sequence, dominance, AskedParts, is_marked, shown_place, AreOnOneLevel, test, position}
+use Rattle.eql_rows.specs.declared.span.Span.{Span}
+use Rattle.eql_rows.specs.declared.row.Row.{Row}
 use Rattle.eql_model.specs.Positions.{below, makes_stand}
 use Rattle.eql_model.specs.Meaning.{meets, tuples}
 use Rattle.eql_model.specs.Results.{stretches, results}
-use Rattle.eql_model.specs.Rows.{end_to_end, row_of, segment_list}
+use Rattle.eql_rows.specs.Rows.{end_to_end}
+use Rattle.eql_model.specs.Rows.{row_of, segment_list, rows}
+use Rattle.std.specs.List.{list_any}
+use Rattle.eql_syntax.specs.declared.query.Op.{Op}
+use Rattle.eql_syntax.specs.declared.query.Op.TheVariants.{Is, IsNot, Like, NotLike}
+use Rattle.eql_syntax.specs.declared.query.Compare.{Compare}
+use Rattle.eql_tuples.specs.Sets.{has}
+use Rattle.eql_model.specs.Labels.{stands_for}
+use Rattle.eql_tuples.specs.Shown.{bare}
+
+-- ---- label tests
+
+-- the operator that finds what another one does not: `!=` for `==`, `!~` for `=~`
+abbrev pub opposite : Op → Op
+opposite Is = IsNot
+opposite IsNot = Is
+opposite Like = NotLike
+opposite NotLike = Like
+
+-- an item meets exactly one of a label test and its opposite
+abbrev pub TestsAreOpposite : Type 0
+TestsAreOpposite =
+    (c : ConfigParts) (b : BundleParts) (marked : Bool) (place : AttributePlace) (op : Op)
+    (labels : List (List ℕ)) (item : Item) →
+    meets c b (test marked place (opposite op) labels) item ≡ not (meets c b (test marked place op labels) item)
+
+-- each item of a level is among the tuples of exactly one of a label test and its opposite
+abbrev pub QueriesAreOpposite : Type 0
+QueriesAreOpposite =
+    (c : ConfigParts) (b : BundleParts) (place : AttributePlace) (op : Op) (labels : List (List ℕ)) (at : ℕ) →
+    at < length (items_at b.levels place.level) →
+    has (tuples c b (terms (test false place (opposite op) labels ∷ []))) (bare at at)
+    ≡ not (has (tuples c b (terms (test false place op labels ∷ []))) (bare at at))
+
+-- a group of labels finds what its values find that are written out, where no value names a group
+abbrev pub GroupsAreTheirValues : Type 0
+GroupsAreTheirValues =
+    (c : ConfigParts) (b : BundleParts) (marked : Bool) (place : AttributePlace) (name : List ℕ)
+    (values : List (List ℕ)) (item : Item) → stands_for c place name ≡ values →
+    All (λ value. stands_for c place value ≡ value ∷ []) values →
+    meets c b (test marked place Is (name ∷ [])) item ≡ meets c b (test marked place Is values) item
+
+-- an item is found by some of two lists of labels exactly where it is found by both together: so neither
+-- their order nor a label that stands twice changes what is found
+abbrev pub LabelsAreAlternatives : Type 0
+LabelsAreAlternatives =
+    (c : ConfigParts) (b : BundleParts) (marked : Bool) (place : AttributePlace)
+    (labels others : List (List ℕ)) (item : Item) →
+    meets c b (test marked place Is (labels ++ others)) item
+    ≡ (meets c b (test marked place Is labels) item || meets c b (test marked place Is others) item)
 
 -- ---- conjunctions
 
@@ -63,6 +112,15 @@ MarkedPartSelects =
     AreAmong (results c b (sequence p q)) (results c b (marked_part p q))
     × AreAmong (results c b (dominance p q)) (results c b (marked_part p q))
 
+-- ---- dominance
+
+-- a dominance has the same results as the one with its two parts in each other's place, where one of
+-- the two parts has the mark: `[A == a ^ #B == b]` and `[#B == b ^ A == a]`
+abbrev pub MirrorsAgree : Type 0
+MirrorsAgree =
+    (c : ConfigParts) (b : BundleParts) (p q : AskedQuery) →
+    is_marked p ≡ not (is_marked q) → results c b (dominance p q) ≡ results c b (dominance q p)
+
 -- ---- sequences
 
 -- a sequence of three parts has the same tuples and the same results wherever its inner brackets stand
@@ -73,6 +131,40 @@ BracketsAreFree =
     × (results c b (sequence (sequence p q) r) ≡ results c b (sequence p (sequence q r)))
 
 -- ---- positions
+
+-- the items of a level, by their ids, that dominate an item
+abbrev pub above : BundleParts → ℕ → Item → List ℕ
+above b upper item = filter (λ a. dominates b.links a item.id.0) (ids_at b.levels upper)
+
+-- an item meets the test of its place below the items of an upper level with 1 (true) or with 0 (false)
+abbrev pub is_placed : ConfigParts → BundleParts → ℕ → AttributePlace → Item → Place → Bool → Bool
+is_placed c b upper lower item place wanted = meets c b (position false place upper lower wanted) item
+
+-- under one item at most, an item that is the first or the last is not between the two: where it meets
+-- `Start(..) == 1` it meets `Medial(..) == 0` and not `Medial(..) == 1`, and so where it meets `End(..) == 1`
+abbrev pub EdgesAreNotMedial : Type 0
+EdgesAreNotMedial =
+    (c : ConfigParts) (b : BundleParts) (upper : ℕ) (lower : AttributePlace) (item : Item) →
+    let placed = is_placed c b upper lower item in
+    length (above b upper item) ≤ 1 →
+    (placed Start true ≡ true → (placed Medial false ≡ true) × (placed Medial true ≡ false))
+    × (placed End true ≡ true → (placed Medial false ≡ true) × (placed Medial true ≡ false))
+
+-- under one item at most, an item meets `Medial(..) == 0` exactly where it is the first or the last
+abbrev pub MedialIsNoEdge : Type 0
+MedialIsNoEdge =
+    (c : ConfigParts) (b : BundleParts) (upper : ℕ) (lower : AttributePlace) (item : Item) →
+    let placed = is_placed c b upper lower item in
+    length (above b upper item) ≤ 1 → placed Medial false ≡ (placed Start true || placed End true)
+
+-- an item that some item of the upper level dominates meets one of the tests with 1 and with 0, and an
+-- item that none dominates meets neither
+abbrev pub PlacesAreToldBelow : Type 0
+PlacesAreToldBelow =
+    (c : ConfigParts) (b : BundleParts) (upper : ℕ) (lower : AttributePlace) (item : Item) (place : Place) →
+    let placed = is_placed c b upper lower item place in
+    (0 < length (above b upper item) → placed true ≡ not (placed false))
+    × (length (above b upper item) ≡ 0 → (placed true ≡ false) × (placed false ≡ false))
 
 -- how many items of a lower level an item dominates
 abbrev pub count_below : BundleParts → ℕ → Item → ℕ
@@ -98,6 +190,24 @@ OneIsBothEnds =
     KeepsBundleRules b → 0 < count_below b lower item →
     (meets c b (number marked upper lower Eq 1) item ≡ true)
     ↔ (standing b lower Start item ≡ standing b lower End item)
+
+-- ---- numbers
+
+-- an item meets one of `Num(..) < n`, `== n` and `> n`, and no two of them; `!=`, `>=` and `<=` are the
+-- opposites of `==`, `<` and `>`
+abbrev pub NumbersCompare : Type 0
+NumbersCompare =
+    (c : ConfigParts) (b : BundleParts) (marked : Bool) (upper : AttributePlace) (lower n : ℕ) (item : Item) →
+    let met : Compare → Bool = λ how. meets c b (number marked upper lower how n) item in
+    (met Ne ≡ not (met Eq)) × (met Ge ≡ not (met Lt)) × (met Le ≡ not (met Gt))
+    × (met Eq ≡ (met Le && met Ge)) × ((met Lt && met Gt) ≡ false)
+
+-- an item meets `Num(..) == 0` exactly where it dominates no item of the lower level
+abbrev pub ZeroIsNone : Type 0
+ZeroIsNone =
+    (c : ConfigParts) (b : BundleParts) (marked : Bool) (upper : AttributePlace) (lower : ℕ) (item : Item) →
+    meets c b (number marked upper lower Eq 0) item
+    ≡ not (list_any (dominates b.links item.id.0) (ids_at b.levels lower))
 
 -- ---- rows
 
@@ -136,3 +246,10 @@ abbrev pub SegmentListsGoForward : Type 0
 SegmentListsGoForward =
     (c : ConfigParts) (bundles : List BundleParts) (a : AskedParts) →
     All (IsBundleOf c) bundles → All GoesForward (segment_list c bundles a)
+
+-- a bundle that is put in or taken out changes no row of the others, nor their order
+abbrev pub BundlesKeepTheirRows : Type 0
+BundlesKeepTheirRows =
+    (c : ConfigParts) (before behind : List BundleParts) (b : BundleParts) (a : AskedParts) →
+    (segment_list c (before ++ behind) a ≡ segment_list c before a ++ segment_list c behind a)
+    × (segment_list c (before ++ b ∷ behind) a ≡ segment_list c before a ++ (rows c b a ++ segment_list c behind a))

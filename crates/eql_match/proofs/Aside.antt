@@ -11,12 +11,13 @@ use Rattle.bundle_state.specs.Valid.{KeepsBundleRules}
 use Rattle.db_config.specs.Above.{is_above}
 use Rattle.hier_closure.specs.Dominance.{ids_at, closure_of}
 use Rattle.hier_closure.proofs.Alike.{rows_aside}
-use Rattle.eql_model.specs.declared.tuple.Tuple.{Tuple}
-use Rattle.eql_model.specs.Inner.Joins.{bit_at, is_under, bits_cover, positions}
+use Rattle.eql_tuples.specs.declared.tuple.Tuple.{Tuple}
+use Rattle.eql_model.specs.Inner.Joins.{bit_at, is_under, bits_cover}
+use Rattle.eql_tuples.specs.Inner.Stretches.{positions}
+use Rattle.eql_tuples.specs.Tuples.{fits_in, left_with, pairs_with, joined}
 use Rattle.eql_model.specs.Meaning.{LieOn}
 use Rattle.level_items.specs.Levels.{items_at}
-use Rattle.eql_model.specs.Sets.{is_over, put_all}
-use Rattle.eql_model.specs.Tuples.{fits_in, left_with, pairs_with, joined}
+use Rattle.eql_tuples.specs.Sets.{is_over, put_all}
 use Rattle.eql_match.specs.Inner.Ways.{with_left, covering_pairs, covered_pairs}
 
 -- ---- nothing on one side

@@ -17,14 +17,15 @@ use Rattle.db_config.specs.declared.parts.ConfigParts.{ConfigParts}
 use Rattle.bundle_state.specs.Bundle.{BundleParts}
 use Rattle.hier_closure.specs.Dominance.{ids_at}
 use Rattle.eql_resolve.specs.Asked.{AskedQuery, terms, sequence, dominance, is_marked_term, level_of}
-use Rattle.eql_model.specs.declared.tuple.Tuple.{Tuple}
-use Rattle.eql_model.specs.Results.{bare, shown}
-use Rattle.eql_model.specs.Sets.{each_once, is_over, tuple_cmp}
-use Rattle.eql_model.specs.Inner.Sets.{GivesSet}
-use Rattle.eql_model.specs.Tuples.{follows, both, left_with, one_covers, pairs_with}
+use Rattle.eql_tuples.specs.declared.tuple.Tuple.{Tuple}
+use Rattle.eql_tuples.specs.Shown.{bare, shown}
+use Rattle.eql_tuples.specs.Sets.{each_once, is_over, tuple_cmp}
+use Rattle.eql_tuples.specs.Inner.Sets.{GivesSet}
+use Rattle.eql_tuples.specs.Tuples.{follows, both, left_with, pairs_with}
+use Rattle.eql_model.specs.Covers.{one_covers}
 use Rattle.eql_model.specs.Meaning.{has_too_many, meets_all, tuples}
 use Rattle.level_items.specs.Levels.{items_at}
-use Rattle.eql_model.proofs.Members.{once_is, once_sorted}
+use Rattle.eql_tuples.proofs.Members.{once_is, once_sorted}
 use Rattle.eql_match.specs.Inner.Shown.{is_bare}
 use Rattle.eql_match.proofs.Order.{single_at, singles_from, From}
 

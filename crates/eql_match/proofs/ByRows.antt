@@ -14,19 +14,21 @@ use Rattle.std.proofs.lemmas.Option.{slice_get_past}
 use Rattle.emu_names.specs.declared.limits.TheConstants.{BUNDLE_ITEMS}
 use Rattle.bundle_state.specs.Bundle.{BundleParts}
 use Rattle.hier_closure.specs.Dominance.{ids_at, closure_of}
-use Rattle.eql_model.specs.declared.tuple.Tuple.{Tuple}
-use Rattle.eql_model.specs.Inner.Flags.{flag_at}
-use Rattle.eql_model.specs.Inner.Joins.{bit_at, bits_cover, is_under, positions}
+use Rattle.eql_tuples.specs.declared.tuple.Tuple.{Tuple}
+use Rattle.eql_rows.specs.Inner.Flags.{flag_at}
+use Rattle.eql_model.specs.Inner.Joins.{bit_at, bits_cover, is_under}
+use Rattle.eql_tuples.specs.Inner.Stretches.{positions}
+use Rattle.eql_tuples.specs.Tuples.{fits_in, follows, both, left_with, pairs_with, joined}
 use Rattle.eql_model.specs.Meaning.{single}
-use Rattle.eql_model.specs.Sets.{tuple_cmp, each_once, is_over}
-use Rattle.eql_model.specs.Inner.Sets.{GivesSet}
-use Rattle.eql_model.specs.Tuples.{fits_in, follows, both, left_with, one_covers, pairs_with, joined}
+use Rattle.eql_tuples.specs.Sets.{tuple_cmp, each_once, is_over}
+use Rattle.eql_tuples.specs.Inner.Sets.{GivesSet}
+use Rattle.eql_model.specs.Covers.{one_covers}
 use Rattle.eql_model.proofs.Covers.{dominance_is}
-use Rattle.eql_model.proofs.Members.{once_is, once_sorted, joined_has, same_sorted}
-use Rattle.eql_model.proofs.Walk.{none_among, range_split}
+use Rattle.eql_tuples.proofs.Members.{once_is, once_sorted, joined_has, same_sorted}
+use Rattle.eql_rows.proofs.Walk.{none_among, range_split}
 use Rattle.eql_match.specs.Inner.Found.{above_some, followed, is_above_some, is_below_some, items_of, neighbours, with_below, AreDominant}
 use Rattle.eql_match.proofs.Bare.{less_by_first}
-use Rattle.eql_match.proofs.Standing.{flag_in}
+use Rattle.eql_columns.proofs.Standing.{flag_in}
 use Rattle.eql_match.proofs.Order.{From}
 
 -- ---- tuples of places, in order

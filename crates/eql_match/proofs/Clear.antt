@@ -7,12 +7,12 @@ use Rattle.std.proofs.lemmas.List.{length-replicate}
 use Rattle.std.proofs.lemmas.Option.{unwrap_or-slice_get}
 use Rattle.emu_names.specs.declared.shortage.Memory.{Memory}
 use Rattle.lane_bits.specs.Inner.Row.{IsFirst}
-use Rattle.eql_model.specs.Inner.Flags.{flag_at}
+use Rattle.eql_rows.specs.Inner.Flags.{flag_at}
 use Rattle.eql_model.specs.Inner.Joins.{bit_at}
-use Rattle.eql_model.proofs.Walk.{flag_is}
+use Rattle.eql_rows.proofs.Walk.{flag_is}
 use Rattle.eql_match.specs.Inner.Found.{is_above_some, is_below_some, AreDominant, IsClear}
 use Rattle.eql_match.proofs.Steps.{none_any, and_clear, past_flag}
-use Rattle.eql_match.proofs.Tests.{no_first}
+use Rattle.eql_columns.proofs.Tests.{no_first}
 
 pub first_none : (row : List Bool) (first : Option ℕ) → IsFirst row first → is_some first ≡ false → IsClear row
 first_none row first is none k = elim (cases_lt k (length row)) [

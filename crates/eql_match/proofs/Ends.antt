@@ -7,9 +7,9 @@ use Rattle.std.proofs.lemmas.List.{append-nil}
 use Rattle.std.proofs.lemmas.List.Elements.{filter-append}
 use Rattle.std.proofs.lemmas.Option.{slice_get_past, slice_get_within}
 use Rattle.lane_bits.specs.Inner.Row.{NoneWhere, IsLast}
-use Rattle.eql_model.specs.Inner.Flags.{flag_at}
-use Rattle.eql_model.specs.declared.tuple.Tuple.{Tuple}
-use Rattle.eql_model.proofs.Walk.{none_among, range_split}
+use Rattle.eql_rows.specs.Inner.Flags.{flag_at}
+use Rattle.eql_tuples.specs.declared.tuple.Tuple.{Tuple}
+use Rattle.eql_rows.proofs.Walk.{none_among, range_split}
 
 -- no place behind the m-th has a flag
 none_behind : (q : ℕ → Bool) (m k : ℕ) → m ≤ k → ((i : ℕ) → m ≤ i → q i ≡ false) →

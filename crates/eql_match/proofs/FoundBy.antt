@@ -6,14 +6,15 @@ use Rattle.bundle_state.specs.Bundle.{BundleParts}
 use Rattle.bundle_state.specs.Valid.{KeepsBundleRules}
 use Rattle.hier_closure.specs.Dominance.{ids_at, closure_of}
 use Rattle.eql_resolve.specs.Asked.{AskedQuery, AskedTerm, terms, sequence, dominance, is_marked, level_of}
-use Rattle.eql_model.specs.declared.tuple.Tuple.{Tuple}
-use Rattle.eql_model.specs.declared.faults.MatchFault.{MatchFault}
-use Rattle.eql_model.specs.declared.faults.MatchFault.TheVariants.{TooManyTuples, Memory}
+use Rattle.eql_tuples.specs.declared.tuple.Tuple.{Tuple}
+use Rattle.eql_tuples.specs.declared.faults.MatchFault.{MatchFault}
+use Rattle.eql_tuples.specs.declared.faults.MatchFault.TheVariants.{TooManyTuples, Memory}
 use Rattle.eql_model.specs.Meaning.{has_too_many, singles, tuples}
 use Rattle.level_items.specs.Levels.{items_at}
-use Rattle.eql_model.specs.Sets.{is_over}
-use Rattle.eql_model.specs.Inner.Sets.{GivesSet}
-use Rattle.eql_model.specs.Tuples.{follows, both, left_with, one_covers, joined}
+use Rattle.eql_tuples.specs.Sets.{is_over}
+use Rattle.eql_tuples.specs.Inner.Sets.{GivesSet}
+use Rattle.eql_tuples.specs.Tuples.{follows, both, left_with, joined}
+use Rattle.eql_model.specs.Covers.{one_covers}
 use Rattle.eql_model.proofs.Between.{ids_count}
 use Rattle.eql_model.proofs.Fitting.{conjunction_finds}
 use Rattle.eql_match.specs.Inner.Found.{followed, items_of, tuples_in, AreDominant, AreFoundFor, FindsAll, IsRowOf, IsShort}

@@ -8,12 +8,14 @@ use Rattle.db_config.specs.declared.parts.ConfigParts.{ConfigParts}
 use Rattle.bundle_state.specs.Bundle.{BundleParts}
 use Rattle.eql_resolve.specs.Asked.{AskedQuery, first_place, is_marked, mark_place, shown_place}
 use Rattle.eql_resolve.proofs.Marks.{mark_some}
-use Rattle.eql_model.specs.declared.tuple.Span.{Span}
-use Rattle.eql_model.specs.Inner.Flags.{flag_at}
+use Rattle.eql_rows.specs.declared.span.Span.{Span}
+use Rattle.eql_rows.specs.Inner.Flags.{flag_at}
 use Rattle.eql_model.specs.Meaning.{has_too_many, single}
-use Rattle.eql_model.specs.Results.{bare, results, shown, span_at}
-use Rattle.eql_model.specs.Inner.Results.{row_spans}
-use Rattle.eql_model.specs.Sets.{each_once}
+use Rattle.eql_tuples.specs.Shown.{bare, shown}
+use Rattle.eql_model.specs.Results.{results}
+use Rattle.eql_rows.specs.Spans.{span_at}
+use Rattle.eql_rows.specs.Inner.Spans.{row_spans}
+use Rattle.eql_tuples.specs.Sets.{each_once}
 use Rattle.eql_match.specs.Inner.Found.{items_of, AreFoundFor}
 use Rattle.eql_match.specs.Inner.Shown.{is_bare}
 use Rattle.eql_match.specs.declared.found.Found.TheVariants.{Items}

@@ -1,7 +1,5 @@
-pub mod Added
 pub mod Aside
 pub mod Bare
-pub mod Bits
 pub mod ByRows
 pub mod Clear
 mod Ends
@@ -12,7 +10,5 @@ pub mod Near
 pub mod Order
 pub mod Passes
 pub mod RowsBetween
-pub mod Standing
 pub mod Steps
-pub mod Tests
 pub use Rattle.eql_model.proofs as of_eql_model

@@ -11,9 +11,9 @@ use Rattle.std.proofs.lemmas.List.Elements.{All-head, All-tail, All-filter, All-
 use Rattle.std.proofs.lemmas.List.Folds.{list_any-append}
 use Rattle.std.proofs.lemmas.Option.{slice_get_within, get_or_from_slice_get, unwrap_or-slice_get}
 use Rattle.lane_bits.specs.Inner.Row.{NoneWhere, IsFirst, IsLast}
-use Rattle.eql_model.specs.declared.tuple.Tuple.{Tuple}
-use Rattle.eql_model.specs.Inner.Flags.{flag_at}
-use Rattle.eql_model.specs.Tuples.{fits_in, pairs_with}
+use Rattle.eql_tuples.specs.declared.tuple.Tuple.{Tuple}
+use Rattle.eql_rows.specs.Inner.Flags.{flag_at}
+use Rattle.eql_tuples.specs.Tuples.{fits_in, pairs_with}
 use Rattle.eql_model.specs.Inner.Joins.{bit_at, is_under, bits_cover}
 use Rattle.eql_match.specs.declared.ways.Way.{Way}
 use Rattle.eql_match.specs.declared.ways.Way.TheVariants.{Behind, Covers, CoversLeft}

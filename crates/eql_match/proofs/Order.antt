@@ -15,12 +15,13 @@ use Rattle.db_config.specs.declared.parts.ConfigParts.{ConfigParts}
 use Rattle.bundle_state.specs.Bundle.{BundleParts}
 use Rattle.hier_closure.specs.Dominance.{ids_at}
 use Rattle.eql_resolve.specs.Asked.{AskedQuery, terms, sequence, dominance, is_marked_term, level_of}
-use Rattle.eql_model.specs.declared.tuple.Tuple.{Tuple}
-use Rattle.eql_model.specs.Sets.{tuple_cmp}
-use Rattle.eql_model.specs.Tuples.{follows, both, left_with, one_covers, pairs_with}
+use Rattle.eql_tuples.specs.declared.tuple.Tuple.{Tuple}
+use Rattle.eql_tuples.specs.Sets.{tuple_cmp}
+use Rattle.eql_tuples.specs.Tuples.{follows, both, left_with, pairs_with}
+use Rattle.eql_model.specs.Covers.{one_covers}
 use Rattle.eql_model.specs.Meaning.{meets_all, single, tuples}
 use Rattle.level_items.specs.Levels.{items_at}
-use Rattle.eql_model.proofs.Members.{once_sorted}
+use Rattle.eql_tuples.proofs.Members.{once_sorted}
 use Rattle.eql_match.specs.Inner.Ways.{Rise}
 
 -- ---- sets

@@ -7,19 +7,20 @@ use Rattle.std.proofs.lemmas.List.Elements.{All-weaker}
 use Rattle.std.proofs.lemmas.List.Folds.{list_any-append}
 use Rattle.bundle_state.specs.Bundle.{BundleParts}
 use Rattle.hier_closure.specs.Dominance.{ids_at, closure_of}
-use Rattle.eql_model.specs.declared.tuple.Tuple.{Tuple}
-use Rattle.eql_model.specs.declared.faults.MatchFault.{MatchFault}
-use Rattle.eql_model.specs.declared.faults.MatchFault.TheVariants.{TooManyTuples, Memory}
-use Rattle.eql_model.specs.Sets.{tuple_cmp, has, put_all, is_over}
-use Rattle.eql_model.specs.Inner.Sets.{GivesSet}
-use Rattle.eql_model.specs.Tuples.{fits_in, left_with, one_covers, pairs_with, joined}
+use Rattle.eql_tuples.specs.declared.tuple.Tuple.{Tuple}
+use Rattle.eql_tuples.specs.declared.faults.MatchFault.{MatchFault}
+use Rattle.eql_tuples.specs.declared.faults.MatchFault.TheVariants.{TooManyTuples, Memory}
+use Rattle.eql_tuples.specs.Sets.{tuple_cmp, has, put_all, is_over}
+use Rattle.eql_tuples.specs.Inner.Sets.{GivesSet}
+use Rattle.eql_tuples.specs.Tuples.{fits_in, left_with, pairs_with, joined}
+use Rattle.eql_model.specs.Covers.{one_covers}
 use Rattle.eql_model.specs.Inner.Joins.{bits_cover}
 use Rattle.eql_model.specs.Meaning.{LieOn}
 use Rattle.level_items.specs.Levels.{items_at}
 use Rattle.eql_model.proofs.Between.{ids_count, rows_count, rows_wide}
 use Rattle.eql_model.proofs.Covers.{dominance_is}
-use Rattle.eql_model.proofs.Gathers.{put_all_parts, over_stays}
-use Rattle.eql_model.proofs.Members.{has_once, joined_has, same_once}
+use Rattle.eql_tuples.proofs.Gathers.{put_all_parts, over_stays}
+use Rattle.eql_tuples.proofs.Members.{has_once, joined_has, same_once}
 use Rattle.eql_match.specs.Inner.Ways.{with_left, covering_pairs, covered_pairs}
 
 -- ---- members

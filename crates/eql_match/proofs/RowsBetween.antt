@@ -9,15 +9,15 @@ use Rattle.db_config.specs.Above.{is_above}
 use Rattle.bundle_state.specs.Bundle.{BundleParts}
 use Rattle.bundle_state.specs.Valid.{KeepsBundleRules}
 use Rattle.hier_closure.specs.Dominance.{closure_of}
-use Rattle.eql_model.specs.Inner.Flags.{flag_at}
+use Rattle.eql_rows.specs.Inner.Flags.{flag_at}
 use Rattle.eql_model.specs.Inner.Joins.{bit_at}
 use Rattle.level_items.specs.Levels.{items_at}
 use Rattle.eql_model.proofs.Between.{rows_count, rows_wide}
 use Rattle.eql_model.proofs.Conditions.{level_few}
 use Rattle.eql_match.specs.Inner.Found.{above_some, is_above_some, is_below_some, AreDominant}
 use Rattle.eql_match.proofs.Aside.{no_bit_aside}
-use Rattle.eql_match.proofs.Bits.{or_false}
-use Rattle.eql_match.proofs.Standing.{flag_in}
+use Rattle.eql_columns.proofs.Bits.{or_false}
+use Rattle.eql_columns.proofs.Standing.{flag_in}
 use Rattle.eql_match.proofs.Steps.{none_any}
 
 and_last : (a b : Bool) → b ≡ false → (a && b) ≡ false

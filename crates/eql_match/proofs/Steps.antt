@@ -11,12 +11,12 @@ use Rattle.std.proofs.lemmas.List.FromFn.{fill_by_all, length-map-range_with_len
 use Rattle.std.proofs.lemmas.Option.{get_or_from_slice_get, slice_get_past, slice_get_within, unwrap_or-slice_get}
 use Rattle.std.proofs.lemmas.Simd.{zip2-map, length-zip2, get_or-zip2}
 use Rattle.lane_bits.specs.Inner.Row.{IsNext}
-use Rattle.eql_model.specs.Inner.Flags.{flag_at}
+use Rattle.eql_rows.specs.Inner.Flags.{flag_at}
 use Rattle.eql_model.specs.Inner.Joins.{bit_at}
-use Rattle.eql_model.specs.declared.tuple.Tuple.{Tuple}
-use Rattle.eql_model.proofs.Walk.{range_split, same_places, one_place_more, no_flag, NextFlag, NoneFrom}
+use Rattle.eql_tuples.specs.declared.tuple.Tuple.{Tuple}
+use Rattle.eql_rows.proofs.Walk.{range_split, same_places, one_place_more, no_flag, NextFlag, NoneFrom}
 use Rattle.eql_match.specs.Inner.Found.{followed, is_above_some, neighbours, with_below}
-use Rattle.eql_match.proofs.Bits.{flags_are, or_false}
+use Rattle.eql_columns.proofs.Bits.{flags_are, or_false}
 
 -- ---- what a test finds among the first places
 

@@ -6,20 +6,21 @@ ghost use Rattle.bundle_state.specs.Built.{FitsConfig};
 ghost use Rattle.eql_resolve.specs.Sound.{IsQueryOf};
 ghost use Rattle.eql_resolve.specs.Inner.Sound.{IsResolvedBy};
 ghost use Rattle.eql_resolve.specs.Inner.View.{query_in};
-ghost use Rattle.eql_model.specs.Results.{shown};
+ghost use Rattle.eql_tuples.specs.Shown.{shown};
 ghost use Rattle.eql_model.specs.Inner.Results.{Matches};
-ghost use Rattle.eql_model.specs.Sets.{each_once, is_over, tuple_cmp};
-ghost use Rattle.eql_model.specs.Inner.Sets.{GivesSet};
+ghost use Rattle.eql_tuples.specs.Sets.{each_once, is_over, tuple_cmp};
+ghost use Rattle.eql_tuples.specs.Inner.Sets.{GivesSet};
 ghost use Rattle.eql_match.specs.Inner.Found.{AreFoundFor};
 ghost use Rattle.eql_match.specs.Inner.Shown.{is_bare};
 
 use crate::evaluate::evaluate;
 use crate::found::Found;
-use crate::matchers::Matchers;
 use bundle_index::Indexed;
 use db_config::Config;
-use eql_model::{MatchFault, Spans, Tuple, Tuples};
+use eql_columns::Matchers;
 use eql_resolve::{Asked, AskedQuery};
+use eql_rows::Spans;
+use eql_tuples::{MatchFault, Tuple, Tuples};
 use lane_bits::BitRow;
 use std::alloc::Global;
 

@@ -6,14 +6,14 @@ ghost use Rattle.eql_resolve.specs.Sound.{IsQueryOf};
 ghost use Rattle.eql_resolve.specs.Inner.View.{query_in, term_in};
 ghost use Rattle.eql_match.specs.Inner.Found.{AreFoundFor, FindsAll};
 
-use crate::conditions::{are_marked, conjunction};
+use crate::conjunction::{are_marked, conjunction};
 use crate::found::{Found, Sides, dominating, follow, side_by_side};
-use crate::matchers::Matchers;
 use crate::ways::{dominance, sequence};
 use bundle_index::Indexed;
 use db_config::Config;
-use eql_model::{MatchFault, Tuple};
+use eql_columns::Matchers;
 use eql_resolve::{AskedQuery, AskedTerm};
+use eql_tuples::{MatchFault, Tuple};
 use lane_bits::BitRow;
 use std::alloc::Global;
 

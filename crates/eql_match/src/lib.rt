@@ -3,19 +3,16 @@
 #![tactic(auto)]
 
 mod bundle;
-mod conditions;
+mod conjunction;
 mod evaluate;
 mod found;
-mod labels;
-mod matchers;
-mod patterns;
-mod positions;
 mod reach;
-mod rows;
 mod runs;
 mod ways;
 
 pub use bundle::{match_bundle, match_with};
 pub use bundle_index;
+pub use eql_columns;
 pub use eql_model;
-pub use matchers::Matchers;
+pub use eql_rows;
+pub use eql_tuples;

@@ -1,9 +1,9 @@
 //! From which item to which one the items of a stretch reach on another level.
 ghost use Rattle.std.specs.Prelude.{◌≡◌, length, true};
-ghost use Rattle.eql_model.specs.Tuples.{fits_in};
+ghost use Rattle.eql_tuples.specs.Tuples.{fits_in};
 ghost use Rattle.eql_match.specs.Inner.Reach.{Reaches, Widens};
 
-use eql_model::Tuple;
+use eql_tuples::Tuple;
 use hier_closure::Closure;
 use lane_bits::BitRow;
 

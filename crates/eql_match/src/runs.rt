@@ -3,7 +3,7 @@ ghost use Rattle.std.specs.Prelude.{◌≡◌, not, nat_lt};
 ghost use Rattle.std.specs.List.{filter};
 ghost use Rattle.eql_match.specs.Inner.Ways.{Rise};
 
-use eql_model::Tuple;
+use eql_tuples::Tuple;
 
 /// The tuples that begin at a position or behind it.
 fn begun_from(tuples: &[Tuple], low: usize) -> &[Tuple]

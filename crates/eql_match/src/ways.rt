@@ -5,9 +5,10 @@ ghost use Rattle.std.specs.List.{flat_map};
 ghost use Rattle.std.specs.Option.{option_or};
 ghost use Rattle.bundle_state.specs.Built.{FitsConfig};
 ghost use Rattle.hier_closure.specs.Dominance.{ids_at};
-ghost use Rattle.eql_model.specs.Sets.{put_all, is_over};
-ghost use Rattle.eql_model.specs.Inner.Sets.{GivesSet};
-ghost use Rattle.eql_model.specs.Tuples.{follows, both, left_with, one_covers, pairs_with, joined};
+ghost use Rattle.eql_tuples.specs.Sets.{put_all, is_over};
+ghost use Rattle.eql_tuples.specs.Inner.Sets.{GivesSet};
+ghost use Rattle.eql_tuples.specs.Tuples.{follows, both, left_with, pairs_with, joined};
+ghost use Rattle.eql_model.specs.Covers.{one_covers};
 ghost use Rattle.eql_model.specs.Meaning.{LieOn};
 ghost use Rattle.eql_match.specs.Inner.Ways.{joins, makes, covering_pairs, covered_pairs, IsOne, IsOther, ReachesAll, Rise};
 
@@ -16,7 +17,7 @@ use crate::runs::begun_within;
 use bundle_index::Indexed;
 use db_config::Config;
 use emu_names::Series;
-use eql_model::{Gathered, MatchFault, Tuple, Tuples};
+use eql_tuples::{Gathered, MatchFault, Tuple, Tuples};
 use hier_closure::Closure;
 use std::alloc::Global;
 

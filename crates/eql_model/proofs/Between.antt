@@ -15,7 +15,7 @@ use Rattle.bundle_state.specs.Bundle.{BundleParts}
 use Rattle.hier_closure.specs.Dominance.{dominates, ids_at, closure_row, closure_rows, closure_of}
 use Rattle.eql_syntax.specs.declared.query.Compare.{Compare}
 use Rattle.eql_syntax.specs.declared.query.Place.{Place}
-use Rattle.eql_model.specs.Inner.Flags.{flag_at}
+use Rattle.eql_rows.specs.Inner.Flags.{flag_at}
 use Rattle.eql_model.specs.Positions.{stands, makes_stand, has_place, has_number, compares}
 use Rattle.eql_model.specs.Inner.Bits.{row_stands, rows_place, row_counts}
 use Rattle.eql_model.proofs.MadeRows.{flag_of_map, no_item}

@@ -1,34 +1,23 @@
 -- A dominance by rows of bits is one by links.
-use Rattle.std.proofs.Common.{◌≡◌, ℕ, zero, suc, ◌+◌, ◌-◌, ◌<◌, ◌≤◌, Bool, true, false, cond, ◌||◌, ◌&&◌, List, [], ◌∷◌, ◌++◌, length, take, drop, map, get_or, refl, sym, ap, ◌∙◌, arith, nat_lt, nat_le}
+use Rattle.std.proofs.Common.{◌≡◌, ℕ, zero, suc, ◌+◌, ◌-◌, ◌<◌, ◌≤◌, Bool, true, false, cond, ◌||◌, ◌&&◌, List, [], ◌∷◌, ◌++◌, length, map, get_or, refl, sym, ap, ◌∙◌, arith, nat_lt, nat_le}
 use Rattle.std.specs.Prelude.{All}
 use Rattle.std.specs.List.{filter, flat_map, list_all, list_any, range_with_len}
 use Rattle.std.proofs.lemmas.Bool.{and_parts, leb-true, ltb-true}
-use Rattle.std.proofs.lemmas.List.{drop_more, get_or-map}
+use Rattle.std.proofs.lemmas.List.{get_or-map}
 use Rattle.std.proofs.lemmas.List.Concat.{flat_map-cons}
 use Rattle.std.proofs.lemmas.List.Elements.{All-head, All-tail}
 use Rattle.link_graph.specs.declared.link.Link.{Link}
 use Rattle.bundle_state.specs.Bundle.{BundleParts}
 use Rattle.hier_closure.specs.Dominance.{dominates, ids_at, closure_row, closure_rows}
-use Rattle.eql_model.specs.declared.tuple.Tuple.{Tuple}
-use Rattle.eql_model.specs.Sets.{each_once}
-use Rattle.eql_model.specs.Tuples.{stretch, fits_in, covers, one_covers, left_with, pairs_with, joined}
-use Rattle.eql_model.specs.Inner.Joins.{positions, bit_at, is_under, bits_cover, goes_with, makes, both_ways}
+use Rattle.eql_tuples.specs.declared.tuple.Tuple.{Tuple}
+use Rattle.eql_tuples.specs.Sets.{each_once}
+use Rattle.eql_tuples.specs.Tuples.{stretch, fits_in, left_with, pairs_with, joined}
+use Rattle.eql_tuples.specs.Inner.Stretches.{positions}
+use Rattle.eql_tuples.proofs.Stretches.{stretch_is}
+use Rattle.eql_model.specs.Covers.{covers, one_covers}
+use Rattle.eql_model.specs.Inner.Joins.{bit_at, is_under, bits_cover, goes_with, makes, both_ways}
 
 -- ---- a stretch by its positions
-
-pub taken_by : {X : Type 0} (xs : List X) (d : X) (k n : ℕ) → k + n ≤ length xs →
-    take n (drop k xs) ≡ map (λ i. get_or xs i d) (range_with_len k n)
-taken_by xs d k zero h = refl
-taken_by xs d k (suc n) h =
-    ap (take (suc n)) (drop_more xs k d (omega arith)) ∙ ap (λ ys. get_or xs k d ∷ ys) (taken_by xs d (k + 1) n (omega arith))
-
-pub stretch_is : {X : Type 0} (xs : List X) (d : X) (t : Tuple) → fits_in (length xs) t ≡ true →
-    stretch xs t ≡ map (λ i. get_or xs i d) (positions t)
-stretch_is xs d t fits =
-    let parts = and_parts (nat_le t.first t.last) (nat_lt t.last (length xs)) fits in
-    let rises : t.first ≤ t.last = leb-true t.first t.last parts.0 in
-    let within : t.last < length xs = ltb-true t.last (length xs) parts.1 in
-    taken_by xs d t.first (t.last + 1 - t.first) (omega arith)
 
 all_map : {X : Type 0} (p : X → Bool) (f : ℕ → X) (ks : List ℕ) → list_all p (map f ks) ≡ list_all (λ k. p (f k)) ks
 all_map p f [] = refl

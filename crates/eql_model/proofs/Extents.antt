@@ -1,24 +1,25 @@
 -- The samples of the items below a stretch, and the ends of a stretch.
-use Rattle.std.proofs.Common.{◌≡◌, ℕ, zero, suc, ◌+◌, ◌-◌, ◌<◌, ◌≤◌, Bool, true, ◌&&◌, List, length, take, drop, map, get_or, None, Some, sym, ap, subst, ◌∙◌, arith, nat_lt, nat_le}
-use Rattle.std.specs.Prelude.{option_map}
-use Rattle.std.specs.List.{filter, list_any, range_with_len}
+use Rattle.std.proofs.Common.{◌≡◌, ℕ, ◌+◌, ◌-◌, ◌<◌, ◌≤◌, Bool, true, ◌&&◌, List, length, take, drop, map, get_or, None, Some, sym, ap, subst, ◌∙◌, arith, nat_lt, nat_le}
+use Rattle.std.specs.List.{filter, list_any}
 use Rattle.std.specs.List.Sorted.{IsNonDecreasingBy}
 use Rattle.std.proofs.lemmas.Bool.Decides.{nat_tests}
-use Rattle.std.proofs.lemmas.List.{take-map, drop-map, get_or-map, length-map, get_or_default}
+use Rattle.std.proofs.lemmas.List.{take-map, drop-map, get_or-map, length-map}
 use Rattle.level_items.specs.declared.items.Item.{Item}
 use Rattle.level_items.specs.Levels.{ids_of, items_at}
-use Rattle.level_items.specs.Times.{first_sample, last_sample}
 use Rattle.bundle_state.specs.Bundle.{BundleParts}
 use Rattle.hier_closure.specs.Dominance.{dominates, ids_at, closure_of}
-use Rattle.eql_model.specs.declared.tuple.Span.{Span}
-use Rattle.eql_model.specs.Tuples.{from_to, stretch, fits_in}
+use Rattle.eql_rows.specs.declared.span.Span.{Span}
+use Rattle.eql_tuples.specs.Tuples.{from_to, stretch, fits_in}
 use Rattle.eql_model.specs.Inner.Joins.{is_under}
-use Rattle.eql_model.specs.Results.{bare, IsStretchIn}
-use Rattle.eql_model.specs.Rows.{items_of, items_below, is_below_some, extent, end_to_end}
+use Rattle.eql_tuples.specs.Shown.{bare}
+use Rattle.eql_rows.specs.Spans.{IsStretchIn}
+use Rattle.eql_rows.specs.Rows.{items_of, extent, end_to_end}
+use Rattle.eql_model.specs.Rows.{items_below, is_below_some}
 use Rattle.eql_model.specs.Inner.Ends.{AreEnds}
 use Rattle.eql_model.proofs.Between.{ids_are, rows_count, wide_exit}
-use Rattle.eql_model.proofs.Covers.{under_is, taken_by}
-use Rattle.eql_model.proofs.InOrder.{start, end, none_kept, extent_is}
+use Rattle.eql_model.proofs.Covers.{under_is}
+use Rattle.eql_rows.proofs.InOrder.{start, end, none_kept, extent_is}
+use Rattle.eql_rows.proofs.EndToEnd.{ends_are}
 use Rattle.eql_model.proofs.MadeRows.{no_item}
 use Rattle.eql_model.proofs.RowEnds.{under_within}
 
@@ -64,29 +65,6 @@ below_is b span time at d there here =
         ∙ stretch_ids (items_at b.levels span.level) span.first span.last
 
 -- ---- the ends of a stretch
-
-ends_along : (g : ℕ → Item) (k n : ℕ) →
-    end_to_end (map g (range_with_len k (suc n))) ≡ Some (first_sample (g k).time, last_sample (g (k + n)).time)
-ends_along g k zero = let e : k ≡ k + 0 = omega arith in ap (λ m. Some (first_sample (g k).time, last_sample (g m).time)) e
-ends_along g k (suc n) =
-    ap (option_map (λ (s : ℕ × ℕ). (first_sample (g k).time, s.1))) (ends_along g (k + 1) n)
-    ∙ (let e : k + 1 + n ≡ k + suc n = omega arith in ap (λ m. Some (first_sample (g k).time, last_sample (g m).time)) e)
-
-pub ends_are : (items : List Item) (first last : ℕ) (d : Item) → first ≤ last → last < length items →
-    end_to_end (from_to items first last)
-    ≡ Some (first_sample (get_or items first d).time, last_sample (get_or items last d).time)
-ends_are items first last d rises within =
-    let n : last + 1 - first ≡ suc (last - first) = omega arith in
-    let m : first + (last - first) ≡ last = omega arith in
-    ap end_to_end (taken_by items d first (last + 1 - first) (omega arith))
-    ∙ ap (λ k. end_to_end (map (λ i. get_or items i d) (range_with_len first k))) n
-    ∙ ends_along (λ i. get_or items i d) first (last - first)
-    ∙ ap (λ k. Some (first_sample (get_or items first d).time, last_sample (get_or items k d).time)) m
-
-pub ends_answer : (items : List Item) (first last : ℕ) (d e : Item) (f l : ℕ) → first ≤ last → last < length items →
-    f ≡ start (get_or items first d) → l ≡ end (get_or items last e) → Some (f, l) ≡ end_to_end (from_to items first last)
-ends_answer items first last d e f l rises within from to =
-    (λ i. Some (from i, (to ∙ ap end (get_or_default items last e d within)) i)) ∙ sym (ends_are items first last d rises within)
 
 -- ---- the samples of what is below a result
 

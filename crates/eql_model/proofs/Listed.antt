@@ -4,9 +4,9 @@ use Rattle.std.specs.List.{flat_map, list_any}
 use Rattle.std.proofs.Math.Seq.{drop-cons}
 use Rattle.std.proofs.lemmas.Option.{get_or_from_slice_get, slice_get_within}
 use Rattle.bundle_state.specs.Bundle.{BundleParts}
-use Rattle.eql_model.specs.declared.faults.MatchFault.{MatchFault}
-use Rattle.eql_model.specs.declared.faults.MatchFault.TheVariants.{TooManyTuples, Memory}
-use Rattle.eql_model.specs.declared.row.Row.{Row}
+use Rattle.eql_tuples.specs.declared.faults.MatchFault.{MatchFault}
+use Rattle.eql_tuples.specs.declared.faults.MatchFault.TheVariants.{TooManyTuples, Memory}
+use Rattle.eql_rows.specs.declared.row.Row.{Row}
 use Rattle.eql_model.specs.Inner.Rows.{AddsRows, GivesRows}
 
 -- what is left from a place on begins with what stands there

@@ -6,7 +6,7 @@ use Rattle.std.proofs.lemmas.Option.{unwrap_or-slice_get}
 use Rattle.level_items.specs.declared.items.Item.{Item}
 use Rattle.level_items.specs.declared.times.Time.TheVariants.{NoTime}
 use Rattle.label_match.specs.Pattern.{matches_label}
-use Rattle.eql_model.specs.Inner.Flags.{flag_at}
+use Rattle.eql_rows.specs.Inner.Flags.{flag_at}
 use Rattle.eql_model.specs.Labels.{is_as, is_matched}
 use Rattle.level_items.specs.Levels.{label_of}
 use Rattle.eql_model.specs.Inner.Labels.{matched_row}

@@ -11,10 +11,11 @@ use Rattle.std.proofs.lemmas.List.Folds.{list_any-append}
 use Rattle.std.proofs.lemmas.List.FromFn.{map-range_with_len_more}
 use Rattle.std.proofs.lemmas.Option.{get_or_from_slice_get, slice_get_within}
 use Rattle.lane_bits.specs.Inner.Row.{IsFirst, IsLast}
-use Rattle.eql_model.specs.declared.tuple.Tuple.{Tuple}
-use Rattle.eql_model.specs.Tuples.{fits_in}
+use Rattle.eql_tuples.specs.declared.tuple.Tuple.{Tuple}
+use Rattle.eql_tuples.specs.Tuples.{fits_in}
+use Rattle.eql_tuples.specs.Inner.Stretches.{positions}
 use Rattle.eql_model.specs.Inner.Ends.{AreEnds, round_both, is_under_some}
-use Rattle.eql_model.specs.Inner.Joins.{bit_at, is_under, positions}
+use Rattle.eql_model.specs.Inner.Joins.{bit_at, is_under}
 
 -- ---- tests
 

@@ -24,17 +24,21 @@ use Rattle.eql_resolve.specs.Asked.{AskedTerm, AskedQuery, terms, sequence, domi
 use Rattle.eql_resolve.specs.Sound.{IsQueryOf}
 use Rattle.eql_resolve.proofs.Kept.{shown_there, result_within}
 use Rattle.eql_resolve.proofs.Marks.{mark_some}
-use Rattle.eql_model.specs.declared.tuple.Tuple.{Tuple}
-use Rattle.eql_model.specs.declared.tuple.Span.{Span}
-use Rattle.eql_model.specs.declared.faults.MatchFault.{MatchFault}
-use Rattle.eql_model.specs.declared.faults.MatchFault.TheVariants.{TooManyTuples, Memory}
-use Rattle.eql_model.specs.Sets.{tuple_cmp, put_all, each_once, is_over}
-use Rattle.eql_model.specs.Inner.Sets.{GivesSet}
-use Rattle.eql_model.specs.Tuples.{fits_in, follows, both, left_with, one_covers}
+use Rattle.eql_tuples.specs.declared.tuple.Tuple.{Tuple}
+use Rattle.eql_rows.specs.declared.span.Span.{Span}
+use Rattle.eql_tuples.specs.declared.faults.MatchFault.{MatchFault}
+use Rattle.eql_tuples.specs.declared.faults.MatchFault.TheVariants.{TooManyTuples, Memory}
+use Rattle.eql_tuples.specs.Sets.{tuple_cmp, put_all, each_once, is_over}
+use Rattle.eql_tuples.specs.Inner.Sets.{GivesSet}
+use Rattle.eql_tuples.specs.Tuples.{fits_in, follows, both, left_with}
+use Rattle.eql_model.specs.Covers.{one_covers}
 use Rattle.eql_model.specs.Meaning.{meets_all, single, tuples, has_too_many}
-use Rattle.eql_model.specs.Results.{bare, marked_item, shown, stretches, span_at, results, IsSpanIn, AreThere}
+use Rattle.eql_tuples.specs.Shown.{bare, marked_item, shown}
+use Rattle.eql_model.specs.Results.{stretches, results}
+use Rattle.eql_rows.specs.Spans.{span_at, IsSpanIn, AreThere}
 use Rattle.eql_model.specs.Inner.Results.{Matches}
-use Rattle.eql_model.proofs.Fitting.{all_once, all_joined, tuples_fit, levels_same}
+use Rattle.eql_tuples.proofs.AllOf.{all_once, all_joined}
+use Rattle.eql_model.proofs.Fitting.{tuples_fit, levels_same}
 
 -- ---- marks lie on the level of the marked condition, and all tuples have one where there is one
 

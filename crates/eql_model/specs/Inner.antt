@@ -1,12 +1,8 @@
 pub mod Below
 pub mod Bits
 pub mod Ends
-pub mod Flags
 pub mod Joins
-pub mod Kept
 pub mod Labels
 pub mod Meaning
-pub mod Names
 pub mod Results
 pub mod Rows
-pub mod Sets

@@ -9,9 +9,10 @@ use Rattle.db_config.specs.declared.parts.ConfigParts.{ConfigParts}
 use Rattle.bundle_state.specs.Bundle.{BundleParts}
 use Rattle.hier_closure.specs.Dominance.{ids_at}
 use Rattle.eql_resolve.specs.Asked.{AskedTerm, test, position, number, AskedQuery, terms, sequence, dominance, is_marked_term, level_of}
-use Rattle.eql_model.specs.declared.tuple.Tuple.{Tuple}
-use Rattle.eql_model.specs.Sets.{is_over}
-use Rattle.eql_model.specs.Tuples.{fits_in, follows, both, left_with, one_covers, joined}
+use Rattle.eql_tuples.specs.declared.tuple.Tuple.{Tuple}
+use Rattle.eql_tuples.specs.Sets.{is_over}
+use Rattle.eql_tuples.specs.Tuples.{fits_in, follows, both, left_with, joined}
+use Rattle.eql_model.specs.Covers.{one_covers}
 use Rattle.eql_model.specs.Labels.{passes}
 use Rattle.eql_model.specs.Positions.{has_place, has_number}
 

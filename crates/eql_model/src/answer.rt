@@ -1,60 +1,18 @@
 //! The answer to a query in one bundle, worked out plainly.
-ghost use Rattle.std.specs.Prelude.{◌≡◌, ◌≤◌, IfOk, IsSome, length, map};
-ghost use Rattle.emu_names.specs.declared.limits.TheConstants.{BUNDLE_ITEMS};
-ghost use Rattle.db_config.specs.Lookups.{attribute_at};
 ghost use Rattle.bundle_state.specs.Built.{FitsConfig};
 ghost use Rattle.eql_resolve.specs.Asked.{is_marked};
 ghost use Rattle.eql_resolve.specs.Inner.Sound.{IsResolvedBy};
-ghost use Rattle.eql_resolve.specs.Inner.View.{query_in};
-ghost use Rattle.eql_model.specs.Meaning.{has_too_many, tuples};
-ghost use Rattle.eql_model.specs.Results.{span_at};
-ghost use Rattle.eql_model.specs.Inner.Results.{Matches, row_spans};
+ghost use Rattle.eql_model.specs.Inner.Results.{Matches};
 ghost use Rattle.eql_model.specs.Inner.Rows.{Answers};
 
 use crate::evaluate::evaluate;
-use crate::faults::MatchFault;
-use crate::results::{shown_once, spans_at, spans_in};
-use crate::row::SegmentList;
 use crate::rows::rows_of;
-use crate::tuple::{Spans, Tuple};
 use bundle_state::Bundle;
-use db_config::{AttributePlace, Config};
-use emu_names::Memory;
+use db_config::Config;
 use eql_resolve::Asked;
-use lane_bits::BitRow;
+use eql_rows::{SegmentList, Spans, spans_of};
+use eql_tuples::{MatchFault, shown_once};
 use std::alloc::Global;
-
-/// Stretches on the level of an attribute of the configuration. The only refusal is want of memory.
-pub fn spans_of(
-    alloc: Global,
-    config: &Config,
-    place: AttributePlace,
-    stretches: &[Tuple],
-) -> Result<Spans, Memory>
-    requires { IsSome (attribute_at place config.now.levels) }
-    ensures { IfOk result (λ made. made ≡ map (span_at place) stretches.now) }
-{
-    let levels = &config.parts().levels;
-    let _attributes = levels.get(place.level).attributes.len();
-    spans_at(alloc, place, stretches)
-}
-
-/// The items of which a row has the bit, as stretches on the level of an attribute of the configuration.
-/// The only refusal is want of memory.
-pub fn spans_of_row(
-    alloc: Global,
-    config: &Config,
-    place: AttributePlace,
-    row: &BitRow,
-) -> Result<Spans, Memory>
-    requires place { IsSome (attribute_at place config.now.levels) }
-    requires few { length row.now ≤ BUNDLE_ITEMS }
-    ensures { IfOk result (λ made. made ≡ row_spans place row.now) }
-{
-    let levels = &config.parts().levels;
-    let _attributes = levels.get(place.level).attributes.len();
-    spans_in(alloc, place, row)
-}
 
 /// The results of a query in a bundle, in order of first and last position, each once.
 ///

@@ -5,18 +5,19 @@ ghost use Rattle.emu_names.specs.declared.limits.TheConstants.{BUNDLE_ITEMS};
 ghost use Rattle.bundle_state.specs.Built.{FitsConfig};
 ghost use Rattle.eql_resolve.specs.Asked.{is_marked_term};
 ghost use Rattle.eql_resolve.specs.Inner.View.{term_in};
-ghost use Rattle.eql_model.specs.Inner.Flags.{flag_at};
+ghost use Rattle.eql_rows.specs.Inner.Flags.{flag_at};
 ghost use Rattle.eql_model.specs.Meaning.{single, singles};
 ghost use Rattle.level_items.specs.Levels.{items_at};
 ghost use Rattle.eql_model.specs.Inner.Meaning.{met_row, IsTermOn};
 
 use crate::flags::{Flags, all_at};
-use crate::terms::{items_at, term_flags};
-use crate::tuple::{Tuple, Tuples};
+use crate::terms::term_flags;
 use bundle_state::Bundle;
 use db_config::Config;
 use emu_names::{Memory, Series};
 use eql_resolve::AskedTerm;
+use eql_rows::items_at;
+use eql_tuples::{Tuple, Tuples};
 use std::alloc::Global;
 
 /// For each item of a level whether it meets a condition on that level. The only refusal is want of

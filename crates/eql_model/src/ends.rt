@@ -1,10 +1,10 @@
 //! From which place to which one the items of a stretch dominate those of another level.
 ghost use Rattle.std.specs.Prelude.{◌≡◌, false, get_or, length, true};
-ghost use Rattle.eql_model.specs.Tuples.{fits_in};
+ghost use Rattle.eql_tuples.specs.Tuples.{fits_in};
 ghost use Rattle.eql_model.specs.Inner.Ends.{AreEnds, round_both};
 ghost use Rattle.eql_model.specs.Inner.Joins.{is_under};
 
-use crate::tuple::Tuple;
+use eql_tuples::Tuple;
 use hier_closure::Closure;
 use lane_bits::BitRow;
 

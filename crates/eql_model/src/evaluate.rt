@@ -4,17 +4,16 @@ ghost use Rattle.bundle_state.specs.Built.{FitsConfig};
 ghost use Rattle.eql_resolve.specs.Asked.{AreOnOneLevel, dominance, is_marked, level_of, terms};
 ghost use Rattle.eql_resolve.specs.Sound.{IsQueryOf};
 ghost use Rattle.eql_resolve.specs.Inner.View.{query_in, term_in};
-ghost use Rattle.eql_model.specs.Inner.Sets.{GivesSet};
+ghost use Rattle.eql_tuples.specs.Inner.Sets.{GivesSet};
 ghost use Rattle.eql_model.specs.Meaning.{tuples};
 ghost use Rattle.eql_model.specs.Inner.Meaning.{Finds};
 
 use crate::conjunction::conjunction;
-use crate::faults::MatchFault;
 use crate::pairs::{covered, sequence};
-use crate::tuple::{Tuple, Tuples};
 use bundle_state::Bundle;
 use db_config::Config;
 use eql_resolve::{AskedQuery, AskedTerm};
+use eql_tuples::{MatchFault, Tuple, Tuples};
 use std::alloc::Global;
 
 /// The tuples of a conjunction on a level, of which a condition is marked or none is.

@@ -1,7 +1,7 @@
 //! Rows of flags, one flag for each item of a level.
 ghost use Rattle.std.specs.Prelude.{◌≡◌};
 ghost use Rattle.std.specs.List.{list_all, list_any};
-ghost use Rattle.eql_model.specs.Inner.Flags.{flag_at};
+ghost use Rattle.eql_rows.specs.Inner.Flags.{flag_at};
 
 use emu_names::Series;
 

@@ -2,14 +2,12 @@
 ghost use Rattle.std.specs.Prelude.{◌≡◌, ◌<◌, [], ◌∷◌, length, get_or, true, false, Err, OnOk, All};
 ghost use Rattle.std.specs.List.{flat_map};
 ghost use Rattle.std.specs.Option.{option_or};
-ghost use Rattle.eql_model.specs.Sets.{put_all, is_over};
-ghost use Rattle.eql_model.specs.Inner.Sets.{GivesSet};
-ghost use Rattle.eql_model.specs.Tuples.{fits_in, follows, joined, pairs_with};
+ghost use Rattle.eql_tuples.specs.Sets.{put_all, is_over};
+ghost use Rattle.eql_tuples.specs.Inner.Sets.{GivesSet};
+ghost use Rattle.eql_tuples.specs.Tuples.{fits_in, follows, joined, pairs_with};
 ghost use Rattle.eql_model.specs.Inner.Joins.{bit_at, is_under, bits_cover, goes_with, makes, AreWide, IsOnLeft, IsOnRight};
 
-use crate::faults::MatchFault;
-use crate::gathered::Gathered;
-use crate::tuple::{Tuple, Tuples};
+use eql_tuples::{Gathered, MatchFault, Tuple, Tuples};
 use hier_closure::Closure;
 use std::alloc::Global;
 

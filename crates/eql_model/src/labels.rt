@@ -10,19 +10,10 @@ ghost use Rattle.eql_model.specs.Inner.Labels.{matched_row};
 use crate::flags::{Flags, any_at};
 use db_config::{AttributePlace, Config};
 use emu_names::{Memory, Series, Text};
+use eql_rows::label_of;
 use label_match::{Matching, Pattern};
 use level_items::Item;
 use std::alloc::Global;
-
-/// The label of an item for an attribute of its level.
-pub fn label_of(item: &Item, attribute: usize) -> &str
-    ensures { result.now ≡ label_of attribute item.now }
-{
-    match item.labels.as_slice().get(attribute) {
-        Some(label) => label.as_str(),
-        None => "",
-    }
-}
 
 /// Whether a label is among some labels.
 fn is_among(label: &str, labels: &[Text]) -> bool

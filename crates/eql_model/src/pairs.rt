@@ -2,17 +2,17 @@
 ghost use Rattle.std.specs.Prelude.{◌≡◌, ◌<◌, length, IfOk};
 ghost use Rattle.bundle_state.specs.Built.{FitsConfig};
 ghost use Rattle.hier_closure.specs.Dominance.{ids_at};
-ghost use Rattle.eql_model.specs.Inner.Sets.{GivesSet};
-ghost use Rattle.eql_model.specs.Tuples.{both, follows, joined, left_with, one_covers};
+ghost use Rattle.eql_tuples.specs.Inner.Sets.{GivesSet};
+ghost use Rattle.eql_tuples.specs.Tuples.{both, follows, joined, left_with};
+ghost use Rattle.eql_model.specs.Covers.{one_covers};
 ghost use Rattle.eql_model.specs.Inner.Joins.{both_ways};
 ghost use Rattle.eql_model.specs.Meaning.{LieOn};
 
-use crate::faults::MatchFault;
 use crate::joins::{Join, joined};
-use crate::tuple::{Tuple, Tuples};
 use bundle_state::Bundle;
 use db_config::Config;
 use emu_names::Memory;
+use eql_tuples::{MatchFault, Tuple, Tuples};
 use hier_closure::Closure;
 use std::alloc::Global;
 

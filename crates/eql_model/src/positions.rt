@@ -3,7 +3,7 @@
 ghost use Rattle.std.specs.Prelude.{◌≡◌, ◌<◌, All, length, map, IfOk, get_or, not};
 ghost use Rattle.std.specs.List.{items_where_true, list_any, range_with_len};
 ghost use Rattle.level_items.specs.Levels.{ids_of};
-ghost use Rattle.eql_model.specs.Inner.Flags.{flag_at};
+ghost use Rattle.eql_rows.specs.Inner.Flags.{flag_at};
 ghost use Rattle.eql_model.specs.Positions.{is_first, is_last, stands, compares};
 ghost use Rattle.eql_model.specs.Inner.Bits.{row_stands, rows_place, row_counts};
 

@@ -1,6 +1,5 @@
 //! Which items meet a condition.
-ghost use Rattle.std.specs.Prelude.{◌≡◌, ◌<◌, All, length, map, true, IfOk, IsSome};
-ghost use Rattle.db_config.specs.Above.{is_above};
+ghost use Rattle.std.specs.Prelude.{◌≡◌, ◌<◌, length, map, IfOk, IsSome};
 ghost use Rattle.db_config.specs.Lookups.{attribute_at};
 ghost use Rattle.bundle_state.specs.Built.{FitsConfig};
 ghost use Rattle.hier_closure.specs.Dominance.{ids_at};
@@ -19,18 +18,10 @@ use bundle_state::Bundle;
 use db_config::{AttributePlace, Config};
 use emu_names::Memory;
 use eql_resolve::{AskedTerm, Wanted};
+use eql_rows::items_at;
 use eql_syntax::{Compare, Place};
 use hier_closure::Closure;
-use level_items::Item;
 use std::alloc::Global;
-
-/// The items of a level.
-pub fn items_at(bundle: &Bundle, level: usize) -> &[Item]
-    requires { level < length bundle.now.levels }
-    ensures { result.now ≡ items_at bundle.now.levels level }
-{
-    bundle.level(level).as_slice()
-}
 
 /// For each item of a level whether its label passes a test. The only refusal is want of memory.
 fn test_flags(

@@ -9,7 +9,7 @@ use Rattle.eql_resolve.specs.declared.faults.PrepareFault.{PrepareFault}
 use Rattle.eql_resolve.specs.Asked.{AskedParts}
 use Rattle.eql_resolve.specs.Prepared.{PreparedParts}
 use Rattle.eql_resolve.specs.Resolve.{asked}
-use Rattle.requery.specs.eql_model.declared.row.Row.{Row}
+use Rattle.requery.specs.eql_rows.declared.row.Row.{Row}
 use Rattle.requery.specs.declared.target.Requery.{Requery}
 use Rattle.requery.specs.Target.{ReachedParts}
 use Rattle.requery.specs.Asks.{reached}

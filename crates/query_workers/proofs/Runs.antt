@@ -6,8 +6,8 @@ use Rattle.std.proofs.lemmas.List.{drop-drop, map-append, take_all}
 use Rattle.std.proofs.lemmas.List.Folds.{list_any-append}
 use Rattle.std.proofs.Math.Seq.{take-add}
 use Rattle.eql_match.proofs.of_eql_model.Listed.{from_here}
-use Rattle.eql_match.specs.eql_model.declared.row.Row.{Row}
-use Rattle.eql_match.specs.eql_model.declared.faults.MatchFault.{MatchFault}
+use Rattle.eql_match.specs.eql_rows.declared.row.Row.{Row}
+use Rattle.eql_match.specs.eql_tuples.declared.faults.MatchFault.{MatchFault}
 use Rattle.query_workers.specs.declared.question.Question.{Question}
 use Rattle.version_tree.specs.Version.{VersionParts, bundles_of}
 use Rattle.eql_match.specs.eql_model.Inner.Rows.{GivesRows}

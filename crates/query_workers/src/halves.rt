@@ -2,7 +2,7 @@
 ghost use Rattle.std.specs.Prelude.{◌≡◌, ◌≤◌, ◌<◌, ◌+◌, ◌++◌, ◌||◌, Bool, List, length};
 ghost use Rattle.std.specs.Thread.{IsSync};
 ghost use Rattle.emu_names.specs.declared.limits.TheConstants.{BUNDLES};
-ghost use Rattle.eql_match.specs.eql_model.declared.row.Row.{Row};
+ghost use Rattle.eql_match.specs.eql_rows.declared.row.Row.{Row};
 ghost use Rattle.eql_match.specs.eql_model.Inner.Rows.{GivesRows};
 ghost use Rattle.query_workers.specs.Inner.Questions.{IsAskedOf};
 ghost use Rattle.query_workers.specs.Inner.Runs.{GivesRun, IsRun, refusal};
@@ -10,7 +10,7 @@ ghost use Rattle.query_workers.specs.Inner.Runs.{GivesRun, IsRun, refusal};
 use crate::question::Question;
 use crate::walk::walk_with_text;
 use emu_io::Gate;
-use eql_match::eql_model::MatchFault;
+use eql_match::eql_tuples::MatchFault;
 use session_core::segment_list::Listing;
 use std::alloc::Global;
 use std::thread::{Threads, join};

@@ -7,8 +7,10 @@ ghost use Rattle.query_workers.specs.Inner.Questions.{IsAskedOf, rows_for, too_m
 use crate::carried::carried_in;
 use db_config::Config;
 use eql_match::bundle_index::Indexed;
-use eql_match::eql_model::{MatchFault, SegmentList};
-use eql_match::{Matchers, match_with};
+use eql_match::eql_columns::Matchers;
+use eql_match::eql_rows::SegmentList;
+use eql_match::eql_tuples::MatchFault;
+use eql_match::match_with;
 use eql_resolve::Asked;
 use session_core::requery::Reached;
 use session_core::segment_list::rows_of;

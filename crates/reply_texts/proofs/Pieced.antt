@@ -3,7 +3,7 @@ use Rattle.std.proofs.Common.{◌≡◌, ℕ, List, [], ◌∷◌, ◌++◌, Opt
 use Rattle.json.specs.Print.{escape_byte}
 use Rattle.serde_json.specs.Data.{string, no_members, member}
 use Rattle.serde_json.specs.Written.{compact_text, members_text}
-use Rattle.eql_model.specs.declared.row.Row.{Row}
+use Rattle.eql_rows.specs.declared.row.Row.{Row}
 use Rattle.session_core.specs.segment_list.Texts.{rows_data}
 use Rattle.session_core.specs.segment_list.Inner.Texts.{rows_text}
 use Rattle.session_core.specs.declared.line.Command.{Command}

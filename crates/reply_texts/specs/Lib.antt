@@ -2,5 +2,5 @@ pub mod Members
 pub mod Refusals
 pub mod Texts
 pub mod Inner
-pub use Rattle.eql_model.specs as eql_model
+pub use Rattle.eql_rows.specs as eql_rows
 pub use Rattle.session_core.specs as session_core

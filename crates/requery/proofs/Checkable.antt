@@ -9,10 +9,13 @@ use Rattle.db_config.specs.declared.parts.AttributePlace.{AttributePlace}
 use Rattle.bundle_state.specs.Bundle.{BundleParts}
 use Rattle.hier_closure.specs.Dominance.{dominates, ids_at}
 use Rattle.eql_resolve.specs.Asked.{shown_place}
-use Rattle.eql_model.specs.declared.tuple.Tuple.{Tuple}
-use Rattle.eql_model.specs.declared.tuple.Span.{Span}
-use Rattle.eql_model.specs.Results.{bare, span_at, stretches, IsStretchIn}
-use Rattle.eql_model.specs.Rows.{items_of, row_of}
+use Rattle.eql_tuples.specs.declared.tuple.Tuple.{Tuple}
+use Rattle.eql_rows.specs.declared.span.Span.{Span}
+use Rattle.eql_tuples.specs.Shown.{bare}
+use Rattle.eql_rows.specs.Spans.{span_at, IsStretchIn}
+use Rattle.eql_model.specs.Results.{stretches}
+use Rattle.eql_rows.specs.Rows.{items_of}
+use Rattle.eql_model.specs.Rows.{row_of}
 use Rattle.eql_model.proofs.Between.{ids_count}
 use Rattle.requery.specs.declared.target.Shift.{Shift}
 use Rattle.requery.specs.declared.target.Target.TheVariants.{Level, Along}

@@ -4,8 +4,8 @@ use Rattle.std.specs.Prelude.{All, map, unwrap_or}
 use Rattle.std.specs.List.{filter, list_any, range_with_len, slice_get}
 use Rattle.std.proofs.lemmas.List.{get_or-map, length-map}
 use Rattle.std.proofs.lemmas.Option.{get_or_from_slice_get, unwrap_or-slice_get}
-use Rattle.eql_model.specs.declared.tuple.Tuple.{Tuple}
-use Rattle.eql_model.specs.Inner.Flags.{flag_at}
+use Rattle.eql_tuples.specs.declared.tuple.Tuple.{Tuple}
+use Rattle.eql_rows.specs.Inner.Flags.{flag_at}
 use Rattle.eql_model.specs.Inner.Joins.{bit_at}
 use Rattle.requery.specs.Reach.{whole_stretch}
 use Rattle.requery.specs.Inner.Ways.{AreWidened, AreWidenedBy, AreKinStretches, kin_stretch, row_stretch, union, union_over, one_if}

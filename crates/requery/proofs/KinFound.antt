@@ -6,14 +6,15 @@ use Rattle.level_items.specs.Levels.{ids_of, items_at}
 use Rattle.link_graph.specs.declared.link.Link.{Link}
 use Rattle.bundle_state.specs.Bundle.{BundleParts}
 use Rattle.hier_closure.specs.Dominance.{dominates, ids_at, closure_row, closure_of}
-use Rattle.eql_model.specs.declared.tuple.Tuple.{Tuple}
-use Rattle.eql_model.specs.declared.tuple.Span.{Span}
+use Rattle.eql_tuples.specs.declared.tuple.Tuple.{Tuple}
+use Rattle.eql_rows.specs.declared.span.Span.{Span}
 use Rattle.eql_model.specs.Inner.Joins.{bit_at}
-use Rattle.eql_model.specs.Tuples.{from_to}
-use Rattle.eql_model.specs.Results.{IsStretchIn}
-use Rattle.eql_model.specs.Rows.{items_of}
+use Rattle.eql_tuples.specs.Tuples.{from_to}
+use Rattle.eql_rows.specs.Spans.{IsStretchIn}
+use Rattle.eql_rows.specs.Rows.{items_of}
 use Rattle.eql_model.proofs.Between.{ids_are, ids_count}
-use Rattle.eql_model.proofs.Covers.{bit_is, taken_by}
+use Rattle.eql_model.proofs.Covers.{bit_is}
+use Rattle.eql_tuples.proofs.Stretches.{taken_by}
 use Rattle.eql_model.proofs.Extents.{stretch_ids}
 use Rattle.requery.specs.Reach.{is_kin, kin_at, whole_stretch}
 use Rattle.requery.specs.Inner.Ways.{AreKinStretches, kin_stretch, positions_of, union, union_over}

@@ -13,10 +13,11 @@ use Rattle.db_config.specs.declared.parts.ConfigParts.{ConfigParts}
 use Rattle.db_config.specs.Lookups.{attribute_at, place_of}
 use Rattle.bundle_state.specs.Bundle.{BundleParts}
 use Rattle.hier_closure.specs.Dominance.{ids_at, closure_row, closure_of}
-use Rattle.eql_model.specs.declared.tuple.Tuple.{Tuple}
-use Rattle.eql_model.specs.declared.tuple.Span.{Span}
-use Rattle.eql_model.specs.Results.{bare, span_at, IsSpanIn, IsStretchIn, AreThere}
-use Rattle.eql_model.specs.Rows.{items_of, least, greatest}
+use Rattle.eql_tuples.specs.declared.tuple.Tuple.{Tuple}
+use Rattle.eql_rows.specs.declared.span.Span.{Span}
+use Rattle.eql_tuples.specs.Shown.{bare}
+use Rattle.eql_rows.specs.Spans.{span_at, IsSpanIn, IsStretchIn, AreThere}
+use Rattle.eql_rows.specs.Rows.{items_of, least, greatest}
 use Rattle.eql_model.proofs.Between.{ids_count}
 use Rattle.requery.specs.declared.target.Shift.{Shift}
 use Rattle.requery.specs.declared.target.Target.{Target}

@@ -4,8 +4,8 @@ use Rattle.std.specs.Prelude.{nat_eq, min, max}
 use Rattle.std.specs.List.{filter, list_any, range_with_len}
 use Rattle.std.proofs.lemmas.Bool.{and_parts, ltb-true, cases_lt}
 use Rattle.std.proofs.lemmas.Bool.Decides.{nat_tests}
-use Rattle.eql_model.specs.Results.{bare}
-use Rattle.eql_model.specs.Rows.{least, greatest}
+use Rattle.eql_tuples.specs.Shown.{bare}
+use Rattle.eql_rows.specs.Rows.{least, greatest}
 use Rattle.requery.specs.Reach.{whole_stretch}
 
 -- a number is among some

@@ -6,10 +6,10 @@ use Rattle.std.proofs.lemmas.Bool.{cases_lt}
 use Rattle.std.proofs.lemmas.Bool.Decides.{nat_tests}
 use Rattle.std.proofs.lemmas.Option.{slice_get_within, unwrap_or-slice_get}
 use Rattle.lane_bits.specs.Inner.Row.{IsFirst, IsLast, IsNext}
-use Rattle.eql_model.specs.declared.tuple.Tuple.{Tuple}
-use Rattle.eql_model.specs.Inner.Flags.{flag_at}
-use Rattle.eql_model.specs.Results.{bare}
-use Rattle.eql_model.proofs.Walk.{none_among}
+use Rattle.eql_tuples.specs.declared.tuple.Tuple.{Tuple}
+use Rattle.eql_rows.specs.Inner.Flags.{flag_at}
+use Rattle.eql_tuples.specs.Shown.{bare}
+use Rattle.eql_rows.proofs.Walk.{none_among}
 use Rattle.requery.specs.Reach.{whole_stretch}
 use Rattle.requery.specs.Inner.Ways.{AreWidened, row_stretch, union, one_if}
 use Rattle.requery.proofs.Members.{is_in, is_kept, kept_is, whole_is}

@@ -4,9 +4,9 @@ use Rattle.std.specs.Prelude.{min, max, nat_eq}
 use Rattle.std.specs.List.{filter, list_any, range_with_len}
 use Rattle.std.proofs.lemmas.Bool.Decides.{nat_tests}
 use Rattle.std.proofs.lemmas.List.Elements.{filter-append}
-use Rattle.eql_model.specs.declared.tuple.Tuple.{Tuple}
-use Rattle.eql_model.specs.Results.{bare}
-use Rattle.eql_model.specs.Rows.{least, greatest}
+use Rattle.eql_tuples.specs.declared.tuple.Tuple.{Tuple}
+use Rattle.eql_tuples.specs.Shown.{bare}
+use Rattle.eql_rows.specs.Rows.{least, greatest}
 use Rattle.requery.specs.Reach.{whole_stretch}
 use Rattle.requery.specs.Inner.Ways.{union, union_over, one_if}
 

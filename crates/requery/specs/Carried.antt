@@ -4,8 +4,8 @@ use Rattle.std.specs.Prelude.{List, map}
 use Rattle.std.specs.List.{filter_map, flat_map}
 use Rattle.db_config.specs.declared.parts.ConfigParts.{ConfigParts}
 use Rattle.bundle_state.specs.Bundle.{BundleParts}
-use Rattle.eql_model.specs.declared.tuple.Span.{Span}
-use Rattle.eql_model.specs.declared.row.Row.{Row}
+use Rattle.eql_rows.specs.declared.span.Span.{Span}
+use Rattle.eql_rows.specs.declared.row.Row.{Row}
 use Rattle.eql_model.specs.Results.{results}
 use Rattle.eql_model.specs.Rows.{row_of}
 use Rattle.requery.specs.Target.{ReachedParts}

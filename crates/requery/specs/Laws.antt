@@ -6,7 +6,7 @@ use Rattle.level_items.specs.Levels.{items_at}
 use Rattle.db_config.specs.declared.parts.ConfigParts.{ConfigParts}
 use Rattle.bundle_state.specs.Bundle.{BundleParts}
 use Rattle.eql_resolve.specs.Asked.{AskedParts, shown_place}
-use Rattle.eql_model.specs.declared.tuple.Span.{Span}
+use Rattle.eql_rows.specs.declared.span.Span.{Span}
 use Rattle.eql_model.specs.Rows.{rows}
 use Rattle.requery.specs.declared.target.Target.TheVariants.{Level, Along}
 use Rattle.requery.specs.Reach.{kin_at, reach}

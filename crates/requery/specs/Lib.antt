@@ -5,3 +5,5 @@ pub mod Carried
 pub mod Laws
 pub mod Inner
 pub use Rattle.eql_model.specs as eql_model
+pub use Rattle.eql_rows.specs as eql_rows
+pub use Rattle.eql_tuples.specs as eql_tuples

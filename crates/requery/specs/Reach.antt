@@ -6,10 +6,11 @@ use Rattle.level_items.specs.Levels.{ids_of, items_at}
 use Rattle.link_graph.specs.declared.link.Link.{Link}
 use Rattle.bundle_state.specs.Bundle.{BundleParts}
 use Rattle.hier_closure.specs.Dominance.{dominates, ids_at}
-use Rattle.eql_model.specs.declared.tuple.Tuple.{Tuple}
-use Rattle.eql_model.specs.declared.tuple.Span.{Span}
-use Rattle.eql_model.specs.Results.{bare, span_at}
-use Rattle.eql_model.specs.Rows.{items_of, least, greatest}
+use Rattle.eql_tuples.specs.declared.tuple.Tuple.{Tuple}
+use Rattle.eql_rows.specs.declared.span.Span.{Span}
+use Rattle.eql_tuples.specs.Shown.{bare}
+use Rattle.eql_rows.specs.Spans.{span_at}
+use Rattle.eql_rows.specs.Rows.{items_of, least, greatest}
 use Rattle.requery.specs.declared.target.Shift.{Shift}
 use Rattle.requery.specs.declared.target.Target.{Target}
 use Rattle.requery.specs.declared.target.Target.TheVariants.{Level, Along}

@@ -1,11 +1,11 @@
 //! From which item to which one of another level the kin of the items of a level reach.
 ghost use Rattle.std.specs.Prelude.{◌≡◌, ◌≤◌, length, map, All, IfOk};
 ghost use Rattle.emu_names.specs.declared.limits.TheConstants.{BUNDLE_ITEMS};
-ghost use Rattle.eql_model.specs.Results.{bare};
+ghost use Rattle.eql_tuples.specs.Shown.{bare};
 ghost use Rattle.requery.specs.Inner.Ways.{AreKinStretches, AreWidened, AreWidenedBy, row_stretch, union};
 
 use emu_names::Memory;
-use eql_model::Tuple;
+use eql_tuples::Tuple;
 use hier_closure::Closure;
 use lane_bits::BitRow;
 use std::alloc::Global;

@@ -12,6 +12,8 @@ mod stretches;
 mod target;
 
 pub use eql_model;
+pub use eql_rows;
+pub use eql_tuples;
 pub use laws::{carried_to_its_own_level, kin_is_mutual, moved_there_and_back};
 pub use plain::requery_plain;
 pub use reach::{reach_between, reach_near};

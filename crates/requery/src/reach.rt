@@ -6,7 +6,7 @@ ghost use Rattle.level_items.specs.Levels.{items_at};
 ghost use Rattle.db_config.specs.Lookups.{attribute_at};
 ghost use Rattle.bundle_state.specs.Built.{FitsConfig};
 ghost use Rattle.hier_closure.specs.Dominance.{closure_of};
-ghost use Rattle.eql_model.specs.Results.{AreThere, span_at};
+ghost use Rattle.eql_rows.specs.Spans.{AreThere, span_at};
 ghost use Rattle.requery.specs.Reach.{moved, origin, reach, stretch_on};
 ghost use Rattle.requery.specs.Inner.Sound.{IsTargetIn};
 ghost use Rattle.requery.specs.Inner.Ways.{IsNear, LiesIn, stretch_by};
@@ -17,7 +17,7 @@ use crate::target::{Shift, Target};
 use bundle_state::Bundle;
 use db_config::{AttributePlace, Config};
 use emu_names::{Memory, Series};
-use eql_model::{Span, Spans, items_at, spans_of};
+use eql_rows::{Span, Spans, items_at, spans_of};
 use hier_closure::Closure;
 use std::alloc::Global;
 

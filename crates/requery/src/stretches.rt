@@ -6,7 +6,8 @@ ghost use Rattle.requery.specs.Inner.Ways.{LiesIn, positions_of, stretch_by, uni
 
 use crate::ends::union;
 use emu_names::{Memory, Series};
-use eql_model::{Span, Tuple, Tuples};
+use eql_rows::Span;
+use eql_tuples::{Tuple, Tuples};
 use std::alloc::Global;
 
 /// Puts what was found last; where nothing was, nothing. The only refusal is want of memory.

@@ -6,7 +6,7 @@ use Rattle.std.proofs.lemmas.Bool.{lt-ltb}
 use Rattle.std.proofs.lemmas.List.{append-nil}
 use Rattle.json.specs.Print.{escape_byte, quoted}
 use Rattle.serde_json.specs.Written.{comma_if, items_text}
-use Rattle.eql_model.specs.declared.row.Row.{Row}
+use Rattle.eql_rows.specs.declared.row.Row.{Row}
 use Rattle.segment_list.specs.Texts.{rows_items}
 use Rattle.segment_list.specs.Inner.Texts.{rows_text}
 use Rattle.segment_list.specs.Inner.Pieces.{back_text, front_text, number_or_null, row_text, row_texts, samples_text}

@@ -1,7 +1,7 @@
 -- What merging comes to.
 use Rattle.std.specs.Prelude.{◌≡◌, List}
 use Rattle.std.specs.List.Sorted.{IsPermutation}
-use Rattle.eql_model.specs.declared.row.Row.{Row}
+use Rattle.eql_rows.specs.declared.row.Row.{Row}
 use Rattle.segment_list.specs.declared.parts.Part.{Part}
 use Rattle.segment_list.specs.Merged.{IsMergeOf, RiseByKey, rows_in_turn}
 

@@ -4,7 +4,7 @@ use Rattle.std.specs.List.{flat_map}
 use Rattle.std.specs.List.Sorted.{IsPermutation, IsStrictlySortedBy}
 use Rattle.emu_names.specs.declared.names.BundleKey.{BundleKey}
 use Rattle.emu_names.specs.Order.{key_cmp}
-use Rattle.eql_model.specs.declared.row.Row.{Row}
+use Rattle.eql_rows.specs.declared.row.Row.{Row}
 use Rattle.segment_list.specs.declared.parts.Part.{Part}
 
 -- the keys of the bundles

@@ -2,7 +2,7 @@
 -- members stand in the order of their names' bytes.
 use Rattle.std.specs.Prelude.{ℕ, List, [], ◌∷◌, Option, Some, None, codes}
 use Rattle.serde_json.specs.Data.{Data, null, number, string, array, object, unsigned, Items, no_items, item, no_members, member}
-use Rattle.eql_model.specs.declared.row.Row.{Row}
+use Rattle.eql_rows.specs.declared.row.Row.{Row}
 
 -- a whole number
 abbrev pub whole : ℕ → Data

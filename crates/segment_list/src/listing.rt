@@ -1,7 +1,6 @@
 //! The rows of an answer as their text, which is made where the rows are made.
-ghost use Rattle.std.specs.Prelude.{◌≡◌, ◌==◌, ◌+◌, ◌++◌, ◌||◌, [], ◌∷◌, Bool, List, false, not, length, IfOk, OnOk};
-ghost use Rattle.std.specs.Prelude.{string_bytes};
-ghost use Rattle.eql_model.specs.declared.row.Row.{Row};
+ghost use Rattle.std.specs.Prelude.{◌≡◌, ◌==◌, ◌+◌, ◌++◌, ◌||◌, [], ◌∷◌, Bool, List, false, not, length, IfOk, OnOk, string_bytes};
+ghost use Rattle.eql_rows.specs.declared.row.Row.{Row};
 ghost use Rattle.eql_model.specs.Inner.Rows.{GivesRows};
 ghost use Rattle.segment_list.specs.Inner.Listing.{in_turn};
 ghost use Rattle.segment_list.specs.Inner.Pieces.{row_texts};
@@ -10,7 +9,8 @@ ghost use Rattle.segment_list.specs.Inner.Texts.{rows_text};
 use crate::pieces::push_comma;
 use crate::print::text_of_rows;
 use emu_names::{Memory, Series, Text};
-use eql_model::{MatchFault, SegmentList};
+use eql_rows::SegmentList;
+use eql_tuples::MatchFault;
 use std::alloc::Global;
 use std::marker::Model;
 use std::snapshot::Snapshot;
@@ -25,7 +25,7 @@ struct Printed {
 
 impl Model for Printed {
     ghost use Rattle.std.specs.Prelude.{List};
-    ghost use Rattle.eql_model.specs.declared.row.Row.{Row};
+    ghost use Rattle.eql_rows.specs.declared.row.Row.{Row};
     ghost use Rattle.segment_list.specs.Inner.Listing.{IsPrinted};
 
     ghost Value = { List Row };
@@ -80,7 +80,7 @@ pub struct Listing {
 
 impl Model for Listing {
     ghost use Rattle.std.specs.Prelude.{◌≡◌, List, length};
-    ghost use Rattle.eql_model.specs.declared.row.Row.{Row};
+    ghost use Rattle.eql_rows.specs.declared.row.Row.{Row};
     ghost use Rattle.segment_list.specs.Inner.Listing.{in_turn};
 
     ghost Value = { List Row };

@@ -5,7 +5,7 @@ ghost use Rattle.segment_list.specs.Inner.Merged.{AreApart};
 
 use crate::parts::Parts;
 use emu_names::{Memory, Series};
-use eql_model::SegmentList;
+use eql_rows::SegmentList;
 use std::alloc::Global;
 
 /// The rows of all parts, one part after another in the order of their bundles' keys: by session, and

@@ -6,7 +6,7 @@ ghost use Rattle.segment_list.specs.Inner.Pieces.{are_same_names, head_text, lev
 
 use crate::pieces::push_quoted;
 use emu_names::{Memory, Text};
-use eql_model::Row;
+use eql_rows::Row;
 use std::alloc::Global;
 use std::marker::Model;
 

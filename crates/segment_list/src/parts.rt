@@ -5,7 +5,7 @@ ghost use Rattle.segment_list.specs.Merged.{RiseByKey, rows_in_turn};
 ghost use Rattle.segment_list.specs.Inner.Merged.{AreApart};
 
 use emu_names::{BundleKey, Memory};
-use eql_model::{Row, SegmentList};
+use eql_rows::{Row, SegmentList};
 use std::alloc::Global;
 use std::marker::Model;
 

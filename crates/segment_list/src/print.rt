@@ -6,7 +6,7 @@ ghost use Rattle.segment_list.specs.Inner.Pieces.{back_text, front_text, names_o
 use crate::names::NamePieces;
 use crate::pieces::{push_comma, push_number, push_or_null, push_quoted};
 use emu_names::{Memory, Text};
-use eql_model::Row;
+use eql_rows::Row;
 use std::alloc::Global;
 
 /// Writes a row from the brace to the labels. The only refusal is want of memory.

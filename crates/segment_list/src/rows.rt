@@ -3,14 +3,15 @@ ghost use Rattle.std.specs.Prelude.{◌≡◌, ◌<◌, IfOk, IfSome, Some, leng
 ghost use Rattle.bundle_state.specs.Built.{FitsConfig};
 ghost use Rattle.eql_resolve.specs.Asked.{result_level};
 ghost use Rattle.eql_resolve.specs.Inner.Sound.{IsResolvedBy, IsTimeLevel};
-ghost use Rattle.eql_model.specs.Results.{AreThere};
+ghost use Rattle.eql_rows.specs.Spans.{AreThere};
 ghost use Rattle.eql_model.specs.Rows.{row_of};
 
 use bundle_index::Indexed;
 use db_config::Config;
 use emu_names::{Memory, Series};
-use eql_model::{Below, SegmentList, Span, rows_below};
+use eql_model::{Below, rows_below};
 use eql_resolve::Asked;
+use eql_rows::{SegmentList, Span};
 use std::alloc::Global;
 
 /// The rows of some results on a level, in their order, with times from a SEGMENT level by the rows of dominance

@@ -3,7 +3,7 @@ use Rattle.std.proofs.Common.{◌≡◌, ℕ, ◌+◌, ◌≤◌, Bool, true, Li
 use Rattle.db_config.specs.declared.parts.ConfigParts.{ConfigParts}
 use Rattle.edit_undo.specs.edit_rules.declared.acts.Entry.{Entry}
 use Rattle.eql_resolve.specs.Resolve.{asked}
-use Rattle.requery.specs.eql_model.declared.row.Row.{Row}
+use Rattle.requery.specs.eql_rows.declared.row.Row.{Row}
 use Rattle.session_core.specs.declared.line.Answer.{Answer}
 use Rattle.session_core.specs.declared.line.Answer.TheVariants.{Done, Segments, Refused}
 use Rattle.session_core.specs.declared.line.Line.{Line}

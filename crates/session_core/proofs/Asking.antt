@@ -8,7 +8,7 @@ use Rattle.eql_resolve.specs.declared.faults.PrepareFault.{PrepareFault}
 use Rattle.eql_resolve.specs.Prepared.{PreparedParts}
 use Rattle.eql_resolve.specs.Asked.{AskedParts}
 use Rattle.eql_resolve.specs.Resolve.{asked}
-use Rattle.requery.specs.eql_model.declared.row.Row.{Row}
+use Rattle.requery.specs.eql_rows.declared.row.Row.{Row}
 use Rattle.requery.specs.eql_model.Rows.{segment_list, any_has_too_many}
 use Rattle.requery.specs.declared.target.Requery.{Requery}
 use Rattle.requery.specs.Target.{ReachedParts}

@@ -1,6 +1,6 @@
 -- The answer of what was listed.
 use Rattle.std.proofs.Common.{◌≡◌, Bool, true, false, List, ap, refl}
-use Rattle.requery.specs.eql_model.declared.row.Row.{Row}
+use Rattle.requery.specs.eql_rows.declared.row.Row.{Row}
 use Rattle.session_core.specs.declared.line.Answer.TheVariants.{Segments, Refused}
 use Rattle.session_core.specs.declared.line.Refusal.TheVariants as refusals
 use Rattle.session_core.specs.Answers.{listed_answer}

@@ -17,7 +17,7 @@ use Rattle.eql_syntax.specs.declared.query.Term.TheVariants.{Test}
 use Rattle.eql_syntax.specs.Tree.{Conjunction}
 use Rattle.session_core.specs.declared.event.Event.{Event}
 use Rattle.session_core.specs.declared.event.Event.TheVariants as events
-use Rattle.requery.specs.eql_model.declared.row.Row.{Row}
+use Rattle.requery.specs.eql_rows.declared.row.Row.{Row}
 use Rattle.session_core.specs.declared.line.Ask.{Ask}
 use Rattle.session_core.specs.declared.line.Answer.TheVariants.{Done, Segments}
 use Rattle.session_core.specs.declared.line.Command.TheVariants as commands

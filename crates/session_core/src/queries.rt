@@ -1,6 +1,6 @@
 //! The answer to a query, of what its text and its rows gave.
 ghost use Rattle.std.specs.Prelude.{◌≡◌, Bool, List, IfOk};
-ghost use Rattle.requery.specs.eql_model.declared.row.Row.{Row};
+ghost use Rattle.requery.specs.eql_rows.declared.row.Row.{Row};
 ghost use Rattle.requery.specs.eql_model.Inner.Rows.{GivesRows};
 ghost use Rattle.session_core.specs.Answers.{listed_answer, prepare_answer};
 ghost use Rattle.session_core.specs.Queries.{is_memory_of, is_memory_of_text, lacks_memory};
@@ -9,7 +9,7 @@ use crate::line::{Answer, Ask, Refusal};
 use emu_names::Memory;
 use eql_resolve::PrepareFault;
 use eql_syntax::QueryFault;
-use requery::eql_model::MatchFault;
+use requery::eql_tuples::MatchFault;
 use segment_list::Listing;
 
 /// Whether the fault of a text is want of memory.

@@ -1,7 +1,7 @@
 -- The line of a segment list, put together from its pieces.
 use Rattle.std.proofs.Common.{◌≡◌, ℕ, List, [], ◌∷◌, ◌++◌, codes, decimal, ap, ◌∙◌, append_assoc}
 use Rattle.json.specs.Print.{escape_byte}
-use Rattle.reply_texts.specs.eql_model.declared.row.Row.{Row}
+use Rattle.reply_texts.specs.eql_rows.declared.row.Row.{Row}
 use Rattle.segment_list.specs.Inner.Texts.{rows_text}
 use Rattle.store_texts.specs.Inner.Head.{head_text}
 use Rattle.reply_texts.specs.Members.{line_text}

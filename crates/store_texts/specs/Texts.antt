@@ -9,7 +9,7 @@ use Rattle.edit_rules.specs.declared.acts.Act.TheVariants as acts
 use Rattle.edit_rules.specs.declared.acts.ConfigEdit.{ConfigEdit}
 use Rattle.edit_rules.specs.declared.acts.ConfigEdit.TheVariants as additions
 use Rattle.edit_rules.specs.declared.acts.Entry.{Entry}
-use Rattle.reply_texts.specs.eql_model.declared.row.Row.{Row}
+use Rattle.reply_texts.specs.eql_rows.declared.row.Row.{Row}
 use Rattle.segment_list.specs.Texts.{rows_data, whole}
 use Rattle.reply_texts.specs.Members.{line_text}
 

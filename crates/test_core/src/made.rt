@@ -3,7 +3,7 @@ use config_json::read_config;
 use db_config::Config;
 use edit_rules::{Edit, Edits};
 use emu_names::{BundleKey, ItemId, LevelKind, Memory, Name, NameFault, Series, Text};
-use eql_model::Row;
+use eql_rows::Row;
 use json_view::View;
 use level_items::{Annot, AnnotItem, AnnotLevel, Time};
 use serde_json::Value;

@@ -4,7 +4,7 @@ ghost use Rattle.segment_list.specs.Inner.Merged.{AreApart};
 
 use crate::made::{key, row};
 use emu_names::Memory;
-use eql_model::SegmentList;
+use eql_rows::SegmentList;
 use segment_list::{Part, Parts, merge_in_order};
 use std::alloc::Global;
 use std::process::Abort;

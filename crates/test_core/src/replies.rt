@@ -1,8 +1,8 @@
 //! What no clause says: the printed bytes, and that the calls succeed where memory is ample.
 use crate::made::row;
 use emu_names::{Broken, Memory, SessionNo, Text, What};
-use eql_model::{Row, SegmentList};
 use eql_resolve::AskFault;
+use eql_rows::{Row, SegmentList};
 use reply_texts::print_reply;
 use segment_list::Listing;
 use session_core::{Answer, Refusal, Reply};

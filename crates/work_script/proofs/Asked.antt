@@ -6,7 +6,7 @@ use Rattle.eql_resolve.specs.Asked.{AskedParts}
 use Rattle.eql_resolve.specs.Made.{IsPreparedFrom}
 use Rattle.eql_resolve.specs.Prepared.{PreparedParts}
 use Rattle.eql_resolve.specs.Resolve.{asked}
-use Rattle.requery.specs.eql_model.declared.row.Row.{Row}
+use Rattle.requery.specs.eql_rows.declared.row.Row.{Row}
 use Rattle.requery.specs.eql_model.Rows.{any_has_too_many, segment_list}
 use Rattle.edit_rules.specs.Database.{DatabaseParts}
 use Rattle.requery.specs.declared.target.Requery.{Requery}

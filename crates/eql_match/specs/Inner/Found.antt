@@ -5,14 +5,14 @@ use Rattle.emu_names.specs.declared.limits.TheConstants.{BUNDLE_ITEMS}
 use Rattle.db_config.specs.declared.parts.ConfigParts.{ConfigParts}
 use Rattle.bundle_state.specs.Bundle.{BundleParts}
 use Rattle.eql_resolve.specs.Asked.{AskedQuery, is_marked, level_of}
-use Rattle.eql_model.specs.declared.tuple.Tuple.{Tuple}
-use Rattle.eql_model.specs.declared.faults.MatchFault.{MatchFault}
-use Rattle.eql_model.specs.declared.faults.MatchFault.TheVariants.{TooManyTuples, Memory}
-use Rattle.eql_model.specs.Inner.Flags.{flag_at}
+use Rattle.eql_tuples.specs.declared.tuple.Tuple.{Tuple}
+use Rattle.eql_tuples.specs.declared.faults.MatchFault.{MatchFault}
+use Rattle.eql_tuples.specs.declared.faults.MatchFault.TheVariants.{TooManyTuples, Memory}
+use Rattle.eql_rows.specs.Inner.Flags.{flag_at}
 use Rattle.eql_model.specs.Inner.Joins.{bit_at}
 use Rattle.eql_model.specs.Meaning.{has_too_many, single, tuples}
 use Rattle.level_items.specs.Levels.{items_at}
-use Rattle.eql_model.specs.Tuples.{both}
+use Rattle.eql_tuples.specs.Tuples.{both}
 use Rattle.eql_match.specs.declared.found.Found.{Found}
 use Rattle.eql_match.specs.declared.found.Found.TheVariants.{Items, Tuples}
 use Rattle.eql_match.specs.declared.found.Sides.{Sides}

@@ -1,8 +1,8 @@
 -- From which place to which one the rows of a stretch have bits.
 use Rattle.std.specs.Prelude.{◌≡◌, ℕ, ◌≤◌, ◌<◌, ◌-◌, Bool, true, List}
 use Rattle.std.specs.List.{list_any, range_with_len}
-use Rattle.eql_model.specs.declared.tuple.Tuple.{Tuple}
-use Rattle.eql_model.specs.Inner.Flags.{flag_at}
+use Rattle.eql_tuples.specs.declared.tuple.Tuple.{Tuple}
+use Rattle.eql_rows.specs.Inner.Flags.{flag_at}
 use Rattle.eql_model.specs.Inner.Joins.{bit_at, is_under}
 
 -- a place is among those from the first of two to before the second

@@ -4,8 +4,8 @@ use Rattle.std.specs.List.{flat_map}
 use Rattle.std.specs.List.Sorted.{IsNonDecreasingBy}
 use Rattle.bundle_state.specs.Bundle.{BundleParts}
 use Rattle.hier_closure.specs.Dominance.{closure_of}
-use Rattle.eql_model.specs.declared.tuple.Tuple.{Tuple}
-use Rattle.eql_model.specs.Tuples.{fits_in, follows, both, left_with, pairs_with}
+use Rattle.eql_tuples.specs.declared.tuple.Tuple.{Tuple}
+use Rattle.eql_tuples.specs.Tuples.{fits_in, follows, both, left_with, pairs_with}
 use Rattle.eql_model.specs.Inner.Joins.{bits_cover}
 use Rattle.eql_match.specs.declared.ways.Way.{Way}
 use Rattle.eql_match.specs.declared.ways.Way.TheVariants.{Behind, Covers, CoversLeft}

@@ -1,12 +1,8 @@
 -- The segments below a result, and what a row needs of them.
-use Rattle.std.specs.Prelude.{◌≡◌, ◌<◌, ◌^◌, ℕ, length, Option, IfSome}
+use Rattle.std.specs.Prelude.{◌≡◌, ◌<◌, ℕ, length}
 use Rattle.bundle_state.specs.Bundle.{BundleParts}
 use Rattle.hier_closure.specs.Dominance.{closure_of}
 use Rattle.eql_model.specs.declared.times.Below.{Below}
-
--- samples are below 2^40
-abbrev pub AreInTime : Option (ℕ × ℕ) → Type 0
-AreInTime samples = IfSome samples (λ s. (s.0 < 2 ^ 40) × (s.1 < 2 ^ 40))
 
 -- the rows are those of dominance between a level and the time level
 pub record IsBelow (b : BundleParts) (level : ℕ) (below : Below) : Type 0 where

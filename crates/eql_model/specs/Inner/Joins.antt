@@ -1,16 +1,13 @@
 -- How the program joins two sets of tuples.
-use Rattle.std.specs.Prelude.{◌≡◌, ℕ, ◌+◌, ◌-◌, Bool, true, false, ◌||◌, List, [], All, get_or, length}
-use Rattle.std.specs.List.{list_all, list_any, range_with_len}
+use Rattle.std.specs.Prelude.{◌≡◌, ℕ, Bool, true, false, ◌||◌, List, [], All, get_or, length}
+use Rattle.std.specs.List.{list_all, list_any}
 use Rattle.bundle_state.specs.Bundle.{BundleParts}
 use Rattle.hier_closure.specs.Dominance.{closure_of}
-use Rattle.eql_model.specs.declared.tuple.Tuple.{Tuple}
+use Rattle.eql_tuples.specs.declared.tuple.Tuple.{Tuple}
+use Rattle.eql_tuples.specs.Inner.Stretches.{positions}
+use Rattle.eql_tuples.specs.Tuples.{fits_in, follows, both, left_with}
 use Rattle.eql_model.specs.declared.joins.Join.{Join}
 use Rattle.eql_model.specs.declared.joins.Join.TheVariants.{Sequence, Dominance}
-use Rattle.eql_model.specs.Tuples.{fits_in, follows, both, left_with}
-
--- the positions of a tuple's stretch
-abbrev pub positions : Tuple → List ℕ
-positions t = range_with_len t.first (t.last + 1 - t.first)
 
 -- the bit at a place of a row of some rows
 abbrev pub bit_at : List (List Bool) → ℕ → ℕ → Bool

@@ -4,9 +4,9 @@ use Rattle.db_config.specs.declared.parts.ConfigParts.{ConfigParts}
 use Rattle.bundle_state.specs.Bundle.{BundleParts}
 use Rattle.eql_resolve.specs.Asked.{AskedTerm, AskedQuery, term_level}
 use Rattle.eql_resolve.specs.Sound.{IsTermOf}
-use Rattle.eql_model.specs.declared.tuple.Tuple.{Tuple}
-use Rattle.eql_model.specs.declared.faults.MatchFault.{MatchFault}
-use Rattle.eql_model.specs.declared.faults.MatchFault.TheVariants.{TooManyTuples, Memory}
+use Rattle.eql_tuples.specs.declared.tuple.Tuple.{Tuple}
+use Rattle.eql_tuples.specs.declared.faults.MatchFault.{MatchFault}
+use Rattle.eql_tuples.specs.declared.faults.MatchFault.TheVariants.{TooManyTuples, Memory}
 use Rattle.eql_model.specs.Meaning.{meets, tuples, has_too_many}
 use Rattle.level_items.specs.Levels.{items_at}
 

@@ -1,21 +1,13 @@
 -- Words of contracts and loops beside `specs/Results.antt`; no promise of the program rests on them.
-use Rattle.std.specs.Prelude.{◌≡◌, Bool, true, false, List, length, map, Result, Ok, Err}
-use Rattle.std.specs.List.{filter, range_with_len}
-use Rattle.db_config.specs.declared.parts.AttributePlace.{AttributePlace}
+use Rattle.std.specs.Prelude.{◌≡◌, true, false, List, Result, Ok, Err}
 use Rattle.db_config.specs.declared.parts.ConfigParts.{ConfigParts}
 use Rattle.bundle_state.specs.Bundle.{BundleParts}
 use Rattle.eql_resolve.specs.Asked.{AskedQuery}
-use Rattle.eql_model.specs.declared.tuple.Span.{Span}
-use Rattle.eql_model.specs.declared.faults.MatchFault.{MatchFault}
-use Rattle.eql_model.specs.declared.faults.MatchFault.TheVariants.{TooManyTuples, Memory}
-use Rattle.eql_model.specs.Inner.Flags.{flag_at}
+use Rattle.eql_rows.specs.declared.span.Span.{Span}
+use Rattle.eql_tuples.specs.declared.faults.MatchFault.{MatchFault}
+use Rattle.eql_tuples.specs.declared.faults.MatchFault.TheVariants.{TooManyTuples, Memory}
 use Rattle.eql_model.specs.Meaning.{has_too_many}
-use Rattle.eql_model.specs.Results.{bare, span_at, results}
-
--- the items of which a row has the bit, each as a stretch of its own
-abbrev pub row_spans : AttributePlace → List Bool → List Span
-row_spans place row =
-    map (λ k. span_at place (bare k k)) (filter (λ k. flag_at k row) (range_with_len 0 (length row)))
+use Rattle.eql_model.specs.Results.{results}
 
 -- an answer is the list of the results, and no part of the query has too many tuples; or it is that
 -- some part has

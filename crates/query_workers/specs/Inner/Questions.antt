@@ -3,7 +3,7 @@ use Rattle.std.specs.Prelude.{Bool, List}
 use Rattle.db_config.specs.declared.parts.ConfigParts.{ConfigParts}
 use Rattle.bundle_state.specs.Bundle.{BundleParts}
 use Rattle.eql_resolve.specs.Inner.Sound.{IsResolvedBy}
-use Rattle.eql_match.specs.eql_model.declared.row.Row.{Row}
+use Rattle.eql_match.specs.eql_rows.declared.row.Row.{Row}
 use Rattle.eql_match.specs.eql_model.Meaning.{has_too_many}
 use Rattle.eql_match.specs.eql_model.Rows.{rows}
 use Rattle.session_core.specs.requery.Carried.{carried_rows}

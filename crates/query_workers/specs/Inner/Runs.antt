@@ -3,8 +3,8 @@ use Rattle.std.specs.Prelude.{◌≤◌, ◌-◌, ℕ, List, Result, Err, length
 use Rattle.std.specs.List.{flat_map, list_any}
 use Rattle.emu_names.specs.declared.limits.TheConstants.{BUNDLES}
 use Rattle.bundle_state.specs.Bundle.{BundleParts}
-use Rattle.eql_match.specs.eql_model.declared.row.Row.{Row}
-use Rattle.eql_match.specs.eql_model.declared.faults.MatchFault.{MatchFault}
+use Rattle.eql_match.specs.eql_rows.declared.row.Row.{Row}
+use Rattle.eql_match.specs.eql_tuples.declared.faults.MatchFault.{MatchFault}
 use Rattle.eql_match.specs.eql_model.Inner.Rows.{GivesRows}
 use Rattle.version_tree.specs.Version.{VersionParts, bundles_of}
 use Rattle.query_workers.specs.declared.question.Question.{Question}

@@ -2,8 +2,8 @@
 use Rattle.std.specs.Prelude.{List, Result}
 use Rattle.db_config.specs.declared.parts.ConfigParts.{ConfigParts}
 use Rattle.bundle_state.specs.Bundle.{BundleParts}
-use Rattle.eql_model.specs.declared.row.Row.{Row}
-use Rattle.eql_model.specs.declared.faults.MatchFault.{MatchFault}
+use Rattle.eql_rows.specs.declared.row.Row.{Row}
+use Rattle.eql_tuples.specs.declared.faults.MatchFault.{MatchFault}
 use Rattle.eql_model.specs.Meaning.{has_too_many}
 use Rattle.eql_model.specs.Rows.{any_has_too_many}
 use Rattle.eql_model.specs.Inner.Rows.{GivesRows}

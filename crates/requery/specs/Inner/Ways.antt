@@ -1,11 +1,11 @@
 -- How the program finds what results reach on another level: a stretch for each item of their level.
 use Rattle.std.specs.Prelude.{◌≡◌, ℕ, ◌<◌, ◌+◌, ◌-◌, Bool, ◌||◌, List, [], ◌∷◌, length, get_or, min, max, Option, None, Some, if◌then◌else◌}
 use Rattle.std.specs.List.{filter, range_with_len}
-use Rattle.eql_model.specs.declared.tuple.Tuple.{Tuple}
-use Rattle.eql_model.specs.declared.tuple.Span.{Span}
-use Rattle.eql_model.specs.Inner.Flags.{flag_at}
+use Rattle.eql_tuples.specs.declared.tuple.Tuple.{Tuple}
+use Rattle.eql_rows.specs.declared.span.Span.{Span}
+use Rattle.eql_rows.specs.Inner.Flags.{flag_at}
 use Rattle.eql_model.specs.Inner.Joins.{bit_at}
-use Rattle.eql_model.specs.Results.{bare}
+use Rattle.eql_tuples.specs.Shown.{bare}
 use Rattle.requery.specs.declared.target.Target.{Target}
 use Rattle.requery.specs.declared.target.Target.TheVariants.{Level, Along}
 use Rattle.requery.specs.declared.stretches.Way.{Way}

@@ -1,7 +1,7 @@
 -- Words of contracts and loops of lists that are made part by part; no promise of the program rests on them.
 use Rattle.std.specs.Prelude.{◌≡◌, ℕ, List, false, length}
 use Rattle.std.specs.List.{flat_map}
-use Rattle.eql_model.specs.declared.row.Row.{Row}
+use Rattle.eql_rows.specs.declared.row.Row.{Row}
 use Rattle.segment_list.specs.Inner.Pieces.{row_texts}
 
 -- the rows of the parts, one part after another

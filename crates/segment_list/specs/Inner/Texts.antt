@@ -1,7 +1,7 @@
 -- Words of contracts and loops beside `specs/Texts.antt`; no promise of the program rests on them.
 use Rattle.std.specs.Prelude.{ℕ, List}
 use Rattle.serde_json.specs.Written.{compact_text}
-use Rattle.eql_model.specs.declared.row.Row.{Row}
+use Rattle.eql_rows.specs.declared.row.Row.{Row}
 use Rattle.segment_list.specs.Texts.{rows_data}
 
 -- the text of a segment list

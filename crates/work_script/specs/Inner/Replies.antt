@@ -6,7 +6,7 @@ use Rattle.edit_rules.specs.declared.acts.Entry.{Entry}
 use Rattle.bundle_edits.specs.declared.bundle_change.Counts.{Counts}
 use Rattle.edit_rules.specs.Database.{counts_of}
 use Rattle.edit_rules.specs.Effects.{database_after}
-use Rattle.requery.specs.eql_model.declared.row.Row.{Row}
+use Rattle.requery.specs.eql_rows.declared.row.Row.{Row}
 use Rattle.live_run.specs.session_core.declared.line.Answer.{Answer}
 use Rattle.live_run.specs.session_core.declared.line.Answer.TheVariants.{Done, Segments, Refused}
 use Rattle.live_run.specs.session_core.declared.line.Reply.{Reply}

@@ -1,7 +1,7 @@
 use Rattle.std.proofs.Common.{length, ap, sym, ◌∙◌, ◌&&◌, arith}
-use Rattle.eql_model.specs.Inner.Flags.{flag_at}
+use Rattle.eql_rows.specs.Inner.Flags.{flag_at}
 use Rattle.eql_model.specs.Inner.Joins.{bit_at}
-use Rattle.eql_model.proofs.Walk.{next_flag}
+use Rattle.eql_rows.proofs.Walk.{next_flag}
 use Rattle.eql_match.proofs.Steps.{below_none, below_step, below_end, made_long, row_long}
 use Rattle.eql_match.proofs.found.add_below.Goals as goal
 

@@ -1,5 +1,5 @@
 use Rattle.std.proofs.Common.{arith}
-use Rattle.eql_model.proofs.Walk.{next_flag}
+use Rattle.eql_rows.proofs.Walk.{next_flag}
 use Rattle.eql_match.proofs.Steps.{follow_step, follow_end}
 use Rattle.eql_match.proofs.found.follow.Goals as goal
 

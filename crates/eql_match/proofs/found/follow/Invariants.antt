@@ -1,6 +1,6 @@
 use Rattle.std.proofs.Common.{◌≡◌, ◌+◌, ◌-◌, ◌≤◌, ◌&&◌, length, map}
 use Rattle.std.specs.List.{filter, range_with_len}
-use Rattle.eql_model.specs.Inner.Flags.{flag_at}
+use Rattle.eql_rows.specs.Inner.Flags.{flag_at}
 use Rattle.eql_match.specs.Inner.Found.{neighbours}
 use Rattle.eql_match.proofs.found.follow.Given as goal
 

@@ -1,5 +1,5 @@
 use Rattle.std.proofs.Common.{◌+◌, false, Some, ap, ◌∙◌, arith}
-use Rattle.eql_model.proofs.Walk.{flag_is}
+use Rattle.eql_rows.proofs.Walk.{flag_is}
 use Rattle.eql_match.proofs.Steps.{put_nothing, past_flag}
 use Rattle.eql_match.proofs.found.put_followed.Goals.{then-at-len-via-then-at-len, then-at-len-via-else-at-len+then-not-get}
 use Rattle.eql_match.proofs.found.put_followed.Goals as goal

@@ -1,7 +1,7 @@
 use Rattle.std.proofs.Common.{◌&&◌, length, ap, sym, ◌∙◌, arith}
-use Rattle.eql_model.specs.Inner.Flags.{flag_at}
+use Rattle.eql_rows.specs.Inner.Flags.{flag_at}
 use Rattle.eql_match.specs.Inner.Found.{is_above_some}
-use Rattle.eql_model.proofs.Walk.{next_flag, no_flag}
+use Rattle.eql_rows.proofs.Walk.{next_flag, no_flag}
 use Rattle.eql_match.proofs.Steps.{and_clear, asked_none, asked_more, asked_all, meets_some, row_long}
 use Rattle.eql_match.proofs.found.set_above.Goals as goal
 

@@ -1,5 +1,5 @@
 use Rattle.std.proofs.Common.{◌-◌, ◌≤◌, ◌&&◌, length}
-use Rattle.eql_model.specs.Inner.Flags.{flag_at}
+use Rattle.eql_rows.specs.Inner.Flags.{flag_at}
 use Rattle.eql_match.specs.Inner.Found.{is_above_some}
 use Rattle.eql_match.proofs.Steps.{AskedTo}
 use Rattle.eql_match.proofs.found.set_above.Given as goal

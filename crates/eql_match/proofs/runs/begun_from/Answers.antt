@@ -1,7 +1,7 @@
 use Rattle.std.proofs.Common.{◌∙◌, rules}
 use Rattle.std.specs.Prelude.{nat_lt}
 use Rattle.std.proofs.lemmas.List.Sorted.{IsPartitionPoint-from_clause, IsPartitionedBy-ltb}
-use Rattle.eql_model.specs.declared.tuple.Tuple.{Tuple}
+use Rattle.eql_tuples.specs.declared.tuple.Tuple.{Tuple}
 use Rattle.eql_match.proofs.Near.{begun_back}
 use Rattle.eql_match.proofs.runs.begun_from.Goals as goal
 

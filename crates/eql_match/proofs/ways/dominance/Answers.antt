@@ -1,7 +1,8 @@
 use Rattle.std.proofs.Common.{Err, length, ap, sym, ◌∙◌}
 use Rattle.std.proofs.lemmas.Bool.{eqb-true}
 use Rattle.hier_closure.specs.Dominance.{ids_at}
-use Rattle.eql_model.specs.Tuples.{left_with, one_covers}
+use Rattle.eql_tuples.specs.Tuples.{left_with}
+use Rattle.eql_model.specs.Covers.{one_covers}
 use Rattle.eql_match.proofs.Aside.{nothing_left, nothing_right}
 use Rattle.eql_match.proofs.Passes.{first_err, second_err, both_put}
 use Rattle.eql_match.proofs.ways.dominance.Goals.{then-is_empty-via-then-is_empty, then-is_empty-via-else-is_empty+then-is_empty-2}

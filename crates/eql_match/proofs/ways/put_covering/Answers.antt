@@ -1,8 +1,8 @@
 use Rattle.std.proofs.Common.{◌≡◌, List, true, sym, ap, subst, ◌∙◌}
 use Rattle.db_config.specs.Above.{is_above}
 use Rattle.bundle_state.specs.Valid.{KeepsBundleRules}
-use Rattle.eql_model.specs.declared.tuple.Tuple.{Tuple}
-use Rattle.eql_model.specs.Sets.{put_all, is_over}
+use Rattle.eql_tuples.specs.declared.tuple.Tuple.{Tuple}
+use Rattle.eql_tuples.specs.Sets.{put_all, is_over}
 use Rattle.eql_match.proofs.Passes.{others_fit, covering_is}
 use Rattle.eql_match.proofs.Aside.{covering_kept}
 use Rattle.eql_match.proofs.ways.put_covering.Goals as goal

@@ -1,7 +1,7 @@
 use Rattle.std.proofs.Common.{◌≡◌, [], ◌∷◌, Err, ap}
-use Rattle.eql_model.specs.declared.faults.MatchFault.TheVariants.{TooManyTuples}
-use Rattle.eql_model.specs.Tuples.{pairs_with}
-use Rattle.eql_model.proofs.Gathers.{gather_over, pairs_in_turn}
+use Rattle.eql_tuples.specs.declared.faults.MatchFault.TheVariants.{TooManyTuples}
+use Rattle.eql_tuples.specs.Tuples.{pairs_with}
+use Rattle.eql_tuples.proofs.Gathers.{gather_over, pairs_in_turn}
 use Rattle.eql_match.specs.Inner.Ways.{joins, makes}
 use Rattle.eql_match.proofs.Near.{no_tuple}
 use Rattle.eql_match.proofs.ways.put_each.Goals as goal

@@ -1,9 +1,9 @@
 use Rattle.std.proofs.Common.{◌≡◌, Err, ap}
 use Rattle.std.specs.List.{flat_map}
 use Rattle.std.proofs.lemmas.List.Concat.{flat_map-cons}
-use Rattle.eql_model.specs.declared.faults.MatchFault.TheVariants.{TooManyTuples}
-use Rattle.eql_model.specs.Tuples.{pairs_with}
-use Rattle.eql_model.proofs.Gathers.{gather_step, gather_over}
+use Rattle.eql_tuples.specs.declared.faults.MatchFault.TheVariants.{TooManyTuples}
+use Rattle.eql_tuples.specs.Tuples.{pairs_with}
+use Rattle.eql_tuples.proofs.Gathers.{gather_step, gather_over}
 use Rattle.eql_match.specs.Inner.Ways.{joins, makes}
 use Rattle.eql_match.proofs.Near.{no_tuple}
 use Rattle.eql_match.proofs.ways.put_pairs.Goals as goal

@@ -1,7 +1,7 @@
 use Rattle.std.proofs.Common.{◌≡◌, List, true, subst}
 use Rattle.std.specs.Prelude.{OnOk}
-use Rattle.eql_model.specs.declared.tuple.Tuple.{Tuple}
-use Rattle.eql_model.specs.Sets.{put_all, is_over}
+use Rattle.eql_tuples.specs.declared.tuple.Tuple.{Tuple}
+use Rattle.eql_tuples.specs.Sets.{put_all, is_over}
 use Rattle.eql_match.proofs.Near.{near_others, pairs_near}
 use Rattle.eql_match.proofs.ways.put_reached.Goals as goal
 

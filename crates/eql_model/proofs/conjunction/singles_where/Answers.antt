@@ -1,5 +1,5 @@
 use Rattle.std.specs.List.{list_all}
-use Rattle.eql_model.specs.Inner.Flags.{flag_at}
+use Rattle.eql_rows.specs.Inner.Flags.{flag_at}
 use Rattle.eql_model.specs.Meaning.{single}
 use Rattle.eql_model.proofs.Conditions.{singles_step}
 use Rattle.eql_model.proofs.conjunction.singles_where.Goals as goal

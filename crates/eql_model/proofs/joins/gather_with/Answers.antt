@@ -1,9 +1,9 @@
 use Rattle.std.proofs.Common.{◌≡◌, [], ◌∷◌, Err, None, ap}
-use Rattle.eql_model.specs.declared.tuple.Tuple.{Tuple}
-use Rattle.eql_model.specs.declared.faults.MatchFault.TheVariants.{TooManyTuples}
-use Rattle.eql_model.specs.Tuples.{pairs_with}
+use Rattle.eql_tuples.specs.declared.tuple.Tuple.{Tuple}
+use Rattle.eql_tuples.specs.declared.faults.MatchFault.TheVariants.{TooManyTuples}
+use Rattle.eql_tuples.specs.Tuples.{pairs_with}
 use Rattle.eql_model.specs.Inner.Joins.{goes_with, makes}
-use Rattle.eql_model.proofs.Gathers.{gather_over, pairs_in_turn}
+use Rattle.eql_tuples.proofs.Gathers.{gather_over, pairs_in_turn}
 use Rattle.eql_model.proofs.joins.gather_with.Goals as goal
 
 abbrev no_tuple : Tuple

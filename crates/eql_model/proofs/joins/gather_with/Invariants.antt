@@ -1,6 +1,6 @@
 use Rattle.std.proofs.Common.{◌≡◌, false, drop}
-use Rattle.eql_model.specs.Sets.{put_all, is_over}
-use Rattle.eql_model.specs.Tuples.{pairs_with}
+use Rattle.eql_tuples.specs.Sets.{put_all, is_over}
+use Rattle.eql_tuples.specs.Tuples.{pairs_with}
 use Rattle.eql_model.specs.Inner.Joins.{goes_with, makes}
 use Rattle.eql_model.proofs.joins.gather_with.Given as goal
 

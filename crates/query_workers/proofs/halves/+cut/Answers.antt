@@ -1,7 +1,7 @@
 use Rattle.std.proofs.Common.{Bool, List}
 use Rattle.std.specs.List.{flat_map, list_any}
 use Rattle.bundle_state.specs.Bundle.{BundleParts}
-use Rattle.eql_match.specs.eql_model.declared.row.Row.{Row}
+use Rattle.eql_match.specs.eql_rows.declared.row.Row.{Row}
 use Rattle.version_tree.specs.Version.{bundles_of}
 use Rattle.query_workers.specs.Inner.Questions.{rows_for, too_many_for}
 use Rattle.query_workers.specs.Inner.Runs.{run_of}

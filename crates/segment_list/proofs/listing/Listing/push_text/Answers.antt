@@ -1,5 +1,5 @@
 use Rattle.std.proofs.Common.{◌++◌, ap, ◌∙◌, ℕ, List, codes, false, string_bytes}
-use Rattle.eql_model.specs.declared.row.Row.{Row}
+use Rattle.eql_rows.specs.declared.row.Row.{Row}
 use Rattle.segment_list.specs.Inner.Listing.{in_turn}
 use Rattle.segment_list.specs.Inner.Pieces.{row_texts}
 use Rattle.segment_list.proofs.Listed.{whole_list}

@@ -1,6 +1,6 @@
 use Rattle.std.proofs.Common.{◌≡◌, ◌==◌, ◌++◌, ap, sym, ◌∙◌, ℕ, List, false, length, string_bytes}
 use Rattle.serde_json.specs.Written.{comma_if}
-use Rattle.eql_model.specs.declared.row.Row.{Row}
+use Rattle.eql_rows.specs.declared.row.Row.{Row}
 use Rattle.segment_list.specs.Inner.Pieces.{row_texts}
 use Rattle.segment_list.proofs.Parted.{something}
 use Rattle.segment_list.proofs.Pushed.{two}

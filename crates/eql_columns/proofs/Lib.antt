@@ -1,0 +1,4 @@
+mod Added
+pub mod Bits
+pub mod Standing
+pub mod Tests

@@ -1,5 +1,0 @@
-use Rattle.eql_model.proofs.Checkable.{rows_kept}
-use Rattle.eql_model.proofs.laws.bundles_keep_their_rows.Goals as goal
-
-pub returns : goal.returns
-returns c = rows_kept

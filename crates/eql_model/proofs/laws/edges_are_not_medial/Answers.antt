@@ -1,5 +1,0 @@
-use Rattle.eql_model.proofs.Edges.{not_medial}
-use Rattle.eql_model.proofs.laws.edges_are_not_medial.Goals as goal
-
-pub returns : goal.returns
-returns c = not_medial

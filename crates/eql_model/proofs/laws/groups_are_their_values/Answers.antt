@@ -1,5 +1,0 @@
-use Rattle.eql_model.proofs.Checkable.{values_of_group}
-use Rattle.eql_model.proofs.laws.groups_are_their_values.Goals as goal
-
-pub returns : goal.returns
-returns c = values_of_group

@@ -1,5 +1,0 @@
-use Rattle.eql_model.proofs.Edges.{no_edge}
-use Rattle.eql_model.proofs.laws.medial_is_no_edge.Goals as goal
-
-pub returns : goal.returns
-returns c = no_edge

@@ -1,5 +1,0 @@
-use Rattle.eql_model.proofs.Edges.{told_below}
-use Rattle.eql_model.proofs.laws.places_are_told_below.Goals as goal
-
-pub returns : goal.returns
-returns c = told_below

@@ -1,5 +1,0 @@
-use Rattle.eql_model.proofs.Members.{has_once}
-use Rattle.eql_model.proofs.laws.sets_have_their_tuples.Goals as goal
-
-pub returns : goal.returns
-returns c = has_once

@@ -1,0 +1,4 @@
+pub mod EndToEnd
+pub mod InOrder
+mod Touching
+pub mod Walk

@@ -1,0 +1,4 @@
+pub mod Flags
+pub mod Names
+pub mod Spans
+pub mod Times

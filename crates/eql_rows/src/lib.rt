@@ -1,0 +1,21 @@
+//! Results in a bundle, and the rows that show them (EMU-SDMS Manual, "The EMU Query Language (EQL)": results, the
+//! columns of a segment list).
+#![tactic(auto)]
+
+mod items;
+mod laws;
+mod names;
+mod row;
+mod rows;
+mod span;
+mod spans;
+mod times;
+
+pub use items::{items_at, label_of};
+pub use laws::touching_segments_meet;
+pub use names::{RowNames, kind_of, names_of};
+pub use row::{Row, SegmentList};
+pub use rows::row_between;
+pub use span::{Span, Spans};
+pub use spans::{spans_of, spans_of_row};
+pub use times::{ends_between, ends_of, timed_items};

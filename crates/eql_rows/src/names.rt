@@ -1,0 +1,102 @@
+//! The names that rows show.
+ghost use Rattle.std.specs.Prelude.{◌≡◌, ◌<◌, IfOk};
+ghost use Rattle.eql_rows.specs.Inner.Names.{AreNames};
+ghost use Rattle.eql_rows.specs.Rows.{attribute_name, kind_of, level_name};
+
+use crate::span::Span;
+use bundle_state::Bundle;
+use db_config::Config;
+use emu_names::{LevelKind, Memory, Text};
+use std::alloc::Global;
+
+/// The name of a level.
+fn level_name(config: &Config, level: usize) -> &str
+    ensures { result.now ≡ level_name config.now level }
+{
+    match config.parts().levels.as_slice().get(level) {
+        Some(def) => def.name.as_str(),
+        None => "",
+    }
+}
+
+/// The name of an attribute of a level.
+fn attribute_name(config: &Config, level: usize, attribute: usize) -> &str
+    ensures { result.now ≡ attribute_name config.now level attribute }
+{
+    match config.parts().levels.as_slice().get(level) {
+        Some(def) => match def.attributes.as_slice().get(attribute) {
+            Some(def) => def.name.as_str(),
+            None => "",
+        },
+        None => "",
+    }
+}
+
+/// The type of a level; ITEM where there is no such level.
+pub fn kind_of(config: &Config, level: usize) -> LevelKind
+    ensures { result ≡ kind_of config.now level }
+{
+    match config.parts().levels.as_slice().get(level) {
+        Some(def) => def.kind,
+        None => LevelKind::Item,
+    }
+}
+
+/// The names that rows of results on a level show: of the session, the bundle, the level and one of the level's
+/// attributes, by its number.
+#[derive(Drop)]
+pub struct RowNames {
+    /// The session.
+    pub session: Text,
+    /// The bundle.
+    pub bundle: Text,
+    /// The level.
+    pub level: Text,
+    /// The attribute.
+    pub attribute: Text,
+    /// The place of the attribute among those of the level, counted from 0.
+    pub number: u32,
+}
+
+/// The names of rows of results on a level, with that of the level's attribute of this number, counted from 0. The
+/// only refusal is want of memory.
+pub fn names_of(
+    alloc: Global,
+    config: &Config,
+    bundle: &Bundle,
+    level: usize,
+    number: u32,
+) -> Result<RowNames, Memory>
+    ensures { IfOk result (AreNames config.now bundle.now level) }
+{
+    let session = Text::new(alloc, bundle.key().session.as_str())?;
+    let name = Text::new(alloc, bundle.key().bundle.as_str())?;
+    let level_text = Text::new(alloc, level_name(config, level))?;
+    let attribute = Text::new(alloc, attribute_name(config, level, number as usize))?;
+    Ok(RowNames {
+        session,
+        bundle: name,
+        level: level_text,
+        attribute,
+        number,
+    })
+}
+
+/// The name of the attribute that a result shows. It shares its bytes with the one that is there, where it is that
+/// one. The only refusal is want of memory.
+pub(crate) fn attribute_of(
+    alloc: Global,
+    config: &Config,
+    names: &RowNames,
+    span: Span,
+) -> Result<Text, Memory>
+    requires { names.now.attribute ≡ attribute_name config.now span.level names.now.number }
+    ensures { IfOk result (λ made. made ≡ attribute_name config.now span.level span.attribute) }
+{
+    if span.attribute == names.number {
+        names.attribute.copy(alloc)
+    } else {
+        let name = attribute_name(config, span.level as usize, span.attribute as usize);
+        Text::new(alloc, name)
+    }
+}

@@ -1,0 +1,3 @@
+pub mod Kept
+pub mod Sets
+pub mod Stretches

@@ -1,0 +1,5 @@
+pub mod Laws
+pub mod Sets
+pub mod Shown
+pub mod Tuples
+pub mod Inner
