@@ -7,10 +7,11 @@ ghost use Rattle.bundle_state.specs.Linked.{unless_broken};
 ghost use Rattle.bundle_state.specs.Made.{label_named, made_labels, made_item, items_named, made_level, made_levels};
 
 use crate::annot_rules::annot_passes;
-use bundle_lists::{Handle, SharedLevels};
 use db_config::{AttributeDef, Config, LevelDef};
 use emu_names::{Fault, Memory, Text};
-use level_items::{Annot, AnnotItem, AnnotLabel, AnnotLevel, Item, Labels, LevelList};
+use level_items::{
+    Annot, AnnotItem, AnnotLabel, AnnotLevel, Handle, Item, Labels, LevelList, SharedLevels,
+};
 use std::alloc::Global;
 
 /// The label of an attribute, which is empty where it is not given, and else shared with the label that
@@ -41,8 +42,9 @@ fn made_labels(
     Ok(made)
 }
 
-/// The item of a bundle. The only refusal is want of memory.
-fn made_item(alloc: Global, defs: &[AttributeDef], item: &AnnotItem) -> Result<Item, Memory>
+/// The item of a bundle, with one label for each attribute: the label that is given, which is shared, or the
+/// empty one. The only refusal is want of memory.
+pub fn made_item(alloc: Global, defs: &[AttributeDef], item: &AnnotItem) -> Result<Item, Memory>
     ensures { IfOk result (λ made. made ≡ made_item defs.now item.now) }
 {
     let labels = made_labels(alloc, defs, item.labels.as_slice())?;

@@ -1,20 +1,64 @@
 -- The place of the link of a pair, in a block and among all links.
-use Rattle.std.proofs.Common.{◌≡◌, ℕ, suc, ◌+◌, ◌<◌, ◌≤◌, Bool, true, false, List, [], ◌++◌, length, take, drop, get_or, Some, None, refl, sym, ap, ◌∙◌, length-append, arith}
-use Rattle.std.specs.List.{list_any, slice_get}
+use Rattle.std.proofs.Common.{◌≡◌, ℕ, zero, suc, ◌+◌, ◌<◌, ◌≤◌, Bool, true, false, ◌||◌, not, cond, nat_lt, List, [], ◌∷◌, ◌++◌, length, take, drop, get_or, Option, Some, None, is_some, refl, sym, ap, ◌∙◌, length-append, arith}
+use Rattle.std.specs.List.{list_any, slice_get, position, position_or_len}
 use Rattle.std.proofs.lemmas.List.{drop_all}
-use Rattle.std.proofs.lemmas.Option.{slice_get_read, slice_get_within}
+use Rattle.std.proofs.lemmas.List.Quantifiers.{position-Some}
+use Rattle.std.proofs.lemmas.Bool.{ltb-false}
+use Rattle.std.proofs.lemmas.Option.{slice_get-get_or, slice_get_within}
 use Rattle.emu_names.specs.declared.kinds.ItemId.{ItemId}
 use Rattle.link_graph.specs.declared.link.Link.{Link}
 use Rattle.link_graph.specs.Inner.Blocks.{joined}
 use Rattle.link_graph.specs.Inner.Link.{IsPairPlace}
-use Rattle.link_graph.specs.Link.{joins}
+use Rattle.link_graph.specs.Link.{joins, link_of}
 use Rattle.link_graph.proofs.Joined.{joined_at, get_left, get_right}
 use Rattle.link_graph.proofs.Placed.{get_any}
 
--- a link that passes, at a place
-pub pair_here : (from to : ItemId) (links : List Link) (place : ℕ) (link : Link) (b : Bool) → place < length links → link ≡ get_or links place link → b ≡ joins from to link → b ≡ true →
-    IsPairPlace from to links (Some place)
-pair_here from to links place link b within here is passes = (link, slice_get_read links (length links) place link refl within here, sym is ∙ passes)
+-- what passes at a place passes in the list
+any_at : {A : Type 0} (p : A → Bool) (xs : List A) (k : ℕ) (x : A) → slice_get xs k ≡ Some x → p x ≡ true → list_any p xs ≡ true
+any_at p [] k x at passes = absurd cc
+any_at p (y ∷ ys) zero x at passes =
+    let same : y ≡ x = cc in
+    ap (λ b. b || list_any p ys) (ap p same ∙ passes)
+any_at p (y ∷ ys) (suc k) x at passes = ap (λ b. p y || b) (any_at p ys k x at passes) ∙ or_last (p y)
+  where
+    or_last : (b : Bool) → (b || true) ≡ true
+    or_last true = refl
+    or_last false = refl
+
+-- where the first place is past the end, nothing passes
+none_behind : {A : Type 0} (p : A → Bool) (xs : List A) → length xs ≤ position_or_len p xs → list_any p xs ≡ false
+none_behind p [] past = refl
+none_behind p (x ∷ xs) past = by (p x) refl (none_behind p xs)
+  where
+    at : (b : Bool) → p x ≡ b → position_or_len p (x ∷ xs) ≡ cond (not b) (1 + position_or_len p xs) 0
+    at b is = ap (λ c. cond (not c) (1 + position_or_len p xs) 0) is
+
+    by : (b : Bool) → p x ≡ b → (length xs ≤ position_or_len p xs → list_any p xs ≡ false) → list_any p (x ∷ xs) ≡ false
+    by true is rest =
+        let first = at true is in
+        absurd (omega (arith, first, past))
+    by false is rest =
+        let later = at false is in
+        ap (λ b. b || list_any p xs) is ∙ rest (omega (arith, later, past))
+
+none_passes : {A : Type 0} (p : A → Bool) (xs : List A) → position p xs ≡ None → list_any p xs ≡ false
+none_passes p xs none = none_behind p xs (by (nat_lt (position_or_len p xs) (length xs)) refl none)
+  where
+    by : (b : Bool) → nat_lt (position_or_len p xs) (length xs) ≡ b → cond b (Some (position_or_len p xs)) None ≡ None → length xs ≤ position_or_len p xs
+    by true is none = absurd cc
+    by false is none = ltb-false (position_or_len p xs) (length xs) is
+
+-- the first link that passes gives the place
+pub pair_place : (from to : ItemId) (links : List Link) (o : Option ℕ) → o ≡ position (joins from to) links → IsPairPlace from to links o
+pair_place from to links None is = none_passes (joins from to) links (sym is)
+pair_place from to links (Some place) is =
+    let found = position-Some (joins from to) links place (link_of 0 from to) (sym is) in
+    (get_or links place (link_of 0 from to), slice_get-get_or links place (link_of 0 from to) found.0, found.1)
+
+-- a pair has a place where it is there
+pub is_placed : (from to : ItemId) (links : List Link) (o : Option ℕ) → IsPairPlace from to links o → is_some o ≡ list_any (joins from to) links
+is_placed from to links None none = sym none
+is_placed from to links (Some place) there = sym (any_at (joins from to) links place there.0 there.1 there.2)
 
 -- the links before a block are not too many
 pub few_before : (blocks before : List (List Link)) (at most : ℕ) → at < length blocks → before ≡ take at blocks → length (joined blocks) ≤ most → length (joined before) ≤ most

@@ -1,6 +1,6 @@
 //! Some links that stand behind one another.
 ghost use Rattle.std.specs.Prelude.{◌≡◌, ◌<◌, ◌≤◌, ◌++◌, ◌∷◌, [], length, take, drop, insert, not, slice_get, Some, IfOk, OnOk, OnErr, if◌then◌else◌};
-ghost use Rattle.std.specs.List.{filter, list_any};
+ghost use Rattle.std.specs.List.{filter, position};
 ghost use Rattle.link_graph.specs.Link.{joins};
 ghost use Rattle.link_graph.specs.Inner.Ends.{has_end};
 ghost use Rattle.link_graph.specs.Inner.Link.{IsPairPlace};
@@ -61,8 +61,7 @@ impl Block {
         Ok(())
     }
 
-    /// Puts a link at a place, before the link that stands there. The only refusal is want of memory, which
-    /// changes nothing.
+    /// Puts a link before the one at a place. The only refusal is want of memory, which changes nothing.
     pub(crate) fn insert(&mut self, place: usize, link: Link) -> Result<(), Memory>
         requires { place ≤ length self.old }
         ensures ok { OnOk result (self.new ≡ insert self.old place link) }
@@ -97,18 +96,12 @@ impl Block {
         count_ends(self.links.as_slice(), place, end, id)
     }
 
-    /// Whether the link of a pair is here.
-    pub(crate) fn has(&self, from: ItemId, to: ItemId) -> bool
-        ensures { result ≡ list_any (joins from to) self.now }
-    {
-        has_pair(self.links.as_slice(), from, to)
-    }
-
     /// The place of the link of a pair, counted from 0, if it is here.
+    #[tactic(auto, using(crate::proofs::PairPlaces::pair_place))]
     pub(crate) fn place(&self, from: ItemId, to: ItemId) -> Option<usize>
         ensures { IsPairPlace from to self.now result }
     {
-        pair_place(self.links.as_slice(), from, to)
+        place_of(self.links.as_slice(), from, to)
     }
 
     /// Takes the link of a pair out.
@@ -148,34 +141,11 @@ fn one_if(test: bool) -> usize
     if test { 1 } else { 0 }
 }
 
-/// Whether the link of a pair is among some links.
-fn has_pair(links: &[Link], from: ItemId, to: ItemId) -> bool
-    ensures { result ≡ list_any (joins from to) links.now }
+/// The first place of a link of a pair among some links.
+fn place_of(links: &[Link], from: ItemId, to: ItemId) -> Option<usize>
+    ensures { result ≡ position (joins from to) links.now }
 {
-    for link in links {
-        if link.from == from && link.to == to {
-            return true;
-        }
-    }
-    false
-}
-
-/// Whether a link leads from the one item to the other.
-fn is_pair(link: Link, from: ItemId, to: ItemId) -> bool
-    ensures { result ≡ joins from to link }
-{
-    link.from == from && link.to == to
-}
-
-/// The place of the link of a pair among some links, if it is there.
-#[tactic(auto, using(crate::proofs::PairPlaces::pair_here))]
-fn pair_place(links: &[Link], from: ItemId, to: ItemId) -> Option<usize>
-    ensures { IsPairPlace from to links.now result }
-{
-    for place in 0..links.len() {
-        if is_pair(links[place], from, to) {
-            return Some(place);
-        }
-    }
-    None
+    links
+        .iter()
+        .position(|link| link.from == from && link.to == to)
 }

@@ -89,8 +89,7 @@ impl Blocks {
         put_last(self.alloc, &mut self.blocks, link)
     }
 
-    /// Puts a link at a place, before the link that stands there. The only refusal is want of memory, which
-    /// changes nothing.
+    /// Puts a link before the one at a place. The only refusal is want of memory, which changes nothing.
     pub(crate) fn insert(&mut self, place: usize, link: Link) -> Result<(), Memory>
         requires within { place ≤ length self.old }
         requires room { length self.old < BUNDLE_LINKS }
@@ -303,7 +302,7 @@ fn count_before(blocks: &[Block], place: usize, end: End, id: ItemId) -> usize
 }
 
 /// The first block from one on that has the link of a pair.
-#[tactic(auto, using(crate::proofs::PairPlaces::pair_past))]
+#[tactic(auto, using(crate::proofs::PairPlaces::pair_past, crate::proofs::PairPlaces::is_placed))]
 fn find_from(blocks: &[Block], first: usize, from: ItemId, to: ItemId) -> Option<usize>
     ensures within { IfSome result (λ at. at < length blocks.now) }
     ensures there { IfSome result
@@ -311,7 +310,7 @@ fn find_from(blocks: &[Block], first: usize, from: ItemId, to: ItemId) -> Option
     ensures none { IfNone result (list_any (joins from to) (joined (drop first blocks.now)) ≡ false) }
 {
     for at in first..blocks.len() {
-        if blocks[at].has(from, to) {
+        if blocks[at].place(from, to).is_some() {
             return Some(at);
         }
     }

@@ -47,8 +47,8 @@ impl ItemLinks {
         Ok(())
     }
 
-    /// Puts a link at a place, before the link that stands there; last, where there are not so many. The only
-    /// refusal is want of memory, which changes nothing.
+    /// Puts a link at a place, or last where links are fewer. The only refusal is want of memory, which
+    /// changes nothing.
     #[tactic(auto, using(crate::proofs::Inserted::insert_none))]
     pub(crate) fn insert(&mut self, alloc: Global, place: usize, link: Link) -> Result<(), Memory>
         ensures ok { OnOk result (links_of self.new ≡ insert (links_of self.old) place link) }
@@ -129,8 +129,8 @@ fn in_order(alloc: Global, link: Link, place: usize, other: Link) -> Result<Box<
     both(alloc, link, other)
 }
 
-/// Puts a link at a place, or last where there are not so many links. The only refusal is want of memory,
-/// which changes nothing.
+/// Puts a link at a place, or last where links are fewer. The only refusal is want of memory, which
+/// changes nothing.
 #[tactic(auto, using(crate::proofs::Inserted::insert_least))]
 fn insert_near(links: &mut Vec<Link>, place: usize, link: Link) -> Result<(), Memory>
     ensures ok { OnOk result (links.new.items ≡ insert links.old.items place link) }
