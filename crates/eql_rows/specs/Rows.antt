@@ -13,7 +13,6 @@ use Rattle.level_items.specs.Times.{first_sample, last_sample}
 use Rattle.db_config.specs.declared.parts.ConfigParts.{ConfigParts}
 use Rattle.db_config.specs.Lookups.{attribute_at, place_of}
 use Rattle.bundle_state.specs.Bundle.{BundleParts}
-use Rattle.eql_resolve.specs.Resolve.{kind_at}
 use Rattle.eql_rows.specs.declared.span.Span.{Span}
 use Rattle.eql_rows.specs.declared.row.Row.{Row}
 use Rattle.eql_tuples.specs.Tuples.{from_to}
@@ -38,7 +37,7 @@ attribute_name c level attribute = option_map_or (λ a. a.name) (attribute_at (p
 
 -- the type of a level
 abbrev pub kind_of : ConfigParts → ℕ → LevelKind
-kind_of c level = unwrap_or (kind_at c level) kinds.Item
+kind_of c level = unwrap_or (option_map (λ d. d.kind) (slice_get c.levels level)) kinds.Item
 
 -- the id of the item at a position of a level
 abbrev pub id_at : List Item → ℕ → ItemId
