@@ -1,6 +1,6 @@
 -- What becomes of a bundle where one of its items or links changes, or the rule that the change breaks
 -- first (EMU-SDMS Manual, "The emuDB format": `_annot.json`).
-use Rattle.std.specs.Prelude.{ℕ, not, List, [], ◌∷◌, ◌++◌, nat_eq, insert, Option, Some, Result, Ok, if◌then◌else◌, ok_or}
+use Rattle.std.specs.Prelude.{ℕ, not, List, [], ◌∷◌, ◌++◌, length, nat_eq, nat_le, insert, Option, Some, None, Result, Ok, if◌then◌else◌, ok_or}
 use Rattle.std.specs.List.{list_any, filter}
 use Rattle.std.specs.Option.{option_or}
 use Rattle.emu_names.specs.declared.kinds.ItemId.{ItemId}
@@ -10,11 +10,11 @@ use Rattle.level_items.specs.declared.times.Time.{Time}
 use Rattle.level_items.specs.declared.items.Item.{Item}
 use Rattle.level_items.specs.Levels.{Level, retimed, relabelled}
 use Rattle.link_graph.specs.declared.link.Link.{Link}
-use Rattle.link_graph.specs.Link.{names_item, link_of, add_fault}
+use Rattle.link_graph.specs.Link.{joins, names_item, link_of, add_fault}
 use Rattle.bundle_state.specs.Bundle.{BundleParts, all_ids, level_of_id, place_of}
 use Rattle.bundle_state.specs.Linked.{unless_broken, kind_of, definition_for}
 use Rattle.emu_names.specs.Steps.{onward}
-pub use Rattle.bundle_lists.specs.Changed.{change_level, with_item, without_item, with_changed, put_fault, new_time_fault, links_but, place_fault, missing_fault}
+pub use Rattle.level_items.specs.Changed.{change_level, with_item, without_item, with_changed, put_fault, new_time_fault}
 
 -- the bundle with other levels
 abbrev pub with_levels : BundleParts → List Level → BundleParts
@@ -70,6 +70,18 @@ item_retimed id time b =
     onward (place_for id b.levels)
     (λ place. unless_broken (new_time_fault place time b.levels)
     (with_change (retimed time) place b))
+
+-- the links but that of a pair of items
+abbrev pub links_but : ItemId → ItemId → List Link → List Link
+links_but from to links = filter (λ link. not (joins from to link)) links
+
+-- a place of a list of links that has not so many
+abbrev pub place_fault : ℕ → List Link → Option Broken
+place_fault place links = if nat_le place (length links) then None else Some rules.PositionOut
+
+-- a pair of items that is to be taken out has to be there
+abbrev pub missing_fault : ItemId → ItemId → List Link → Option Broken
+missing_fault from to links = if list_any (joins from to) links then None else Some rules.NoLink
 
 -- a new link of the definition of this number, put last
 abbrev pub link_put : ItemId → ItemId → BundleParts → ℕ → Result BundleParts Broken

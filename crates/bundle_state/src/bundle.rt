@@ -21,11 +21,11 @@ use crate::changes::{put_item, take_out};
 use crate::fitted::fitted_levels;
 use crate::given_levels::levels_for;
 use crate::given_links::{definition_for, shared_links};
+use crate::own::{add, add_at, remove};
 use crate::places::{Places, shared_places};
-use bundle_lists::{Handle, SharedLevels};
 use db_config::{Config, LinkDefs};
 use emu_names::{Broken, BundleKey, Fault, ItemId, Memory, PlainData, Text};
-use level_items::{Annot, AnnotLink, Item, LevelList, Time};
+use level_items::{Annot, AnnotLink, Handle, Item, LevelList, SharedLevels, Time};
 use link_graph::Links;
 use std::alloc::Global;
 use std::marker::Model;
@@ -318,7 +318,7 @@ impl Bundle {
         ensures kept { OnErr result (self.new ≡ self.old) }
     {
         let number = definition_for(config, self.places.as_ref(), &AnnotLink { from, to })?;
-        self.links.add(number, config.link_kind(number), from, to)
+        add(&mut self.links, number, config.link_kind(number), from, to)
     }
 
     /// Puts a link at a place of the list of links, before the link that stands there. The refusals are those
@@ -339,7 +339,7 @@ impl Bundle {
     {
         let number = definition_for(config, self.places.as_ref(), &AnnotLink { from, to })?;
         let kind = config.link_kind(number);
-        self.links.add_at(place as usize, number, kind, from, to)
+        add_at(&mut self.links, place as usize, number, kind, from, to)
     }
 
     /// Takes the link of a pair out; the links behind it move up. `NoLink` comes exactly where the pair is not
@@ -350,7 +350,7 @@ impl Bundle {
             → link_removed from to self.old ≡ Err rule }
         ensures kept { OnErr result (self.new ≡ self.old) }
     {
-        self.links.remove(from, to)
+        remove(&mut self.links, from, to)
     }
 
     /// The bundle under a configuration that begins with the one that it fits: new levels are empty, and

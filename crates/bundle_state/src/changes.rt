@@ -9,9 +9,8 @@ ghost use Rattle.bundle_state.specs.Inner.Placed.{level_in};
 ghost use Rattle.bundle_state.specs.Changed.{change_level, links_without, put_fault, with_item, without_item};
 
 use crate::places::Places;
-use bundle_lists::{Handle, SharedLevels};
 use emu_names::{Fault, ItemId, Memory};
-use level_items::Item;
+use level_items::{Handle, Item, SharedLevels};
 use link_graph::Links;
 use std::sync::Arc;
 

@@ -3,10 +3,9 @@ ghost use Rattle.std.specs.Prelude.{◌≡◌, ◌≤◌, IfOk, IfSome, option_c
 ghost use Rattle.level_items.specs.Levels.{widened};
 ghost use Rattle.bundle_state.specs.Fitted.{fitted_level, fitted_levels, CanFitLevel, CanFitLevels};
 
-use bundle_lists::{Handle, SharedLevels};
 use db_config::LevelDef;
 use emu_names::{Memory, PlainData};
-use level_items::LevelList;
+use level_items::{Handle, LevelList, SharedLevels};
 use std::alloc::Global;
 
 /// One level for each definition. Levels to which nothing is added stay shared. The only refusal is want of

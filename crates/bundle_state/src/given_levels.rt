@@ -7,10 +7,11 @@ ghost use Rattle.bundle_state.specs.Linked.{unless_broken};
 ghost use Rattle.bundle_state.specs.Made.{label_named, made_labels, made_item, items_named, made_level, made_levels};
 
 use crate::annot_rules::annot_passes;
-use bundle_lists::{Handle, SharedLevels};
 use db_config::{AttributeDef, Config, LevelDef};
 use emu_names::{Fault, Memory, Text};
-use level_items::{Annot, AnnotItem, AnnotLabel, AnnotLevel, Item, Labels, LevelList};
+use level_items::{
+    Annot, AnnotItem, AnnotLabel, AnnotLevel, Handle, Item, Labels, LevelList, SharedLevels,
+};
 use std::alloc::Global;
 
 /// The label of an attribute, which is empty where it is not given, and else shared with the label that

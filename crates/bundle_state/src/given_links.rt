@@ -6,10 +6,9 @@ ghost use Rattle.bundle_state.specs.Inner.Placed.{level_in};
 ghost use Rattle.bundle_state.specs.Linked.{definition_for, put_link, put_links};
 
 use crate::places::Places;
-use bundle_lists::Handle;
 use db_config::Config;
 use emu_names::{Broken, Fault};
-use level_items::AnnotLink;
+use level_items::{AnnotLink, Handle};
 use link_graph::Links;
 use std::alloc::Global;
 

@@ -9,6 +9,7 @@ mod fitted;
 mod given_levels;
 mod given_links;
 mod laws;
+mod own;
 mod places;
 mod used_ids;
 

@@ -7,9 +7,8 @@ ghost use Rattle.level_items.specs.Levels.{ids_of};
 ghost use Rattle.bundle_state.specs.Inner.Placed.{level_in};
 ghost use Rattle.bundle_state.specs.Inner.Kept.{ArePlacesOf};
 
-use bundle_lists::Handle;
 use emu_names::{ItemId, Memory};
-use level_items::{Item, LevelList};
+use level_items::{Handle, Item, LevelList};
 use std::alloc::{AllocError, Global};
 use std::collections::HashMap;
 

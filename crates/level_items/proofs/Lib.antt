@@ -6,3 +6,4 @@ pub mod Changes
 pub mod Exact
 pub mod Wider
 pub mod Padded
+mod Written

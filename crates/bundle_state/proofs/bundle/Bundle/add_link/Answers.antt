@@ -24,4 +24,4 @@ invariant_of-self c =
     kind_is c.self.inside.definitions number c.link_kind.result (ap (λ ds. option_map (λ d. d.kind) (slice_get ds number)) same ∙ c.link_kind.ensures) in
     let finds : FindsFault c.add.result (add_fault (kind_of c.self.inside.definitions number) number from to c.self.inside.links) =
     subst (λ k. FindsFault c.add.result (add_fault k number from to c.self.inside.links)) (sym kind) c.add.ensures.fault in
-    link_kept _ from to number c.add.new.self c.self.inside.places c.add.result found c.self.invariant finds c.add.ensures.added c.add.ensures.kept
+    link_kept _ from to number c.add.new.links c.self.inside.places c.add.result found c.self.invariant finds c.add.ensures.added c.add.ensures.kept

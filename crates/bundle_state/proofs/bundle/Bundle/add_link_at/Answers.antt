@@ -27,4 +27,4 @@ invariant_of-self c =
     kind_is c.self.inside.definitions number c.link_kind-kind.result (ap (λ ds. option_map (λ d. d.kind) (slice_get ds number)) same ∙ c.link_kind-kind.ensures) in
     let finds : FindsFault c.add_at.result (option_or (add_fault (kind_of c.self.inside.definitions number) number from to c.self.inside.links) (place_fault c.args.place c.self.inside.links)) =
     subst (λ k. FindsFault c.add_at.result (option_or (add_fault k number from to c.self.inside.links) (place_fault c.args.place c.self.inside.links))) (sym kind) c.add_at.ensures.fault in
-    placed_kept _ c.args.place from to number c.add_at.new.self c.self.inside.places c.add_at.result found c.self.invariant finds c.add_at.ensures.added c.add_at.ensures.kept
+    placed_kept _ c.args.place from to number c.add_at.new.links c.self.inside.places c.add_at.result found c.self.invariant finds c.add_at.ensures.added c.add_at.ensures.kept

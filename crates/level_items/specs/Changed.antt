@@ -1,17 +1,13 @@
--- What becomes of the levels and of the links of a bundle where one item or one link changes, or the rule that
--- the change breaks first there (EMU-SDMS Manual, "The emuDB format": `_annot.json`).
-use Rattle.std.specs.Prelude.{ℕ, zero, suc, not, List, [], ◌∷◌, length, nat_le, remove, Option, Some, None, if◌then◌else◌}
-use Rattle.std.specs.List.{list_any, filter, slice_get}
+-- What becomes of the levels of a bundle where one item changes, or the rule that the change breaks first
+-- there (EMU-SDMS Manual, "The emuDB format": `_annot.json`).
+use Rattle.std.specs.Prelude.{ℕ, zero, suc, List, [], ◌∷◌, remove, Option}
+use Rattle.std.specs.List.{slice_get}
 use Rattle.std.specs.Option.{option_and_then}
-use Rattle.emu_names.specs.declared.kinds.ItemId.{ItemId}
 use Rattle.emu_names.specs.declared.rules.Broken.{Broken}
-use Rattle.emu_names.specs.declared.rules.Broken.TheVariants as rules
 use Rattle.level_items.specs.declared.times.Time.{Time}
 use Rattle.level_items.specs.declared.items.Item.{Item}
 use Rattle.level_items.specs.Levels.{Level, with_items, change_at, put_at_place}
 use Rattle.level_items.specs.Faults.{insert_fault, retime_fault}
-use Rattle.link_graph.specs.declared.link.Link.{Link}
-use Rattle.link_graph.specs.Link.{joins}
 
 -- the level of this number changed, and all others as they are
 abbrev pub change_level : (Level → Level) → ℕ → List Level → List Level
@@ -43,15 +39,3 @@ abbrev pub new_time_fault : ℕ × ℕ → Time → List Level → Option Broken
 new_time_fault place time levels =
     option_and_then (λ level. retime_fault level.kind level.items place.1 time)
     (slice_get levels place.0)
-
--- the links but that of a pair of items
-abbrev pub links_but : ItemId → ItemId → List Link → List Link
-links_but from to links = filter (λ link. not (joins from to link)) links
-
--- a place of a list of links that has not so many
-abbrev pub place_fault : ℕ → List Link → Option Broken
-place_fault place links = if nat_le place (length links) then None else Some rules.PositionOut
-
--- a pair of items that is to be taken out has to be there
-abbrev pub missing_fault : ItemId → ItemId → List Link → Option Broken
-missing_fault from to links = if list_any (joins from to) links then None else Some rules.NoLink

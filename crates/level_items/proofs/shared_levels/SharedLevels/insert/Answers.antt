@@ -1,7 +1,7 @@
 use Rattle.std.proofs.Common.{◌<◌, length}
-use Rattle.bundle_lists.specs.Changed.{with_item}
-use Rattle.bundle_lists.proofs.Written.{written_level}
-use Rattle.bundle_lists.proofs.shared_levels.SharedLevels.insert.Goals as goal
+use Rattle.level_items.specs.Changed.{with_item}
+use Rattle.level_items.proofs.Written.{written_level}
+use Rattle.level_items.proofs.shared_levels.SharedLevels.insert.Goals as goal
 
 pub returns-clause-inserted : goal.returns-clause-inserted
 returns-clause-inserted c =

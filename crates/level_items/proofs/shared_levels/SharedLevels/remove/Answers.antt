@@ -1,7 +1,7 @@
 use Rattle.std.proofs.Common.{◌<◌, length}
-use Rattle.bundle_lists.specs.Changed.{without_item}
-use Rattle.bundle_lists.proofs.Written.{written_level}
-use Rattle.bundle_lists.proofs.shared_levels.SharedLevels.remove.Goals as goal
+use Rattle.level_items.specs.Changed.{without_item}
+use Rattle.level_items.proofs.Written.{written_level}
+use Rattle.level_items.proofs.shared_levels.SharedLevels.remove.Goals as goal
 
 pub returns-clause-removed : goal.returns-clause-removed
 returns-clause-removed c =

@@ -3,13 +3,70 @@ ghost use Rattle.std.specs.Prelude.{◌≡◌, ◌<◌, ◌++◌, ◌∷◌, [],
 ghost use Rattle.std.specs.List.{slice_get};
 ghost use Rattle.emu_names.specs.Inner.Gives.{FindsFault};
 ghost use Rattle.level_items.specs.Levels.{are_labels_for, is_short, relabelled, retimed};
-ghost use Rattle.bundle_lists.specs.Changed.{change_level, new_time_fault, put_fault, with_changed, with_item, without_item};
+ghost use Rattle.level_items.specs.Faults.{insert_fault, retime_fault};
+ghost use Rattle.level_items.specs.Changed.{change_level, new_time_fault, put_fault, with_changed, with_item, without_item};
 
 use crate::handle::Handle;
+use crate::items::Item;
+use crate::levels::LevelList;
+use crate::times::Time;
 use emu_names::{Fault, Memory, PlainData, Text};
-use level_items::{Item, LevelList, Time};
 use std::alloc::Global;
 use std::marker::Model;
+use std::sync::Arc;
+
+impl Handle<LevelList> {
+    /// Puts an item in, as the level's list does.
+    fn insert(&mut self, position: Option<u32>, item: Item) -> Result<(), Fault>
+        requires { IsTrue (are_labels_for self.old.attributes item.labels) }
+        ensures fault { FindsFault result
+            (insert_fault self.old.kind self.old.items position item) }
+        ensures inserted { OnOk result (self.new ≡ with_item position item self.old) }
+        ensures kept { OnErr result (self.new ≡ self.old) }
+    {
+        let list = Arc::make_mut(&mut self.inside)?;
+        match list.insert(position, item) {
+            Ok(_) => Ok(()),
+            Err(fault) => Err(fault),
+        }
+    }
+
+    /// Takes the item at a position out. The only refusal is want of memory, which changes nothing.
+    fn remove(&mut self, position: usize) -> Result<(), Memory>
+        requires { position < length self.old.items }
+        ensures removed { OnOk result (self.new ≡ without_item position self.old) }
+        ensures kept { OnErr result (self.new ≡ self.old) }
+    {
+        let list = Arc::make_mut(&mut self.inside)?;
+        list.remove(position)?;
+        Ok(())
+    }
+
+    /// Sets one label of the item at a position. The only refusal is want of memory, which changes nothing.
+    fn set_label(&mut self, position: usize, attribute: usize, label: Text) -> Result<(), Memory>
+        requires position { position < length self.old.items }
+        requires attribute { attribute < self.old.attributes }
+        requires label { IsTrue (is_short label) }
+        ensures labelled { OnOk result
+            (self.new ≡ with_changed (relabelled attribute label) position self.old) }
+        ensures kept { OnErr result (self.new ≡ self.old) }
+    {
+        let list = Arc::make_mut(&mut self.inside)?;
+        list.set_label(position, attribute, label)
+    }
+
+    /// Sets the time of the item at a position, as the level's list does.
+    fn retime(&mut self, position: usize, time: Time) -> Result<(), Fault>
+        requires { position < length self.old.items }
+        ensures fault { FindsFault result
+            (retime_fault self.old.kind self.old.items position time) }
+        ensures retimed { OnOk result (self.new ≡ with_changed (retimed time) position self.old) }
+        ensures kept { OnErr result (self.new ≡ self.old) }
+    {
+        let list = Arc::make_mut(&mut self.inside)?;
+        list.retime(position, time)
+    }
+}
 
 /// The levels, in the order of the configuration. A copy has the same lists; a change of a level takes a
 /// copy of that level's list first where another owner has it too.

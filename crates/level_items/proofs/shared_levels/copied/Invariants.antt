@@ -1,5 +1,5 @@
 use Rattle.std.proofs.Common.{◌≡◌, take}
-use Rattle.bundle_lists.proofs.shared_levels.copied.Given as goal
+use Rattle.level_items.proofs.shared_levels.copied.Given as goal
 
 abbrev pub invariant-loop-list : goal.invariant-loop-list
 invariant-loop-list l = l.made.items ≡ take l.list-index l.lists

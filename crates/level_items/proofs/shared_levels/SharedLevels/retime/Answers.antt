@@ -1,8 +1,8 @@
 use Rattle.std.proofs.Common.{◌<◌, length}
 use Rattle.level_items.specs.Levels.{retimed}
-use Rattle.bundle_lists.specs.Changed.{with_changed}
-use Rattle.bundle_lists.proofs.Written.{written_level}
-use Rattle.bundle_lists.proofs.shared_levels.SharedLevels.retime.Goals as goal
+use Rattle.level_items.specs.Changed.{with_changed}
+use Rattle.level_items.proofs.Written.{written_level}
+use Rattle.level_items.proofs.shared_levels.SharedLevels.retime.Goals as goal
 
 pub returns-clause-retimed : goal.returns-clause-retimed
 returns-clause-retimed c =

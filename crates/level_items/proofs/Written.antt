@@ -3,7 +3,7 @@ use Rattle.std.proofs.Common.{◌≡◌, ℕ, zero, suc, ◌<◌, List, [], ◌�
 use Rattle.std.specs.List.{slice_get}
 use Rattle.std.proofs.lemmas.Option.{slice_get-get_or}
 use Rattle.level_items.specs.Levels.{Level}
-use Rattle.bundle_lists.specs.Changed.{change_level}
+use Rattle.level_items.specs.Changed.{change_level}
 
 -- a level that is put in the place of another
 set_level : (f : Level → Level) (k : ℕ) (levels : List Level) (l new : Level) → slice_get levels k ≡ Some l → new ≡ f l → slice_set levels k new ≡ change_level f k levels
