@@ -1,5 +1,4 @@
 pub mod Cuts
-pub mod LabelSteps
 pub mod Lookups
 pub mod Next
 mod PairSteps

@@ -1,8 +1,8 @@
 -- What an edit makes of the bundle that it names, or the rule that it breaks first (EMU-SDMS Manual, "The
 -- emuDB format": `_annot.json` and `legalLabels`).
-use Rattle.std.specs.Prelude.{ℕ, suc, ◌+◌, ◌-◌, Bool, true, false, not, ◌&&◌, ◌||◌, List, [], ◌∷◌, ◌++◌, length, insert, Option, Some, None, option_map, option_and_then, Result, Ok, Err, nat_eq, nat_le, nat_lt, if◌then◌else◌, ok_or, is_some, replicate, ◌==◌}
-use Rattle.std.specs.List.{list_any, list_all, find, position, slice_get}
-use Rattle.emu_names.specs.declared.limits.TheConstants.{ALL_ITEMS, BUNDLES, BUNDLE_ITEMS, LABEL_BYTES}
+use Rattle.std.specs.Prelude.{ℕ, suc, ◌+◌, ◌-◌, Bool, true, false, ◌&&◌, List, [], ◌∷◌, ◌++◌, length, insert, Option, Some, None, option_map, option_and_then, Result, Ok, Err, nat_eq, nat_le, nat_lt, if◌then◌else◌, ok_or, is_some, replicate, ◌==◌}
+use Rattle.std.specs.List.{list_any, list_all, position, slice_get}
+use Rattle.emu_names.specs.declared.limits.TheConstants.{ALL_ITEMS, BUNDLES, BUNDLE_ITEMS}
 use Rattle.emu_names.specs.declared.kinds.ItemId.{ItemId}
 use Rattle.emu_names.specs.declared.kinds.LevelKind.{LevelKind}
 use Rattle.emu_names.specs.declared.kinds.LevelKind.TheVariants as levels
@@ -12,7 +12,6 @@ use Rattle.emu_names.specs.declared.rules.Broken.TheVariants as rules
 use Rattle.emu_names.specs.declared.rules.What.TheVariants as counted
 use Rattle.level_items.specs.declared.annot.Annot.{Annot}
 use Rattle.level_items.specs.declared.annot.AnnotItem.{AnnotItem}
-use Rattle.level_items.specs.declared.annot.AnnotLabel.{AnnotLabel}
 use Rattle.level_items.specs.declared.annot.AnnotLink.{AnnotLink}
 use Rattle.level_items.specs.declared.items.Item.{Item}
 use Rattle.level_items.specs.declared.times.Time.{Time}
@@ -24,16 +23,16 @@ use Rattle.db_config.specs.declared.attributes.AttributeDef.{AttributeDef}
 use Rattle.db_config.specs.declared.parts.ConfigParts.{ConfigParts}
 use Rattle.db_config.specs.declared.parts.LevelDef.{LevelDef}
 use Rattle.db_config.specs.declared.parts.LinkDef.{LinkDef}
-use Rattle.db_config.specs.Lookups.{is_legal_for, level_named, attribute_named, leads}
+use Rattle.db_config.specs.Lookups.{level_named, attribute_named, leads}
 use Rattle.link_builder.specs.Timed.{timed_pairs}
 use Rattle.link_graph.specs.declared.link.Link.{Link}
 use Rattle.link_graph.specs.Link.{joins}
-use Rattle.emu_names.specs.Texts.{same_text}
 use Rattle.bundle_state.specs.Bundle.{BundleParts, all_ids, item_count}
 use Rattle.bundle_state.specs.Built.{built}
 use Rattle.bundle_state.specs.Linked.{unless_broken}
 use Rattle.emu_names.specs.Steps.{onward}
 use Rattle.bundle_state.specs.Made.{made_item}
+pub use Rattle.bundle_state.specs.Labels.{label_fault, given_label_fault, new_labels_fault}
 use Rattle.bundle_state.specs.Changed.{change_level, with_levels, with_change, without, place_for, item_added, item_removed, label_set, item_retimed, link_added, link_inserted, link_removed}
 use Rattle.bundle_edits.specs.declared.bundle_change.Counts.{Counts}
 use Rattle.bundle_edits.specs.declared.edit.Edit.{Edit}
@@ -79,27 +78,6 @@ room_fault counts levels =
 -- an id that an item of the bundle has
 abbrev pub id_fault : ItemId → List Level → Option Broken
 id_fault id levels = if list_any (nat_eq id.0) (all_ids levels) then Some (rules.IdTaken id) else None
-
--- a label that is too long, or, where that is tested, that the attribute does not allow
-abbrev pub label_fault : Bool → AttributeDef → List ℕ → Option Broken
-label_fault tested def label =
-    if nat_lt LABEL_BYTES (length label) then Some rules.LabelTooLong
-    else if not tested || is_legal_for label def then None
-    else Some rules.IllegalLabel
-
--- a label for an attribute, behind labels for attributes of these names
-abbrev pub given_label_fault : Bool → List (List ℕ) → AnnotLabel → Option AttributeDef → Option Broken
-given_label_fault tested named l None = Some (rules.NoAttribute l.name)
-given_label_fault tested named l (Some def) =
-    if list_any (same_text l.name) named then Some (rules.TwoLabels l.name) else label_fault tested def l.value
-
--- the labels of a new item, behind labels for attributes of these names: for each an unknown attribute,
--- one that is named twice, a label that is too long or not allowed
-abbrev pub new_labels_fault : Bool → List AttributeDef → List (List ℕ) → List AnnotLabel → Option Broken
-new_labels_fault tested defs named [] = None
-new_labels_fault tested defs named (l ∷ ls) =
-    option_or (given_label_fault tested named l (find (λ d. same_text d.name l.name) defs))
-    (new_labels_fault tested defs (named ++ l.name ∷ []) ls)
 
 -- the rule that a new item of a level breaks, before its position and its neighbours are looked at
 abbrev pub given_item_fault : Bool → Counts → List Level → LevelDef → AnnotItem → Option Broken

@@ -12,8 +12,8 @@ ghost use Rattle.bundle_state.specs.Made.{made_item};
 ghost use Rattle.bundle_edits.specs.Changes.{room_fault, id_fault, given_item_fault, put_on, item_put, labelled, label_given};
 
 use crate::bundle_change::Counts;
-use crate::labels::{label_passed, made_item, new_labels_pass, no_attribute, no_level};
-use bundle_state::Bundle;
+use crate::names::{no_attribute, no_level};
+use bundle_state::{Bundle, label_passed, made_item, new_labels_pass};
 use db_config::{AttributeDef, Config, LevelDef};
 use emu_names::limits::{ALL_ITEMS, BUNDLE_ITEMS};
 use emu_names::{Broken, Fault, ItemId, Text, What};

@@ -4,8 +4,8 @@
 mod bundle_change;
 mod edit;
 mod item_changes;
-mod labels;
 mod laws;
+mod names;
 mod segments;
 mod timed_links;
 

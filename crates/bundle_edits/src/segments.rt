@@ -13,11 +13,10 @@ ghost use Rattle.bundle_edits.specs.Inner.Given.{LeadsTo};
 
 use crate::bundle_change::Counts;
 use crate::item_changes::{id_passes, room_passes, take_item, with_item, with_time};
-use crate::labels::empty_labels;
 use bundle_state::Bundle;
 use db_config::Config;
-use emu_names::{Broken, Fault, ItemId};
-use level_items::{Item, Time};
+use emu_names::{Broken, Fault, ItemId, Memory, Text};
+use level_items::{Item, Labels, Time};
 use std::alloc::Global;
 
 /// A segment of a bundle.
@@ -209,6 +208,17 @@ fn cut(
 {
     let next = with_time(bundle, id, before)?;
     with_item(config, next, level, None, behind)
+}
+
+/// This many empty labels. The only refusal is want of memory.
+fn empty_labels(alloc: Global, count: usize) -> Result<Labels, Memory>
+    ensures { IfOk result (λ made. made ≡ replicate count []) }
+{
+    let mut made = Labels::new(alloc);
+    for _place in 0..count {
+        made.push(Text::new(alloc, "")?)?;
+    }
+    Ok(made)
 }
 
 /// How the segment with an id is cut in two; the second part is a new item without labels.

@@ -7,7 +7,7 @@ ghost use Rattle.bundle_edits.specs.Inner.Given.{LeadsTo};
 ghost use Rattle.bundle_edits.specs.Changes.{timed_kinds_fault, definition_fault, linked_fault, pair_linked, pairs_linked, levels_linked, times_linked};
 
 use crate::item_changes::link;
-use crate::labels::no_level;
+use crate::names::no_level;
 use bundle_state::Bundle;
 use db_config::{Config, LevelDef};
 use emu_names::{Broken, Fault, LevelKind, Text};

@@ -7,6 +7,7 @@ pub mod ChangedLinks
 pub mod FaultSteps
 pub mod FewLevels
 pub mod IdLevels
+mod LabelSteps
 pub mod LevelsKept
 pub mod LinkRefusals
 pub mod LinksKept

@@ -2,6 +2,7 @@ pub mod Bundle
 pub mod Lookups
 pub mod Faults
 pub mod Made
+pub mod Labels
 pub mod Linked
 pub mod Built
 pub mod Fitted

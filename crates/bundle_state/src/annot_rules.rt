@@ -28,7 +28,7 @@ fn has_attribute(defs: &[AttributeDef], name: &Text) -> bool
 }
 
 /// Whether a label among these has the name.
-fn are_labelled(labels: &[AnnotLabel], name: &Text) -> bool
+pub(crate) fn are_labelled(labels: &[AnnotLabel], name: &Text) -> bool
     ensures { result ≡ list_any (same_text name.now) (label_names labels.now) }
 {
     for label in labels {

@@ -42,8 +42,9 @@ fn made_labels(
     Ok(made)
 }
 
-/// The item of a bundle. The only refusal is want of memory.
-fn made_item(alloc: Global, defs: &[AttributeDef], item: &AnnotItem) -> Result<Item, Memory>
+/// The item of a bundle, with one label for each attribute: the label that is given, which is shared, or the
+/// empty one. The only refusal is want of memory.
+pub fn made_item(alloc: Global, defs: &[AttributeDef], item: &AnnotItem) -> Result<Item, Memory>
     ensures { IfOk result (λ made. made ≡ made_item defs.now item.now) }
 {
     let labels = made_labels(alloc, defs, item.labels.as_slice())?;

@@ -1,16 +1,11 @@
 -- Words of the clauses of private functions.
-use Rattle.std.specs.Prelude.{◌≡◌, ℕ, List, map, Option, Some, None, IfSome, Result, Ok, Err, if◌then◌else◌}
+use Rattle.std.specs.Prelude.{◌≡◌, Option, Some, None, IfSome, Result, Ok, Err, if◌then◌else◌}
 use Rattle.emu_names.specs.declared.rules.Broken.{Broken}
 use Rattle.emu_names.specs.declared.rules.Fault.{Fault}
 use Rattle.emu_names.specs.Inner.Gives.{IsFaultOf, broken_in}
 use Rattle.bundle_state.specs.Bundle.{BundleParts}
 use Rattle.bundle_edits.specs.declared.edit.Edit.{Edit}
 use Rattle.bundle_edits.specs.Changes.{is_kept_by}
-use Rattle.level_items.specs.declared.annot.AnnotLabel.{AnnotLabel}
-
--- the names of these labels
-abbrev pub names_of : List AnnotLabel → List (List ℕ)
-names_of labels = map (λ (l : AnnotLabel). l.name) labels
 
 -- where the tests of an edit pass, the whole edit is what comes next; where they fail, it fails as they do; without
 -- memory it says nothing

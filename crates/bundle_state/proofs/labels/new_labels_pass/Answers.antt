@@ -1,14 +1,14 @@
 use Rattle.std.proofs.Common.{◌∙◌, sym, arith, take, []}
 use Rattle.bundle_state.proofs.FaultSteps.{stops}
-use Rattle.bundle_edits.specs.Changes.{new_labels_fault}
-use Rattle.bundle_edits.specs.Inner.Given.{names_of}
-use Rattle.bundle_edits.proofs.LabelSteps.{one, labels_walk, labels_stop}
-use Rattle.bundle_edits.proofs.labels.new_labels_pass.Goals as goal
+use Rattle.bundle_state.specs.Labels.{new_labels_fault}
+use Rattle.bundle_state.specs.Rules.{label_names}
+use Rattle.bundle_state.proofs.LabelSteps.{one, labels_walk, labels_stop}
+use Rattle.bundle_state.proofs.labels.new_labels_pass.Goals as goal
 
 pub returns-in-Err : goal.returns-in-Err
 returns-in-Err c =
     stops (Unit {0}) (Unit {0}) c.in-Err.fault
-    (one c.args.is_tested c.args.defs.now (names_of (take c.loop-place.place c.args.labels.now)) c.index-labels-place.result)
+    (one c.args.is_tested c.args.defs.now (label_names (take c.loop-place.place c.args.labels.now)) c.index-labels-place.result)
     (new_labels_fault c.args.is_tested c.args.defs.now [] c.args.labels.now)
     (λ r bad. sym c.loop-place.invariant
     ∙ labels_stop c.args.is_tested c.args.defs.now c.args.labels.now c.loop-place.place c.index-labels-place.result r (omega arith) c.index-labels-place.is bad)
