@@ -46,7 +46,7 @@ fn shown_of(alloc: Global, marked: bool, found: Tuples) -> Result<Tuples, MatchF
     if !marked && are_bare(found.as_slice()) {
         return Ok(found);
     }
-    eql_model::shown_once(alloc, marked, found.as_slice())
+    eql_tuples::shown_once(alloc, marked, found.as_slice())
 }
 
 /// The results of a query of which these are the tuples.
@@ -66,7 +66,7 @@ fn spans_of_tuples(
         Ok(stretches) => stretches,
         Err(fault) => return Err(fault),
     };
-    match eql_model::spans_of(alloc, config, query.shown_place(), stretches.as_slice()) {
+    match eql_rows::spans_of(alloc, config, query.shown_place(), stretches.as_slice()) {
         Ok(spans) => Ok(spans),
         Err(_) => Err(MatchFault::Memory),
     }
@@ -85,7 +85,7 @@ fn spans_of_items(
     ensures { Matches result config.now indexed.now.bundle (query_in query.now) }
 {
     let _items = indexed.bundle().item_count();
-    match eql_model::spans_of_row(alloc, config, query.first_place(), found) {
+    match eql_rows::spans_of_row(alloc, config, query.first_place(), found) {
         Ok(spans) => Ok(spans),
         Err(_) => Err(MatchFault::Memory),
     }
