@@ -10,7 +10,7 @@ ghost use Rattle.live_book.specs.Commits.{entry_of, Commits};
 ghost use Rattle.live_book.specs.Inner.Inverses.{numbered, KeepsInverse};
 ghost use Rattle.live_book.specs.Inner.Drafts.{IsDraftIn};
 
-use crate::commit::{commit_in, commit_kept_in, own_entry, serving};
+use crate::commit::{commit_in, commit_noted_in, own_entry, serving};
 use crate::kept::Kept;
 use crate::parts::Parts;
 use crate::published::Published;
@@ -21,14 +21,16 @@ use std::alloc::Global;
 use std::marker::Model;
 use std::sync::{Arc, Wait};
 use version_gate::{Note, Pass};
-use version_steps::Draft;
 use version_steps::edit_rules::{Act, EditFault, Entries};
+use version_steps::{Draft, Dropped};
 
 /// A book: the configuration of its opening, a history of at most 100,000 entries, the version after all of them,
 /// the gate that publishes each version, and, if there is one, the journal that holds the codes of that
 /// configuration and of the entries. It is no `Drop`: end it by [`Book::into_journal`].
 pub struct Book<D: Disk> {
     parts: Parts<D>,
+    /// A hint, of which nothing is promised.
+    dropped: Dropped,
 }
 
 impl<D: Disk> Model for Book<D> {
@@ -48,7 +50,10 @@ impl<D: Disk> Book<D> {
         requires { IsBook D.may_leave parts }
         ensures { result ≡ book_of parts }
     {
-        Book { parts }
+        Book {
+            parts,
+            dropped: Dropped::new(),
+        }
     }
 
     /// Accepts an act of a line of a session, or says why not. `Ok` gives the number of entries then: the
@@ -94,7 +99,9 @@ impl<D: Disk> Book<D> {
     {
         match own_entry(alloc, session, line, act) {
             Err(Memory) => Err(EditFault::Memory),
-            Ok(entry) => commit_kept_in(rt, alloc, &mut self.parts, entry, None),
+            Ok(entry) => {
+                commit_noted_in(rt, alloc, &mut self.parts, &mut self.dropped, entry, None)
+            }
         }
     }
 
@@ -117,7 +124,13 @@ impl<D: Disk> Book<D> {
             added,
         } = draft;
         let added = serving(&self.parts, number, added);
-        commit_kept_in(rt, alloc, &mut self.parts, entry, added)
+        commit_noted_in(rt, alloc, &mut self.parts, &mut self.dropped, entry, added)
+    }
+
+    /// Whether a bundle that was dropped serves for an act, if the configuration stays. Nothing is promised of it.
+    pub(crate) fn has_served(&self, act: &Act) -> bool {
+        self.dropped
+            .has_for(self.parts.current.version.config(), act)
     }
 
     /// All entries, in order.
@@ -189,7 +202,10 @@ impl<D: Disk> Book<D> {
         ensures journal { result ≡ self.journal }
         ensures kept { Holding D.may_leave self.config self.history result }
     {
-        let Book { parts } = self;
+        let Book {
+            parts,
+            dropped: _dropped,
+        } = self;
         let Parts {
             opening: _opening,
             current: _current,

@@ -33,8 +33,8 @@ use std::alloc::Global;
 use std::sync::{Arc, Wait};
 use version_steps::bundle_index::Indexed;
 use version_steps::edit_rules::{Act, ChangeFault, EditFault, Entries, Entry};
-use version_steps::next_drafted;
 use version_steps::version_tree::Version;
+use version_steps::{Dropped, DroppedBundle, dropped_by, next_drafted};
 
 /// What a commit has ready before it calls the disk.
 #[derive(Drop)]
@@ -414,7 +414,7 @@ fn keep_tested<D: Disk, R: Wait>(
 }
 
 /// Accepts an entry, or says why not, with what was made ahead for it, if anything was; and what takes it back.
-pub(crate) fn commit_kept_in<D: Disk, R: Wait>(
+fn commit_kept_in<D: Disk, R: Wait>(
     rt: &R,
     alloc: Global,
     parts: &mut Parts<D>,
@@ -435,4 +435,57 @@ pub(crate) fn commit_kept_in<D: Disk, R: Wait>(
         }
         Ok(version) => keep_tested(rt, alloc, parts, entry, version),
     }
+}
+
+/// What was made ahead of an act, or a bundle that was dropped and serves for it, where nothing was made.
+fn served<D: Disk>(
+    parts: &Parts<D>,
+    dropped: &mut Dropped,
+    act: &Act,
+    added: Option<Result<Indexed, Fault>>,
+) -> Option<Result<Indexed, Fault>>
+    requires { MayServe (present_in parts.now) act.now added }
+    ensures { MayServe (present_in parts.now) act.now result }
+{
+    match added {
+        Some(made) => Some(made),
+        None => dropped.take_for(parts.current.version.config(), act),
+    }
+}
+
+/// Keeps the bundle that an act dropped, where it was accepted.
+fn note(
+    alloc: Global,
+    dropped: &mut Dropped,
+    bundle: Option<DroppedBundle>,
+    made: &Result<Kept, EditFault>,
+) {
+    match bundle {
+        Some(bundle) if made.is_ok() => dropped.put(alloc, bundle),
+        _ => {}
+    }
+}
+
+/// Accepts an entry, or says why not, and what takes it back, as [`commit_kept_in`] does. Where nothing was made
+/// ahead, a bundle that was dropped serves if it may; and the bundle that the entry drops is kept beside.
+pub(crate) fn commit_noted_in<D: Disk, R: Wait>(
+    rt: &R,
+    alloc: Global,
+    parts: &mut Parts<D>,
+    dropped: &mut Dropped,
+    entry: Entry,
+    added: Option<Result<Indexed, Fault>>,
+) -> Result<Kept, EditFault>
+    requires book { IsBook D.may_leave parts.old }
+    requires added { MayServe (present_in parts.old) entry.act added }
+    ensures book { IsBook D.may_leave parts.new }
+    ensures commits { Commits D.may_leave D.moment D.left_since D.faults (book_of parts.old) entry
+        (numbered result) (book_of parts.new) }
+    ensures inverse { KeepsInverse (config_in parts.old) parts.old.entries entry.act result }
+{
+    let added = served(parts, dropped, &entry.act, added);
+    let bundle = dropped_by(alloc, &parts.current.version, &entry.act);
+    let made = commit_kept_in(rt, alloc, parts, entry, added);
+    note(alloc, dropped, bundle, &made);
+    made
 }

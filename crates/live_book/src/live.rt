@@ -23,7 +23,7 @@ use std::sync::ledger::{self, Blank, Ledger};
 use std::sync::{Mutex, MutexGuard, Wait};
 use version_gate::Pass;
 use version_steps::Draft;
-use version_steps::edit_rules::{Act, EditFault};
+use version_steps::edit_rules::{Act, Edit, EditFault};
 
 /// Which opening it is: the book as it is at the moment at which threads begin to edit it. It is also the ledger of
 /// the edits that are accepted. Its members are plain values, which contracts alone see.
@@ -169,6 +169,36 @@ fn draft_ahead(
     match pass.look() {
         Ok(seen) => draft_over(alloc, &seen.version, session, line, act),
         Err(_fault) => None,
+    }
+}
+
+/// The same, unless it is not wanted.
+fn draft_unless(
+    alloc: Global,
+    pass: &mut Pass<Published>,
+    has_bundle: bool,
+    session: SessionNo,
+    line: u32,
+    act: &Act,
+) -> Option<Draft>
+    ensures gate { pass.new.gate ≡ pass.old.gate }
+    ensures own { IsPrefix pass.old.list pass.new.list }
+    ensures draft { IfSome result (IsDraftAt pass.new.list (entry_of session line act.now)) }
+{
+    if has_bundle {
+        return None;
+    }
+    draft_ahead(alloc, pass, session, line, act)
+}
+
+/// Whether an act is one edit that adds a bundle.
+fn adds_bundle(act: &Act) -> bool {
+    match act {
+        Act::Edits(edits) => match edits.as_slice() {
+            [Edit::AddBundle { .. }] => true,
+            _ => false,
+        },
+        Act::Config(_) => false,
     }
 }
 
@@ -318,9 +348,22 @@ impl<K: Opening, N: Ledger, D: Disk> Live<K, N, D> {
         ensures edits { EditsKept K.opened (entry_of session line act.now) pass.old.list pass.new.list result }
         ensures counted { share.new ≡ count_behind share.old (numbered result) }
     {
-        let draft = draft_ahead(alloc, pass, session, line, act);
+        let has_bundle = self.has_bundle_for(rt, act);
+        let draft = draft_unless(alloc, pass, has_bundle, session, line, act);
         let _seen = pass.seen();
         self.edit_drafted(rt, alloc, pass, share, draft, session, line, act)
+    }
+
+    /// Whether the book has a bundle that was dropped and serves for an act that adds it. It asks for the lock for such
+    /// an act alone. Nothing is promised of it: what it says saves a draft.
+    fn has_bundle_for<R: Wait>(&self, rt: &R, act: &Act) -> bool {
+        if !adds_bundle(act) {
+            return false;
+        }
+        let guard = self.lock.lock(rt);
+        let has = guard.book.has_served(act);
+        MutexGuard::unlock(guard);
+        has
     }
 
     /// The same, of the act's draft where there is one, which is kept for the next try.

@@ -1,5 +1,5 @@
 -- Words of contracts and loops beside `specs/Drafts.antt`; no promise of the program rests on them.
-use Rattle.std.specs.Prelude.{◌≡◌, [], ◌∷◌, Option, None, Some, Result, Ok, Err, IfSome, ◌+◌, nat_le, nat_lt, if◌then◌else◌}
+use Rattle.std.specs.Prelude.{◌≡◌, [], ◌∷◌, map, Option, None, Some, Result, Ok, Err, IfSome, ◌+◌, nat_le, nat_lt, if◌then◌else◌}
 use Rattle.emu_names.specs.declared.limits.TheConstants.{ALL_ITEMS, BUNDLES}
 use Rattle.emu_names.specs.declared.rules.Broken.{Broken}
 use Rattle.emu_names.specs.declared.rules.Broken.TheVariants as rules
@@ -9,7 +9,7 @@ use Rattle.emu_names.specs.declared.rules.Fault.TheVariants as faults
 use Rattle.emu_names.specs.Inner.Gives.{IsFaultOf, broken_in}
 use Rattle.db_config.specs.declared.parts.ConfigParts.{ConfigParts}
 use Rattle.bundle_state.specs.Bundle.{BundleParts, item_count}
-use Rattle.bundle_state.specs.Built.{built}
+use Rattle.bundle_state.specs.Built.{built, form_asked}
 use Rattle.bundle_index.specs.Index.{IndexParts}
 use Rattle.bundle_edits.specs.declared.bundle_change.Counts.{Counts}
 use Rattle.bundle_edits.specs.declared.edit.Edit.{Edit}
@@ -75,6 +75,11 @@ IsAddedBy config (acts.Config edit) added = AddsNothing added
 -- what was made ahead, if anything was, is what is made of the act under this configuration
 abbrev pub MayServe : ConfigParts → Act → Option (Result IndexParts Fault) → Type 0
 MayServe config act added = IfSome added (λ made. IsAddedBy config act (Some made))
+
+-- two configurations ask the same of the bundles that fit them
+pub record AskAlike (old new : ConfigParts) : Type 0 where
+  pub levels : map form_asked new.levels ≡ map form_asked old.levels
+  pub definitions : new.links ≡ old.links
 
 -- a refusal by a rule is by the one that an edit breaks first; want of memory says nothing
 abbrev pub IsFirstFault : Fault → Result DatabaseParts Broken → Type 0

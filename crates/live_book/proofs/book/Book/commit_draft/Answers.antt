@@ -8,8 +8,8 @@ use Rattle.live_book.specs.Inner.Kept.{book_of, present_in}
 use Rattle.live_book.proofs.Configs.{may_serve}
 use Rattle.live_book.proofs.book.Book.commit_draft.Goals as goal
 
-pub commit_kept_in-requires-clause-added : goal.commit_kept_in-requires-clause-added
-commit_kept_in-requires-clause-added g c =
+pub commit_noted_in-requires-clause-added : goal.commit_noted_in-requires-clause-added
+commit_noted_in-requires-clause-added g c =
     let p = c.self.inside.parts in
     let draft = c.args.draft in
     let is : IsDraftIn (book_of p) draft.entry draft = subst (λ (b : BookParts g.row.D.Denot). IsDraftIn b draft.entry draft) (sym c.self.view_is) c.requires in

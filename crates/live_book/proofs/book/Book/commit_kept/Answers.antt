@@ -15,8 +15,8 @@ returns-in-Err-clause-commits g c =
 pub returns-in-Ok-clause-commits : goal.returns-in-Ok-clause-commits
 returns-in-Ok-clause-commits g c =
     commits_as g.D.Disk.may_leave g.D.Disk.moment g.D.Disk.left_since g.D.Disk.faults c.args.self.now (book_of c.self.inside.parts) c.in-Ok.entry (entry_of c.args.session c.args.line c.args.act.now)
-    (numbered c.commit_kept_in.result) _ c.self.view_is c.in-Ok.ensures c.commit_kept_in.ensures.commits
+    (numbered c.commit_noted_in.result) _ c.self.view_is c.in-Ok.ensures c.commit_noted_in.ensures.commits
 
 pub returns-in-Ok-clause-inverse : goal.returns-in-Ok-clause-inverse
 returns-in-Ok-clause-inverse g c =
-    keeps_as c.args.self.now (book_of c.self.inside.parts) c.in-Ok.entry (entry_of c.args.session c.args.line c.args.act.now) c.commit_kept_in.result c.self.view_is c.in-Ok.ensures c.commit_kept_in.ensures.inverse
+    keeps_as c.args.self.now (book_of c.self.inside.parts) c.in-Ok.entry (entry_of c.args.session c.args.line c.args.act.now) c.commit_noted_in.result c.self.view_is c.in-Ok.ensures c.commit_noted_in.ensures.inverse
