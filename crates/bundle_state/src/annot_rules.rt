@@ -189,11 +189,20 @@ fn level_passes(
     }
 }
 
+/// How many items there are on these levels, for which room is taken; of it nothing is promised.
+fn room_for(levels: &[AnnotLevel]) -> usize {
+    let mut count: usize = 0;
+    for level in levels {
+        count = count.saturating_add(level.items.len());
+    }
+    count
+}
+
 /// Tests the levels of an annotation.
 fn levels_pass(alloc: Global, defs: &[LevelDef], levels: &[AnnotLevel]) -> Result<(), Fault>
     ensures { FindsFault result (levels_fault defs.now [] [] levels.now) }
 {
-    let mut taken = UsedIds::new(alloc);
+    let mut taken = UsedIds::with_capacity(alloc, room_for(levels))?;
     for place in 0..levels.len() {
         level_passes(alloc, defs, &levels[..place], &mut taken, &levels[place])?;
     }

@@ -62,7 +62,7 @@ fn made_links(
 ) -> Result<Links, Fault>
     ensures { GivesOrBroken result (put_links config.now.links (level_in places.now) given.now []) }
 {
-    let mut links = Links::new(alloc);
+    let mut links = Links::with_capacity(alloc, given.len())?;
     for place in 0..given.len() {
         match put_link(config, places, &mut links, &given[place]) {
             Ok(()) => {}

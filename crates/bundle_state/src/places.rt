@@ -19,13 +19,12 @@ pub(crate) struct Places {
 }
 
 impl Places {
-    /// No id, in a map that grows by `alloc`.
-    pub(crate) fn new(alloc: Global) -> Places
-        ensures { (q : ℕ) → level_in result q ≡ None }
+    /// No id, with room for so many. The only refusal is want of memory.
+    pub(crate) fn with_capacity(alloc: Global, count: usize) -> Result<Places, Memory>
+        ensures { IfOk result (λ made. (q : ℕ) → level_in made q ≡ None) }
     {
-        Places {
-            levels: HashMap::new(alloc),
-        }
+        let levels = HashMap::with_capacity(alloc, count)?;
+        Ok(Places { levels })
     }
 
     /// The level of an id, where an item has it.
@@ -82,12 +81,21 @@ impl Clone for Places {
     }
 }
 
+/// How many items there are on these levels, for which room is taken; of it nothing is promised.
+fn room_for(levels: &[Handle<LevelList>]) -> usize {
+    let mut count: usize = 0;
+    for list in levels {
+        count = count.saturating_add(list.as_ref().len());
+    }
+    count
+}
+
 /// The places of the items of these levels. The only refusal is want of memory.
 fn places_of(alloc: Global, levels: &[Handle<LevelList>]) -> Result<Places, Memory>
     requires { length levels.now ≤ LEVELS }
     ensures { IfOk result (λ made. ArePlacesOf levels.now made) }
 {
-    let mut places = Places::new(alloc);
+    let mut places = Places::with_capacity(alloc, room_for(levels))?;
     for level in 0..levels.len() {
         places.put_all(levels[level].as_ref().as_slice(), level)?;
     }

@@ -22,13 +22,12 @@ impl Model for UsedIds {
 }
 
 impl UsedIds {
-    /// No id, in a set that grows by `alloc`.
-    pub(crate) fn new(alloc: Global) -> UsedIds
-        ensures { result ≡ [] }
+    /// No id, with room for so many. The only refusal is want of memory.
+    pub(crate) fn with_capacity(alloc: Global, count: usize) -> Result<UsedIds, Memory>
+        ensures { IfOk result (λ made. made ≡ []) }
     {
-        UsedIds {
-            ids: HashSet::new(alloc),
-        }
+        let ids = HashSet::with_capacity(alloc, count)?;
+        Ok(UsedIds { ids })
     }
 
     /// Puts an id in, and answers whether it was not there before. The only refusal is want of

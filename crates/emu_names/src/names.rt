@@ -12,6 +12,7 @@ ghost use Rattle.std.specs.declared.cmp.Ordering.TheVariants.{Equal};
 
 use crate::limits::NAME_BYTES;
 use crate::shortage::Memory;
+use crate::texts::Text;
 use std::alloc::{AllocError, AllocFailed, Global};
 use std::cmp::Ordering;
 use std::fmt;
@@ -136,6 +137,14 @@ impl Name {
     {
         let text = self.text.clone()?;
         Ok(Name { text })
+    }
+
+    /// The name as a text, which shares its bytes. The only refusal is want of memory.
+    pub fn to_text(&self) -> Result<Text, Memory>
+        ensures { IfOk result (λ made. made ≡ self.now) }
+    {
+        let text = self.text.clone()?;
+        Ok(Text::of(text))
     }
 }
 

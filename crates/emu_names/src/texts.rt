@@ -2,6 +2,7 @@
 ghost use Rattle.std.specs.Prelude.{◌≡◌, IfOk, nat_eq, string_bytes};
 ghost use Rattle.std.specs.Cmp.Lexicographic.{pointwise};
 ghost use Rattle.std.proofs.lemmas.Cmp.{nat_list_eq_equiv};
+ghost use Rattle.std.specs.Arc.{arc_str_bytes};
 ghost use Rattle.std.specs.Cmp.{partial_equiv_from_equiv};
 ghost use Rattle.std.specs.declared.option.Option.TheVariants.{Some};
 
@@ -41,6 +42,13 @@ impl Text {
     {
         let text = ArcStr::from_string(text)?;
         Ok(Text { text })
+    }
+
+    /// The text of these bytes, which it shares.
+    pub(crate) fn of(text: ArcStr) -> Text
+        ensures { result ≡ arc_str_bytes text }
+    {
+        Text { text }
     }
 
     /// The text.

@@ -63,10 +63,24 @@ fn push_labels(out: &mut String, attribute: usize, items: &[Item]) -> Result<(),
     Ok(())
 }
 
-/// The labels of items, joined by `->`. The only refusal is want of memory.
+/// The label of an item for an attribute of its level, which shares the item's bytes. The only refusal is want of
+/// memory.
+fn own_label(alloc: Global, item: &Item, attribute: usize) -> Result<Text, Memory>
+    ensures { IfOk result (λ made. made ≡ label_of attribute item.now) }
+{
+    match item.labels.as_slice().get(attribute) {
+        Some(label) => label.copy(alloc),
+        None => Text::new(alloc, ""),
+    }
+}
+
+/// The labels of items, joined by `->`; that of one item shares its bytes. The only refusal is want of memory.
 pub(crate) fn joined_labels(alloc: Global, attribute: usize, items: &[Item]) -> Result<Text, Memory>
     ensures { IfOk result (λ made. made ≡ joined_labels attribute items.now) }
 {
+    if let [item] = items {
+        return own_label(alloc, item, attribute);
+    }
     let mut text = String::new(alloc);
     push_labels(&mut text, attribute, items)?;
     Text::from_string(text)

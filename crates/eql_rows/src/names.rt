@@ -60,6 +60,9 @@ pub struct RowNames {
 
 /// The names of rows of results on a level, with that of the level's attribute of this number, counted from 0. The
 /// only refusal is want of memory.
+///
+/// Those of the session and of the bundle share the bundle's bytes. Those of the level and of the attribute do not
+/// share the configuration's: several threads that make rows would count their owners at one place.
 pub fn names_of(
     alloc: Global,
     config: &Config,
@@ -69,8 +72,8 @@ pub fn names_of(
 ) -> Result<RowNames, Memory>
     ensures { IfOk result (AreNames config.now bundle.now level) }
 {
-    let session = Text::new(alloc, bundle.key().session.as_str())?;
-    let name = Text::new(alloc, bundle.key().bundle.as_str())?;
+    let session = bundle.key().session.to_text()?;
+    let name = bundle.key().bundle.to_text()?;
     let level_text = Text::new(alloc, level_name(config, level))?;
     let attribute = Text::new(alloc, attribute_name(config, level, number as usize))?;
     Ok(RowNames {

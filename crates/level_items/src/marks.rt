@@ -1,5 +1,5 @@
 //! The ids of a level list, each with a mark by which its item is found.
-ghost use Rattle.std.specs.Prelude.{◌≡◌, ℕ, false, not, ◌&&◌, ◌||◌, nat_eq, is_some, OnOk, OnErr};
+ghost use Rattle.std.specs.Prelude.{◌≡◌, ℕ, false, not, ◌&&◌, ◌||◌, nat_eq, is_some, IfOk, OnOk, OnErr};
 ghost use Rattle.level_items.specs.Inner.Marked.{is_marked};
 
 use emu_names::{ItemId, Memory};
@@ -20,6 +20,14 @@ impl Marks {
         Marks {
             marks: HashMap::new(alloc),
         }
+    }
+
+    /// No mark, with room for so many. The only refusal is want of memory.
+    pub(crate) fn with_capacity(alloc: Global, count: usize) -> Result<Marks, Memory>
+        ensures { IfOk result (λ made. (q : ℕ) → is_marked made q ≡ false) }
+    {
+        let marks = HashMap::with_capacity(alloc, count)?;
+        Ok(Marks { marks })
     }
 
     /// The mark of an id, where it has one.

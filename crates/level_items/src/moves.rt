@@ -69,7 +69,7 @@ fn position_within(items: &[Item], first: usize, last: usize, id: ItemId) -> Opt
 pub(crate) fn marks_of(alloc: Global, items: &[Item]) -> Result<Arc<Marks>, Memory>
     ensures { IfOk result (λ marks. AreMarksOf items.now marks.value) }
 {
-    let mut marks = Marks::new(alloc);
+    let mut marks = Marks::with_capacity(alloc, items.len())?;
     for place in 0..items.len() {
         let item = &items[place];
         marks.put(item.id, mark_of(place, item.time))?;

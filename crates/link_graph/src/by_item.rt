@@ -28,6 +28,14 @@ impl ByItem {
         }
     }
 
+    /// No links at any item, with room for so many items. The only refusal is want of memory.
+    pub(crate) fn with_capacity(alloc: Global, count: usize) -> Result<ByItem, Memory>
+        ensures { IfOk result (λ made. (id : ℕ) → links_at made id ≡ []) }
+    {
+        let lists = HashMap::with_capacity(alloc, count)?;
+        Ok(ByItem { alloc, lists })
+    }
+
     /// The links at an item.
     pub(crate) fn at(&self, id: ItemId) -> &[Link]
         ensures { result.now ≡ links_at self.now id.0 }

@@ -34,6 +34,22 @@ impl Index {
         }
     }
 
+    /// The index of the list of no link, with room for so many. The only refusal is want of memory.
+    ///
+    /// A lower item has one parent for the most part, and an upper one several children, so that room is taken for
+    /// the lower ones alone.
+    pub(crate) fn with_capacity(alloc: Global, count: usize) -> Result<Index, Memory>
+        ensures { IfOk result (λ made. Indexes made []) }
+    {
+        let up = ByItem::with_capacity(alloc, count)?;
+        let pairs = Pairs::with_capacity(alloc, count)?;
+        Ok(Index {
+            down: ByItem::new(alloc),
+            up,
+            pairs,
+        })
+    }
+
     /// The same index again. The only refusal is want of memory.
     pub(crate) fn copy(&self) -> Result<Index, Memory>
         ensures { IfOk result (λ made. (links : List Link)

@@ -46,6 +46,17 @@ impl Links {
         }
     }
 
+    /// The list of no link, with room for so many. The only refusal is want of memory.
+    pub fn with_capacity(alloc: Global, count: usize) -> Result<Links, Memory>
+        ensures { IfOk result (λ made. made ≡ []) }
+    {
+        let index = Index::with_capacity(alloc, count)?;
+        Ok(Links {
+            links: Blocks::new(alloc),
+            index,
+        })
+    }
+
     /// How many links there are, at most 262,144.
     pub fn len(&self) -> usize
         ensures count { result ≡ length self.now }

@@ -23,6 +23,14 @@ impl Pairs {
         }
     }
 
+    /// No pair, with room for so many. The only refusal is want of memory.
+    pub(crate) fn with_capacity(alloc: Global, count: usize) -> Result<Pairs, Memory>
+        ensures { IfOk result (λ made. (from to : ℕ) → has_pair made from to ≡ false) }
+    {
+        let blocks = HashMap::with_capacity(alloc, count)?;
+        Ok(Pairs { blocks })
+    }
+
     /// Whether a pair is there.
     pub(crate) fn has(&self, from: ItemId, to: ItemId) -> bool
         ensures { result ≡ has_pair self.now from.0 to.0 }
