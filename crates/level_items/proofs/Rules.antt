@@ -2,7 +2,7 @@
 use Rattle.std.proofs.Common.{◌≡◌, ℕ, zero, suc, ◌+◌, ◌<◌, ◌-◌, get_or, Bool, true, false, not, ◌&&◌, ◌||◌, cond, List, [], ◌∷◌, ◌++◌, length, take, drop, nat_eq, refl, sym, ap, subst, ◌∙◌, Option, Some, None, Result, add-one, length-drop, arith}
 use Rattle.std.specs.List.{list_any, list_all, slice_get, slice_set}
 use Rattle.std.proofs.lemmas.Bool.{and_parts, and_from, eqb-true}
-use Rattle.std.proofs.lemmas.List.{map-append, take_all}
+use Rattle.std.proofs.lemmas.List.{append-nil, map-append, take_all, take_more}
 use Rattle.emu_names.specs.declared.kinds.LevelKind.{LevelKind}
 use Rattle.emu_names.specs.declared.kinds.LevelKind.TheVariants as kinds
 use Rattle.emu_names.specs.declared.kinds.ItemId.{ItemId}
@@ -133,6 +133,17 @@ pub any_id : (q : ℕ) (xs : List Item) (x : Item) (ys : List Item) → list_any
 any_id q xs x ys =
     ap (list_any (nat_eq q)) (ids_parts xs x ys) ∙ any_parts (nat_eq q) (ids_of xs) x.id.0 (ids_of ys)
     ∙ ap (λ zs. nat_eq q x.id.0 || list_any (nat_eq q) zs) (sym (ids_joined xs ys))
+
+-- one item more is marked
+pub marked_next : (q : ℕ) (items : List Item) (i : ℕ) (x : Item) (was : Bool) → i < length items → x ≡ get_or items i x →
+    was ≡ list_any (nat_eq q) (ids_of (take i items)) →
+    (nat_eq q x.id.0 || was) ≡ list_any (nat_eq q) (ids_of (take (i + 1) items))
+marked_next q items i x was low at is =
+    ap (λ (b : Bool). nat_eq q x.id.0 || b) is
+    ∙ ap (λ (xs : List Item). nat_eq q x.id.0 || list_any (nat_eq q) (ids_of xs)) (sym (append-nil (take i items)))
+    ∙ sym (any_id q (take i items) x [])
+    ∙ ap (λ (xs : List Item). list_any (nat_eq q) (ids_of xs))
+    (sym (take_more items i x low ∙ ap (λ (y : Item). take i items ++ y ∷ []) (sym at)))
 
 pub without_id : (q n : ℕ) (ns : List ℕ) (was : Bool) → list_any (nat_eq n) ns ≡ false → was ≡ (nat_eq q n || list_any (nat_eq q) ns) → (not (nat_eq q n) && was) ≡ list_any (nat_eq q) ns
 without_id q n ns was fresh is = by_test (nat_eq q n) refl
