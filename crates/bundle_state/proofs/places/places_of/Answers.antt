@@ -1,7 +1,9 @@
-use Rattle.std.proofs.Common.{arith, nat_eq, ap, ◌∙◌}
+use Rattle.std.proofs.Common.{List, arith, nat_eq, ap, ◌∙◌}
 use Rattle.std.specs.List.{list_any}
 use Rattle.std.specs.Option.{option_or}
+use Rattle.std.proofs.lemmas.List.{take_all}
 use Rattle.level_items.specs.Levels.{Level, ids_of}
+use Rattle.bundle_state.specs.Bundle.{level_of_id}
 use Rattle.bundle_state.specs.Inner.Placed.{level_in}
 use Rattle.bundle_state.proofs.IdLevels.{levels_step, level_if}
 use Rattle.bundle_state.proofs.places.places_of.Goals as goal
@@ -11,3 +13,8 @@ loop-level-preserved c = λ q.
     levels_step q (level_in c.loop-level.places q) (level_in c.put_all.new.self q) c.args.levels.now c.loop-level.level c.index-levels-level.result
     (omega arith) c.index-levels-level.is (c.loop-level.invariant q)
     (c.in_ok-put_all.ensures q ∙ ap (λ items. option_or (level_in c.loop-level.places q) (level_if (list_any (nat_eq q) (ids_of items)) c.loop-level.level)) (c.as_slice.ensures ∙ ap (λ (l : Level). l.items) c.as_ref.ensures))
+
+pub returns : goal.returns
+returns c = λ q.
+    c.loop-level.invariant q
+    ∙ ap (λ (ls : List Level). level_of_id ls q) (take_all c.loop-level.level c.args.levels.now (omega arith))
