@@ -15,11 +15,10 @@ use db_config::Config;
 use emu_io::{Gate, Moment};
 use eql_match::bundle_index::Indexed;
 use eql_match::eql_columns::Matchers;
-use eql_match::eql_rows::SegmentList;
 use eql_match::eql_tuples::MatchFault;
 use eql_resolve::Asked;
 use session_core::requery::Reached;
-use session_core::segment_list::{Listing, with_text};
+use session_core::segment_list::{Draft, Listing, finished};
 use std::alloc::Global;
 use std::thread::Threads;
 use version_tree::Version;
@@ -28,7 +27,7 @@ use version_tree::Version;
 /// exactly where the bundle has too many. The only other refusal is want of memory.
 fn add_bundle<'a>(
     alloc: Global,
-    list: &mut SegmentList,
+    list: &mut Draft,
     config: &Config,
     indexed: &Indexed,
     question: &Question<'_, 'a>,
@@ -43,7 +42,7 @@ fn add_bundle<'a>(
         Ok(more) => more,
         Err(fault) => return Err(fault),
     };
-    match list.append(more) {
+    match list.append(alloc, more) {
         Ok(()) => Ok(()),
         Err(_) => Err(MatchFault::Memory),
     }
@@ -63,13 +62,13 @@ fn walk<G: Gate + Sync>(
     gate: &G,
     from: usize,
     to: usize,
-) -> Result<SegmentList, MatchFault>
+) -> Result<Draft, MatchFault>
     requires asked { IsAskedOf version.now.config question.now }
     requires run { IsRun version.now from to }
     ensures { GivesRun result question.now version.now from to }
 {
     let config = version.config();
-    let mut list = SegmentList::new(alloc);
+    let mut list = Draft::new(alloc);
     let mut matchers = Matchers::new(alloc);
     for place in from..to {
         gate.at(line, Moment::Piece(place as u32));
@@ -96,7 +95,7 @@ pub(crate) fn walk_with_text<G: Gate + Sync>(
     requires run { IsRun version.now from to }
     ensures { GivesRun result question.now version.now from to }
 {
-    with_text(alloc, walk(alloc, version, question, line, gate, from, to))
+    finished(alloc, walk(alloc, version, question, line, gate, from, to))
 }
 
 /// The rows that are asked for over a version, one bundle after another in the order of their keys.

@@ -5,7 +5,7 @@ ghost use Rattle.json.specs.Print.{quoted};
 ghost use Rattle.segment_list.specs.Inner.Pieces.{are_same_names, head_text, level_text, names_of, session_text};
 
 use crate::pieces::push_quoted;
-use emu_names::{Memory, Text};
+use emu_names::Memory;
 use eql_rows::Row;
 use std::alloc::Global;
 use std::marker::Model;
@@ -14,19 +14,21 @@ use std::marker::Model;
 #[derive(Drop)]
 pub(crate) struct NamePieces<'a> {
     row: &'a Row,
-    head: Text,
-    before_sample: Text,
-    before_start: Text,
+    head: String,
+    before_sample: String,
+    before_start: String,
 }
 
 impl<'a> Model for NamePieces<'a> {
+    ghost use Rattle.std.specs.Prelude.{string_bytes};
     ghost use Rattle.segment_list.specs.Inner.Pieces.{ArePieces, Names, names_of};
 
     ghost Value = { Names };
 
     ghost view = { λ p. names_of p.row.now };
 
-    ghost invariant = { λ p. ArePieces (names_of p.row.now) p.head p.before_sample p.before_start };
+    ghost invariant = { λ p. ArePieces (names_of p.row.now) (string_bytes p.head)
+        (string_bytes p.before_sample) (string_bytes p.before_start) };
 }
 
 impl<'a> NamePieces<'a> {
@@ -34,15 +36,12 @@ impl<'a> NamePieces<'a> {
     pub(crate) fn new(alloc: Global, row: &'a Row) -> Result<NamePieces<'a>, Memory>
         ensures { IfOk result (λ made. made ≡ names_of row.now) }
     {
-        let head = head_piece(alloc, row.attribute.as_str(), row.bundle.as_str())?;
-        let before_sample = piece(alloc, ",\"level\":", row.level.as_str(), ",\"sampleEnd\":")?;
-        let before_start = piece(alloc, ",\"session\":", row.session.as_str(), ",\"start\":")?;
-        Ok(NamePieces {
-            row,
-            head,
-            before_sample,
-            before_start,
-        })
+        let (head, before_sample, before_start) = (
+            String::new(alloc),
+            String::new(alloc),
+            String::new(alloc),
+        );
+        made_pieces(alloc, row, head, before_sample, before_start)
     }
 
     /// The text from the brace to the time of the end.
@@ -76,37 +75,84 @@ impl<'a> NamePieces<'a> {
             && self.row.attribute == row.attribute
     }
 
-    /// Makes the pieces anew, unless these are the names of the row. The only refusal is want of memory.
+    /// The pieces for the names of a row: these, where they are its names, or else others in their room. The only
+    /// refusal is want of memory.
     #[tactic(auto, using(crate::proofs::Plain::same_names))]
-    pub(crate) fn turn_to(&mut self, alloc: Global, row: &'a Row) -> Result<(), Memory>
-        ensures { OnOk result (self.new ≡ names_of row.now) }
+    pub(crate) fn turned_to(self, alloc: Global, row: &'a Row) -> Result<NamePieces<'a>, Memory>
+        ensures { IfOk result (λ made. made ≡ names_of row.now) }
     {
-        if !self.are_of(row) {
-            *self = NamePieces::new(alloc, row)?;
+        if self.are_of(row) {
+            return Ok(self);
         }
-        Ok(())
+        let NamePieces {
+            row: _,
+            head,
+            before_sample,
+            before_start,
+        } = self;
+        made_pieces(alloc, row, head, before_sample, before_start)
     }
 }
 
-/// A text in quotes between two others. The only refusal is want of memory.
-fn piece(alloc: Global, before: &str, text: &str, behind: &str) -> Result<Text, Memory>
-    ensures { IfOk result (λ made. made ≡ before.now ++ (quoted text.now ++ behind.now)) }
+/// The pieces for the names of a row, each in the room of a text that goes. The only refusal is want of memory.
+fn made_pieces<'a>(
+    alloc: Global,
+    row: &'a Row,
+    head: String,
+    before_sample: String,
+    before_start: String,
+) -> Result<NamePieces<'a>, Memory>
+    ensures { IfOk result (λ made. made ≡ names_of row.now) }
 {
-    let mut out = String::from_str(alloc, before)?;
-    push_quoted(&mut out, alloc, text)?;
-    out.push_str(behind)?;
-    Text::from_string(out)
+    let head = head_piece(head, alloc, row.attribute.as_str(), row.bundle.as_str())?;
+    let level = row.level.as_str();
+    let before_sample = piece(
+        before_sample,
+        alloc,
+        ",\"level\":",
+        level,
+        ",\"sampleEnd\":",
+    )?;
+    let session = row.session.as_str();
+    let before_start = piece(before_start, alloc, ",\"session\":", session, ",\"start\":")?;
+    Ok(NamePieces {
+        row,
+        head,
+        before_sample,
+        before_start,
+    })
 }
 
-/// The beginning of a row's text, up to the time of the end. The only refusal is want of memory.
-fn head_piece(alloc: Global, attribute: &str, bundle: &str) -> Result<Text, Memory>
-    ensures { IfOk result (λ made. made ≡ codes "{\"attribute\":" ++ (quoted attribute.now
+/// A text in quotes between two others, in the room of a text that goes. The only refusal is want of memory.
+fn piece(
+    room: String,
+    alloc: Global,
+    before: &str,
+    text: &str,
+    behind: &str,
+) -> Result<String, Memory>
+    ensures { IfOk result (λ made. string_bytes made ≡ before.now ++ (quoted text.now ++ behind.now)) }
+{
+    let mut out = room;
+    out.clear();
+    out.push_str(before)?;
+    push_quoted(&mut out, alloc, text)?;
+    out.push_str(behind)?;
+    Ok(out)
+}
+
+/// The beginning of a row's text, up to the time of the end, in the room of a text that goes. The only refusal is
+/// want of memory.
+fn head_piece(room: String, alloc: Global, attribute: &str, bundle: &str) -> Result<String, Memory>
+    ensures { IfOk result (λ made. string_bytes made ≡ codes "{\"attribute\":" ++ (quoted attribute.now
         ++ (codes ",\"bundle\":" ++ (quoted bundle.now ++ codes ",\"end\":")))) }
 {
-    let mut out = String::from_str(alloc, "{\"attribute\":")?;
+    let mut out = room;
+    out.clear();
+    out.push_str("{\"attribute\":")?;
     push_quoted(&mut out, alloc, attribute)?;
     out.push_str(",\"bundle\":")?;
     push_quoted(&mut out, alloc, bundle)?;
     out.push_str(",\"end\":")?;
-    Text::from_string(out)
+    Ok(out)
 }

@@ -9,6 +9,9 @@ use emu_names::{Memory, Text};
 use eql_rows::Row;
 use std::alloc::Global;
 
+/// The bytes of a row's text for which room is taken, about as many as most rows have.
+const ROW_BYTES: usize = 240;
+
 /// Writes a row from the brace to the labels. The only refusal is want of memory.
 fn push_front(out: &mut String, alloc: Global, pieces: &NamePieces, row: &Row) -> Result<(), Memory>
     requires { pieces.now ≡ names_of row.now }
@@ -61,17 +64,17 @@ fn push_row(out: &mut String, alloc: Global, pieces: &NamePieces, row: &Row) -> 
 }
 
 /// Writes the next row, behind a comma where one stands before. The only refusal is want of memory.
-fn push_next<'a>(
+fn push_next(
     out: &mut String,
     alloc: Global,
-    pieces: &mut NamePieces<'a>,
+    pieces: &NamePieces,
     later: bool,
-    row: &'a Row,
+    row: &Row,
 ) -> Result<(), Memory>
+    requires { pieces.now ≡ names_of row.now }
     ensures { OnOk result (string_bytes out.new
         ≡ string_bytes out.old ++ (comma_if later ++ row_text row.now)) }
 {
-    pieces.turn_to(alloc, row)?;
     push_comma(out, later)?;
     push_row(out, alloc, pieces, row)?;
     Ok(())
@@ -82,14 +85,16 @@ fn push_next<'a>(
 fn push_each<'a>(
     out: &mut String,
     alloc: Global,
-    pieces: &mut NamePieces<'a>,
+    first: NamePieces<'a>,
     rows: &'a [Row],
 ) -> Result<(), Memory>
     ensures { OnOk result (string_bytes out.new
         ≡ string_bytes out.old ++ row_texts false rows.now) }
 {
+    let mut pieces = first;
     for (place, row) in rows.iter().enumerate() {
-        push_next(out, alloc, pieces, place > 0, row)?;
+        pieces = pieces.turned_to(alloc, row)?;
+        push_next(out, alloc, &pieces, place > 0, row)?;
     }
     Ok(())
 }
@@ -102,15 +107,15 @@ fn push_rows(out: &mut String, alloc: Global, rows: &[Row]) -> Result<(), Memory
     let Some(first) = rows.first() else {
         return Ok(());
     };
-    let mut pieces = NamePieces::new(alloc, first)?;
-    push_each(out, alloc, &mut pieces, rows)
+    let pieces = NamePieces::new(alloc, first)?;
+    push_each(out, alloc, pieces, rows)
 }
 
 /// The text of rows with a comma between each two. The only refusal is want of memory.
 pub(crate) fn text_of_rows(alloc: Global, rows: &[Row]) -> Result<Text, Memory>
     ensures { IfOk result (λ text. text ≡ row_texts false rows.now) }
 {
-    let mut out = String::new(alloc);
+    let mut out = String::with_capacity(alloc, rows.len().saturating_mul(ROW_BYTES))?;
     push_rows(&mut out, alloc, rows)?;
     Text::from_string(out)
 }

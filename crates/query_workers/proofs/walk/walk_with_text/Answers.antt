@@ -13,4 +13,4 @@ returns g c =
     let bundles = bundles_of (run_of c.args.from c.args.to version.bundles) in
     let rows : BundleParts → List Row = λ b. rows_for c.args.question.now version.config b in
     let many : BundleParts → Bool = λ b. too_many_for c.args.question.now version.config b in
-    c.with_text.ensures (flat_map rows bundles) (list_any many bundles) c.walk.ensures
+    c.finished.ensures (flat_map rows bundles) (list_any many bundles) c.walk.ensures

@@ -1,6 +1,6 @@
 use Rattle.std.proofs.Common.{ℕ, List, [], ap, ◌∙◌}
 use Rattle.segment_list.specs.Inner.Pieces.{head_text, level_text, names, session_text}
-use Rattle.segment_list.proofs.names.NamePieces.new.Goals as goal
+use Rattle.segment_list.proofs.names.made_pieces.Goals as goal
 
 pub invariant_of-result : goal.invariant_of-result
 invariant_of-result c =
@@ -8,6 +8,6 @@ invariant_of-result c =
       head_is = c.in_ok-head.ensures
           ∙ ap (λ (x : List ℕ). head_text (names [] c.as_str-2.result.now [] x)) c.as_str.ensures
           ∙ ap (λ (x : List ℕ). head_text (names [] x [] c.args.row.now.attribute)) c.as_str-2.ensures;
-      level_is = c.in_ok-before_sample.ensures ∙ ap (λ (x : List ℕ). level_text (names [] [] x [])) c.as_str-3.ensures;
-      session_is = c.in_ok-before_start.ensures ∙ ap (λ (x : List ℕ). session_text (names x [] [] [])) c.as_str-4.ensures;
+      level_is = c.in_ok-before_sample.ensures ∙ ap (λ (x : List ℕ). level_text (names [] [] x [])) c.as_str-level.ensures;
+      session_is = c.in_ok-before_start.ensures ∙ ap (λ (x : List ℕ). session_text (names x [] [] [])) c.as_str-session.ensures;
     }
