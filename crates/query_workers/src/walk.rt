@@ -18,7 +18,7 @@ use eql_match::eql_columns::Matchers;
 use eql_match::eql_tuples::MatchFault;
 use eql_resolve::Asked;
 use session_core::requery::Reached;
-use session_core::segment_list::{Draft, Listing, finished};
+use session_core::segment_list::{Listing, ListingBuilder, finished};
 use std::alloc::Global;
 use std::thread::Threads;
 use version_tree::Version;
@@ -27,7 +27,7 @@ use version_tree::Version;
 /// exactly where the bundle has too many. The only other refusal is want of memory.
 fn add_bundle<'a>(
     alloc: Global,
-    list: &mut Draft,
+    list: &mut ListingBuilder,
     config: &Config,
     indexed: &Indexed,
     question: &Question<'_, 'a>,
@@ -62,13 +62,13 @@ fn walk<G: Gate + Sync>(
     gate: &G,
     from: usize,
     to: usize,
-) -> Result<Draft, MatchFault>
+) -> Result<ListingBuilder, MatchFault>
     requires asked { IsAskedOf version.now.config question.now }
     requires run { IsRun version.now from to }
     ensures { GivesRun result question.now version.now from to }
 {
     let config = version.config();
-    let mut list = Draft::new(alloc);
+    let mut list = ListingBuilder::new(alloc);
     let mut matchers = Matchers::new(alloc);
     for place in from..to {
         gate.at(line, Moment::Piece(place as u32));

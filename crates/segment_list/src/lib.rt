@@ -2,7 +2,7 @@
 //! keys, and their text.
 #![tactic(auto)]
 
-mod draft;
+mod builder;
 mod laws;
 mod listing;
 mod merge;
@@ -12,7 +12,7 @@ mod pieces;
 mod print;
 mod rows;
 
-pub use draft::{Draft, finished};
+pub use builder::{ListingBuilder, finished};
 pub use laws::merges_are_one;
 pub use listing::{Listing, print_rows, with_text};
 pub use merge::merge_in_order;

@@ -17,26 +17,26 @@ const OPEN_ROWS: usize = 128;
 /// The rows of a list that is being made, which contracts see as the rows. The text of each hundred or so is made
 /// at once, which lets go of them, so that few are in use at a time.
 #[derive(Drop)]
-pub struct Draft {
+pub struct ListingBuilder {
     done: Listing,
     open: SegmentList,
 }
 
-impl Model for Draft {
+impl Model for ListingBuilder {
     ghost use Rattle.std.specs.Prelude.{◌++◌, List};
     ghost use Rattle.eql_rows.specs.declared.row.Row.{Row};
 
     ghost Value = { List Row };
 
-    ghost view = { λ d. d.done ++ d.open };
+    ghost view = { λ b. b.done ++ b.open };
 }
 
-impl Draft {
+impl ListingBuilder {
     /// The list of no row. It grows by `alloc`.
-    pub fn new(alloc: Global) -> Draft
+    pub fn new(alloc: Global) -> ListingBuilder
         ensures { result ≡ [] }
     {
-        Draft {
+        ListingBuilder {
             done: Listing::new(alloc),
             open: SegmentList::new(alloc),
         }
@@ -60,7 +60,7 @@ impl Draft {
     fn finish(self, alloc: Global) -> Result<Listing, Memory>
         ensures { IfOk result (λ made. made ≡ self) }
     {
-        let Draft { done, open } = self;
+        let ListingBuilder { done, open } = self;
         with_rows(alloc, done, &open)
     }
 }
@@ -74,11 +74,14 @@ fn with_rows(alloc: Global, list: Listing, rows: &SegmentList) -> Result<Listing
 }
 
 /// The rows that were made for a query, as their text. The only refusal of its own is want of memory.
-pub fn finished(alloc: Global, made: Result<Draft, MatchFault>) -> Result<Listing, MatchFault>
+pub fn finished(
+    alloc: Global,
+    made: Result<ListingBuilder, MatchFault>,
+) -> Result<Listing, MatchFault>
     ensures { (rows : List Row) (many : Bool) → GivesRows made rows many → GivesRows result rows many }
 {
     match made {
-        Ok(draft) => match draft.finish(alloc) {
+        Ok(builder) => match builder.finish(alloc) {
             Ok(list) => Ok(list),
             Err(_) => Err(MatchFault::Memory),
         },
