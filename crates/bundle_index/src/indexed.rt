@@ -34,7 +34,7 @@ const KEPT_LABELS: usize = 4_194_304;
 ///
 /// It always keeps for each attribute of each level the column of the numbers of its items' labels, where
 /// the number of a label is its place in the list, and for each SEGMENT and EVENT level the columns of its
-/// items' first and last samples. Of a bundle of at most 128 links it also keeps, for each two levels between
+/// items' first and last samples. Of a bundle of at most 512 links it also keeps, for each two levels between
 /// which a link leads, which items of the upper one link to which items of the lower one; of any it keeps for each
 /// item the places of the items that it links to; and of at most 16 labels it keeps keys, by which a short label
 /// is found without a look at the labels.
@@ -225,7 +225,7 @@ impl Indexed {
     }
 
     /// The same rows of dominance where the bundle keeps them, that is where no level lies between the two and a
-    /// link leads from the upper one to the lower one; none in a bundle of over 128 links.
+    /// link leads from the upper one to the lower one; none in a bundle of over 512 links.
     pub fn kept_closure(&self, config: &Config, upper: usize, lower: usize) -> Option<&Closure>
         requires fits { FitsConfig config.now self.now.bundle }
         requires upper { upper < length self.now.bundle.levels }

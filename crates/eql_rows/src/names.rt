@@ -58,6 +58,18 @@ pub struct RowNames {
     pub number: u32,
 }
 
+/// A name as a text, which shares the bytes of a text that says the same, as the first attribute of a level has the
+/// level's name for the most part. The only refusal is want of memory.
+fn text_like(alloc: Global, text: &Text, name: &str) -> Result<Text, Memory>
+    ensures { IfOk result (λ made. made ≡ name.now) }
+{
+    if text.as_str() == name {
+        text.copy(alloc)
+    } else {
+        Text::new(alloc, name)
+    }
+}
+
 /// The names of rows of results on a level, with that of the level's attribute of this number, counted from 0. The
 /// only refusal is want of memory.
 ///
@@ -75,7 +87,11 @@ pub fn names_of(
     let session = bundle.key().session.to_text()?;
     let name = bundle.key().bundle.to_text()?;
     let level_text = Text::new(alloc, level_name(config, level))?;
-    let attribute = Text::new(alloc, attribute_name(config, level, number as usize))?;
+    let attribute = text_like(
+        alloc,
+        &level_text,
+        attribute_name(config, level, number as usize),
+    )?;
     Ok(RowNames {
         session,
         bundle: name,

@@ -16,7 +16,7 @@ use link_graph::Link;
 use std::alloc::Global;
 
 /// The most links of a bundle whose rows are kept.
-const KEPT_LINKS: usize = 128;
+const KEPT_LINKS: usize = 512;
 
 /// Two levels of a bundle, and for each item of the upper one, in order, which items of the lower one it
 /// links to.
@@ -194,7 +194,7 @@ fn put_levels_of(
 }
 
 /// The rows of links of a bundle, for each two levels between which a link leads; none where there are over
-/// 128 links. The only refusal is want of memory.
+/// 512 links. The only refusal is want of memory.
 pub fn linked_levels(alloc: Global, bundle: &Bundle) -> Result<Series<LinkedLevels>, Memory>
     ensures { IfOk result (λ all. AreLinkedIn bundle.now all) }
 {

@@ -39,7 +39,7 @@ front_flat : (h a i b j e k d l f m g rest : List ℕ) →
 front_flat h a i b j e k d l f m g rest = simp append_assoc
 
 samples_flat : (h a i e k d l f rest : List ℕ) →
-    ((h ++ (a ++ i)) ++ (e ++ ((k ++ d) ++ (l ++ f)))) ++ rest
+    ((h ++ (a ++ i)) ++ (e ++ ((k ++ (d ++ l)) ++ f))) ++ rest
     ≡ h ++ (a ++ (i ++ (e ++ (k ++ (d ++ (l ++ (f ++ rest)))))))
 samples_flat h a i e k d l f rest = simp append_assoc
 

@@ -1,6 +1,7 @@
 -- Texts whose bytes stand for themselves, and names that are the same.
-use Rattle.std.proofs.Common.{◌≡◌, ℕ, List, [], ◌∷◌, Bool, true, false, ◌&&◌, refl, ap, ◌∙◌, arith}
+use Rattle.std.proofs.Common.{◌≡◌, ℕ, List, [], ◌∷◌, Bool, true, false, ◌&&◌, ◌==◌, refl, ap, ◌∙◌, arith}
 use Rattle.std.specs.List.{list_all}
+use Rattle.std.proofs.lemmas.Bool.{eqb-true}
 use Rattle.std.proofs.lemmas.Bool.Decides.{nat_tests}
 use Rattle.std.proofs.lemmas.Slice.Eq.{bytes_eq-Decides}
 use Rattle.emu_names.specs.Texts.{same_text}
@@ -28,16 +29,19 @@ same a b e = (bytes_eq-Decides a b).0 e
 -- names that are compared alike are the same
 pub same_names : (a b : Names) → are_same_names a b ≡ true → a ≡ b
 same_names a b e =
-    let third = both (same_text a.session b.session && same_text a.bundle b.bundle && same_text a.level b.level)
-    (same_text a.attribute b.attribute) e in
-    let second = both (same_text a.session b.session && same_text a.bundle b.bundle)
-    (same_text a.level b.level) third.0 in
-    let first = both (same_text a.session b.session) (same_text a.bundle b.bundle) second.0 in
-    let session = same a.session b.session first.0 in
-    let bundle = same a.bundle b.bundle first.1 in
-    let level = same a.level b.level second.1 in
-    let attribute = same a.attribute b.attribute third.1 in
-    ap (λ (s : List ℕ). names s a.bundle a.level a.attribute) session
-    ∙ ap (λ (s : List ℕ). names b.session s a.level a.attribute) bundle
-    ∙ ap (λ (s : List ℕ). names b.session b.bundle s a.attribute) level
-    ∙ ap (λ (s : List ℕ). names b.session b.bundle b.level s) attribute
+    let fourth = both (a.rate == b.rate && same_text a.session b.session && same_text a.bundle b.bundle
+    && same_text a.level b.level) (same_text a.attribute b.attribute) e in
+    let third = both (a.rate == b.rate && same_text a.session b.session && same_text a.bundle b.bundle)
+    (same_text a.level b.level) fourth.0 in
+    let second = both (a.rate == b.rate && same_text a.session b.session) (same_text a.bundle b.bundle) third.0 in
+    let first = both (a.rate == b.rate) (same_text a.session b.session) second.0 in
+    let rate = eqb-true a.rate b.rate first.0 in
+    let session = same a.session b.session first.1 in
+    let bundle = same a.bundle b.bundle second.1 in
+    let level = same a.level b.level third.1 in
+    let attribute = same a.attribute b.attribute fourth.1 in
+    ap (λ (s : List ℕ). names s a.bundle a.level a.attribute a.rate) session
+    ∙ ap (λ (s : List ℕ). names b.session s a.level a.attribute a.rate) bundle
+    ∙ ap (λ (s : List ℕ). names b.session b.bundle s a.attribute a.rate) level
+    ∙ ap (λ (s : List ℕ). names b.session b.bundle b.level s a.rate) attribute
+    ∙ ap (λ (n : ℕ). names b.session b.bundle b.level b.attribute n) rate

@@ -1,10 +1,10 @@
 //! The pieces of a row's text that are the same for all rows of one bundle, level and attribute.
-ghost use Rattle.std.specs.Prelude.{◌≡◌, ◌++◌, ◌&&◌, IfOk, OnOk, IsTrue, codes, string_bytes};
+ghost use Rattle.std.specs.Prelude.{◌≡◌, ◌++◌, ◌&&◌, IfOk, OnOk, IsTrue, codes, decimal, string_bytes};
 ghost use Rattle.emu_names.specs.Texts.{same_text};
 ghost use Rattle.json.specs.Print.{quoted};
-ghost use Rattle.segment_list.specs.Inner.Pieces.{are_same_names, head_text, level_text, names_of, session_text};
+ghost use Rattle.segment_list.specs.Inner.Pieces.{are_same_names, head_text, level_text, names_of, rate_text, session_text};
 
-use crate::pieces::push_quoted;
+use crate::pieces::{push_number, push_quoted};
 use emu_names::Memory;
 use eql_rows::Row;
 use std::alloc::Global;
@@ -15,6 +15,7 @@ use std::marker::Model;
 pub(crate) struct NamePieces<'a> {
     row: &'a Row,
     head: String,
+    before_end: String,
     before_sample: String,
     before_start: String,
 }
@@ -28,7 +29,7 @@ impl<'a> Model for NamePieces<'a> {
     ghost view = { λ p. names_of p.row.now };
 
     ghost invariant = { λ p. ArePieces (names_of p.row.now) (string_bytes p.head)
-        (string_bytes p.before_sample) (string_bytes p.before_start) };
+        (string_bytes p.before_end) (string_bytes p.before_sample) (string_bytes p.before_start) };
 }
 
 impl<'a> NamePieces<'a> {
@@ -36,12 +37,11 @@ impl<'a> NamePieces<'a> {
     pub(crate) fn new(alloc: Global, row: &'a Row) -> Result<NamePieces<'a>, Memory>
         ensures { IfOk result (λ made. made ≡ names_of row.now) }
     {
-        let (head, before_sample, before_start) = (
-            String::new(alloc),
-            String::new(alloc),
-            String::new(alloc),
-        );
-        made_pieces(alloc, row, head, before_sample, before_start)
+        let head = String::new(alloc);
+        let before_end = String::new(alloc);
+        let before_sample = String::new(alloc);
+        let before_start = String::new(alloc);
+        made_pieces(alloc, row, head, before_end, before_sample, before_start)
     }
 
     /// The text from the brace to the time of the end.
@@ -52,8 +52,15 @@ impl<'a> NamePieces<'a> {
     }
 
     /// The text from the level to the last sample.
-    pub(crate) fn before_sample(&self) -> &str
+    pub(crate) fn before_end(&self) -> &str
         ensures { result.now ≡ level_text self.now }
+    {
+        self.before_end.as_str()
+    }
+
+    /// The text from the rate to the first sample.
+    pub(crate) fn before_sample(&self) -> &str
+        ensures { result.now ≡ rate_text self.now }
     {
         self.before_sample.as_str()
     }
@@ -69,7 +76,8 @@ impl<'a> NamePieces<'a> {
     fn are_of(&self, row: &Row) -> bool
         ensures { result ≡ are_same_names self.now (names_of row.now) }
     {
-        self.row.session == row.session
+        self.row.rate == row.rate
+            && self.row.session == row.session
             && self.row.bundle == row.bundle
             && self.row.level == row.level
             && self.row.attribute == row.attribute
@@ -87,10 +95,11 @@ impl<'a> NamePieces<'a> {
         let NamePieces {
             row: _,
             head,
+            before_end,
             before_sample,
             before_start,
         } = self;
-        made_pieces(alloc, row, head, before_sample, before_start)
+        made_pieces(alloc, row, head, before_end, before_sample, before_start)
     }
 }
 
@@ -99,6 +108,7 @@ fn made_pieces<'a>(
     alloc: Global,
     row: &'a Row,
     head: String,
+    before_end: String,
     before_sample: String,
     before_start: String,
 ) -> Result<NamePieces<'a>, Memory>
@@ -106,18 +116,14 @@ fn made_pieces<'a>(
 {
     let head = head_piece(head, alloc, row.attribute.as_str(), row.bundle.as_str())?;
     let level = row.level.as_str();
-    let before_sample = piece(
-        before_sample,
-        alloc,
-        ",\"level\":",
-        level,
-        ",\"sampleEnd\":",
-    )?;
+    let before_end = piece(before_end, alloc, ",\"level\":", level, ",\"sampleEnd\":")?;
+    let before_sample = rate_piece(before_sample, row.rate)?;
     let session = row.session.as_str();
     let before_start = piece(before_start, alloc, ",\"session\":", session, ",\"start\":")?;
     Ok(NamePieces {
         row,
         head,
+        before_end,
         before_sample,
         before_start,
     })
@@ -138,6 +144,18 @@ fn piece(
     out.push_str(before)?;
     push_quoted(&mut out, alloc, text)?;
     out.push_str(behind)?;
+    Ok(out)
+}
+
+/// The text from the rate to the first sample, in the room of a text that goes. The only refusal is want of memory.
+fn rate_piece(room: String, rate: u32) -> Result<String, Memory>
+    ensures { IfOk result (λ made. string_bytes made
+        ≡ codes ",\"sampleRate\":" ++ (decimal rate ++ codes ",\"sampleStart\":")) }
+{
+    let mut out = room;
+    out.clear();
+    push_number(&mut out, ",\"sampleRate\":", rate as u64)?;
+    out.push_str(",\"sampleStart\":")?;
     Ok(out)
 }
 

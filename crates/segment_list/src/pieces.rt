@@ -1,5 +1,5 @@
 //! Numbers and texts as they stand in JSON, written behind a text (RFC 8259, sections 6 and 7).
-ghost use Rattle.std.specs.Prelude.{◌≡◌, ◌++◌, IfOk, OnOk, IsTrue, string_bytes};
+ghost use Rattle.std.specs.Prelude.{◌≡◌, ◌++◌, IfOk, OnOk, IsTrue, decimal, string_bytes};
 ghost use Rattle.std.specs.List.{list_all};
 ghost use Rattle.json.specs.Print.{quoted};
 ghost use Rattle.serde_json.specs.Written.{comma_if};
@@ -20,14 +20,21 @@ pub(crate) fn push_comma(out: &mut String, later: bool) -> Result<(), Memory>
     Ok(())
 }
 
+/// Writes a number. The only refusal is want of memory.
+fn push_digits(out: &mut String, n: u64) -> Result<(), Memory>
+    ensures { OnOk result (string_bytes out.new ≡ string_bytes out.old ++ decimal n) }
+{
+    let mut digits = Buffer::new();
+    out.push_str(digits.format(n))?;
+    Ok(())
+}
+
 /// Writes a number behind a text. The only refusal is want of memory.
 pub(crate) fn push_number(out: &mut String, before: &str, n: u64) -> Result<(), Memory>
     ensures { OnOk result (string_bytes out.new ≡ string_bytes out.old ++ number_behind before.now n) }
 {
     out.push_str(before)?;
-    let mut digits = Buffer::new();
-    out.push_str(digits.format(n))?;
-    Ok(())
+    push_digits(out, n)
 }
 
 /// Writes a number, or `null` where there is none. The only refusal is want of memory.
@@ -35,7 +42,7 @@ pub(crate) fn push_or_null(out: &mut String, n: Option<u64>) -> Result<(), Memor
     ensures { OnOk result (string_bytes out.new ≡ string_bytes out.old ++ number_or_null n) }
 {
     match n {
-        Some(n) => push_number(out, "", n),
+        Some(n) => push_digits(out, n),
         None => {
             out.push_str("null")?;
             Ok(())

@@ -31,10 +31,9 @@ fn push_samples(out: &mut String, pieces: &NamePieces, row: &Row) -> Result<(), 
     requires { pieces.now ≡ names_of row.now }
     ensures { OnOk result (string_bytes out.new ≡ string_bytes out.old ++ samples_text row.now) }
 {
-    out.push_str(pieces.before_sample())?;
+    out.push_str(pieces.before_end())?;
     push_or_null(out, row.sample_end)?;
-    push_number(out, ",\"sampleRate\":", row.rate as u64)?;
-    out.push_str(",\"sampleStart\":")?;
+    out.push_str(pieces.before_sample())?;
     push_or_null(out, row.sample_start)?;
     Ok(())
 }

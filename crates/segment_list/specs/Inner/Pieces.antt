@@ -7,26 +7,27 @@ use Rattle.emu_names.specs.Texts.{same_text}
 use Rattle.eql_rows.specs.declared.row.Row.{Row}
 use Rattle.segment_list.specs.Texts.{row_data, whole_or_null}
 
--- what a row says of the place of its items
+-- what a row says of the place of its items, and its rate
 pub record Names : Type 0 where
   pub session : List ℕ
   pub bundle : List ℕ
   pub level : List ℕ
   pub attribute : List ℕ
+  pub rate : ℕ
 
 -- names by themselves
-abbrev pub names : List ℕ → List ℕ → List ℕ → List ℕ → Names
-names session bundle level attribute =
-    record { session = session; bundle = bundle; level = level; attribute = attribute }
+abbrev pub names : List ℕ → List ℕ → List ℕ → List ℕ → ℕ → Names
+names session bundle level attribute rate =
+    record { session = session; bundle = bundle; level = level; attribute = attribute; rate = rate }
 
--- the names of a row
+-- the names of a row, and its rate
 abbrev pub names_of : Row → Names
-names_of r = names r.session r.bundle r.level r.attribute
+names_of r = names r.session r.bundle r.level r.attribute r.rate
 
--- two rows have the same names
+-- two rows have the same names and the same rate
 abbrev pub are_same_names : Names → Names → Bool
 are_same_names a b =
-    same_text a.session b.session && same_text a.bundle b.bundle && same_text a.level b.level
+    a.rate == b.rate && same_text a.session b.session && same_text a.bundle b.bundle && same_text a.level b.level
     && same_text a.attribute b.attribute
 
 -- a byte that stands for itself in a JSON text (RFC 8259, section 7)
@@ -47,14 +48,19 @@ head_text n =
 abbrev pub level_text : Names → List ℕ
 level_text n = codes ",\"level\":" ++ (quoted n.level ++ codes ",\"sampleEnd\":")
 
+-- from the rate to the first sample
+abbrev pub rate_text : Names → List ℕ
+rate_text n = codes ",\"sampleRate\":" ++ (decimal n.rate ++ codes ",\"sampleStart\":")
+
 -- from the session to the time of the start
 abbrev pub session_text : Names → List ℕ
 session_text n = codes ",\"session\":" ++ (quoted n.session ++ codes ",\"start\":")
 
 -- these texts are the pieces for some names
-pub record ArePieces (n : Names) (head level session : List ℕ) : Type 0 where
+pub record ArePieces (n : Names) (head level rate session : List ℕ) : Type 0 where
   pub head_is : head ≡ head_text n
   pub level_is : level ≡ level_text n
+  pub rate_is : rate ≡ rate_text n
   pub session_is : session ≡ session_text n
 
 -- a number behind a text
@@ -73,10 +79,7 @@ front_text r =
 -- from the level to the first sample
 abbrev pub samples_text : Row → List ℕ
 samples_text r =
-    level_text (names_of r)
-    ++ (number_or_null r.sample_end
-    ++ (number_behind (codes ",\"sampleRate\":") r.rate
-    ++ (codes ",\"sampleStart\":" ++ number_or_null r.sample_start)))
+    level_text (names_of r) ++ (number_or_null r.sample_end ++ (rate_text (names_of r) ++ number_or_null r.sample_start))
 
 -- from the session to the closing brace
 abbrev pub back_text : Row → List ℕ

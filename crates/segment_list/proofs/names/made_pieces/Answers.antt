@@ -6,8 +6,9 @@ pub invariant_of-result : goal.invariant_of-result
 invariant_of-result c =
     record {
       head_is = c.in_ok-head.ensures
-          ∙ ap (λ (x : List ℕ). head_text (names [] c.as_str-2.result.now [] x)) c.as_str.ensures
-          ∙ ap (λ (x : List ℕ). head_text (names [] x [] c.args.row.now.attribute)) c.as_str-2.ensures;
-      level_is = c.in_ok-before_sample.ensures ∙ ap (λ (x : List ℕ). level_text (names [] [] x [])) c.as_str-level.ensures;
-      session_is = c.in_ok-before_start.ensures ∙ ap (λ (x : List ℕ). session_text (names x [] [] [])) c.as_str-session.ensures;
+          ∙ ap (λ (x : List ℕ). head_text (names [] c.as_str-2.result.now [] x 0)) c.as_str.ensures
+          ∙ ap (λ (x : List ℕ). head_text (names [] x [] c.args.row.now.attribute 0)) c.as_str-2.ensures;
+      level_is = c.in_ok-before_end.ensures ∙ ap (λ (x : List ℕ). level_text (names [] [] x [] 0)) c.as_str-level.ensures;
+      rate_is = c.in_ok-before_sample.ensures;
+      session_is = c.in_ok-before_start.ensures ∙ ap (λ (x : List ℕ). session_text (names x [] [] [] 0)) c.as_str-session.ensures;
     }
