@@ -23,7 +23,7 @@ use crate::given_levels::levels_for;
 use crate::given_links::{definition_for, shared_links};
 use crate::own::{add, add_at, remove};
 use crate::places::{Places, shared_places};
-use db_config::{Config, LinkDefs};
+use db_config::{Config, LinkDef, LinkDefs};
 use emu_names::{Broken, BundleKey, Fault, ItemId, Memory, PlainData, Text};
 use level_items::{Annot, AnnotLink, Handle, Item, LevelList, SharedLevels, Time};
 use link_graph::Links;
@@ -179,6 +179,14 @@ impl Bundle {
         ensures { result.now ≡ self.now.links }
     {
         self.links.as_ref()
+    }
+
+    /// The link definition of a number, counted from 0, if there are so many.
+    pub fn definition(&self, number: u32) -> Option<LinkDef>
+        ensures { result ≡ slice_get self.now.definitions number }
+    {
+        let definitions = self.definitions.as_ref().as_slice();
+        definitions.get(number as usize).copied()
     }
 
     /// How many items there are on all levels. Whoever asks may rely on the rules of bundles.

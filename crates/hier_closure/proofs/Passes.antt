@@ -20,7 +20,7 @@ use Rattle.bundle_state.specs.Valid.{KeepsBundleRules}
 use Rattle.bundle_state.proofs.IdLevels.{number_within}
 use Rattle.hier_closure.specs.Dominance.{links_to, dominates, ids_at, closure_row, closure_of}
 use Rattle.hier_closure.specs.Inner.Ranks.{any_between}
-use Rattle.hier_closure.specs.Inner.Linked.{AreLinkedIn, linked_row, linked_of}
+use Rattle.hier_closure.specs.Inner.Linked.{AreLinkedIn, LeadsAside, linked_row, linked_of}
 use Rattle.hier_closure.specs.declared.linked.LinkedLevels.{LinkedLevels}
 use Rattle.hier_closure.proofs.Ways.{Way, pair_from, pair_to, same_truth}
 use Rattle.hier_closure.proofs.Ways as ways
@@ -36,11 +36,6 @@ some_number n m o p q = cc
 
 pub at_place : (links same : List Link) (place : ℕ) (link : Link) → same ≡ links → slice_get same place ≡ Some link → slice_get links place ≡ Some link
 at_place links same place link is at = ap (λ l. slice_get l place) (sym is) ∙ at
-
--- a link does not lead from the one level to the other
-abbrev pub LeadsAside : BundleParts → ℕ → ℕ → Link → Type 0
-LeadsAside bundle upper lower link =
-    level_of_id bundle.levels link.from.0 ≡ Some upper → level_of_id bundle.levels link.to.0 ≡ Some lower → ⊥
 
 no_pair : (bundle : BundleParts) (upper lower : ℕ) (link : Link) (a b : ℕ) → KeepsBundleRules bundle → LeadsAside bundle upper lower link →
     is_in a (ids_at bundle.levels upper) ≡ true → is_in b (ids_at bundle.levels lower) ≡ true → is_pair a b link ≡ false
@@ -59,11 +54,15 @@ all_at P (y ∷ xs) zero x all at = let own : y ≡ x = cc in subst (λ z. P z) 
 all_at P (y ∷ xs) (suc k) x all at = all_at P xs k x (All-tail P y xs all) at
 
 -- both ends of a link are items
+pub is_between : (bundle : BundleParts) (place : ℕ) (link : Link) → KeepsBundleRules bundle → slice_get bundle.links place ≡ Some link →
+    IsBetween bundle.definitions (level_of_id bundle.levels) link
+is_between bundle place link rules at =
+    all_at (IsBetween bundle.definitions (level_of_id bundle.levels)) bundle.links place link rules.linked.between at
+
 pub ends_there : (bundle : BundleParts) (place : ℕ) (link : Link) → KeepsBundleRules bundle → slice_get bundle.links place ≡ Some link →
     IsSome (level_of_id bundle.levels link.from.0) × IsSome (level_of_id bundle.levels link.to.0)
 ends_there bundle place link rules at =
-    let between : IsBetween bundle.definitions (level_of_id bundle.levels) link =
-    all_at (IsBetween bundle.definitions (level_of_id bundle.levels)) bundle.links place link rules.linked.between at in (
+    let between : IsBetween bundle.definitions (level_of_id bundle.levels) link = is_between bundle place link rules at in (
       is_some_at (level_of_id bundle.levels link.from.0) between.def.upper between.from,
       is_some_at (level_of_id bundle.levels link.to.0) between.def.lower between.to,
     )

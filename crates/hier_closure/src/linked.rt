@@ -2,9 +2,10 @@
 //! one is right above the other they are its rows of dominance.
 ghost use Rattle.std.specs.Prelude.{◌≡◌, ◌≢◌, ◌<◌, ◌+◌, true, false, [], take, replicate, length, get_or, slice_get, slice_set, IfOk, IfNone, IfSome, IsSome, OnOk, Some};
 ghost use Rattle.bundle_state.specs.Bundle.{BundleParts, level_of_id};
+ghost use Rattle.bundle_state.specs.Linked.{IsBetween};
 ghost use Rattle.bundle_state.specs.Valid.{KeepsBundleRules};
 ghost use Rattle.hier_closure.specs.Dominance.{ids_at};
-ghost use Rattle.hier_closure.specs.Inner.Linked.{AreLinkedIn, linked_of};
+ghost use Rattle.hier_closure.specs.Inner.Linked.{AreLinkedIn, LeadsAside, linked_of};
 
 use crate::children::place_from;
 use crate::closure::Closure;
@@ -39,15 +40,6 @@ impl PlainData for LinkedLevels {
             closure,
         })
     }
-}
-
-/// The places at which the items of a link are looked for first: a level and a position on it for each.
-#[derive(Clone, Copy)]
-struct Ends {
-    /// That of the upper item.
-    from: (usize, usize),
-    /// That of the lower item.
-    to: (usize, usize),
 }
 
 /// A row of which no bit is set. The only refusal is want of memory.
@@ -95,6 +87,17 @@ fn position_on(bundle: &Bundle, level: usize, near: usize, id: ItemId) -> Option
     }
 }
 
+/// Whether a link of the bundle may lead from the one level to the other, as its definition says.
+fn may_lead(bundle: &Bundle, upper: usize, lower: usize, link: &Link) -> bool
+    ensures { result ≡ false → IsBetween bundle.now.definitions (level_of_id bundle.now.levels) link.now
+        → LeadsAside bundle.now upper lower link.now }
+{
+    match bundle.definition(link.definition) {
+        Some(def) => def.upper as usize == upper && def.lower as usize == lower,
+        None => true,
+    }
+}
+
 /// Sets the bit of the link at a place of the bundle's list, if it leads from the one level to the other. Its
 /// items are looked for at two positions first; answers at which ones those of the next link are.
 fn add_link(
@@ -111,6 +114,9 @@ fn add_link(
     ensures { rows.new ≡ linked_of bundle.now upper lower (take (place + 1) bundle.now.links) }
 {
     let link = bundle.links().get(place);
+    if !may_lead(bundle, upper, lower, link) {
+        return near;
+    }
     match position_on(bundle, upper, near.0, link.from) {
         None => near,
         Some(row) => match position_on(bundle, lower, near.1, link.to) {
@@ -167,30 +173,21 @@ fn put_levels(
     })
 }
 
-/// Puts the rows of links between the levels of the two items of a link last, unless they are there. The
-/// items are looked for at the two places first. Answers where the next link's items are to be looked for. The
-/// only refusal is want of memory.
+/// Puts the rows of links between the levels of a link's definition last, unless they are there. The only refusal is
+/// want of memory.
 fn put_levels_of(
     alloc: Global,
     bundle: &Bundle,
     all: &mut Series<LinkedLevels>,
-    near: Ends,
-    link: Link,
-) -> Result<Ends, Memory>
+    link: &Link,
+) -> Result<(), Memory>
     requires { AreLinkedIn bundle.now all.old }
     ensures { OnOk result (AreLinkedIn bundle.now all.new) }
 {
-    let Some(from) = place_from(bundle, near.from, link.from) else {
-        return Ok(near);
-    };
-    let Some(to) = place_from(bundle, near.to, link.to) else {
-        return Ok(near);
-    };
-    put_levels(alloc, bundle, all, from.0, to.0)?;
-    Ok(Ends {
-        from,
-        to: (to.0, to.1.saturating_add(1)),
-    })
+    match bundle.definition(link.definition) {
+        Some(def) => put_levels(alloc, bundle, all, def.upper as usize, def.lower as usize),
+        None => Ok(()),
+    }
 }
 
 /// The rows of links of a bundle, for each two levels between which a link leads; none where there are over
@@ -204,13 +201,8 @@ pub fn linked_levels(alloc: Global, bundle: &Bundle) -> Result<Series<LinkedLeve
     if count > KEPT_LINKS {
         return Ok(all);
     }
-    let mut near = Ends {
-        from: (0, 0),
-        to: (0, 0),
-    };
     for place in 0..count {
-        let link = *bundle.links().get(place);
-        near = put_levels_of(alloc, bundle, &mut all, near, link)?;
+        put_levels_of(alloc, bundle, &mut all, bundle.links().get(place))?;
     }
     Ok(all)
 }

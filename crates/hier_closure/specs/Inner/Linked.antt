@@ -1,8 +1,8 @@
 -- Which items of a level link to which of another.
-use Rattle.std.specs.Prelude.{◌≡◌, ℕ, Bool, true, false, List, All, get_or, map}
+use Rattle.std.specs.Prelude.{◌≡◌, ℕ, Bool, true, false, List, Some, All, get_or, map}
 use Rattle.level_items.specs.Levels.{Level}
 use Rattle.link_graph.specs.declared.link.Link.{Link}
-use Rattle.bundle_state.specs.Bundle.{BundleParts}
+use Rattle.bundle_state.specs.Bundle.{BundleParts, level_of_id}
 use Rattle.bundle_state.specs.Valid.{KeepsBundleRules}
 use Rattle.hier_closure.specs.Dominance.{links_to, ids_at}
 use Rattle.hier_closure.specs.declared.linked.LinkedLevels.{LinkedLevels}
@@ -15,6 +15,11 @@ linked_row links lowers upper = map (links_to links upper) lowers
 abbrev pub linked_of : BundleParts → ℕ → ℕ → List Link → List (List Bool)
 linked_of bundle upper lower links =
     map (linked_row links (ids_at bundle.levels lower)) (ids_at bundle.levels upper)
+
+-- a link does not lead from the one level to the other
+abbrev pub LeadsAside : BundleParts → ℕ → ℕ → Link → Type 0
+LeadsAside bundle upper lower link =
+    level_of_id bundle.levels link.from.0 ≡ Some upper → level_of_id bundle.levels link.to.0 ≡ Some lower → ⊥
 
 -- the bundle keeps its rules, and these rows are those of its links
 pub record AreLinkedIn (bundle : BundleParts) (all : List LinkedLevels) : Type 0 where

@@ -1,5 +1,5 @@
 use Rattle.std.proofs.Common.{ap, ◌∙◌}
-use Rattle.hier_closure.proofs.Passes.{ends_there, pass_by, pass_one, with_bit, row_within, bit_within, at_place}
+use Rattle.hier_closure.proofs.Passes.{ends_there, is_between, pass_by, pass_one, with_bit, row_within, bit_within, at_place}
 use Rattle.hier_closure.proofs.linked.add_link.Goals as goal
 
 pub position_on-requires-clause-there : goal.position_on-requires-clause-there
@@ -11,6 +11,13 @@ pub position_on-requires-in-Some-clause-there : goal.position_on-requires-in-Som
 position_on-requires-in-Some-clause-there c =
     (ends_there c.args.bundle.now c.args.place c.get-link.result.now c.requires.rules
     (at_place c.args.bundle.now.links c.links.result.now c.args.place c.get-link.result.now c.links.ensures c.get-link.ensures)).1
+
+pub returns-then-not-may_lead : goal.returns-then-not-may_lead
+returns-then-not-may_lead c =
+    c.requires.made ∙ pass_by c.args.bundle.now c.args.upper c.args.lower c.args.place c.get-link.result.now c.requires.rules
+    (at_place c.args.bundle.now.links c.links.result.now c.args.place c.get-link.result.now c.links.ensures c.get-link.ensures)
+    (c.may_lead.ensures c.if-not-may_lead.true (is_between c.args.bundle.now c.args.place c.get-link.result.now c.requires.rules
+    (at_place c.args.bundle.now.links c.links.result.now c.args.place c.get-link.result.now c.links.ensures c.get-link.ensures)))
 
 pub returns-in-None : goal.returns-in-None
 returns-in-None c =

@@ -1,0 +1,123 @@
+#!/usr/bin/env python3
+"""Prints how what `emu run` takes grows with its input, as ratios of one run.
+
+    tools/ratios.py BINARY [--instructions]
+
+Each figure is that of a script with lines less that of the same script without them: the least time of five runs in turns, or with
+--instructions the instructions that `valgrind` counts, which no neighbour changes.
+"""
+import json
+import re
+import subprocess
+import sys
+import time
+
+RUNS = 5
+QUERIES = {
+    "label": "[Phonetic == a]",
+    "sequence": "[[Phonetic == e] -> [Phonetic == i]]",
+    "dominance": "[Word == w ^ Phonetic == a]",
+    "position": "[Phonetic == e & Start(Word, Phonetic) == 1]",
+}
+
+
+def level(name, kind):
+    """A level with one attribute, which has its name."""
+    return {"name": name, "type": kind, "attributeDefinitions": [{"name": name, "type": "STRING"}]}
+
+
+def configuration():
+    """Words over segments."""
+    links = [{"type": "ONE_TO_MANY", "superlevelName": "Word", "sublevelName": "Phonetic"}]
+    levels = [level("Word", "ITEM"), level("Phonetic", "SEGMENT")]
+    return {"do": "config", "config": {"name": "work", "levelDefinitions": levels, "linkDefinitions": links}}
+
+
+def item(number, name, label, **time_of):
+    """An item with one label."""
+    return {"id": number, **time_of, "labels": [{"name": name, "value": label}]}
+
+
+def bundle(number, segments, links=None, words=None):
+    """A bundle of so many segments, the first of which are linked to words; each word has four of them unless said otherwise."""
+    words = words or segments // 4
+    links = segments if links is None else links
+    lower = [item(at + 1, "Phonetic", "aeiou"[at % 5], sampleStart=100 * at, sampleDur=99) for at in range(segments)]
+    upper = [item(100_001 + at, "Word", "w") for at in range(words)]
+    joined = [{"fromID": 100_001 + at * words // segments, "toID": at + 1} for at in range(links)]
+    levels = [{"name": "Word", "type": "ITEM", "items": upper}, {"name": "Phonetic", "type": "SEGMENT", "items": lower}]
+    annot = {"name": f"b{number}", "annotates": "", "sampleRate": 16000, "levels": levels, "links": joined}
+    return {"s": 1, "do": "add_bundle", "session": "work", "bundle": f"b{number:05}", "annot": annot}
+
+
+def bundles(count, segments, **more):
+    return [bundle(number, segments, **more) for number in range(count)]
+
+
+def queries(eql, count):
+    return [{"s": 1, "do": "query", "eql": eql}] * count
+
+
+def labels(segments, count):
+    """Lines that set the label of one segment after another of the first bundle."""
+    key = {"s": 1, "do": "set_label", "session": "work", "bundle": "b00000", "attribute": "Phonetic"}
+    return [{**key, "id": at % segments + 1, "value": "aeiou"[at % 4]} for at in range(count)]
+
+
+class Meter:
+    """Runs scripts, and tells what they take."""
+
+    def __init__(self, binary, counts):
+        self.binary, self.counts = binary, counts
+
+    def once(self, script):
+        begin = time.perf_counter()
+        words = ["valgrind", "--tool=callgrind", "--callgrind-out-file=/dev/null"] if self.counts else []
+        done = subprocess.run([*words, self.binary, "run"], input=script, stdout=subprocess.DEVNULL, stderr=subprocess.PIPE, check=True)
+        if self.counts:
+            return int(re.search(rb"refs: +([\d,]+)", done.stderr)[1].replace(b",", b""))
+        return time.perf_counter() - begin
+
+    def take(self, cases):
+        """What the lines of each case take beside what stands before them, by name."""
+        scripts = {}
+        for name, (before, lines) in cases.items():
+            texts = [json.dumps(it) for it in [configuration(), *before]]
+            more = [json.dumps(it) for it in lines]
+            scripts[name] = ["\n".join(it + [""]).encode() for it in (texts, texts + more)]
+        least = {}
+        for _ in range(1 if self.counts else RUNS):
+            for name, pair in scripts.items():
+                took = [self.once(it) for it in pair]
+                least[name] = [min(a, b) for a, b in zip(least.get(name, took), took)]
+        return {name: more - without for name, (without, more) in least.items()}
+
+    def ratio(self, what, case, other):
+        """Prints what a case takes where another one takes 1."""
+        took = self.take({"case": case, "other": other})
+        print(f"{what}: {took['case'] / took['other']:.2f}", flush=True)
+
+
+def main(words):
+    meter = Meter(words[0], "--instructions" in words[1:])
+    for segments, count in ((88, 20), (880, 8), (8800, 2)):
+        loaded = bundles(count, segments)
+        on_words, on_segments = ((loaded, queries(f"[{name} == zz]", 50)) for name in ("Word", "Phonetic"))
+        meter.ratio(f"a query that finds nothing on Word to one on Phonetic, {segments} segments", on_words, on_segments)
+    for name, eql in QUERIES.items():
+        asked = queries(eql, 50)
+        meter.ratio(f"{name}: 80 bundles to 40", (bundles(80, 24), asked), (bundles(40, 24), asked))
+        meter.ratio(f"{name}: 960 segments a bundle to 480", (bundles(4, 960), asked), (bundles(4, 480), asked))
+        meter.ratio(f"{name}: 240 links a bundle to 120", (bundles(20, 240), asked), (bundles(20, 240, links=120), asked))
+        fewer, more = ((bundles(20, 280, links=links), asked) for links in (120, 140))
+        meter.ratio(f"{name}: 140 links a bundle to 120", more, fewer)
+    meter.ratio("loading: 400 bundles to 200", ([], bundles(400, 24)), ([], bundles(200, 24)))
+    meter.ratio("loading: 960 segments a bundle to 480", ([], bundles(8, 960)), ([], bundles(8, 480)))
+    finish = [{"s": 1, "do": "finish"}] * 2000
+    meter.ratio("`set_label` on 24 segments to `finish`", (bundles(1, 24), labels(24, 2000)), (bundles(1, 24), finish))
+    many, few = ((bundles(1, segments), labels(segments, 200)) for segments in (10_000, 1_000))
+    meter.ratio("`set_label` on 10,000 segments to one on 1,000", many, few)
+
+
+if __name__ == "__main__":
+    main(sys.argv[1:])
