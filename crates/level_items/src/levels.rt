@@ -1,6 +1,6 @@
 //! A level list: the items of one level of a bundle, which keep the level rule.
 //!
-//! Beside its items, which stand in one vector, a list has an ordered map from ids to marks. A new id is
+//! Beside its items, which stand in one vector, a list has a map from ids to marks. A new id is
 //! looked up in that map. The place of a new segment or point is found by halving the list, since the
 //! items stand in the order of their first samples. An item is found by its mark: that of a segment or
 //! point is its first sample, by which the list is halved, and that of an item without time its place.
