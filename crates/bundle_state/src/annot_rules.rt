@@ -189,20 +189,11 @@ fn level_passes(
     }
 }
 
-/// How many items there are on these levels, for which room is taken; of it nothing is promised.
-fn room_for(levels: &[AnnotLevel]) -> usize {
-    let mut count: usize = 0;
-    for level in levels {
-        count = count.saturating_add(level.items.len());
-    }
-    count
-}
-
 /// Tests the levels of an annotation.
 fn levels_pass(alloc: Global, defs: &[LevelDef], levels: &[AnnotLevel]) -> Result<(), Fault>
     ensures { FindsFault result (levels_fault defs.now [] [] levels.now) }
 {
-    let mut taken = UsedIds::with_capacity(alloc, room_for(levels))?;
+    let mut taken = UsedIds::new(alloc);
     for place in 0..levels.len() {
         level_passes(alloc, defs, &levels[..place], &mut taken, &levels[place])?;
     }
@@ -230,8 +221,7 @@ fn is_rate(rate: u64) -> bool
     1 <= rate && rate <= TOP_RATE
 }
 
-/// Tests an annotation, its links aside: passes where it breaks no rule, else names the first rule
-/// that it breaks.
+/// Tests an annotation, its links aside: passes where it breaks no rule, else names the first rule that it breaks.
 pub(crate) fn annot_passes(alloc: Global, defs: &[LevelDef], annot: &Annot) -> Result<(), Fault>
     ensures { FindsFault result (annot_fault defs.now annot.now) }
 {

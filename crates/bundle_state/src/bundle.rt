@@ -78,17 +78,16 @@ impl Bundle {
     /// The bundle that an annotation makes under a configuration, or the rule that it breaks first, or
     /// want of memory.
     ///
-    /// Refused are, in this order: a rate out of range (`RateOut`), over 65,536 items (`TooMany`); for each
-    /// level as it is given one that the configuration does not have (`NoLevel`), one that is named twice
-    /// (`TwoLevels`) or has another kind (`LevelKind`), and for each of its items an id that is taken in the
-    /// bundle (`IdTaken`), a time of another form than the level's (`TimeKind`), one that ends past sample
-    /// 2^40 - 1 (`TimeOut`), for each label an unknown attribute (`NoAttribute`), one that is named twice
-    /// (`TwoLabels`) or a label of over 4,096 bytes (`LabelTooLong`), and a time that does not lie behind that
-    /// of the item before it (`Overlap` on a SEGMENT level, `NotRising` on an EVENT level), with that item's
-    /// id. Then for each link as it is given an id that no item has (`NoItem`, of the upper item first),
-    /// levels between which no definition leads (`NoLinkDefinition`), and, unless the pair stands earlier
-    /// and is passed over, over 262,144 links (`TooMany`), a second parent (`OneParent`) or a second child
-    /// (`OneChild`) against the definition's kind.
+    /// Refused are, in this order: a rate out of range (`RateOut`), over 65,536 items (`TooMany`); for each level
+    /// as it is given one that the configuration does not have (`NoLevel`), one that is named twice (`TwoLevels`)
+    /// or has another kind (`LevelKind`), and for each of its items an id that is taken in the bundle (`IdTaken`),
+    /// a time of another form than the level's (`TimeKind`), one that ends past sample 2^40 - 1 (`TimeOut`), for
+    /// each label an unknown attribute (`NoAttribute`), one that is named twice (`TwoLabels`) or a label of over
+    /// 4,096 bytes (`LabelTooLong`), and a time that does not lie behind that of the item before it (`Overlap` on a
+    /// SEGMENT level, `NotRising` on an EVENT level), with that item's id. Then for each link as it is given an id
+    /// that no item has (`NoItem`, of the upper item first), levels between which no definition leads
+    /// (`NoLinkDefinition`), and, unless the pair stands earlier and is passed over, over 262,144 links
+    /// (`TooMany`), a second parent (`OneParent`) or a second child (`OneChild`) against the definition's kind.
     ///
     /// A level that is not given is empty, and a label that is not given is the empty text.
     pub fn build(
@@ -329,9 +328,8 @@ impl Bundle {
         add(&mut self.links, number, config.link_kind(number), from, to)
     }
 
-    /// Puts a link at a place of the list of links, before the link that stands there. The refusals are those
-    /// of `add_link`, and last a place past the end (`PositionOut`). A refusal, or want of memory, changes
-    /// nothing.
+    /// Puts a link at a place of the list of links, before the link that stands there. The refusals are those of
+    /// `add_link`, and last a place past the end (`PositionOut`). A refusal, or want of memory, changes nothing.
     pub fn add_link_at(
         &mut self,
         config: &Config,

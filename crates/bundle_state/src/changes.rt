@@ -48,8 +48,7 @@ pub(crate) fn put_item(
     }
 }
 
-/// Takes an item from its level, and forgets its place. The only refusal is want of memory, which changes
-/// nothing.
+/// Takes an item from its level, and forgets its place. The only refusal is want of memory, which changes nothing.
 fn take_item(
     levels: &mut SharedLevels,
     places: &mut Handle<Places>,

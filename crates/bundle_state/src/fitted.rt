@@ -8,8 +8,7 @@ use emu_names::{Memory, PlainData};
 use level_items::{Handle, LevelList, SharedLevels};
 use std::alloc::Global;
 
-/// One level for each definition. Levels to which nothing is added stay shared. The only refusal is want of
-/// memory.
+/// One level for each definition. Levels to which nothing is added stay shared. The only refusal is want of memory.
 #[tactic(auto, using(crate::proofs::FittedKept::fitted_next, crate::proofs::FittedKept::can_fit_next, crate::proofs::FittedKept::fitted_whole))]
 pub(crate) fn fitted_levels(
     alloc: Global,
@@ -45,8 +44,7 @@ fn fitted_level(
     }
 }
 
-/// A level with so many attributes, which is shared where it has them already. The only refusal is want of
-/// memory.
+/// A level with so many attributes, which is shared where it has them already. The only refusal is want of memory.
 #[tactic(auto, using(level_items::proofs::Wider::widened_same))]
 fn wider_level(
     alloc: Global,

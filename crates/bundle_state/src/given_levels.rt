@@ -82,8 +82,7 @@ fn items_named<'a>(levels: &'a [AnnotLevel], def: &LevelDef) -> &'a [AnnotItem]
     &[]
 }
 
-/// A level of the configuration with the items that are given for it. The only refusal is want of
-/// memory.
+/// A level of the configuration with the items that are given for it. The only refusal is want of memory.
 fn made_level(
     alloc: Global,
     levels: &[AnnotLevel],

@@ -26,8 +26,7 @@ pub(crate) fn add(
     own.add(definition, kind, from, to)
 }
 
-/// Puts a link at a place, as the list of links does. A place past the end is refused last
-/// (`PositionOut`).
+/// Puts a link at a place, as the list of links does. A place past the end is refused last (`PositionOut`).
 pub(crate) fn add_at(
     links: &mut Handle<Links>,
     place: usize,

@@ -35,8 +35,7 @@ impl Places {
         Some(usize::from(*level))
     }
 
-    /// Keeps the level of an id that has none yet. The only refusal is want of memory, which changes
-    /// nothing.
+    /// Keeps the level of an id that has none yet. The only refusal is want of memory, which changes nothing.
     pub(crate) fn put(&mut self, id: ItemId, level: usize) -> Result<(), Memory>
         requires { level < LEVELS }
         ensures ok { OnOk result ((q : ℕ) → level_in self.new q

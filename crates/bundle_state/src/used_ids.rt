@@ -22,16 +22,16 @@ impl Model for UsedIds {
 }
 
 impl UsedIds {
-    /// No id, with room for so many. The only refusal is want of memory.
-    pub(crate) fn with_capacity(alloc: Global, count: usize) -> Result<UsedIds, Memory>
-        ensures { IfOk result (λ made. made ≡ []) }
+    /// No id, in a set that grows by `alloc`.
+    pub(crate) fn new(alloc: Global) -> UsedIds
+        ensures { result ≡ [] }
     {
-        let ids = HashSet::with_capacity(alloc, count)?;
-        Ok(UsedIds { ids })
+        UsedIds {
+            ids: HashSet::new(alloc),
+        }
     }
 
-    /// Puts an id in, and answers whether it was not there before. The only refusal is want of
-    /// memory.
+    /// Puts an id in, and answers whether it was not there before. The only refusal is want of memory.
     pub(crate) fn take(&mut self, id: ItemId) -> Result<bool, Memory>
         ensures fresh { IfOk result (λ fresh. fresh ≡ not (list_any (nat_eq id.0) self.old)) }
         ensures taken { OnOk result

@@ -22,10 +22,8 @@ impl ByItem {
     pub(crate) fn new(alloc: Global) -> ByItem
         ensures { (id : ℕ) → links_at result id ≡ [] }
     {
-        ByItem {
-            alloc,
-            lists: HashMap::new(alloc),
-        }
+        let lists = HashMap::new(alloc);
+        ByItem { alloc, lists }
     }
 
     /// No links at any item, with room for so many items. The only refusal is want of memory.

@@ -23,31 +23,14 @@ pub(crate) struct Index {
 }
 
 impl Index {
-    /// The index of the list of no link.
-    pub(crate) fn new(alloc: Global) -> Index
-        ensures { Indexes result [] }
-    {
-        Index {
-            down: ByItem::new(alloc),
-            up: ByItem::new(alloc),
-            pairs: Pairs::new(alloc),
-        }
-    }
-
-    /// The index of the list of no link, with room for so many. The only refusal is want of memory.
-    ///
-    /// A lower item has one parent for the most part, and an upper one several children, so that room is taken for
-    /// the lower ones alone.
+    /// The index of the list of no link, with room for so many pairs and lower items. The only refusal is want of memory.
     pub(crate) fn with_capacity(alloc: Global, count: usize) -> Result<Index, Memory>
         ensures { IfOk result (λ made. Indexes made []) }
     {
+        let down = ByItem::new(alloc);
         let up = ByItem::with_capacity(alloc, count)?;
         let pairs = Pairs::with_capacity(alloc, count)?;
-        Ok(Index {
-            down: ByItem::new(alloc),
-            up,
-            pairs,
-        })
+        Ok(Index { down, up, pairs })
     }
 
     /// The same index again. The only refusal is want of memory.

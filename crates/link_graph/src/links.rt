@@ -36,25 +36,13 @@ impl Model for Links {
 }
 
 impl Links {
-    /// No links. The list grows by `alloc`.
-    pub fn new(alloc: Global) -> Links
-        ensures { result ≡ [] }
-    {
-        Links {
-            links: Blocks::new(alloc),
-            index: Index::new(alloc),
-        }
-    }
-
-    /// The list of no link, with room for so many. The only refusal is want of memory.
+    /// No links, with room for so many in what finds them. The list grows by `alloc`. The only refusal is want of memory.
     pub fn with_capacity(alloc: Global, count: usize) -> Result<Links, Memory>
         ensures { IfOk result (λ made. made ≡ []) }
     {
         let index = Index::with_capacity(alloc, count)?;
-        Ok(Links {
-            links: Blocks::new(alloc),
-            index,
-        })
+        let links = Blocks::new(alloc);
+        Ok(Links { links, index })
     }
 
     /// How many links there are, at most 262,144.
@@ -233,8 +221,7 @@ impl Links {
         Some(Broken::OneChild(link.to))
     }
 
-    /// Puts a link last whose pair of ids is not there. The only refusal is want of memory, which
-    /// changes nothing.
+    /// Puts a link last whose pair of ids is not there. The only refusal is want of memory, which changes nothing.
     fn put(&mut self, link: Link) -> Result<(), Memory>
         requires apart { list_any (joins link.from link.to) self.old ≡ false }
         requires room { length self.old < BUNDLE_LINKS }

@@ -14,15 +14,6 @@ pub(crate) struct Pairs {
 }
 
 impl Pairs {
-    /// No pair.
-    pub(crate) fn new(alloc: Global) -> Pairs
-        ensures { (from to : ℕ) → has_pair result from to ≡ false }
-    {
-        Pairs {
-            blocks: HashMap::new(alloc),
-        }
-    }
-
     /// No pair, with room for so many. The only refusal is want of memory.
     pub(crate) fn with_capacity(alloc: Global, count: usize) -> Result<Pairs, Memory>
         ensures { IfOk result (λ made. (from to : ℕ) → has_pair made from to ≡ false) }

@@ -2,7 +2,7 @@
 ghost use Rattle.std.specs.Prelude.{◌<◌};
 
 use crate::levels::crosses_threads;
-use emu_names::{Broken, Fault, ItemId, LinkKind, What};
+use emu_names::{Broken, Fault, ItemId, LinkKind, Memory, What};
 use link_graph::{Ends, Links};
 use std::alloc::Global;
 use std::process::Abort;
@@ -59,10 +59,10 @@ fn add_all(rt: &impl Abort, links: &mut Links) {
     }
 }
 
-fn some_links(rt: &impl Abort, alloc: Global) -> Links {
-    let mut links = Links::new(alloc);
+fn some_links(rt: &impl Abort, alloc: Global) -> Result<Links, Memory> {
+    let mut links = Links::with_capacity(alloc, 2)?;
     add_all(rt, &mut links);
-    links
+    Ok(links)
 }
 
 /// What a list of links has: its pairs of ids in order, and the parents and the children of an item.
@@ -116,7 +116,7 @@ fn remove_all(rt: &impl Abort, links: &mut Links) {
 
 #[test]
 fn links_are_added_and_taken_out(rt: HostRuntime) -> Result<(), Fail> {
-    let mut links = some_links(&rt, rt.alloc());
+    let mut links = some_links(&rt, rt.alloc())?;
     crosses_threads(&links);
     check(&rt, &links, &ADDED);
     remove_all(&rt, &mut links);
@@ -131,7 +131,7 @@ fn links_are_added_and_taken_out(rt: HostRuntime) -> Result<(), Fail> {
 fn full(alloc: Global, lower: u32) -> Result<Links, Fault>
     requires { 0 < lower }
 {
-    let mut links = Links::new(alloc);
+    let mut links = Links::with_capacity(alloc, 262_144)?;
     for number in 0..262_144 {
         let from = number / lower;
         let to = 1_000_000 + number % lower;
