@@ -36,7 +36,7 @@ const KEPT_LABELS: usize = 4_194_304;
 /// the number of a label is its place in the list, and for each SEGMENT and EVENT level the columns of its
 /// items' first and last samples. Of a bundle of at most 512 links it also keeps, for each two levels between
 /// which a link leads, which items of the upper one link to which items of the lower one; of any it keeps for each
-/// item the places of the items that it links to; and of at most 16 labels it keeps keys, by which a short label
+/// item the places of the items that it links to; and of at most 64 labels it keeps keys, by which a short label
 /// is found without a look at the labels.
 #[derive(Drop)]
 pub struct Indexed {

@@ -9,7 +9,7 @@ use std::alloc::Global;
 use std::marker::Model;
 
 /// The most labels of which there are keys.
-const KEYED_LABELS: usize = 16;
+const KEYED_LABELS: usize = 64;
 
 /// The most bytes of a label that is found by its key.
 const KEY_BYTES: usize = 7;
@@ -49,7 +49,7 @@ fn place_of(keys: &[u64], key: u64) -> Option<usize>
     keys.iter().position(|k| *k == key)
 }
 
-/// The keys of a list of labels, one for each in order; none where there are more than sixteen.
+/// The keys of a list of labels, one for each in order; none where there are more than sixty-four.
 #[derive(Drop)]
 pub struct ShortKeys {
     keys: Series<u64>,
@@ -62,7 +62,7 @@ impl Model for ShortKeys {
 
     ghost view = { λ s. s.keys };
 
-    ghost invariant = { λ s. length s.keys ≤ 16 };
+    ghost invariant = { λ s. length s.keys ≤ 64 };
 }
 
 impl ShortKeys {
@@ -70,10 +70,11 @@ impl ShortKeys {
     pub fn of(alloc: Global, labels: &Labels) -> Result<ShortKeys, Memory>
         ensures { IfOk result (λ keys. AreKeysOf labels.now keys) }
     {
-        let mut keys = Series::new(alloc);
         if labels.len() > KEYED_LABELS {
+            let keys = Series::new(alloc);
             return Ok(ShortKeys { keys });
         }
+        let mut keys = Series::from_vec(Vec::with_capacity(alloc, labels.len())?);
         for place in 0..labels.len() {
             keys.push(key_of(labels.get(place)))?;
         }
