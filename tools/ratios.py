@@ -107,7 +107,8 @@ def main(words):
     for name, eql in QUERIES.items():
         asked = queries(eql, 50)
         meter.ratio(f"{name}: 80 bundles to 40", (bundles(80, 24), asked), (bundles(40, 24), asked))
-        meter.ratio(f"{name}: 960 segments a bundle to 480", (bundles(4, 960), asked), (bundles(4, 480), asked))
+        for few in (240, 1_200):  # 512 links lie between
+            meter.ratio(f"{name}: {2 * few} segments a bundle to {few}", (bundles(4, 2 * few), asked), (bundles(4, few), asked))
         meter.ratio(f"{name}: 240 links a bundle to 120", (bundles(20, 240), asked), (bundles(20, 240, links=120), asked))
         fewer, more = ((bundles(20, 280, links=links), asked) for links in (120, 140))
         meter.ratio(f"{name}: 140 links a bundle to 120", more, fewer)
