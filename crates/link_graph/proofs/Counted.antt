@@ -1,12 +1,12 @@
 -- How many links of a list pass a test, one by one and block by block.
-use Rattle.std.proofs.Common.{◌≡◌, ℕ, zero, suc, ◌+◌, ◌-◌, ◌<◌, ◌≤◌, min, Bool, true, false, not, cond, List, [], ◌∷◌, ◌++◌, length, take, drop, get_or, refl, sym, ap, subst, ◌∙◌, length-append, arith}
+use Rattle.std.proofs.Common.{◌≡◌, ℕ, zero, suc, ◌+◌, ◌-◌, ◌<◌, ◌≤◌, min, Bool, true, false, not, cond, List, [], ◌∷◌, ◌++◌, length, take, drop, insert, get_or, refl, sym, ap, subst, ◌∙◌, length-append, arith}
 use Rattle.std.specs.List.{filter}
-use Rattle.std.proofs.lemmas.List.{take_more}
+use Rattle.std.proofs.lemmas.List.{take_all, take_more}
 use Rattle.std.proofs.lemmas.List.Elements.{filter-append}
 use Rattle.std.proofs.lemmas.List.Filters.{length-filter_both}
 use Rattle.link_graph.specs.declared.link.Link.{Link}
-use Rattle.link_graph.specs.Inner.Blocks.{joined}
-use Rattle.link_graph.proofs.Inserted.{take_both}
+use Rattle.link_graph.specs.Inner.Blocks.{joined, IsRank}
+use Rattle.link_graph.proofs.Inserted.{insert_none, take_both}
 use Rattle.link_graph.proofs.Joined.{front_is}
 
 -- one link more
@@ -65,3 +65,21 @@ filter_few p n links =
     let both = length-filter_both p (λ x. not (p x)) (λ x. refl) (take n links) in
     let few = take_few n links in
     omega (arith, both, few)
+
+-- ---- before how many of those that pass a test a link is put
+
+insert_past : (links : List Link) (n : ℕ) (link : Link) → length links ≤ n → insert links n link ≡ links ++ link ∷ []
+insert_past [] n link past = sym (insert_none n link)
+insert_past (x ∷ links) zero link past = let no : ⊥ = omega (arith, past) in absurd no
+insert_past (x ∷ links) (suc n) link past = ap (λ ls. x ∷ ls) (insert_past links n link (omega (arith, past)))
+
+-- at the end, any number that is large enough
+pub ranked_last : (p : Link → Bool) (links : List Link) (place rank : ℕ) → length links ≤ place → length links ≤ rank → IsRank p links place rank
+ranked_last p links place rank past large link =
+    let both = length-filter_both p (λ x. not (p x)) (λ x. refl) links in
+    let all : filter p (take place links) ≡ filter p links = ap (filter p) (take_all place links past) in
+    insert_past (filter p links) rank link (omega (arith, both, large))
+    ∙ sym (ap (λ ls. insert (filter p links) (length ls) link) all ∙ insert_past (filter p links) (length (filter p links)) link (omega arith))
+
+pub ranked : (p : Link → Bool) (links : List Link) (place rank : ℕ) → rank ≡ length (filter p (take place links)) → IsRank p links place rank
+ranked p links place rank counted link = ap (λ n. insert (filter p links) n link) counted

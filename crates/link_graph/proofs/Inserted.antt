@@ -16,7 +16,7 @@ use Rattle.link_graph.specs.declared.link.Link.{Link}
 use Rattle.link_graph.specs.declared.index.Index.{Index}
 use Rattle.link_graph.specs.Index.{is_pair}
 use Rattle.link_graph.specs.Inner.Index.{Indexes}
-use Rattle.link_graph.specs.Inner.Blocks.{joined}
+use Rattle.link_graph.specs.Inner.Blocks.{joined, IsRank}
 use Rattle.link_graph.specs.Inner.Links.{AreLinks}
 use Rattle.link_graph.specs.Link.{ArePairsApart, joins, add_fault}
 use Rattle.link_graph.specs.Kind.{KeepKind, of_definition}
@@ -135,7 +135,7 @@ keep_other_inserted kind definition link place links apart keeps = kept kind sam
     kept OneToMany is h = rw is h
     kept ManyToMany is h = h
 
-joins_flip : (x y : Link) → joins x.from x.to y ≡ joins y.from y.to x
+pub joins_flip : (x y : Link) → joins x.from x.to y ≡ joins y.from y.to x
 joins_flip x y = grind (arith, nat_tests)
 
 pub pairs_inserted : (link : Link) (place : ℕ) (links : List Link) → list_any (joins link.from link.to) links ≡ false → ArePairsApart links → ArePairsApart (insert links place link)
@@ -185,10 +185,6 @@ pub insert_none : (place : ℕ) (link : Link) → link ∷ [] ≡ insert [] plac
 insert_none zero link = refl
 insert_none (suc place) link = refl
 
-pub insert_behind : (place : ℕ) (link other : Link) → place ≢ 0 → link ∷ other ∷ [] ≡ insert (link ∷ []) place other
-insert_behind zero link other some = absurd (some refl)
-insert_behind (suc place) link other some = ap (λ ls. link ∷ ls) (insert_none place other)
-
 pub insert_least : (links : List Link) (place at : ℕ) (link : Link) → at ≡ min place (length links) → insert links at link ≡ insert links place link
 insert_least [] place at link is = sym (insert_none at link) ∙ insert_none place link
 insert_least (x ∷ links) zero at link is = let none : at ≡ 0 = omega (arith, is) in ap (λ n. insert (x ∷ links) n link) none
@@ -198,17 +194,17 @@ insert_least (x ∷ links) (suc place) (suc at) link is =
     ap (λ ls. x ∷ ls) (insert_least links place at link less)
 
 -- the links of an item with one put in
-pub inserted_at : (p : Link → Bool) (links old new : List Link) (place rank : ℕ) (link : Link) → old ≡ filter p links → rank ≡ length (filter p (take place links)) →
+pub inserted_at : (p : Link → Bool) (links old new : List Link) (place rank : ℕ) (link : Link) → old ≡ filter p links → IsRank p links place rank →
     new ≡ cond (p link) (insert old rank link) old → new ≡ filter p (insert links place link)
-inserted_at p links old new place rank link is counted made =
-    made ∙ ap (λ ls. cond (p link) (insert ls rank link) ls) is ∙ ap (λ n. cond (p link) (insert (filter p links) n link) (filter p links)) counted
+inserted_at p links old new place rank link is ranked made =
+    made ∙ ap (λ ls. cond (p link) (insert ls rank link) ls) is ∙ ap (λ ls. cond (p link) ls (filter p links)) (ranked link)
     ∙ sym (filter_insert p links place link)
 
 -- at another item's id the rank is no matter
 pub inserted_for : (end : Link → ℕ) (links old new : List Link) (place rank id : ℕ) (link : Link) → old ≡ filter (λ l. eqb (end l) id) links →
-    rank ≡ length (filter (λ l. eqb (end l) (end link)) (take place links)) →
+    IsRank (λ l. eqb (end l) (end link)) links place rank →
     new ≡ cond (eqb (end link) id) (insert old rank link) old → new ≡ filter (λ l. eqb (end l) id) (insert links place link)
-inserted_for end links old new place rank id link is counted made = by (eqb (end link) id) refl
+inserted_for end links old new place rank id link is ranked made = by (eqb (end link) id) refl
   where
     p : Link → Bool
     p = λ l. eqb (end l) id
@@ -216,7 +212,7 @@ inserted_for end links old new place rank id link is counted made = by (eqb (end
     by : (b : Bool) → eqb (end link) id ≡ b → new ≡ filter p (insert links place link)
     by true same =
         let here : end link ≡ id = eqb-true (end link) id same in
-        inserted_at p links old new place rank link is (counted ∙ ap (λ n. length (filter (λ l. eqb (end l) n) (take place links))) here) made
+        inserted_at p links old new place rank link is (subst (λ n. IsRank (λ l. eqb (end l) n) links place rank) here ranked) made
     by false apart =
         made ∙ cond-false (eqb (end link) id) (insert old rank link) old apart ∙ is
         ∙ sym (filter_insert p links place link ∙ cond-false (eqb (end link) id) _ (filter p links) apart)

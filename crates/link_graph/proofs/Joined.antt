@@ -5,7 +5,6 @@ use Rattle.std.proofs.lemmas.Bool.{cases_Bool, or_from}
 use Rattle.std.proofs.lemmas.Bool.Decides.{nat_tests}
 use Rattle.std.proofs.lemmas.List.{take_more, length-set}
 use Rattle.std.proofs.lemmas.Grind.{flat_map-append}
-use Rattle.std.proofs.lemmas.List.Filters.{length-filter_both}
 use Rattle.std.proofs.lemmas.List.Folds.{list_any-append, length-flat_map-take}
 use Rattle.std.proofs.Math.Seq.{take-append_seam}
 use Rattle.std.proofs.lemmas.List.Elements.{filter-append}
@@ -36,31 +35,12 @@ joined_at (b ∷ blocks) zero within = refl
 joined_at (b ∷ blocks) (suc at) within =
     ap (λ ls. b ++ ls) (joined_at blocks at (omega arith)) ∙ sym (append_assoc b (joined (take at blocks)) (get_or blocks at [] ++ joined (drop (suc at) blocks)))
 
--- a link more at the end of the last block
-last_at : (blocks : List (List Link)) (n : ℕ) (link : Link) → suc n ≡ length blocks →
-    joined (slice_set blocks n (get_or blocks n [] ++ link ∷ [])) ≡ joined blocks ++ link ∷ []
-last_at [] n link last = let no : ⊥ = omega arith in absurd no
-last_at (b ∷ []) zero link last = append_assoc b (link ∷ []) [] ∙ ap (λ ls. ls ++ link ∷ []) (sym (append-nil b))
-last_at (b ∷ []) (suc n) link last = let no : ⊥ = omega arith in absurd no
-last_at (b ∷ c ∷ blocks) zero link last = let no : ⊥ = omega arith in absurd no
-last_at (b ∷ c ∷ blocks) (suc n) link last = ap (λ ls. b ++ ls) (last_at (c ∷ blocks) n link (omega arith)) ∙ sym (append_assoc b (joined (c ∷ blocks)) (link ∷ []))
-
 pub written : (old new : List (List Link)) (len : ℕ) → len ≡ length old → length new ≡ length old → take len (new ++ drop (length new) old) ≡ new
 written old new len all same = ap (λ n. take n (new ++ drop (length new) old)) (all ∙ sym same) ∙ take-append_seam new (drop (length new) old)
 
 pub on_ok : {T E : Type 0} (r : Result T E) (P Q : Type 0) → (P → Q) → OnOk r P → OnOk r Q
 on_ok (Ok x) P Q f h = f h
 on_ok (Err e) P Q f h = h
-
-pub put_written : {T E : Type 0} (r : Result T E) (items old new : List (List Link)) (len count : ℕ) (link : Link) → len ≡ length items → old ≡ items → count ≡ length items →
-    0 < count → OnOk r (new ≡ slice_set old (count - 1) (get_or old (count - 1) [] ++ link ∷ [])) →
-    OnOk r (joined (take len (new ++ drop (length new) items)) ≡ joined items ++ link ∷ [])
-put_written r items old new len count link all same counted some =
-    on_ok r _ _ (λ made.
-    let made_of : new ≡ slice_set items (count - 1) (get_or items (count - 1) [] ++ link ∷ []) =
-    made ∙ ap (λ bs. slice_set bs (count - 1) (get_or bs (count - 1) [] ++ link ∷ [])) same in
-    let size : length new ≡ length items = ap length made_of ∙ length-set items (count - 1) (get_or items (count - 1) [] ++ link ∷ []) in
-    ap joined (written items new len all size ∙ made_of) ∙ last_at items (count - 1) link (omega arith))
 
 -- ---- walks over the blocks
 
@@ -186,10 +166,3 @@ taken_written from to items seen old new len at all same_seen same apart within 
     let size : length new ≡ length items = ap length made_of ∙ length-set items at (filter (λ l. not (joins from to l)) (get_or items at [])) in
     ap joined (written items new len all size ∙ made_of)
     ∙ taken_block from to items at apart (subst (λ bs. at < length bs) same_seen within) (subst (λ bs. list_any (joins from to) (get_or bs at []) ≡ true) same_seen there)
-
--- what is left is not longer
-pub still_few : (p : Link → Bool) (old new : List Link) (most : ℕ) → new ≡ filter p old → length old ≤ most → length new ≤ most
-still_few p old new most is few =
-    let both = length-filter_both p (λ x. not (p x)) (λ x. refl) old in
-    let same = ap length is in
-    omega arith

@@ -1,11 +1,9 @@
 -- What the list of links and its index keep through each change, and the first rule that a link breaks.
-use Rattle.std.proofs.Common.{◌≡◌, ◌<◌, Bool, true, false, List, [], ◌∷◌, ◌++◌, Option, length, refl, ◌∙◌, cond, not, ◌&&◌, arith, length-append}
-use Rattle.std.specs.List.{filter, find, list_any, IsDistinct}
+use Rattle.std.proofs.Common.{◌≡◌, Bool, true, false, List, [], Option, refl, sym, ap, ◌∙◌, cond, not, ◌&&◌, arith}
+use Rattle.std.specs.List.{filter, find, IsDistinct}
 use Rattle.std.specs.Cmp.{IsEquivalence}
 use Rattle.std.proofs.lemmas.Bool.Decides.{nat_tests}
 use Rattle.std.proofs.lemmas.List.Filters.{length-filter_both}
-use Rattle.std.proofs.lemmas.Map.Keys.{IsDistinct-push}
-use Rattle.emu_names.specs.declared.limits.TheConstants.{BUNDLE_LINKS}
 use Rattle.link_graph.specs.declared.index.Index.{Index}
 use Rattle.link_graph.specs.declared.link.Link.{Link}
 use Rattle.link_graph.specs.Inner.Index.{Indexes}
@@ -25,16 +23,6 @@ joins_like = record {
   congr = λ x y z e. grind (arith, nat_tests);
 }
 
-pub push_kept : (link : Link) (links after : List Link) (old new : Index) → AreLinks links old → length links < BUNDLE_LINKS →
-    list_any (joins link.from link.to) links ≡ false → after ≡ links ++ link ∷ [] → Indexes new (links ++ link ∷ []) → AreLinks after new
-push_kept link links after old new h room apart is indexed =
-    rw is
-    (record {
-      apart = IsDistinct-push joins_like links link h.apart apart;
-      limit = omega (arith, length-append links (link ∷ []));
-      indexed = indexed;
-    })
-
 pub filter_kept : (test : Link → Bool) (links after : List Link) (old new : Index) → AreLinks links old → after ≡ filter test links →
     Indexes new (filter test links) → AreLinks after new
 filter_kept test links after old new h is indexed =
@@ -51,7 +39,9 @@ and_cond true false = refl
 and_cond false true = refl
 and_cond false false = refl
 
--- the first link of a definition among those that pass another test
-pub first_is : (p q : Link → Bool) (links found : List Link) (o : Option Link) → found ≡ filter p links → o ≡ find q found →
+-- the first link that passes two tests, looked for among links that have all that pass one of them
+pub first_near : (p q : Link → Bool) (links near : List Link) (o : Option Link) → filter p near ≡ filter p links → o ≡ find (λ link. q link && p link) near →
     o ≡ find (λ link. q link && p link) links
-first_is p q links found o is first = rw is at first ∙ find_both p q _ (λ x. and_cond (p x) (q x)) links
+first_near p q links near o same first =
+    first ∙ sym (find_both p q (λ link. q link && p link) (λ x. and_cond (p x) (q x)) near) ∙ ap (find q) same
+    ∙ find_both p q (λ link. q link && p link) (λ x. and_cond (p x) (q x)) links

@@ -10,3 +10,4 @@ pub mod Inserted
 pub mod Counted
 pub mod Placed
 pub mod PairPlaces
+pub mod Few

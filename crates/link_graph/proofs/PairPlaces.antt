@@ -1,7 +1,8 @@
 -- The place of the link of a pair, in a block and among all links.
-use Rattle.std.proofs.Common.{◌≡◌, ℕ, zero, suc, ◌+◌, ◌<◌, ◌≤◌, Bool, true, false, ◌||◌, not, cond, nat_lt, List, [], ◌∷◌, ◌++◌, length, take, drop, get_or, Option, Some, None, is_some, refl, sym, ap, ◌∙◌, length-append, arith}
+use Rattle.std.proofs.Common.{◌≡◌, ℕ, zero, suc, ◌+◌, ◌<◌, ◌≤◌, Bool, true, false, ◌||◌, not, cond, nat_lt, List, [], ◌∷◌, ◌++◌, length, take, drop, get_or, Option, Some, None, is_some, refl, sym, ap, ◌∙◌, length-append, add-one, arith}
 use Rattle.std.specs.List.{list_any, slice_get, position, position_or_len}
 use Rattle.std.proofs.lemmas.List.{drop_all}
+use Rattle.std.proofs.lemmas.List.Folds.{list_any-append}
 use Rattle.std.proofs.lemmas.List.Quantifiers.{position-Some}
 use Rattle.std.proofs.lemmas.Bool.{ltb-false}
 use Rattle.std.proofs.lemmas.Option.{slice_get-get_or, slice_get_within}
@@ -10,7 +11,7 @@ use Rattle.link_graph.specs.declared.link.Link.{Link}
 use Rattle.link_graph.specs.Inner.Blocks.{joined}
 use Rattle.link_graph.specs.Inner.Link.{IsPairPlace}
 use Rattle.link_graph.specs.Link.{joins, link_of}
-use Rattle.link_graph.proofs.Joined.{joined_at, get_left, get_right}
+use Rattle.link_graph.proofs.Joined.{front_is, joined_at, get_left, get_right}
 use Rattle.link_graph.proofs.Placed.{get_any}
 
 -- what passes at a place passes in the list
@@ -60,6 +61,10 @@ pub is_placed : (from to : ItemId) (links : List Link) (o : Option ℕ) → IsPa
 is_placed from to links None none = sym none
 is_placed from to links (Some place) there = sym (any_at (joins from to) links place there.0 there.1 there.2)
 
+-- the same of the first place of a link of the pair
+pub is_found : (from to : ItemId) (links : List Link) (o : Option ℕ) → o ≡ position (joins from to) links → is_some o ≡ list_any (joins from to) links
+is_found from to links o is = is_placed from to links o (pair_place from to links o is)
+
 -- the links before a block are not too many
 pub few_before : (blocks before : List (List Link)) (at most : ℕ) → at < length blocks → before ≡ take at blocks → length (joined blocks) ≤ most → length (joined before) ≤ most
 few_before blocks before at most within is few =
@@ -108,3 +113,14 @@ no_pair_there from to blocks block all at within here there none =
 -- behind all blocks there is none
 pub pair_past : (from to : ItemId) (blocks : List (List Link)) (at : ℕ) (b : Bool) → length blocks ≤ at → list_any (joins from to) (joined (drop at blocks)) ≡ b → b ≡ false
 pair_past from to blocks at b past is = sym is ∙ ap (λ bs. list_any (joins from to) (joined bs)) (drop_all at blocks past)
+
+-- a block without it is passed
+pub pair_passed : (from to : ItemId) (blocks : List (List Link)) (block seen : List Link) (at : ℕ) (o : Option ℕ) → at < length blocks → block ≡ get_or blocks at block → seen ≡ block →
+    o ≡ position (joins from to) seen → is_some o ≡ false → list_any (joins from to) (joined (drop (at + 1) blocks)) ≡ list_any (joins from to) (joined (drop at blocks))
+pair_passed from to blocks block seen at o within here same is none =
+    let j = joins from to in
+    let absent : list_any j block ≡ false = sym (is_found from to block o (is ∙ ap (position j) same)) ∙ none in
+    ap (λ n. list_any j (joined (drop n blocks))) (add-one at)
+    ∙ sym (ap (λ bs. list_any j (joined bs)) (front_is blocks at block within here)
+    ∙ list_any-append j block (joined (drop (suc at) blocks))
+    ∙ ap (λ b. b || list_any j (joined (drop (suc at) blocks))) absent)

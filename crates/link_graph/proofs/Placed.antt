@@ -6,7 +6,7 @@ use Rattle.link_graph.specs.declared.link.Link.{Link}
 use Rattle.link_graph.specs.declared.blocks.BlockPlace.{BlockPlace}
 use Rattle.link_graph.specs.Inner.Blocks.{joined, IsBlockPlace}
 use Rattle.link_graph.proofs.Inserted.{block_inserted, block_cut}
-use Rattle.link_graph.proofs.Joined.{count_more, on_ok, written}
+use Rattle.link_graph.proofs.Joined.{on_ok, written}
 
 -- an element that is there, whatever stands for one that is not
 pub get_any : {A : Type 0} (xs : List A) (i : ℕ) (d e : A) → i < length xs → get_or xs i d ≡ get_or xs i e
@@ -14,43 +14,27 @@ get_any [] i d e within = let no : ⊥ = omega arith in absurd no
 get_any (x ∷ xs) zero d e within = refl
 get_any (x ∷ xs) (suc i) d e within = get_any xs i d e (omega arith)
 
-place_in : ℕ → ℕ → BlockPlace
-place_in block place = record { block = block; place = place }
+-- ---- the walk over the blocks, from the last one on
 
--- ---- the walk over the blocks
+-- the links before a block, where a place is not behind the block
+pub record StandsBefore (blocks : List (List Link)) (place block before : ℕ) : Type 0 where
+  pub within : block ≤ length blocks
+  pub sum : before ≡ length (joined (take block blocks))
+  pub inside : block < length blocks → place ≤ before + length (get_or blocks block [])
 
-pub place_here : (blocks : List (List Link)) (place block rest len : ℕ) (x : List Link) → block < length blocks → x ≡ get_or blocks block x → len ≡ length x → rest ≤ len →
-    place ≡ length (joined (take block blocks)) + rest → IsBlockPlace blocks place (record { block = block; place = rest })
-place_here blocks place block rest len x within here size low sum = record {
-  within = omega (arith, within);
-  sum = sum;
-  inside = λ _.
-      let same : length (get_or blocks block []) ≡ length x = ap length (get_any blocks block [] x within ∙ sym here) in
-      omega (arith, same, size, low);
-}
-
-pub place_behind : (blocks : List (List Link)) (place block rest len less : ℕ) (x : List Link) → block < length blocks → x ≡ get_or blocks block x → len ≡ length x → len < rest →
-    less ≡ rest - len → place ≡ length (joined (take block blocks)) + rest → place ≡ length (joined (take (block + 1) blocks)) + less
-place_behind blocks place block rest len less x within here size past is sum =
-    let more = count_more blocks block x (length (joined (take block blocks))) len within here refl size in
-    omega (arith, more, past, is, sum)
-
-pub place_last : (blocks : List (List Link)) (place block rest : ℕ) → length blocks ≤ block → block ≤ length blocks → place ≡ length (joined (take block blocks)) + rest →
-    IsBlockPlace blocks place (record { block = length blocks; place = rest })
-place_last blocks place block rest past within sum =
-    let same : block ≡ length blocks = omega (arith, past, within) in
+pub stands_there : (blocks : List (List Link)) (place block before : ℕ) → StandsBefore blocks place block before → before ≤ place →
+    IsBlockPlace blocks place (record { block = block; place = place - before })
+stands_there blocks place block before h past =
+    let sum = h.sum in
     record {
-      within = omega arith;
-      sum = sum ∙ ap (λ n. length (joined (take n blocks)) + rest) same;
-      inside = λ low. absurd (below low);
+      within = h.within;
+      sum = omega (arith, sum, past);
+      inside = λ low. let inside = h.inside low in omega (arith, inside, past);
     }
-  where
-    below : length blocks < length blocks → ⊥
-    below low = omega (arith, low)
 
 -- ---- a link put at a place
 
-insert_last : (links : List Link) (link : Link) → insert links (length links) link ≡ links ++ link ∷ []
+pub insert_last : (links : List Link) (link : Link) → insert links (length links) link ≡ links ++ link ∷ []
 insert_last [] link = refl
 insert_last (x ∷ links) link = ap (λ ls. x ∷ ls) (insert_last links link)
 

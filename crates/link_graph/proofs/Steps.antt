@@ -1,9 +1,9 @@
 -- What each change does to an index.
-use Rattle.std.proofs.Common.{◌≡◌, ℕ, Bool, true, false, List, [], ◌∷◌, ◌++◌, refl, ap, sym, ◌∙◌, cond, not, ◌&&◌, ◌||◌, arith, eqb, ⊎_elim, Result, Ok, Err, is_err, OnOk, OnErr, take, get_or, length, ◌<◌, ◌+◌}
+use Rattle.std.proofs.Common.{◌≡◌, ℕ, Bool, true, false, List, [], ◌∷◌, refl, ap, sym, ◌∙◌, cond, not, ◌&&◌, ◌||◌, arith, eqb, ⊎_elim, Result, Ok, Err, is_err, OnOk, OnErr, take, get_or, length, ◌<◌, ◌+◌}
 use Rattle.std.specs.List.{filter, list_any, AllByRecursion}
 use Rattle.std.proofs.lemmas.Bool.{cases_Bool, and_parts, eqb-true}
 use Rattle.std.proofs.lemmas.Bool.Decides.{nat_tests}
-use Rattle.std.proofs.lemmas.List.Folds.{list_any-append, list_any_more}
+use Rattle.std.proofs.lemmas.List.Folds.{list_any_more}
 use Rattle.std.proofs.lemmas.Map.Views.{any-filter_same}
 use Rattle.emu_names.specs.declared.kinds.ItemId.{ItemId}
 use Rattle.link_graph.specs.declared.link.Link.{Link}
@@ -11,27 +11,13 @@ use Rattle.link_graph.specs.Index.{is_pair}
 use Rattle.link_graph.specs.Inner.Index.{forgotten}
 use Rattle.link_graph.specs.Link.{joins, names_item}
 use Rattle.link_graph.specs.Inner.Link.{is_among}
-use Rattle.link_graph.proofs.Filters.{filter_push, filter_swap, filter_off, filter_none, filter_off_none, filter_all}
+use Rattle.link_graph.proofs.Filters.{filter_swap, filter_off, filter_none, filter_off_none, filter_all}
 
--- ---- a link is added
-
-pub pushed_at : (p : Link → Bool) (links old new : List Link) (link : Link) → old ≡ filter p links → new ≡ cond (p link) (old ++ link ∷ []) old →
-    new ≡ filter p (links ++ link ∷ [])
-pushed_at p links old new link is made = rw is at made ∙ sym (filter_push p links link)
+-- ---- a link that was added is taken out again
 
 or_false : (a : Bool) → (a || false) ≡ a
 or_false true = refl
 or_false false = refl
-
-or_last : (a b : Bool) → (a || (b || false)) ≡ (a || b)
-or_last true b = refl
-or_last false true = refl
-or_last false false = refl
-
-pub paired : (p : Link → Bool) (links : List Link) (link : Link) → list_any p (links ++ link ∷ []) ≡ (list_any p links || p link)
-paired p links link = list_any-append p links (link ∷ []) ∙ or_last (list_any p links) (p link)
-
--- ---- a link that was added is taken out again
 
 pub at_ok : {T E : Type 0} (r : Result T E) (P : Type 0) → is_err r ≡ false → OnOk r P → P
 at_ok (Ok x) P e h = h
@@ -44,21 +30,6 @@ at_err (Err x) P e h = h
 module _ (link : Link) (links : List Link) (apart : list_any (joins link.from link.to) links ≡ false) where
   joins_itself : joins link.from link.to link ≡ true
   joins_itself = grind (arith, nat_tests)
-
-  taken_again : (p : Link → Bool) → filter (λ l. not (joins link.from link.to l)) (filter p links ++ link ∷ []) ≡ filter p links
-  taken_again p =
-      filter_push (λ l. not (joins link.from link.to l)) (filter p links) link
-      ∙ rw joins_itself (filter_swap _ p links ∙ ap (filter p) (filter_all (joins link.from link.to) links apart))
-
-  undo : (p : Link → Bool) (b : Bool) →
-      cond b (filter (λ l. not (joins link.from link.to l)) (cond b (filter p links ++ link ∷ []) (filter p links))) (cond b (filter p links ++ link ∷ []) (filter p links))
-      ≡ filter p links
-  undo p true = taken_again p
-  undo p false = refl
-
-  pub undone_at : (p : Link → Bool) (before now after : List Link) → before ≡ filter p links → now ≡ cond (p link) (before ++ link ∷ []) before →
-      after ≡ cond (p link) (filter (λ l. not (joins link.from link.to l)) now) now → after ≡ filter p links
-  undone_at p before now after is was then_is = rw (was, is) at then_is ∙ undo p (p link)
 
   unpaired : (a b : ℕ) (t : Bool) → (eqb link.from.0 a && eqb link.to.0 b) ≡ t →
       (not t && (list_any (λ l. eqb l.from.0 a && eqb l.to.0 b) links || t)) ≡ list_any (λ l. eqb l.from.0 a && eqb l.to.0 b) links
@@ -201,14 +172,6 @@ module _ (id : ItemId) (links : List Link) where
       now ≡ forgotten (list_any (λ link. eqb link.from.0 key) parents) id taken →
       now ≡ filter (λ link. eqb link.from.0 key) (filter (λ link. not (names_item id link)) links)
   forgot_down key parents first taken now is_parents is_first is_taken made = rw (is_parents, is_taken, is_first) at made ∙ left_down key
-
--- ---- a link that was put last is taken out again
-
-pub undone_list : (link : Link) (links : List Link) → list_any (joins link.from link.to) links ≡ false →
-    filter (λ l. not (joins link.from link.to l)) (links ++ link ∷ []) ≡ links
-undone_list link links apart =
-    let itself : joins link.from link.to link ≡ true = joins_itself link links apart in
-    filter_push (λ l. not (joins link.from link.to l)) links link ∙ rw itself (filter_all (joins link.from link.to) links apart)
 
 -- ---- the links of an item are taken out of the list
 

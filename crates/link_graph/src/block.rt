@@ -1,13 +1,12 @@
 //! Some links that stand behind one another.
-ghost use Rattle.std.specs.Prelude.{◌≡◌, ◌<◌, ◌≤◌, ◌++◌, ◌∷◌, [], length, take, drop, insert, not, slice_get, Some, IfOk, OnOk, OnErr, if◌then◌else◌};
+ghost use Rattle.std.specs.Prelude.{◌≡◌, ◌<◌, ◌≤◌, ◌++◌, ◌∷◌, [], length, take, drop, insert, not, slice_get, Some, IfOk, OnOk, OnErr};
 ghost use Rattle.std.specs.List.{filter, position};
-ghost use Rattle.link_graph.specs.Link.{joins};
+ghost use Rattle.link_graph.specs.Link.{joins, names_item};
 ghost use Rattle.link_graph.specs.Inner.Ends.{has_end};
 ghost use Rattle.link_graph.specs.Inner.Link.{IsPairPlace};
 
 use crate::ends::End;
 use crate::link::Link;
-use crate::taken::take_pair;
 use emu_names::{ItemId, Memory};
 use std::alloc::Global;
 use std::marker::Model;
@@ -28,13 +27,12 @@ impl Model for Block {
 }
 
 impl Block {
-    /// No link.
-    pub(crate) fn new(alloc: Global) -> Block
-        ensures { result ≡ [] }
+    /// No link, with room for so many. The only refusal is want of memory.
+    pub(crate) fn with_capacity(alloc: Global, count: usize) -> Result<Block, Memory>
+        ensures { IfOk result (λ made. made ≡ []) }
     {
-        Block {
-            links: Vec::new(alloc),
-        }
+        let links = Vec::with_capacity(alloc, count)?;
+        Ok(Block { links })
     }
 
     /// How many links there are.
@@ -52,13 +50,11 @@ impl Block {
         &self.links[place]
     }
 
-    /// Puts a link last. The only refusal is want of memory, which changes nothing.
-    pub(crate) fn push(&mut self, link: Link) -> Result<(), Memory>
-        ensures ok { OnOk result (self.new ≡ self.old ++ link ∷ []) }
-        ensures err { OnErr result (self.new ≡ self.old) }
+    /// All links.
+    pub(crate) fn as_slice(&self) -> &[Link]
+        ensures { result.now ≡ self.now }
     {
-        self.links.push(link)?;
-        Ok(())
+        self.links.as_slice()
     }
 
     /// Puts a link before the one at a place. The only refusal is want of memory, which changes nothing.
@@ -88,27 +84,18 @@ impl Block {
         self.links.truncate(len);
     }
 
-    /// How many of the first links lead from an item, or to it; all, where there are not so many.
-    pub(crate) fn count_before(&self, place: usize, end: End, id: ItemId) -> usize
-        ensures count { result ≡ length (filter (has_end end id.0) (take place self.now)) }
-        ensures few { result ≤ length self.now }
-    {
-        count_ends(self.links.as_slice(), place, end, id)
-    }
-
-    /// The place of the link of a pair, counted from 0, if it is here.
-    #[tactic(auto, using(crate::proofs::PairPlaces::pair_place))]
-    pub(crate) fn place(&self, from: ItemId, to: ItemId) -> Option<usize>
-        ensures { IsPairPlace from to self.now result }
-    {
-        place_of(self.links.as_slice(), from, to)
-    }
-
     /// Takes the link of a pair out.
     pub(crate) fn take_pair(&mut self, from: ItemId, to: ItemId)
         ensures { self.new ≡ filter (λ link. not (joins from to link)) self.old }
     {
         take_pair(&mut self.links, from, to);
+    }
+
+    /// Takes the links out that name an item.
+    pub(crate) fn take_item(&mut self, id: ItemId)
+        ensures { self.new ≡ filter (λ link. not (names_item id link)) self.old }
+    {
+        take_item(&mut self.links, id);
     }
 
     /// The same links again. The only refusal is want of memory.
@@ -122,30 +109,37 @@ impl Block {
 
 /// How many of the first of these links lead from an item, or to it.
 #[tactic(auto, using(crate::proofs::Counted::counted_more, crate::proofs::Counted::counted_all))]
-fn count_ends(links: &[Link], place: usize, end: End, id: ItemId) -> usize
+pub(crate) fn count_ends(links: &[Link], place: usize, end: End, id: ItemId) -> usize
     ensures count { result ≡ length (filter (has_end end id.0) (take place links.now)) }
     ensures few { result ≤ length links.now }
 {
     let last = place.min(links.len());
     let mut count = 0;
     for at in 0..last {
-        count += one_if(end.is_at(links[at], id));
+        count += usize::from(end.is_at(links[at], id));
     }
     count
 }
 
-/// One where a test passes, else none.
-fn one_if(test: bool) -> usize
-    ensures { result ≡ (if test then 1 else 0) }
-{
-    if test { 1 } else { 0 }
-}
-
-/// The first place of a link of a pair among some links.
-fn place_of(links: &[Link], from: ItemId, to: ItemId) -> Option<usize>
+/// The first place of the link of a pair among some links, counted from 0, if it is there.
+pub(crate) fn place_of(links: &[Link], from: ItemId, to: ItemId) -> Option<usize>
     ensures { result ≡ position (joins from to) links.now }
 {
     links
         .iter()
         .position(|link| link.from == from && link.to == to)
+}
+
+/// Takes the links out that lead from `from` to `to`.
+pub(crate) fn take_pair(links: &mut Vec<Link>, from: ItemId, to: ItemId)
+    ensures { links.new.items ≡ filter (λ link. not (joins from to link)) links.old.items }
+{
+    links.retain(|link| !(link.from == from && link.to == to));
+}
+
+/// Takes the links out that name `id`, at either end.
+pub(crate) fn take_item(links: &mut Vec<Link>, id: ItemId)
+    ensures { links.new.items ≡ filter (λ link. not (names_item id link)) links.old.items }
+{
+    links.retain(|link| !(link.from == id || link.to == id));
 }

@@ -1,145 +1,25 @@
-//! A list of links in blocks, from which a link is taken out without moving all that follow.
+//! A list of links in blocks, from which a link is taken out without moving all that follow: the list of the
+//! links of all blocks.
 ghost use Rattle.std.specs.Prelude.{◌≡◌, ◌<◌, ◌≤◌, ◌+◌, ◌++◌, ◌∷◌, ℕ, [], length, take, drop, insert, not, true, false, slice_get, slice_set, get_or, Some, IfOk, IfSome, IfNone, OnOk, OnErr};
 ghost use Rattle.std.specs.List.{filter, list_any};
-ghost use Rattle.link_graph.specs.Inner.Blocks.{joined, IsBlockPlace};
+ghost use Rattle.link_graph.specs.Inner.Blocks.{joined, IsBlockPlace, IsRank};
 ghost use Rattle.link_graph.specs.Inner.Ends.{has_end};
 ghost use Rattle.link_graph.specs.Inner.Link.{IsPairPlace};
 ghost use Rattle.link_graph.specs.Link.{ArePairsApart, joins};
 ghost use Rattle.link_graph.specs.declared.link.Link.{Link as OneLink};
 
-use crate::block::Block;
+use crate::block::{Block, count_ends, place_of};
 use crate::ends::End;
 use crate::link::Link;
 use emu_names::limits::BUNDLE_LINKS;
 use emu_names::{ItemId, Memory};
 use std::alloc::Global;
-use std::marker::Model;
 
 /// The most links of a block to which links are added.
 const BLOCK_LINKS: usize = 512;
 
-/// A list of links, which contracts see as the list of the links of all its blocks.
-#[derive(Drop)]
-pub(crate) struct Blocks {
-    alloc: Global,
-    blocks: Vec<Block>,
-}
-
-impl Model for Blocks {
-    ghost use Rattle.std.specs.Prelude.{List, ◌≤◌, length};
-    ghost use Rattle.emu_names.specs.declared.limits.TheConstants.{BUNDLE_LINKS};
-    ghost use Rattle.link_graph.specs.declared.link.Link.{Link};
-
-    ghost Value = { List Link };
-
-    ghost use Rattle.link_graph.specs.Inner.Blocks.{joined};
-
-    ghost view = { λ b. joined b.blocks.items };
-
-    ghost invariant = { λ b. length (joined b.blocks.items) ≤ BUNDLE_LINKS };
-}
-
-impl Blocks {
-    /// No link. The list grows by `alloc`.
-    pub(crate) fn new(alloc: Global) -> Blocks
-        ensures { result ≡ [] }
-    {
-        Blocks {
-            alloc,
-            blocks: Vec::new(alloc),
-        }
-    }
-
-    /// How many links there are.
-    pub(crate) fn len(&self) -> usize
-        ensures { result ≡ length self.now }
-    {
-        count_of(self.blocks.as_slice())
-    }
-
-    /// The link at a place, counted from 0.
-    pub(crate) fn get(&self, place: usize) -> &Link
-        requires { place < length self.now }
-        ensures { slice_get self.now place ≡ Some result.now }
-    {
-        link_at(self.blocks.as_slice(), place)
-    }
-
-    /// What the list grows by.
-    pub(crate) fn allocator(&self) -> Global {
-        self.alloc
-    }
-
-    /// The block that the next link will stand in.
-    pub(crate) fn next_block(&self) -> usize {
-        let count = self.blocks.len();
-        if count > 0 && self.blocks[count - 1].len() < BLOCK_LINKS {
-            count - 1
-        } else {
-            count
-        }
-    }
-
-    /// Puts a link last. The only refusal is want of memory, which changes nothing.
-    pub(crate) fn push(&mut self, link: Link) -> Result<(), Memory>
-        requires { length self.old < BUNDLE_LINKS }
-        ensures ok { OnOk result (self.new ≡ self.old ++ link ∷ []) }
-        ensures err { OnErr result (self.new ≡ self.old) }
-    {
-        put_last(self.alloc, &mut self.blocks, link)
-    }
-
-    /// Puts a link before the one at a place. The only refusal is want of memory, which changes nothing.
-    pub(crate) fn insert(&mut self, place: usize, link: Link) -> Result<(), Memory>
-        requires within { place ≤ length self.old }
-        requires room { length self.old < BUNDLE_LINKS }
-        ensures ok { OnOk result (self.new ≡ insert self.old place link) }
-        ensures err { OnErr result (self.new ≡ self.old) }
-    {
-        put_at(self.alloc, &mut self.blocks, place, link)
-    }
-
-    /// The block that a link at a place stands in, or the number of blocks at the end.
-    pub(crate) fn block_of(&self, place: usize) -> usize {
-        block_at(self.blocks.as_slice(), place).block
-    }
-
-    /// How many of the first links lead from an item, or to it.
-    pub(crate) fn count_before(&self, place: usize, end: End, id: ItemId) -> usize
-        ensures { result ≡ length (filter (has_end end id.0) (take place self.now)) }
-    {
-        count_before(self.blocks.as_slice(), place, end, id)
-    }
-
-    /// The place of the link of a pair, which is looked for at this block first.
-    pub(crate) fn place(&self, guess: usize, from: ItemId, to: ItemId) -> Option<usize>
-        ensures { IsPairPlace from to self.now result }
-    {
-        pair_place(self.blocks.as_slice(), guess, from, to)
-    }
-
-    /// Takes the link of a pair out, which is looked for at this block first.
-    pub(crate) fn take_pair(&mut self, guess: usize, from: ItemId, to: ItemId)
-        requires { ArePairsApart self.old }
-        ensures { self.new ≡ filter (λ link. not (joins from to link)) self.old }
-    {
-        take_found(&mut self.blocks, guess, from, to);
-    }
-
-    /// The same links again. The only refusal is want of memory.
-    pub(crate) fn copy(&self, alloc: Global) -> Result<Blocks, Memory>
-        ensures { IfOk result (λ made. made ≡ self.now) }
-    {
-        let blocks = copied(alloc, self.blocks.as_slice())?;
-        Ok(Blocks {
-            alloc: self.alloc,
-            blocks,
-        })
-    }
-}
-
 /// How many links all blocks have.
-fn count_of(blocks: &[Block]) -> usize
+pub(crate) fn count_of(blocks: &[Block]) -> usize
     requires { length (joined blocks.now) ≤ BUNDLE_LINKS }
     ensures { result ≡ length (joined blocks.now) }
 {
@@ -151,7 +31,7 @@ fn count_of(blocks: &[Block]) -> usize
 }
 
 /// The link at a place of all blocks.
-fn link_at(blocks: &[Block], place: usize) -> &Link
+pub(crate) fn link_at(blocks: &[Block], place: usize) -> &Link
     requires { place < length (joined blocks.now) }
     ensures { slice_get (joined blocks.now) place ≡ Some result.now }
 {
@@ -165,56 +45,30 @@ fn link_at(blocks: &[Block], place: usize) -> &Link
     unreachable!()
 }
 
-/// Puts a link at the end of the last block.
-fn push_at(blocks: &mut [Block], at: usize, link: Link) -> Result<(), Memory>
-    requires { at < length blocks.old }
-    ensures ok { OnOk result (blocks.new
-        ≡ slice_set blocks.old at (get_or blocks.old at [] ++ link ∷ [])) }
-    ensures err { OnErr result (blocks.new ≡ blocks.old) }
-{
-    blocks[at].push(link)
-}
-
-/// Puts a link last.
-fn put_last(alloc: Global, blocks: &mut Vec<Block>, link: Link) -> Result<(), Memory>
-    ensures ok { OnOk result (joined blocks.new.items ≡ joined blocks.old.items ++ link ∷ []) }
-    ensures err { OnErr result (joined blocks.new.items ≡ joined blocks.old.items) }
-{
-    let count = blocks.len();
-    if count > 0 && blocks[count - 1].len() < BLOCK_LINKS {
-        return push_at(blocks, count - 1, link);
-    }
-    let mut block = Block::new(alloc);
-    block.push(link)?;
-    blocks.push(block)?;
-    Ok(())
-}
-
 /// A place of all blocks.
 #[derive(Drop)]
-struct BlockPlace {
+pub(crate) struct BlockPlace {
     /// The block, or the number of blocks.
-    block: usize,
+    pub(crate) block: usize,
     /// The place in the block.
     place: usize,
 }
 
-/// The block that a link at a place of all stands in, and its place there.
-#[tactic(auto, using(crate::proofs::Placed::place_here, crate::proofs::Placed::place_behind, crate::proofs::Placed::place_last))]
-fn block_at(blocks: &[Block], place: usize) -> BlockPlace
+/// The block that a link at a place of all `count` links stands in, and its place there. At the end that is
+/// the place behind all blocks, which is found without a walk.
+pub(crate) fn block_at(blocks: &[Block], count: usize, place: usize) -> BlockPlace
+    requires all { count ≡ length (joined blocks.now) }
+    requires within { place ≤ count }
     ensures { IsBlockPlace blocks.now place result }
 {
-    let mut rest = place;
-    for block in 0..blocks.len() {
-        if rest <= blocks[block].len() {
-            return BlockPlace { block, place: rest };
-        }
-        rest -= blocks[block].len();
+    let mut block = blocks.len();
+    let mut before = count;
+    while place < before {
+        block -= 1;
+        before -= blocks[block].len();
     }
-    BlockPlace {
-        block: blocks.len(),
-        place: rest,
-    }
+    let place = place - before;
+    BlockPlace { block, place }
 }
 
 /// Puts a link at a place of a block.
@@ -228,14 +82,37 @@ fn insert_at(blocks: &mut [Block], at: usize, place: usize, link: Link) -> Resul
     blocks[at].insert(place, link)
 }
 
+/// Puts a link last: into the last block where that has room, else into one of its own.
+fn put_last(alloc: Global, blocks: &mut Vec<Block>, link: Link) -> Result<(), Memory>
+    ensures ok { OnOk result (joined blocks.new.items ≡ joined blocks.old.items ++ link ∷ []) }
+    ensures err { OnErr result (joined blocks.new.items ≡ joined blocks.old.items) }
+{
+    let count = blocks.len();
+    if count > 0 && blocks[count - 1].len() < BLOCK_LINKS {
+        let len = blocks[count - 1].len();
+        return put_in(alloc, blocks, count - 1, len, link);
+    }
+    let mut block = Block::with_capacity(alloc, 0)?;
+    block.insert(0, link)?;
+    blocks.push(block)?;
+    Ok(())
+}
+
 /// Puts a link at a place of all blocks.
 #[tactic(auto, using(crate::proofs::Placed::last_inserted, crate::proofs::Placed::block_put, crate::proofs::Placed::found_block, crate::proofs::Placed::found_place))]
-fn put_at(alloc: Global, blocks: &mut Vec<Block>, place: usize, link: Link) -> Result<(), Memory>
-    requires { place ≤ length (joined blocks.old.items) }
+pub(crate) fn put_at(
+    alloc: Global,
+    blocks: &mut Vec<Block>,
+    place: usize,
+    link: Link,
+) -> Result<(), Memory>
+    requires few { length (joined blocks.old.items) ≤ BUNDLE_LINKS }
+    requires within { place ≤ length (joined blocks.old.items) }
     ensures ok { OnOk result (joined blocks.new.items ≡ insert (joined blocks.old.items) place link) }
     ensures err { OnErr result (joined blocks.new.items ≡ joined blocks.old.items) }
 {
-    let found = block_at(blocks.as_slice(), place);
+    let count = count_of(blocks.as_slice());
+    let found = block_at(blocks.as_slice(), count, place);
     if found.block == blocks.len() {
         return put_last(alloc, blocks, link);
     }
@@ -286,6 +163,19 @@ fn truncate_at(blocks: &mut [Block], at: usize, len: usize)
     blocks[at].truncate(len);
 }
 
+/// Before how many of an item's links one is put that is put at a place of all. At the end the links are not
+/// counted, and the answer is the largest number.
+pub(crate) fn rank(blocks: &[Block], last: bool, place: usize, end: End, id: ItemId) -> usize
+    requires few { length (joined blocks.now) ≤ BUNDLE_LINKS }
+    requires last { last ≡ true → length (joined blocks.now) ≤ place }
+    ensures { IsRank (has_end end id.0) (joined blocks.now) place result }
+{
+    if last {
+        return usize::MAX;
+    }
+    count_before(blocks, place, end, id)
+}
+
 /// How many of the first links of all blocks lead from an item, or to it.
 #[tactic(auto, using(crate::proofs::Counted::block_counted, crate::proofs::Counted::filter_few))]
 fn count_before(blocks: &[Block], place: usize, end: End, id: ItemId) -> usize
@@ -295,14 +185,14 @@ fn count_before(blocks: &[Block], place: usize, end: End, id: ItemId) -> usize
     let mut total = 0;
     let mut rest = place;
     for block in blocks {
-        total += block.count_before(rest, end, id);
+        total += count_ends(block.as_slice(), rest, end, id);
         rest = rest.saturating_sub(block.len());
     }
     total
 }
 
 /// The first block from one on that has the link of a pair.
-#[tactic(auto, using(crate::proofs::PairPlaces::pair_past, crate::proofs::PairPlaces::is_placed))]
+#[tactic(auto, using(crate::proofs::PairPlaces::pair_past, crate::proofs::PairPlaces::is_found))]
 fn find_from(blocks: &[Block], first: usize, from: ItemId, to: ItemId) -> Option<usize>
     ensures within { IfSome result (λ at. at < length blocks.now) }
     ensures there { IfSome result
@@ -310,7 +200,7 @@ fn find_from(blocks: &[Block], first: usize, from: ItemId, to: ItemId) -> Option
     ensures none { IfNone result (list_any (joins from to) (joined (drop first blocks.now)) ≡ false) }
 {
     for at in first..blocks.len() {
-        if blocks[at].place(from, to).is_some() {
+        if place_of(blocks[at].as_slice(), from, to).is_some() {
             return Some(at);
         }
     }
@@ -331,20 +221,20 @@ fn find_block(blocks: &[Block], guess: usize, from: ItemId, to: ItemId) -> Optio
 }
 
 /// The place among all links of the link of a pair, which the block at a place has.
-#[tactic(auto, using(crate::proofs::PairPlaces::few_before, crate::proofs::PairPlaces::no_pair_there))]
+#[tactic(auto, using(crate::proofs::PairPlaces::few_before))]
 fn place_in(blocks: &[Block], at: usize, from: ItemId, to: ItemId) -> Option<usize>
     requires few { length (joined blocks.now) ≤ BUNDLE_LINKS }
     requires within { at < length blocks.now }
     requires there { list_any (joins from to) (get_or blocks.now at []) ≡ true }
     ensures { IsPairPlace from to (joined blocks.now) result }
 {
-    let place = blocks[at].place(from, to)?;
+    let place = place_of(blocks[at].as_slice(), from, to)?;
     let (before, _behind) = blocks.split_at(at);
     Some(count_of(before) + place)
 }
 
 /// The place of the link of a pair, which is looked for at this block first.
-fn pair_place(blocks: &[Block], guess: usize, from: ItemId, to: ItemId) -> Option<usize>
+pub(crate) fn pair_place(blocks: &[Block], guess: usize, from: ItemId, to: ItemId) -> Option<usize>
     requires { length (joined blocks.now) ≤ BUNDLE_LINKS }
     ensures { IsPairPlace from to (joined blocks.now) result }
 {
@@ -362,7 +252,7 @@ fn take_at(blocks: &mut [Block], at: usize, from: ItemId, to: ItemId)
 }
 
 /// Takes the link of a pair out, which is looked for at this block first.
-fn take_found(blocks: &mut Vec<Block>, guess: usize, from: ItemId, to: ItemId)
+pub(crate) fn take_found(blocks: &mut Vec<Block>, guess: usize, from: ItemId, to: ItemId)
     requires { ArePairsApart (joined blocks.old.items) }
     ensures { joined blocks.new.items
         ≡ filter (λ link. not (joins from to link)) (joined blocks.old.items) }
@@ -374,7 +264,7 @@ fn take_found(blocks: &mut Vec<Block>, guess: usize, from: ItemId, to: ItemId)
 }
 
 /// The same blocks again. The only refusal is want of memory.
-fn copied(alloc: Global, blocks: &[Block]) -> Result<Vec<Block>, Memory>
+pub(crate) fn copied(alloc: Global, blocks: &[Block]) -> Result<Vec<Block>, Memory>
     ensures { IfOk result (λ made. made.items ≡ blocks.now) }
 {
     let mut made = Vec::with_capacity(alloc, blocks.len())?;

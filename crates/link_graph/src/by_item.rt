@@ -18,14 +18,6 @@ pub(crate) struct ByItem {
 }
 
 impl ByItem {
-    /// No links at any item.
-    pub(crate) fn new(alloc: Global) -> ByItem
-        ensures { (id : ℕ) → links_at result id ≡ [] }
-    {
-        let lists = HashMap::new(alloc);
-        ByItem { alloc, lists }
-    }
-
     /// No links at any item, with room for so many items. The only refusal is want of memory.
     pub(crate) fn with_capacity(alloc: Global, count: usize) -> Result<ByItem, Memory>
         ensures { IfOk result (λ made. (id : ℕ) → links_at made id ≡ []) }
@@ -55,17 +47,7 @@ impl ByItem {
         })
     }
 
-    /// Puts a link last at an item. The only refusal is want of memory, which changes nothing.
-    pub(crate) fn push(&mut self, at: ItemId, link: Link) -> Result<(), Memory>
-        ensures ok { OnOk result ((id : ℕ) → links_at self.new id
-            ≡ (if at.0 == id then links_at self.old id ++ link ∷ [] else links_at self.old id)) }
-        ensures err { OnErr result ((id : ℕ) → links_at self.new id ≡ links_at self.old id) }
-    {
-        let links = self.lists.entry(at.0)?.or_insert(ItemLinks::Empty);
-        links.push(self.alloc, link)
-    }
-
-    /// Puts a link at a place of those of an item. The only refusal is want of memory, which changes nothing.
+    /// Puts a link at a place of those of an item, or last where they are fewer. The only refusal is want of memory, which changes nothing.
     pub(crate) fn insert(&mut self, at: ItemId, place: usize, link: Link) -> Result<(), Memory>
         ensures ok { OnOk result ((id : ℕ) → links_at self.new id
             ≡ (if at.0 == id then insert (links_at self.old id) place link else links_at self.old id)) }

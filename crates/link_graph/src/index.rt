@@ -1,16 +1,20 @@
 //! What a list of links is asked for, found without a walk over the list.
-ghost use Rattle.std.specs.Prelude.{◌≡◌, ◌==◌, ◌&&◌, ◌++◌, ◌∷◌, ℕ, List, [], insert, IfOk, OnOk, OnErr, not, false, length};
+ghost use Rattle.std.specs.Prelude.{◌≡◌, ◌==◌, ◌&&◌, ◌≤◌, ℕ, List, [], insert, IfOk, OnOk, OnErr, not, false, length};
 ghost use Rattle.std.specs.List.{filter, list_any};
 ghost use Rattle.link_graph.specs.declared.link.Link.{Link};
 ghost use Rattle.link_graph.specs.Index.{is_pair};
+ghost use Rattle.link_graph.specs.Inner.Blocks.{joined};
+ghost use Rattle.link_graph.specs.Inner.Ends.{other_end};
 ghost use Rattle.link_graph.specs.Inner.Index.{Indexes, has_pair, links_at, forgotten};
 ghost use Rattle.link_graph.specs.Link.{joins, names_item};
 
-use crate::blocks::Blocks;
+use crate::block::Block;
+use crate::blocks::{block_at, count_of, rank};
 use crate::by_item::ByItem;
 use crate::ends::End;
 use crate::link::Link;
 use crate::pairs::Pairs;
+use emu_names::limits::BUNDLE_LINKS;
 use emu_names::{ItemId, Memory};
 use std::alloc::Global;
 
@@ -27,7 +31,7 @@ impl Index {
     pub(crate) fn with_capacity(alloc: Global, count: usize) -> Result<Index, Memory>
         ensures { IfOk result (λ made. Indexes made []) }
     {
-        let down = ByItem::new(alloc);
+        let down = ByItem::with_capacity(alloc, 0)?;
         let up = ByItem::with_capacity(alloc, count)?;
         let pairs = Pairs::with_capacity(alloc, count)?;
         Ok(Index { down, up, pairs })
@@ -44,39 +48,21 @@ impl Index {
         Ok(Index { down, up, pairs })
     }
 
-    /// Adds a link that will be put last, whose pair of ids is not there. The only refusal is want of
-    /// memory, after which the index is that of the same list.
-    pub(crate) fn add(&mut self, links: &Blocks, link: Link) -> Result<(), Memory>
-        requires indexed { Indexes self.old links.now }
-        requires apart { list_any (joins link.from link.to) links.now ≡ false }
-        ensures ok { OnOk result (Indexes self.new (links.now ++ link ∷ [])) }
-        ensures err { OnErr result (Indexes self.new links.now) }
-    {
-        self.pairs.insert(link.from, link.to, links.next_block())?;
-        if self.down.push(link.from, link).is_err() {
-            self.pairs.remove(link.from, link.to);
-            return Err(Memory);
-        }
-        if self.up.push(link.to, link).is_err() {
-            self.pairs.remove(link.from, link.to);
-            self.down.remove(link.from, link.from, link.to);
-            return Err(Memory);
-        }
-        Ok(())
-    }
-
     /// Adds a link that will be put at a place, whose pair of ids is not there. The only refusal is want of
     /// memory, after which the index is that of the same list.
-    pub(crate) fn add_at(&mut self, links: &Blocks, place: usize, link: Link) -> Result<(), Memory>
-        requires indexed { Indexes self.old links.now }
-        requires apart { list_any (joins link.from link.to) links.now ≡ false }
-        ensures ok { OnOk result (Indexes self.new (insert links.now place link)) }
-        ensures err { OnErr result (Indexes self.new links.now) }
+    pub(crate) fn add(&mut self, links: &[Block], place: usize, link: Link) -> Result<(), Memory>
+        requires indexed { Indexes self.old (joined links.now) }
+        requires few { length (joined links.now) ≤ BUNDLE_LINKS }
+        requires within { place ≤ length (joined links.now) }
+        requires apart { list_any (joins link.from link.to) (joined links.now) ≡ false }
+        ensures ok { OnOk result (Indexes self.new (insert (joined links.now) place link)) }
+        ensures err { OnErr result (Indexes self.new (joined links.now)) }
     {
-        let down = links.count_before(place, End::From, link.from);
-        let up = links.count_before(place, End::To, link.to);
-        self.pairs
-            .insert(link.from, link.to, links.block_of(place))?;
+        let count = count_of(links);
+        let down = rank(links, place == count, place, End::From, link.from);
+        let up = rank(links, place == count, place, End::To, link.to);
+        let block = block_at(links, count, place).block;
+        self.pairs.insert(link.from, link.to, block)?;
         if self.down.insert(link.from, down, link).is_err() {
             self.pairs.remove(link.from, link.to);
             return Err(Memory);
@@ -108,8 +94,8 @@ impl Index {
         let parents = self.up.take(id);
         forget_pairs(&mut self.pairs, children.as_slice());
         forget_pairs(&mut self.pairs, parents.as_slice());
-        forget_lower(&mut self.up, id, children.as_slice());
-        forget_upper(&mut self.down, id, parents.as_slice());
+        forget(&mut self.up, End::From, id, children.as_slice());
+        forget(&mut self.down, End::To, id, parents.as_slice());
     }
 }
 
@@ -123,23 +109,12 @@ fn forget_pairs(pairs: &mut Pairs, links: &[Link])
     }
 }
 
-/// Takes the links that name `id` out at the lower end of each of its links.
-fn forget_lower(up: &mut ByItem, id: ItemId, children: &[Link])
-    ensures { (key : ℕ) → links_at up.new key
-        ≡ forgotten (list_any (λ link. link.to.0 == key) children.now) id (links_at up.old key) }
+/// Takes the links that name `id` out at the other end of each of its links.
+fn forget(map: &mut ByItem, end: End, id: ItemId, links: &[Link])
+    ensures { (key : ℕ) → links_at map.new key
+        ≡ forgotten (list_any (λ link. (other_end end link).0 == key) links.now) id (links_at map.old key) }
 {
-    for link in children {
-        up.forget(link.to, id);
-    }
-}
-
-/// Takes the links that name `id` out at the upper end of each of its links.
-fn forget_upper(down: &mut ByItem, id: ItemId, parents: &[Link])
-    ensures { (key : ℕ) → links_at down.new key
-        ≡ forgotten (list_any (λ link. link.from.0 == key) parents.now) id
-        (links_at down.old key) }
-{
-    for link in parents {
-        down.forget(link.from, id);
+    for link in links {
+        map.forget(end.other(*link), id);
     }
 }

@@ -4,8 +4,8 @@ ghost use Rattle.std.specs.List.{filter};
 ghost use Rattle.link_graph.specs.Inner.Index.{links_of};
 ghost use Rattle.link_graph.specs.Link.{joins, names_item};
 
+use crate::block::{take_item, take_pair};
 use crate::link::Link;
-use crate::taken::{take_item, take_pair};
 use emu_names::{ItemId, Memory};
 use std::alloc::{AllocError, Global};
 use std::slice;
@@ -34,19 +34,6 @@ impl ItemLinks {
         }
     }
 
-    /// Puts a link last. The only refusal is want of memory, which changes nothing.
-    pub(crate) fn push(&mut self, alloc: Global, link: Link) -> Result<(), Memory>
-        ensures ok { OnOk result (links_of self.new ≡ links_of self.old ++ link ∷ []) }
-        ensures err { OnErr result (links_of self.new ≡ links_of self.old) }
-    {
-        match self {
-            ItemLinks::Empty => *self = ItemLinks::One(link),
-            ItemLinks::One(first) => *self = ItemLinks::Many(both(alloc, *first, link)?),
-            ItemLinks::Many(links) => links.push(link)?,
-        }
-        Ok(())
-    }
-
     /// Puts a link at a place, or last where links are fewer. The only refusal is want of memory, which
     /// changes nothing.
     #[tactic(auto, using(crate::proofs::Inserted::insert_none))]
@@ -56,7 +43,7 @@ impl ItemLinks {
     {
         match self {
             ItemLinks::Empty => *self = ItemLinks::One(link),
-            ItemLinks::One(other) => *self = ItemLinks::Many(in_order(alloc, *other, place, link)?),
+            ItemLinks::One(other) => *self = ItemLinks::Many(both(alloc, *other, place, link)?),
             ItemLinks::Many(links) => insert_near(links, place, link)?,
         }
         Ok(())
@@ -110,27 +97,17 @@ impl Clone for ItemLinks {
     }
 }
 
-/// A list of two links. The only refusal is want of memory.
-fn both(alloc: Global, first: Link, second: Link) -> Result<Box<Vec<Link>>, Memory>
-    ensures { IfOk result (λ made. made.value.items ≡ first ∷ second ∷ []) }
+/// A list of a link and another one, which stands at a place. The only refusal is want of memory.
+fn both(alloc: Global, link: Link, place: usize, other: Link) -> Result<Box<Vec<Link>>, Memory>
+    ensures { IfOk result (λ made. made.value.items ≡ insert (link ∷ []) place other) }
 {
-    let links = Vec::from_slice(alloc, &[first, second])?;
+    let mut links = Vec::with_capacity(alloc, 2)?;
+    links.push(link)?;
+    insert_near(&mut links, place, other)?;
     Ok(Box::new(alloc, links)?)
 }
 
-/// A list of a link and another one, which stands at a place. The only refusal is want of memory.
-#[tactic(auto, using(crate::proofs::Inserted::insert_behind))]
-fn in_order(alloc: Global, link: Link, place: usize, other: Link) -> Result<Box<Vec<Link>>, Memory>
-    ensures { IfOk result (λ made. made.value.items ≡ insert (link ∷ []) place other) }
-{
-    if place == 0 {
-        return both(alloc, other, link);
-    }
-    both(alloc, link, other)
-}
-
-/// Puts a link at a place, or last where links are fewer. The only refusal is want of memory, which
-/// changes nothing.
+/// Puts a link at a place, or last where links are fewer. The only refusal is want of memory, which changes nothing.
 #[tactic(auto, using(crate::proofs::Inserted::insert_least))]
 fn insert_near(links: &mut Vec<Link>, place: usize, link: Link) -> Result<(), Memory>
     ensures ok { OnOk result (links.new.items ≡ insert links.old.items place link) }

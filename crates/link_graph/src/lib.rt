@@ -5,13 +5,14 @@ mod block;
 mod blocks;
 mod by_item;
 mod ends;
+mod forms;
 mod index;
+mod indexed;
 mod item_links;
 mod laws;
 mod link;
 mod links;
 mod pairs;
-mod taken;
 
 pub use ends::Ends;
 pub use laws::{

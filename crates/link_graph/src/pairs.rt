@@ -1,5 +1,6 @@
 //! The pairs of ids that are linked, each with the block in which its link is looked for first.
 ghost use Rattle.std.specs.Prelude.{◌≡◌, ◌==◌, ◌&&◌, ◌||◌, ℕ, IfOk, OnOk, OnErr, false, true, not};
+ghost use Rattle.std.specs.Option.{is_some};
 ghost use Rattle.link_graph.specs.Inner.Index.{has_pair};
 
 use emu_names::{ItemId, Memory};
@@ -22,16 +23,12 @@ impl Pairs {
         Ok(Pairs { blocks })
     }
 
-    /// Whether a pair is there.
-    pub(crate) fn has(&self, from: ItemId, to: ItemId) -> bool
-        ensures { result ≡ has_pair self.now from.0 to.0 }
+    /// The block in which the link of a pair is looked for first, if the pair is there.
+    pub(crate) fn block(&self, from: ItemId, to: ItemId) -> Option<usize>
+        ensures { is_some result ≡ has_pair self.now from.0 to.0 }
     {
-        self.blocks.contains_key(&(from.0, to.0))
-    }
-
-    /// The block in which the link of a pair is looked for first.
-    pub(crate) fn block(&self, from: ItemId, to: ItemId) -> usize {
-        self.blocks.get(&(from.0, to.0)).copied().unwrap_or(0) as usize
+        let block = self.blocks.get(&(from.0, to.0))?;
+        Some(*block as usize)
     }
 
     /// The same pairs again. The only refusal is want of memory.

@@ -12,8 +12,8 @@ overflow_add-total c =
     let block = c.block-item.result in
     let loop = c.loop-block in
     let step =
-    block_counted p blocks loop.block-index block c.args.place loop.rest loop.total c.count_before-total.result (loop.rest - length block)
-    (length (filter p (take c.args.place (joined blocks)))) c.loop-block-test.true c.block-item.is c.count_before-total.ensures.count refl loop.invariant in
+    block_counted p blocks loop.block-index block c.args.place loop.rest loop.total c.count_ends-total.result (loop.rest - length block)
+    (length (filter p (take c.args.place (joined blocks)))) c.loop-block-test.true c.block-item.is (c.count_ends-total.ensures.count ∙ ap (λ ls. length (filter p (take loop.rest ls))) c.as_slice.ensures) refl loop.invariant in
     let few = filter_few p c.args.place (joined blocks) in
     let limit = c.requires in
     omega (arith, step, few, limit)
@@ -25,5 +25,5 @@ loop-block-preserved c =
     let block = c.block-item.result in
     let loop = c.loop-block in
     let less : c.saturating_sub-rest.result ≡ loop.rest - length block = c.saturating_sub-rest.ensures ∙ ap (λ len. loop.rest - len) c.len.ensures in
-    block_counted p blocks loop.block-index block c.args.place loop.rest loop.total c.count_before-total.result c.saturating_sub-rest.result
-    (length (filter p (take c.args.place (joined blocks)))) c.loop-block-test.true c.block-item.is c.count_before-total.ensures.count less loop.invariant
+    block_counted p blocks loop.block-index block c.args.place loop.rest loop.total c.count_ends-total.result c.saturating_sub-rest.result
+    (length (filter p (take c.args.place (joined blocks)))) c.loop-block-test.true c.block-item.is (c.count_ends-total.ensures.count ∙ ap (λ ls. length (filter p (take loop.rest ls))) c.as_slice.ensures) less loop.invariant

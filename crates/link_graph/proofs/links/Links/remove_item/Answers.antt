@@ -1,21 +1,15 @@
-use Rattle.std.proofs.Common.{not, ◌∙◌, sym, subst}
-use Rattle.link_graph.specs.Link.{ArePairsApart, names_item}
-use Rattle.link_graph.proofs.Keeping.{filter_kept}
-use Rattle.link_graph.proofs.Kept.{distinct_filter}
-use Rattle.link_graph.proofs.Steps.{item_gone}
+use Rattle.std.proofs.Common.{not, subst, sym}
+use Rattle.link_graph.specs.Inner.Forms.{AreKept}
+use Rattle.link_graph.specs.Link.{names_item}
+use Rattle.link_graph.proofs.Few.{few_left}
 use Rattle.link_graph.proofs.links.Links.remove_item.Goals as goal
-
-pub take_all-requires-2 : goal.take_all-requires-2
-take_all-requires-2 c = subst ArePairsApart (sym c.take_all.ensures) (distinct_filter _ _ _ c.self.invariant.apart)
+use Rattle.link_graph.proofs.links.Links.remove_item.Goals.{in-Few, in-Many}
 
 pub invariant_of-self : goal.invariant_of-self
 invariant_of-self c =
-    let gone = item_gone c.args.id c.self.inside.links _ _ _ _ (c.at.ensures ∙ c.self.invariant.indexed.down c.args.id.0)
-    (c.at-2.ensures ∙ c.self.invariant.indexed.up c.args.id.0) c.take_all.ensures c.take_all-2.ensures in
-    filter_kept (λ l. not (names_item c.args.id l)) c.self.inside.links _ _ _ c.self.invariant gone (c.remove_item.ensures _ c.self.invariant.indexed)
-
-pub returns : goal.returns
-returns c =
-    rw (← c.self.view_is)
-    (item_gone c.args.id c.self.inside.links _ _ _ _ (c.at.ensures ∙ c.self.invariant.indexed.down c.args.id.0)
-    (c.at-2.ensures ∙ c.self.invariant.indexed.up c.args.id.0) c.take_all.ensures c.take_all-2.ensures)
+    elim c.match-self.branch [
+      | in-Few w ↦
+          subst (λ s. AreKept s.kept) (sym w.self-inside-is)
+          (few_left (λ l. not (names_item c.args.id l)) w.in-Few.links _ (subst AreKept w.in-Few.is c.self.invariant) w.take_item.ensures)
+      | in-Many w ↦ subst (λ s. AreKept s.kept) (sym w.self-inside-is) tt
+    ]
