@@ -22,7 +22,7 @@ use Rattle.bundle_state.specs.Linked.{unless_broken, put_links}
 use Rattle.bundle_state.specs.Built.{bundle_of, linked, built, form_of, form_asked, FitsConfig}
 use Rattle.bundle_state.specs.Valid.{KeepsBundleRules}
 use Rattle.bundle_state.proofs.LevelsKept.{fine_annot, AreFine, made_fine}
-use Rattle.bundle_state.proofs.LinksKept.{AreFineLinks, fine_none, links_fine, fine_value, ok_same, goes_on, links_alike, onward_goes, onward_stops}
+use Rattle.bundle_state.proofs.LinksKept.{AreFineLinks, fine_none, links_fine, fine_value, ok_same, goes_on, onward_goes, onward_stops}
 
 -- what a bundle is built of
 pub record IsBuilt (config : ConfigParts) (key : BundleKey) (annot : Annot) (bundle : BundleParts) : Type 0 where
@@ -83,14 +83,13 @@ built_fits config key annot bundle is =
 
 -- The steps of building.
 
--- the level of each id is found by a map in place of a walk
-module _ (config : ConfigParts) (annot : Annot) (levels seen : List Level) (f : ℕ → Option ℕ) (given : List AnnotLink) where
-  pub linked_by : made_levels config.levels annot.levels ≡ levels → ((q : ℕ) → f q ≡ level_of_id seen q) → seen ≡ levels → given ≡ annot.links →
-      put_links config.links (level_of_id (made_levels config.levels annot.levels)) annot.links [] ≡ put_links config.links f given []
-  linked_by made places seen_is given_is =
+-- the levels that are made are those that are seen
+module _ (config : ConfigParts) (annot : Annot) (levels seen : List Level) (given : List AnnotLink) where
+  pub linked_by : made_levels config.levels annot.levels ≡ levels → seen ≡ levels → given ≡ annot.links →
+      put_links config.links (level_of_id (made_levels config.levels annot.levels)) annot.links [] ≡ put_links config.links (level_of_id seen) given []
+  linked_by made seen_is given_is =
       ap (λ gs. put_links config.links (level_of_id (made_levels config.levels annot.levels)) gs []) (sym given_is)
       ∙ ap (λ ls. put_links config.links (level_of_id ls) given []) (made ∙ sym seen_is)
-      ∙ links_alike config.links (level_of_id seen) f (λ q. sym (places q)) given []
 
 pub build_rules : (config : ConfigParts) (key : BundleKey) (annot : Annot) (levels : List Level) (links : List Link) → is_valid config ≡ true →
     unless_broken (annot_fault config.levels annot) (made_levels config.levels annot.levels) ≡ Ok levels →

@@ -28,7 +28,7 @@ use Rattle.bundle_state.specs.declared.places.Places.{Places}
 use Rattle.bundle_state.specs.Bundle.{BundleParts, all_ids, item_count, level_of_id, position_on, place_from, place_of}
 use Rattle.bundle_state.specs.Built.{form_of, FitsConfig}
 use Rattle.bundle_state.specs.Linked.{unless_broken, kind_of, definition_for}
-use Rattle.bundle_state.specs.Inner.Placed.{level_in}
+use Rattle.bundle_state.specs.Inner.Placed.{ArePlaced}
 use Rattle.bundle_state.specs.Valid.{KeepsBundleRules}
 use Rattle.bundle_state.specs.Inner.Kept.{IsKept}
 use Rattle.bundle_state.specs.Changed.{with_levels, with_links, change_level, with_item, without_item, with_changed, with_change, without, place_for, new_item_fault, new_time_fault, item_added, item_removed, label_set, item_retimed, link_put, link_added, missing_fault, link_removed}
@@ -327,34 +327,42 @@ removed_link_fits from to config b after fits is =
 
 -- The bundle with its kept levels.
 
-pub kept_added : (b : BundleParts) (number : ℕ) (position : Option ℕ) (item : Item) (level : Level) (old new : Places) → slice_get b.levels number ≡ Some level →
-    new_item_fault number position item b.levels ≡ None → are_labels_for level.attributes item.labels ≡ true → item_count b.levels < BUNDLE_ITEMS → IsKept b old →
-    ((q : ℕ) → level_in new q ≡ cond (nat_eq q item.id.0) (Some number) (level_in old q)) →
+-- the kept levels, told otherwise
+pub carried : (f g : ℕ → Option ℕ) (places : Places) → ((q : ℕ) → f q ≡ g q) → ArePlaced f places → ArePlaced g places
+carried f g places same placed = subst (λ h. ArePlaced h places) (λ i q. same q i) placed
+
+pub kept_added : (b : BundleParts) (number : ℕ) (position : Option ℕ) (item : Item) (level : Level) (new : Places) → slice_get b.levels number ≡ Some level →
+    new_item_fault number position item b.levels ≡ None → are_labels_for level.attributes item.labels ≡ true → item_count b.levels < BUNDLE_ITEMS → KeepsBundleRules b →
+    ArePlaced (λ q. cond (nat_eq q item.id.0) (Some number) (level_of_id b.levels q)) new →
     IsKept (with_levels b (change_level (with_item position item) number b.levels)) new
-kept_added b number position item level old new there free labels room kept more = record {
-  rules = added_rules b number position item level there free labels room kept.rules;
-  placed = λ q. more q ∙ ap (cond (nat_eq q item.id.0) (Some number)) (kept.placed q) ∙ sym (added_level b number position item level there free q);
+kept_added b number position item level new there free labels room keeps more = record {
+  rules = added_rules b number position item level there free labels room keeps;
+  placed = carried (λ q. cond (nat_eq q item.id.0) (Some number) (level_of_id b.levels q)) (level_of_id (change_level (with_item position item) number b.levels)) new
+      (λ q. sym (added_level b number position item level there free q)) more;
 }
 
-pub kept_removed : (b : BundleParts) (id : ItemId) (place : ℕ × ℕ) (old new : Places) → place_of b.levels id.0 ≡ Some place → IsKept b old →
-    ((q : ℕ) → level_in new q ≡ cond (nat_eq q id.0) None (level_in old q)) → IsKept (without id place b) new
-kept_removed b id place old new is kept less = record {
-  rules = taken_rules b id place is kept.rules;
-  placed = λ q. less q ∙ ap (cond (nat_eq q id.0) None) (kept.placed q) ∙ sym (taken_level b id place is kept.rules q);
+pub kept_removed : (b : BundleParts) (id : ItemId) (place : ℕ × ℕ) (new : Places) → place_of b.levels id.0 ≡ Some place → KeepsBundleRules b →
+    ArePlaced (λ q. cond (nat_eq q id.0) None (level_of_id b.levels q)) new → IsKept (without id place b) new
+kept_removed b id place new is keeps less = record {
+  rules = taken_rules b id place is keeps;
+  placed = carried (λ q. cond (nat_eq q id.0) None (level_of_id b.levels q)) (level_of_id (change_level (without_item place.1) place.0 b.levels)) new
+      (λ q. sym (taken_level b id place is keeps q)) less;
 }
 
 pub kept_labelled : (b : BundleParts) (id : ItemId) (place : ℕ × ℕ) (attribute : ℕ) (label : List ℕ) (places : Places) → place_of b.levels id.0 ≡ Some place → is_short label ≡ true →
     IsKept b places → IsKept (with_change (relabelled attribute label) place b) places
 kept_labelled b id place attribute label places is short kept = record {
   rules = labelled_rules b id place attribute label is short kept.rules;
-  placed = λ q. kept.placed q ∙ sym (altered_level b (relabelled attribute label) (label_keeps_id attribute label) place q);
+  placed = carried (level_of_id b.levels) (level_of_id (change_level (with_changed (relabelled attribute label) place.1) place.0 b.levels)) places
+      (λ q. sym (altered_level b (relabelled attribute label) (label_keeps_id attribute label) place q)) kept.placed;
 }
 
 pub kept_retimed : (b : BundleParts) (id : ItemId) (place : ℕ × ℕ) (time : Time) (places : Places) → place_of b.levels id.0 ≡ Some place → new_time_fault place time b.levels ≡ None →
     IsKept b places → IsKept (with_change (retimed time) place b) places
 kept_retimed b id place time places is free kept = record {
   rules = retimed_rules b id place time is free kept.rules;
-  placed = λ q. kept.placed q ∙ sym (altered_level b (retimed time) (time_keeps_id time) place q);
+  placed = carried (level_of_id b.levels) (level_of_id (change_level (with_changed (retimed time) place.1) place.0 b.levels)) places
+      (λ q. sym (altered_level b (retimed time) (time_keeps_id time) place q)) kept.placed;
 }
 
 pub kept_linked : (b : BundleParts) (from to : ItemId) (number : ℕ) (places : Places) →
@@ -364,10 +372,6 @@ kept_linked b from to number places found free kept = record { rules = linked_ru
 
 pub kept_unlinked : (b : BundleParts) (from to : ItemId) (places : Places) → IsKept b places → IsKept (with_links b (filter (λ link. not (joins from to link)) b.links)) places
 kept_unlinked b from to places kept = record { rules = unlinked_rules b (λ link. not (joins from to link)) kept.rules; placed = kept.placed }
-
--- the same levels, found by another map
-pub kept_alike : (b : BundleParts) (old new : Places) → IsKept b old → ((q : ℕ) → level_in new q ≡ level_in old q) → IsKept b new
-kept_alike b old new kept same = record { rules = kept.rules; placed = λ q. same q ∙ kept.placed q }
 
 -- What the calls answer.
 
@@ -428,13 +432,13 @@ module _ (number : ℕ) (position : Option ℕ) (item : Item) (b : BundleParts) 
       let found : FindsFault (broken_answer rule) level_fault = subst (λ a. FindsFault a level_fault) is finds in
       ap (λ o. unless_broken o with_new) (fault_is ∙ found)
 
-  pub add_kept : (r : Answer) (levels : List Level) (old new : Places) → IsKept b old → number < length b.levels →
+  pub add_kept : (r : Answer) (levels : List Level) (new : Places) → KeepsBundleRules b → number < length b.levels →
       IfSome (slice_get b.levels number) (λ l. IsTrue (are_labels_for l.attributes item.labels)) → item_count b.levels < BUNDLE_ITEMS →
       FindsFault r level_fault → OnOk r (levels ≡ change_level (with_item position item) number b.levels) →
-      OnOk r ((q : ℕ) → level_in new q ≡ cond (nat_eq q item.id.0) (Some number) (level_in old q)) →
-      OnErr r (levels ≡ b.levels) → OnErr r ((q : ℕ) → level_in new q ≡ level_in old q) → IsKept (with_levels b levels) new
-  add_kept (Err e) levels old new kept low labels room finds is more same alike = subst (λ ls. IsKept (with_levels b ls) new) (sym same) (kept_alike b old new kept alike)
-  add_kept (Ok x) levels old new kept low labels room finds is more same alike = by (slice_get b.levels number) refl labels
+      OnOk r (ArePlaced (λ q. cond (nat_eq q item.id.0) (Some number) (level_of_id b.levels q)) new) →
+      OnErr r (levels ≡ b.levels) → OnErr r (ArePlaced (level_of_id b.levels) new) → IsKept (with_levels b levels) new
+  add_kept (Err e) levels new keeps low labels room finds is more same alike = subst (λ ls. IsKept (with_levels b ls) new) (sym same) (record { rules = keeps; placed = alike })
+  add_kept (Ok x) levels new keeps low labels room finds is more same alike = by (slice_get b.levels number) refl labels
     where
       in_range : (xs : List Level) (k : ℕ) → k < length xs → slice_get xs k ≡ None → ⊥
       in_range [] k low none = absurd (omega arith)
@@ -444,16 +448,16 @@ module _ (number : ℕ) (position : Option ℕ) (item : Item) (b : BundleParts) 
       by : (o : Option Level) → slice_get b.levels number ≡ o → IfSome o (λ l. IsTrue (are_labels_for l.attributes item.labels)) → IsKept (with_levels b levels) new
       by (Some level) there whole =
           subst (λ ls. IsKept (with_levels b ls) new) (sym is)
-          (kept_added b number position item level old new there (fault_is ∙ finds) whole room kept more)
+          (kept_added b number position item level new there (fault_is ∙ finds) whole room keeps more)
       by None missing whole = absurd (in_range b.levels number low missing)
 
-pub take_kept : (b : BundleParts) (id : ItemId) (level at : ℕ) (levels : List Level) (links : List Link) (old new : Places) → place_of b.levels id.0 ≡ Some (level, at) → IsKept b old →
+pub take_kept : (b : BundleParts) (id : ItemId) (level at : ℕ) (levels : List Level) (links : List Link) (new : Places) → place_of b.levels id.0 ≡ Some (level, at) → KeepsBundleRules b →
     levels ≡ change_level (without_item at) level b.levels → links ≡ filter (λ link. not (names_item id link)) b.links →
-    ((q : ℕ) → level_in new q ≡ cond (nat_eq q id.0) None (level_in old q)) → IsKept (with_links (with_levels b levels) links) new
-take_kept b id level at levels links old new is kept levels_is links_is less =
+    ArePlaced (λ q. cond (nat_eq q id.0) None (level_of_id b.levels q)) new → IsKept (with_links (with_levels b levels) links) new
+take_kept b id level at levels links new is keeps levels_is links_is less =
     subst (λ ls. IsKept (with_links (with_levels b ls) links) new) (sym levels_is)
     (subst (λ ls. IsKept (with_links (with_levels b (change_level (without_item at) level b.levels)) ls) new) (sym links_is)
-    (kept_removed b id (level, at) old new is kept less))
+    (kept_removed b id (level, at) new is keeps less))
 
 pub label_kept : (b : BundleParts) (id : ItemId) (level at attribute : ℕ) (label : List ℕ) (levels : List Level) (places : Places) → place_of b.levels id.0 ≡ Some (level, at) →
     is_short label ≡ true → IsKept b places → levels ≡ change_level (with_changed (relabelled attribute label) at) level b.levels → IsKept (with_levels b levels) places
@@ -468,14 +472,11 @@ time_kept b id level at time levels places (Ok x) is kept finds levels_is same =
 time_kept b id level at time levels places (Err e) is kept finds levels_is same = subst (λ ls. IsKept (with_levels b ls) places) (sym same) kept
 
 pub link_kept : (b : BundleParts) (from to : ItemId) (number : ℕ) (links : List Link) (places : Places) (r : Answer) →
-    definition_for b.definitions (record { from = from; to = to }) (level_in places from.0) (level_in places to.0) ≡ Ok number → IsKept b places →
+    definition_for b.definitions (record { from = from; to = to }) (level_of_id b.levels from.0) (level_of_id b.levels to.0) ≡ Ok number → IsKept b places →
     FindsFault r (add_fault (kind_of b.definitions number) number from to b.links) → OnOk r (links ≡ b.links ++ link_of number from to ∷ []) → OnErr r (links ≡ b.links) →
     IsKept (with_links b links) places
 link_kept b from to number links places (Ok x) found kept finds links_is same =
-    let here : definition_for b.definitions (record { from = from; to = to }) (level_of_id b.levels from.0) (level_of_id b.levels to.0) ≡ Ok number =
-    ap (λ (o : Option ℕ). definition_for b.definitions (record { from = from; to = to }) o (level_of_id b.levels to.0)) (sym (kept.placed from.0))
-    ∙ ap (λ (o : Option ℕ). definition_for b.definitions (record { from = from; to = to }) (level_in places from.0) o) (sym (kept.placed to.0)) ∙ found in
-    subst (λ ls. IsKept (with_links b ls) places) (sym links_is) (kept_linked b from to number places here finds kept)
+    subst (λ ls. IsKept (with_links b ls) places) (sym links_is) (kept_linked b from to number places found finds kept)
 link_kept b from to number links places (Err e) found kept finds links_is same = subst (λ ls. IsKept (with_links b ls) places) (sym same) kept
 
 pub unlink_kept : (b : BundleParts) (from to : ItemId) (links : List Link) (places : Places) (r : Answer) → IsKept b places →

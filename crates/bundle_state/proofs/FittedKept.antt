@@ -21,12 +21,13 @@ use Rattle.db_config.specs.declared.parts.LinkDef.{LinkDef}
 use Rattle.db_config.specs.declared.parts.ConfigParts.{ConfigParts}
 use Rattle.db_config.specs.Extends.{Begins, ExtendLevels}
 use Rattle.bundle_state.specs.declared.places.Places.{Places}
-use Rattle.bundle_state.specs.Inner.Placed.{level_in}
+use Rattle.bundle_state.specs.Inner.Placed.{ArePlaced}
 use Rattle.bundle_state.specs.Inner.Kept.{IsKept}
 use Rattle.bundle_state.specs.Bundle.{BundleParts, all_ids, item_count, has_id, level_from, level_of_id}
 use Rattle.bundle_state.specs.Built.{form_of, form_asked, FitsConfig}
 use Rattle.bundle_state.specs.Linked.{kind_of, IsBetween, KeepLinkRule}
 use Rattle.bundle_state.specs.Valid.{KeepsBundleRules}
+use Rattle.bundle_state.proofs.ChangedKept.{carried}
 use Rattle.bundle_state.specs.Fitted.{fitted_level, fitted_levels, fitted, CanFitLevel, CanFitLevels, CanFit, ExtensionsCanFit}
 
 -- ---- form
@@ -262,7 +263,7 @@ fitted_whole defs levels made n past is = is ∙ ap (λ ds. fitted_levels ds lev
 -- the bundle with its kept levels, by its parts
 pub fit_kept : (config : ConfigParts) (b old : BundleParts) (places own : Places) (key : BundleKey) (annotates : List ℕ) (rate : ℕ) (levels : List Level) (definitions : List LinkDef) (links : List Link) →
     old ≡ b → CanFit config b → IsKept old places → key ≡ b.key → annotates ≡ b.annotates → rate ≡ b.rate → levels ≡ fitted_levels config.levels b.levels → definitions ≡ config.links →
-    links ≡ b.links → own ≡ places →
+    links ≡ b.links → ((level : ℕ → Option ℕ) → ArePlaced level places → ArePlaced level own) →
     IsKept (record { key = key; annotates = annotates; rate = rate; levels = levels; definitions = definitions; links = links }) own
 fit_kept config b old places own key annotates rate levels definitions links view can kept key_is annotates_is rate_is levels_are definitions_are links_are same =
     let new : BundleParts = record { key = key; annotates = annotates; rate = rate; levels = levels; definitions = definitions; links = links } in
@@ -271,5 +272,6 @@ fit_kept config b old places own key annotates rate levels definitions links vie
     subst (λ x. IsKept x own) (sym whole)
     (record {
       rules = fitted_rules config b can before.rules;
-      placed = λ q. ap (λ p. level_in p q) same ∙ before.placed q ∙ sym (same_level config b can q);
+      placed = carried (level_of_id b.levels) (level_of_id (fitted_levels config.levels b.levels)) own (λ q. sym (same_level config b can q))
+          (same (level_of_id b.levels) before.placed);
     })

@@ -1,8 +1,11 @@
 -- The level and the position of an id, and what a map from ids to levels holds while it grows.
-use Rattle.std.proofs.Common.{◌≡◌, ℕ, suc, ◌+◌, ◌<◌, ◌≤◌, Bool, true, false, cond, ◌||◌, List, [], ◌∷◌, ◌++◌, length, take, get_or, Option, Some, None, nat_eq, nat_lt, refl, sym, ◌∙◌, ap, arith, if◌then◌else◌, option_map}
+use Rattle.std.proofs.Common.{◌≡◌, ◌⊎◌, inl, inr, ℕ, suc, ◌+◌, ◌<◌, ◌≤◌, Bool, true, false, cond, ◌||◌, List, [], ◌∷◌, ◌++◌, length, take, drop, get_or, add-one, is_some, Option, Some, None, nat_eq, nat_lt, refl, sym, ◌∙◌, ap, arith, if◌then◌else◌, option_map}
 use Rattle.std.specs.List.{list_any, position_or_len, slice_get}
+use Rattle.std.specs.HashMap.{HashMap, IsClone}
+use Rattle.std.specs.Map.{lookup}
 use Rattle.std.specs.Option.{option_or, IfSome}
-use Rattle.std.proofs.lemmas.Bool.{cond-true, lt-ltb}
+use Rattle.std.proofs.lemmas.Map.Entries.{entries_from_clone}
+use Rattle.std.proofs.lemmas.Bool.{cond-true, eqb-true, lt-ltb}
 use Rattle.std.proofs.lemmas.Bool.Decides.{nat_tests}
 use Rattle.std.proofs.lemmas.List.{map-append}
 use Rattle.std.proofs.lemmas.List.Folds.{list_any-append}
@@ -10,9 +13,11 @@ use Rattle.std.proofs.lemmas.Grind.{common_steps}
 use Rattle.std.proofs.lemmas.Option.{slice_get_within}
 use Rattle.level_items.specs.declared.items.Item.{Item}
 use Rattle.level_items.specs.Levels.{Level, ids_of}
+use Rattle.level_items.proofs.Found.{is_found}
 use Rattle.level_items.proofs.Lists.{position_none}
+use Rattle.bundle_state.specs.Inner.Placed.{level_in}
 use Rattle.bundle_state.specs.Bundle.{has_id, level_from, level_of_id, position_on, place_from, place_of}
-use Rattle.bundle_state.proofs.Walks.{take_at}
+use Rattle.bundle_state.proofs.Walks.{drop_at, take_at}
 
 -- A map that grows.
 
@@ -62,6 +67,24 @@ levels_step q now new levels i level low is now_is new_is =
     ∙ ap (λ k. option_or (level_of_id (take i levels) q) (level_if (has_id q level) k)) (sym (length_front i levels (omega arith)))
     ∙ sym (level_from_push 0 q (take i levels) level ∙ ap (λ k. option_or (level_of_id (take i levels) q) (level_if (has_id q level) k)) (omega arith))
     ∙ ap (λ ls. level_of_id ls q) (sym (take_at levels i level low is))
+
+-- the levels of a map that an owner may write are those from before
+pub own_levels : {S : Type 0} (m x : HashMap ℕ ℕ S) → (x ≡ m) ⊎ IsClone (λ a b. b ≡ a) (λ a b. b ≡ a) m x → (q : ℕ) → level_in x q ≡ level_in m q
+own_levels m x (inl same) q = ap (λ y. level_in y q) same
+own_levels m x (inr same) q =
+    ap (λ (es : List (ℕ × ℕ)). lookup (nat_eq q) es)
+    (entries_from_clone (λ a b. b ≡ a) (λ a b. b ≡ a) (λ a b e. e) (λ a b e. e) m.entries x.entries same)
+
+-- an id that had no level is taken out again
+pub taken_back : (id level : ℕ) (new put old kept : ℕ → Option ℕ) → ((q : ℕ) → new q ≡ cond (nat_eq q id) None (put q)) →
+    ((q : ℕ) → put q ≡ cond (nat_eq q id) (Some level) (old q)) → ((q : ℕ) → old q ≡ kept q) → kept id ≡ None → (q : ℕ) → new q ≡ kept q
+taken_back id level new put old kept out in_ same free q = by (nat_eq q id) refl
+  where
+    by : (b : Bool) → nat_eq q id ≡ b → new q ≡ kept q
+    by true e =
+        out q ∙ ap (λ (b : Bool). cond b None (put q)) e ∙ sym free ∙ ap kept (sym (eqb-true q id e))
+    by false e =
+        out q ∙ ap (λ (b : Bool). cond b None (put q)) e ∙ in_ q ∙ ap (λ (b : Bool). cond b (Some level) (old q)) e ∙ same q
 
 -- The place of an id.
 
@@ -138,6 +161,17 @@ place_none q n (level ∷ levels) none = by (has_id q level) refl (λ h. place_n
     by false there more none =
         let here : position_on q level ≡ None = position_none (λ i. nat_eq i.id.0 q) level.items (sym (ids_any q level.items) ∙ there) in
         ap (λ o. option_or (option_map (λ (k : ℕ). (n, k)) o) (place_from (suc n) q levels)) here ∙ more none
+
+-- each level is asked in turn
+pub asked : (id number : ℕ) (levels : List Level) (level : Level) (found : Option ℕ) → number < length levels → level ≡ get_or levels number level →
+    found ≡ position_on id level →
+    level_from number id (drop number levels) ≡ cond (is_some found) (Some number) (level_from (number + 1) id (drop (number + 1) levels))
+asked id number levels level found low at is =
+    let rest = drop (number + 1) levels in
+    let there : is_some found ≡ has_id id level = ap is_some is ∙ is_found level.items id in
+    ap (level_from number id) (drop_at levels number level low at)
+    ∙ ap (λ b. cond b (Some number) (level_from (suc number) id rest)) (sym there)
+    ∙ ap (λ n. cond (is_some found) (Some number) (level_from n id rest)) (sym (add-one number))
 
 -- What the look-up of a level and then of a position in it answers.
 

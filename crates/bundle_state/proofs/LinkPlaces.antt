@@ -1,5 +1,5 @@
 -- A link that is put at a place of the list of links.
-use Rattle.std.proofs.Common.{◌≡◌, ℕ, zero, suc, Bool, true, false, cond, List, [], ◌∷◌, length, insert, Option, Some, None, Result, Ok, Err, OnOk, OnErr, nat_eq, refl, sym, ◌∙◌, ap, subst, arith, eqb-true}
+use Rattle.std.proofs.Common.{◌≡◌, ℕ, zero, suc, Bool, true, false, cond, List, [], ◌∷◌, length, insert, Option, Some, None, Result, Ok, Err, OnOk, OnErr, nat_eq, refl, sym, subst, arith, eqb-true}
 use Rattle.std.specs.Prelude.{All, nat_le}
 use Rattle.std.specs.List.{list_any}
 use Rattle.std.specs.Option.{option_or}
@@ -22,7 +22,6 @@ use Rattle.bundle_state.specs.Built.{FitsConfig}
 use Rattle.bundle_state.specs.Linked.{kind_of, definition_for, IsBetween}
 use Rattle.bundle_state.specs.Valid.{KeepsBundleRules}
 use Rattle.bundle_state.specs.Inner.Kept.{IsKept}
-use Rattle.bundle_state.specs.Inner.Placed.{level_in}
 use Rattle.bundle_state.specs.Changed.{with_links, place_fault, link_put_at, link_inserted}
 use Rattle.bundle_state.specs.ChangedLaws.{KeepsForm, KeepsRules}
 use Rattle.bundle_state.proofs.Tests.{cond_none, or_none}
@@ -110,13 +109,10 @@ placed_link_fits place from to config b after fits is =
 -- ---- the bundle with its kept levels
 
 pub placed_kept : (b : BundleParts) (place : ℕ) (from to : ItemId) (number : ℕ) (links : List Link) (places : Places) (r : Result (Unit {0}) Fault) →
-    definition_for b.definitions (record { from = from; to = to }) (level_in places from.0) (level_in places to.0) ≡ Ok number → IsKept b places →
+    definition_for b.definitions (record { from = from; to = to }) (level_of_id b.levels from.0) (level_of_id b.levels to.0) ≡ Ok number → IsKept b places →
     FindsFault r (option_or (add_fault (kind_of b.definitions number) number from to b.links) (place_fault place b.links)) →
     OnOk r (links ≡ insert b.links place (link_of number from to)) → OnErr r (links ≡ b.links) → IsKept (with_links b links) places
 placed_kept b place from to number links places (Ok x) found kept finds links_is same =
-    let here : definition_for b.definitions (record { from = from; to = to }) (level_of_id b.levels from.0) (level_of_id b.levels to.0) ≡ Ok number =
-    ap (λ (o : Option ℕ). definition_for b.definitions (record { from = from; to = to }) o (level_of_id b.levels to.0)) (sym (kept.placed from.0))
-    ∙ ap (λ (o : Option ℕ). definition_for b.definitions (record { from = from; to = to }) (level_in places from.0) o) (sym (kept.placed to.0)) ∙ found in
     subst (λ ls. IsKept (with_links b ls) places) (sym links_is)
-    (record { rules = placed_rules b place from to number here (free_at b place number from to finds) kept.rules; placed = kept.placed })
+    (record { rules = placed_rules b place from to number found (free_at b place number from to finds) kept.rules; placed = kept.placed })
 placed_kept b place from to number links places (Err e) found kept finds links_is same = subst (λ ls. IsKept (with_links b ls) places) (sym same) kept

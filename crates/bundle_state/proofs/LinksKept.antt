@@ -285,19 +285,7 @@ pub all_given : (defs : List LinkDef) (level : ℕ → Option ℕ) (given : List
     put_links defs level given [] ≡ Ok links → map pair_of links ≡ first_places given
 all_given defs level given links is = links_given defs level given [] links is ∙ filter_every (first_places given)
 
--- A loop along the links, and another way to find levels.
-
-onward_same : {A B : Type 0} (r : Result A Broken) (f g : A → Result B Broken) → ((x : A) → f x ≡ g x) → onward r f ≡ onward r g
-onward_same (Ok x) f g same = same x
-onward_same (Err rule) f g same = refl
-
-pub links_alike : (defs : List LinkDef) (f g : ℕ → Option ℕ) → ((q : ℕ) → f q ≡ g q) → (given : List AnnotLink) (links : List Link) →
-    put_links defs f given links ≡ put_links defs g given links
-links_alike defs f g same [] links = refl
-links_alike defs f g same (h ∷ hs) links =
-    ap (λ (a : Option ℕ). onward (onward (definition_for defs h a (f h.to.0)) (put_by defs links h)) (put_links defs f hs)) (same h.from.0)
-    ∙ ap (λ (b : Option ℕ). onward (onward (definition_for defs h (g h.from.0) b) (put_by defs links h)) (put_links defs f hs)) (same h.to.0)
-    ∙ onward_same (put_link defs g links h) (put_links defs f hs) (put_links defs g hs) (λ ls. links_alike defs f g same hs ls)
+-- A loop along the links.
 
 -- a broken rule in place of a value
 abbrev stopped : (A : Type 0) → Broken → Result A Broken

@@ -1,8 +1,8 @@
 //! A bundle of the database, valid by its type.
 //!
 //! A bundle keeps its levels, its link definitions, its links and the places of its ids by handles, which
-//! its copies share. Beside its levels it has a map from ids to levels, by which an item is found without
-//! a walk over all levels.
+//! its copies share. Of many items it has a map from ids to levels, by which an item is found without
+//! asking each level.
 ghost use Rattle.std.specs.Prelude.{◌≡◌, ◌<◌, length, IfOk, IfSome, IsTrue, OnErr, OnOk, Some, Ok, Err};
 ghost use Rattle.std.specs.List.{slice_get};
 ghost use Rattle.emu_names.specs.declared.limits.TheConstants.{BUNDLE_ITEMS};
@@ -14,7 +14,7 @@ ghost use Rattle.bundle_state.specs.Built.{built, bundle_of, FitsConfig};
 ghost use Rattle.bundle_state.specs.Changed.{item_added, item_removed, label_set, item_retimed, link_added, link_inserted, link_removed};
 ghost use Rattle.bundle_state.specs.Fitted.{CanFit, fitted};
 ghost use Rattle.bundle_state.specs.Inner.Changed.{attributes_with};
-ghost use Rattle.bundle_state.specs.Inner.Kept.{ArePlacesOf};
+ghost use Rattle.bundle_state.specs.Inner.Placed.{ArePlaced};
 ghost use Rattle.bundle_state.specs.Valid.{KeepsBundleRules};
 
 use crate::changes::{put_item, take_out};
@@ -22,7 +22,7 @@ use crate::fitted::fitted_levels;
 use crate::given_levels::levels_for;
 use crate::given_links::{definition_for, shared_links};
 use crate::own::{add, add_at, remove};
-use crate::places::{Places, shared_places};
+use crate::places::Places;
 use db_config::{Config, LinkDef, LinkDefs};
 use emu_names::{Broken, BundleKey, Fault, ItemId, Memory, PlainData, Text};
 use level_items::{Annot, AnnotLink, Handle, Item, LevelList, SharedLevels, Time};
@@ -45,7 +45,7 @@ pub struct Bundle {
     levels: SharedLevels,
     definitions: Handle<LinkDefs>,
     links: Handle<Links>,
-    places: Handle<Places>,
+    places: Places,
 }
 
 impl Model for Bundle {
@@ -100,8 +100,9 @@ impl Bundle {
     {
         let _parts = config.parts();
         let levels = levels_for(alloc, config, annot)?;
-        let places = shared_places(alloc, levels.as_slice())?;
-        let links = shared_links(alloc, config, &places, annot.links.as_slice())?;
+        let lists = levels.as_slice();
+        let places = Places::of(alloc, lists)?;
+        let links = shared_links(alloc, config, &places, lists, annot.links.as_slice())?;
         let bundle = Bundle::of(alloc, config, key, annot, levels, places, links)?;
         Ok(bundle)
     }
@@ -113,11 +114,11 @@ impl Bundle {
         key: BundleKey,
         annot: &Annot,
         levels: SharedLevels,
-        places: Handle<Places>,
+        places: Places,
         links: Handle<Links>,
     ) -> Result<Bundle, Memory>
         requires rules { KeepsBundleRules (bundle_of config.now key annot.now levels links) }
-        requires placed { ArePlacesOf levels places }
+        requires placed { ArePlaced (level_of_id levels) places }
         ensures { IfOk result (λ made. made ≡ bundle_of config.now key annot.now levels links) }
     {
         match copied_parts(alloc, config, annot) {
@@ -218,7 +219,7 @@ impl Bundle {
         ensures level { result ≡ level_of_id self.now.levels id.0 }
         ensures within { IfSome result (λ level. level < length self.now.levels) }
     {
-        self.places.as_ref().level_of(id)
+        self.places.level_of(self.levels.as_slice(), id)
     }
 
     /// Puts an item on a level, by the level's number: on an ITEM level at `position`, or last where none is
@@ -324,7 +325,8 @@ impl Bundle {
             → link_added from to self.old ≡ Err rule }
         ensures kept { OnErr result (self.new ≡ self.old) }
     {
-        let number = definition_for(config, self.places.as_ref(), &AnnotLink { from, to })?;
+        let pair = AnnotLink { from, to };
+        let number = definition_for(config, &self.places, self.levels.as_slice(), &pair)?;
         add(&mut self.links, number, config.link_kind(number), from, to)
     }
 
@@ -343,7 +345,8 @@ impl Bundle {
             → link_inserted place from to self.old ≡ Err rule }
         ensures kept { OnErr result (self.new ≡ self.old) }
     {
-        let number = definition_for(config, self.places.as_ref(), &AnnotLink { from, to })?;
+        let pair = AnnotLink { from, to };
+        let number = definition_for(config, &self.places, self.levels.as_slice(), &pair)?;
         let kind = config.link_kind(number);
         add_at(&mut self.links, place as usize, number, kind, from, to)
     }
@@ -376,7 +379,7 @@ impl Bundle {
             levels,
             definitions: Handle::new(alloc, definitions)?,
             links: self.links.copy(alloc)?,
-            places: self.places.copy(alloc)?,
+            places: self.places.copy()?,
         })
     }
 
@@ -391,7 +394,7 @@ impl Bundle {
             levels: self.levels.copy(alloc)?,
             definitions: self.definitions.copy(alloc)?,
             links: self.links.copy(alloc)?,
-            places: self.places.copy(alloc)?,
+            places: self.places.copy()?,
         })
     }
 }

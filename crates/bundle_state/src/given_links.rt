@@ -2,13 +2,14 @@
 ghost use Rattle.std.specs.Prelude.{◌≡◌, ◌<◌, [], length, IfOk, OnOk, Ok, Err};
 ghost use Rattle.emu_names.specs.declared.rules.Broken.{Broken as Rule};
 ghost use Rattle.emu_names.specs.Inner.Gives.{GivesOrBroken};
-ghost use Rattle.bundle_state.specs.Inner.Placed.{level_in};
+ghost use Rattle.bundle_state.specs.Bundle.{level_of_id};
+ghost use Rattle.bundle_state.specs.Inner.Placed.{ArePlaced};
 ghost use Rattle.bundle_state.specs.Linked.{definition_for, put_link, put_links};
 
 use crate::places::Places;
 use db_config::Config;
 use emu_names::{Broken, Fault};
-use level_items::{AnnotLink, Handle};
+use level_items::{AnnotLink, Handle, LevelList};
 use link_graph::Links;
 use std::alloc::Global;
 
@@ -16,16 +17,18 @@ use std::alloc::Global;
 pub(crate) fn definition_for(
     config: &Config,
     places: &Places,
+    levels: &[Handle<LevelList>],
     given: &AnnotLink,
 ) -> Result<u32, Fault>
+    requires { ArePlaced (level_of_id levels.now) places.now }
     ensures definition { GivesOrBroken result (definition_for config.now.links given.now
-        (level_in places.now given.now.from.0) (level_in places.now given.now.to.0)) }
+        (level_of_id levels.now given.now.from.0) (level_of_id levels.now given.now.to.0)) }
     ensures within { IfOk result (λ number. number < length config.now.links) }
 {
-    let Some(upper) = places.level_of(given.from) else {
+    let Some(upper) = places.level_of(levels, given.from) else {
         return Err(Fault::Broken(Broken::NoItem(given.from)));
     };
-    let Some(lower) = places.level_of(given.to) else {
+    let Some(lower) = places.level_of(levels, given.to) else {
         return Err(Fault::Broken(Broken::NoItem(given.to)));
     };
     match config.link_definition(upper, lower) {
@@ -38,15 +41,17 @@ pub(crate) fn definition_for(
 fn put_link(
     config: &Config,
     places: &Places,
+    levels: &[Handle<LevelList>],
     links: &mut Links,
     given: &AnnotLink,
 ) -> Result<(), Fault>
+    requires { ArePlaced (level_of_id levels.now) places.now }
     ensures ok { OnOk result
-        (put_link config.now.links (level_in places.now) links.old given.now ≡ Ok links.new) }
+        (put_link config.now.links (level_of_id levels.now) links.old given.now ≡ Ok links.new) }
     ensures broken { (rule : Rule) → result ≡ Err (Fault.Broken rule)
-        → put_link config.now.links (level_in places.now) links.old given.now ≡ Err rule }
+        → put_link config.now.links (level_of_id levels.now) links.old given.now ≡ Err rule }
 {
-    let number = definition_for(config, places, given)?;
+    let number = definition_for(config, places, levels, given)?;
     if links.has(given.from, given.to) {
         return Ok(());
     }
@@ -58,13 +63,15 @@ fn made_links(
     alloc: Global,
     config: &Config,
     places: &Places,
+    levels: &[Handle<LevelList>],
     given: &[AnnotLink],
 ) -> Result<Links, Fault>
-    ensures { GivesOrBroken result (put_links config.now.links (level_in places.now) given.now []) }
+    requires { ArePlaced (level_of_id levels.now) places.now }
+    ensures { GivesOrBroken result (put_links config.now.links (level_of_id levels.now) given.now []) }
 {
     let mut links = Links::with_capacity(alloc, given.len())?;
     for place in 0..given.len() {
-        match put_link(config, places, &mut links, &given[place]) {
+        match put_link(config, places, levels, &mut links, &given[place]) {
             Ok(()) => {}
             Err(fault) => return Err(fault),
         }
@@ -76,12 +83,14 @@ fn made_links(
 pub(crate) fn shared_links(
     alloc: Global,
     config: &Config,
-    places: &Handle<Places>,
+    places: &Places,
+    levels: &[Handle<LevelList>],
     given: &[AnnotLink],
 ) -> Result<Handle<Links>, Fault>
-    ensures { GivesOrBroken result (put_links config.now.links (level_in places.now) given.now []) }
+    requires { ArePlaced (level_of_id levels.now) places.now }
+    ensures { GivesOrBroken result (put_links config.now.links (level_of_id levels.now) given.now []) }
 {
-    let links = made_links(alloc, config, places.as_ref(), given)?;
+    let links = made_links(alloc, config, places, levels, given)?;
     let shared = Handle::new(alloc, links)?;
     Ok(shared)
 }

@@ -1,5 +1,5 @@
 -- What a level list keeps, after each change.
-use Rattle.std.proofs.Common.{◌≡◌, ◌⊎◌, inl, inr, ℕ, zero, suc, ◌<◌, Bool, true, false, not, ◌&&◌, ◌||◌, ◌==◌, cond, List, [], ◌∷◌, ◌++◌, length, take, drop, nat_eq, refl, sym, ap, subst, ◌∙◌, Option, Some, None, arith}
+use Rattle.std.proofs.Common.{◌≡◌, ℕ, zero, suc, ◌<◌, Bool, true, false, not, ◌&&◌, ◌||◌, ◌==◌, cond, List, [], ◌∷◌, ◌++◌, length, take, drop, nat_eq, refl, sym, ap, subst, ◌∙◌, Option, Some, None, arith}
 use Rattle.std.specs.List.{list_any, list_all, slice_get, slice_set, insert, remove}
 use Rattle.std.proofs.lemmas.Bool.{and_parts, and_from, eqb-true, eq-eqb}
 use Rattle.std.proofs.lemmas.List.{take-append-drop, length-set}
@@ -14,7 +14,7 @@ use Rattle.level_items.specs.Times.{fits_kind, ends_in_time}
 use Rattle.level_items.specs.Levels.{level_of, KeepsLevelRule, ids_of, are_labels_for, is_short, fits_level, new_place, change_at, retimed, relabelled}
 use Rattle.level_items.specs.Faults.{time_fault, position_fault, neighbour_fault, insert_fault, retime_fault}
 use Rattle.std.specs.Option.{option_or}
-use Rattle.level_items.specs.Inner.Marked.{is_marked}
+use Rattle.level_items.specs.Inner.Marked.{AreMarked, KeepsMarked, is_id_of}
 use Rattle.level_items.specs.Inner.Kept.{IsKept}
 use Rattle.level_items.proofs.Lists.{around}
 use Rattle.level_items.proofs.Rules.{or_none, order_with, order_same, rule_with, rule_without, any_id, without_id, again}
@@ -113,17 +113,22 @@ insert_rule kind attributes items position place x keeps free is labels =
           (order_with kind (take place items) x (drop place items) rule.ordered sides),
     )
 
-pub kept_insert : (kind : LevelKind) (attributes : ℕ) (items : List Item) (position : Option ℕ) (place : ℕ) (x : Item) (old new : Marks) →
-    IsKept (level_of kind attributes items) old →
+-- the marks of these ids are those of the same ids, told otherwise
+pub carried : (p test : ℕ → Bool) (marks : Marks) → ((q : ℕ) → p q ≡ test q) → AreMarked p marks → AreMarked test marks
+carried p test marks same marked = subst (λ t. AreMarked t marks) (λ i q. same q i) marked
+
+pub kept_insert : (kind : LevelKind) (attributes : ℕ) (items : List Item) (position : Option ℕ) (place : ℕ) (x : Item) (new : Marks) →
+    KeepsLevelRule (level_of kind attributes items) →
     insert_fault kind items position x ≡ None →
     place ≡ new_place kind items position x.time →
     are_labels_for attributes x.labels ≡ true →
-    ((q : ℕ) → is_marked new q ≡ (nat_eq q x.id.0 || is_marked old q)) →
+    AreMarked (λ q. nat_eq q x.id.0 || is_id_of items q) new →
     IsKept (level_of kind attributes (insert items place x)) new
-kept_insert kind attributes items position place x old new kept free is labels more = record {
-  rule = (insert_rule kind attributes items position place x kept.rule free is labels).1;
-  marked = λ q. more q ∙ ap (λ b. nat_eq q x.id.0 || b) (kept.marked q ∙ ap (λ zs. list_any (nat_eq q) (ids_of zs)) (sym (take-append-drop place items)))
-      ∙ sym (any_id q (take place items) x (drop place items));
+kept_insert kind attributes items position place x new rule free is labels more = record {
+  rule = (insert_rule kind attributes items position place x rule free is labels).1;
+  marked = carried (λ q. nat_eq q x.id.0 || is_id_of items q) (is_id_of (insert items place x)) new
+      (λ q. ap (λ zs. nat_eq q x.id.0 || is_id_of zs q) (sym (take-append-drop place items)) ∙ sym (any_id q (take place items) x (drop place items)))
+      more;
 }
 
 -- ---- an item taken out
@@ -131,16 +136,19 @@ kept_insert kind attributes items position place x old new kept free is labels m
 pub kept_remove : (kind : LevelKind) (attributes : ℕ) (items : List Item) (i : ℕ) (x : Item) (old new : Marks) →
     IsKept (level_of kind attributes items) old →
     slice_get items i ≡ Some x →
-    ((q : ℕ) → is_marked new q ≡ (not (nat_eq q x.id.0) && is_marked old q)) →
+    KeepsMarked (λ test q. not (nat_eq q x.id.0) && test q) old new →
     IsKept (level_of kind attributes (remove items i)) new
 kept_remove kind attributes items i x old new kept at less =
     let whole = around items i x at in
+    let rest = take i items ++ drop (suc i) items in
     let rule = subst (λ zs. KeepsLevelRule (level_of kind attributes zs)) (sym whole) kept.rule in
     let without = rule_without kind attributes (take i items) x (drop (suc i) items) rule in
     record {
       rule = without.rule;
-      marked = λ q. less q ∙ without_id q x.id.0 (ids_of (take i items ++ drop (suc i) items)) (is_marked old q) without.fresh
-          (kept.marked q ∙ ap (λ zs. list_any (nat_eq q) (ids_of zs)) (sym whole) ∙ any_id q (take i items) x (drop (suc i) items));
+      marked = carried (λ q. not (nat_eq q x.id.0) && is_id_of items q) (is_id_of rest) new
+          (λ q. without_id q x.id.0 (ids_of rest) (is_id_of items q) without.fresh
+          (ap (λ zs. is_id_of zs q) (sym whole) ∙ any_id q (take i items) x (drop (suc i) items)))
+          (less (is_id_of items) kept.marked);
     }
 
 -- ---- an item changed
@@ -166,18 +174,20 @@ pub kept_retime : (kind : LevelKind) (attributes : ℕ) (items : List Item) (i :
     IsKept (level_of kind attributes items) old →
     slice_get items i ≡ Some x →
     retime_fault kind items i time ≡ None →
-    ((q : ℕ) → is_marked new q ≡ (nat_eq q x.id.0 || is_marked old q)) →
+    KeepsMarked (λ test q. nat_eq q x.id.0 || test q) old new →
     IsKept (level_of kind attributes (change_at (retimed time) i items)) new
 kept_retime kind attributes items i x time old new kept at free more =
     let before = take i items in
     let behind = drop (suc i) items in
-    let rest : (q : ℕ) → list_any (nat_eq q) (ids_of (change_at (retimed time) i items)) ≡ (nat_eq q x.id.0 || list_any (nat_eq q) (ids_of (before ++ behind))) =
-    λ q. ap (λ zs. list_any (nat_eq q) (ids_of zs)) (change_around (retimed time) i items x at) ∙ any_id q before (retimed time x) behind in
+    let changed = change_at (retimed time) i items in
+    let rest : (q : ℕ) → is_id_of changed q ≡ (nat_eq q x.id.0 || is_id_of (before ++ behind) q) =
+    λ q. ap (λ zs. is_id_of zs q) (change_around (retimed time) i items x at) ∙ any_id q before (retimed time x) behind in
     record {
       rule = retime_rule kind attributes items i x time kept.rule at free;
-      marked = λ q. more q
-          ∙ ap (λ b. nat_eq q x.id.0 || b) (kept.marked q ∙ ap (λ zs. list_any (nat_eq q) (ids_of zs)) (sym (around items i x at)) ∙ any_id q before x behind)
-          ∙ again (nat_eq q x.id.0) (list_any (nat_eq q) (ids_of (before ++ behind))) ∙ sym (rest q);
+      marked = carried (λ q. nat_eq q x.id.0 || is_id_of items q) (is_id_of changed) new
+          (λ q. ap (λ b. nat_eq q x.id.0 || b) (ap (λ zs. is_id_of zs q) (sym (around items i x at)) ∙ any_id q before x behind)
+          ∙ again (nat_eq q x.id.0) (is_id_of (before ++ behind) q) ∙ sym (rest q))
+          (more (is_id_of items) kept.marked);
     }
 
 pub kept_label : (kind : LevelKind) (attributes : ℕ) (items : List Item) (i : ℕ) (x : Item) (attribute : ℕ) (label : List ℕ) (marks : Marks) →
@@ -196,28 +206,13 @@ kept_label kind attributes items i x attribute label marks kept at short =
     let fit = parts_of_fit kind attributes x without.fits in
     let count : (length (slice_set x.labels attribute label) == attributes) ≡ true = eq-eqb _ _ (length-set x.labels attribute label ∙ fit.count) in
     let labels = and_from (length (slice_set x.labels attribute label) == attributes) (list_all is_short (slice_set x.labels attribute label)) count (all_set is_short x.labels attribute label short fit.short) in
-    let rest : (q : ℕ) → list_any (nat_eq q) (ids_of (change_at (relabelled attribute label) i items)) ≡ (nat_eq q x.id.0 || list_any (nat_eq q) (ids_of (before ++ behind))) =
-    λ q. ap (λ zs. list_any (nat_eq q) (ids_of zs)) changed ∙ any_id q before y behind in
+    let new = change_at (relabelled attribute label) i items in
+    let rest : (q : ℕ) → is_id_of new q ≡ (nat_eq q x.id.0 || is_id_of (before ++ behind) q) =
+    λ q. ap (λ zs. is_id_of zs q) changed ∙ any_id q before y behind in
     record {
       rule = subst (λ zs. KeepsLevelRule (level_of kind attributes zs)) (sym changed)
           (rule_with kind attributes before y behind without.rule without.fresh (fit_of_parts kind attributes y fit.form fit.end labels)
           (order_same kind before x y behind refl rule.ordered));
-      marked = λ q. kept.marked q ∙ ap (λ zs. list_any (nat_eq q) (ids_of zs)) (sym whole) ∙ any_id q before x behind ∙ sym (rest q);
+      marked = carried (is_id_of items) (is_id_of new) marks
+          (λ q. ap (λ zs. is_id_of zs q) (sym whole) ∙ any_id q before x behind ∙ sym (rest q)) kept.marked;
     }
-
--- ---- marks that are shared until one owner changes them
-
--- those that an owner may write are the marks from before
-pub own_marks : (m x : Marks) → (x ≡ m) ⊎ ((q : ℕ) → is_marked x q ≡ is_marked m q) → (q : ℕ) → is_marked x q ≡ is_marked m q
-own_marks m x (inl same) q = ap (λ (z : Marks). is_marked z q) same
-own_marks m x (inr same) q = same q
-
--- an owner's marks with one more
-pub own_more : (m x new end : Marks) (n : ℕ) → end ≡ new → (x ≡ m) ⊎ ((q : ℕ) → is_marked x q ≡ is_marked m q) →
-    ((q : ℕ) → is_marked new q ≡ (nat_eq q n || is_marked x q)) → (q : ℕ) → is_marked end q ≡ (nat_eq q n || is_marked m q)
-own_more m x new end n back own more q = ap (λ (z : Marks). is_marked z q) back ∙ more q ∙ ap (λ b. nat_eq q n || b) (own_marks m x own q)
-
--- an owner's marks with one less
-pub own_less : (m x new end : Marks) (n : ℕ) → end ≡ new → (x ≡ m) ⊎ ((q : ℕ) → is_marked x q ≡ is_marked m q) →
-    ((q : ℕ) → is_marked new q ≡ (not (nat_eq q n) && is_marked x q)) → (q : ℕ) → is_marked end q ≡ (not (nat_eq q n) && is_marked m q)
-own_less m x new end n back own less q = ap (λ (z : Marks). is_marked z q) back ∙ less q ∙ ap (λ b. not (nat_eq q n) && b) (own_marks m x own q)

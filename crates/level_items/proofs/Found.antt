@@ -1,6 +1,6 @@
 -- Where an item of an id stands.
-use Rattle.std.proofs.Common.{◌≡◌, ℕ, suc, ◌<◌, Bool, true, false, ◌||◌, List, [], ◌∷◌, take, drop, get_or, length, nat_eq, refl, sym, ap, ◌∙◌, Some, None, arith}
-use Rattle.std.specs.List.{list_any, slice_get, position}
+use Rattle.std.proofs.Common.{◌≡◌, ℕ, suc, ◌+◌, ◌<◌, Bool, true, false, not, ◌||◌, cond, nat_lt, is_some, List, [], ◌∷◌, take, drop, get_or, length, nat_eq, refl, sym, ap, ◌∙◌, Some, None, arith}
+use Rattle.std.specs.List.{list_any, slice_get, position, position_or_len}
 use Rattle.std.proofs.lemmas.Bool.{or_parts, eq-eqb, eqb-true}
 use Rattle.std.proofs.lemmas.Option.{slice_get_read}
 use Rattle.std.proofs.lemmas.Bool.Decides.{nat_tests}
@@ -40,3 +40,31 @@ pub found_at : (items : List Item) (i n : ℕ) (x : Item) → are_different (ids
     Some i ≡ position (has_id n) items
 found_at items i n x different within here same =
     found items i x n different (slice_get_read items (length items) i x refl within here) (eqb-true x.id.0 n (sym same))
+
+-- a place is found exactly where an item has the id
+within_is : {A : Type 0} (p : A → Bool) (xs : List A) → nat_lt (position_or_len p xs) (length xs) ≡ list_any p xs
+within_is p [] = refl
+within_is p (x ∷ xs) = by_test (p x) refl (within_is p xs)
+  where
+    first : (n : ℕ) → nat_lt 0 (suc n) ≡ true
+    first n = grind (arith, nat_tests)
+
+    next : (m n : ℕ) → nat_lt (1 + m) (suc n) ≡ nat_lt m n
+    next m n = grind (arith, nat_tests)
+
+    by_test : (t : Bool) → p x ≡ t → nat_lt (position_or_len p xs) (length xs) ≡ list_any p xs → nat_lt (position_or_len p (x ∷ xs)) (length (x ∷ xs)) ≡ list_any p (x ∷ xs)
+    by_test true e rest =
+        ap (λ b. nat_lt (cond (not b) (1 + position_or_len p xs) 0) (suc (length xs))) e ∙ first (length xs)
+        ∙ sym (ap (λ b. b || list_any p xs) e)
+    by_test false e rest =
+        ap (λ b. nat_lt (cond (not b) (1 + position_or_len p xs) 0) (suc (length xs))) e ∙ next (position_or_len p xs) (length xs)
+        ∙ rest ∙ sym (ap (λ b. b || list_any p xs) e)
+
+pub is_found : (items : List Item) (n : ℕ) → is_some (position (has_id n) items) ≡ list_any (nat_eq n) (ids_of items)
+is_found items n =
+    some_where (nat_lt (position_or_len (has_id n) items) (length items)) (position_or_len (has_id n) items)
+    ∙ within_is (has_id n) items ∙ any_has n items
+  where
+    some_where : (b : Bool) (i : ℕ) → is_some (cond b (Some i) None) ≡ b
+    some_where true i = refl
+    some_where false i = refl

@@ -1,5 +1,5 @@
 -- A level with more attributes keeps the level rule.
-use Rattle.std.proofs.Common.{◌≡◌, ℕ, zero, suc, ◌+◌, ◌-◌, ◌≤◌, Bool, true, ◌&&◌, ◌==◌, List, [], ◌∷◌, ◌++◌, length, map, replicate, nat_eq, refl, sym, ap, subst, ◌∙◌, arith}
+use Rattle.std.proofs.Common.{◌≡◌, ℕ, zero, suc, ◌+◌, ◌-◌, ◌≤◌, true, ◌&&◌, List, [], ◌∷◌, ◌++◌, length, map, replicate, nat_eq, refl, sym, ap, subst, ◌∙◌, arith}
 use Rattle.std.specs.List.{list_all, list_any}
 use Rattle.std.proofs.lemmas.Bool.{and_parts, and_from, eq-eqb}
 use Rattle.std.proofs.lemmas.List.{append-nil, length-append, length-map, length-replicate}
@@ -11,7 +11,8 @@ use Rattle.level_items.specs.declared.items.Item.{Item}
 use Rattle.level_items.specs.declared.marks.Marks.{Marks}
 use Rattle.level_items.specs.Levels.{Level, level_of, widened, KeepsLevelRule, ids_of, are_different, is_short, are_labels_for, fits_level, are_in_order, are_apart, is_before_first, padded, widened_item}
 use Rattle.level_items.specs.Inner.Kept.{IsKept}
-use Rattle.level_items.proofs.Changes.{parts_of_fit, fit_of_parts}
+use Rattle.level_items.specs.Inner.Marked.{KeepsMarked, is_id_of}
+use Rattle.level_items.proofs.Changes.{carried, parts_of_fit, fit_of_parts}
 
 -- ---- labels
 
@@ -78,14 +79,16 @@ pub kept_widened : (kind : LevelKind) (attributes count : ℕ) (items : List Ite
     IsKept (level_of kind attributes items) marks → IsKept (level_of kind count (map (widened_item count) items)) marks
 kept_widened kind attributes count items marks within kept = record {
   rule = rule_widened kind attributes count items within kept.rule;
-  marked = λ q. kept.marked q ∙ ap (λ ns. list_any (nat_eq q) ns) (sym (ids_widened count items));
+  marked = carried (is_id_of items) (is_id_of (map (widened_item count) items)) marks
+      (λ q. ap (λ ns. list_any (nat_eq q) ns) (sym (ids_widened count items))) kept.marked;
 }
 
 pub kept_copy : (kind : LevelKind) (attributes count : ℕ) (items made : List Item) (marks new : Marks) → attributes ≤ count →
-    IsKept (level_of kind attributes items) marks → made ≡ map (widened_item count) items → new ≡ marks → IsKept (level_of kind count made) new
+    IsKept (level_of kind attributes items) marks → made ≡ map (widened_item count) items → KeepsMarked (λ test. test) marks new → IsKept (level_of kind count made) new
 kept_copy kind attributes count items made marks new within kept is same =
+    let wide = kept_widened kind attributes count items marks within kept in
     subst (λ zs. IsKept (level_of kind count zs) new) (sym is)
-    (subst (λ m. IsKept (level_of kind count (map (widened_item count) items)) m) (sym same) (kept_widened kind attributes count items marks within kept))
+    (record { rule = wide.rule; marked = same (is_id_of (map (widened_item count) items)) wide.marked })
 
 -- a level with as many attributes as it has is the level itself
 padded_same : (count : ℕ) (labels : List (List ℕ)) → length labels ≡ count → padded count labels ≡ labels

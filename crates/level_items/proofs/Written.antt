@@ -1,5 +1,5 @@
 -- A level that was changed in its place among all levels.
-use Rattle.std.proofs.Common.{◌≡◌, ℕ, zero, suc, ◌<◌, List, [], ◌∷◌, length, get_or, Option, Some, Result, Ok, Err, OnOk, sym, ◌∙◌, ap, slice_set}
+use Rattle.std.proofs.Common.{◌≡◌, ℕ, zero, suc, ◌<◌, List, [], ◌∷◌, length, get_or, Some, Result, Ok, Err, OnOk, sym, ◌∙◌, ap, slice_set}
 use Rattle.std.specs.List.{slice_get}
 use Rattle.std.proofs.lemmas.Option.{slice_get-get_or}
 use Rattle.level_items.specs.Levels.{Level}

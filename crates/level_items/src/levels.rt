@@ -1,11 +1,4 @@
 //! A level list: the items of one level of a bundle, which keep the level rule.
-//!
-//! Beside its items, which stand in one vector, a list has a map from ids to marks. A new id is
-//! looked up in that map. The place of a new segment or point is found by halving the list, since the
-//! items stand in the order of their first samples. An item is found by its mark: that of a segment or
-//! point is its first sample, by which the list is halved, and that of an item without time its place.
-//! Where items without time are put in or taken out, those behind them are a little away from their marks,
-//! and are marked anew once in a while.
 ghost use Rattle.std.specs.Prelude.{◌≡◌, ◌<◌, ◌≤◌, [], length, nat_eq, insert, remove, position, slice_get, Some, IsTrue, ◌↔◌, IfOk, OnOk, OnErr};
 ghost use Rattle.level_items.specs.Levels.{Level, KeepsLevelRule, are_labels_for, change_at, is_short, level_of, new_place, relabelled, retimed, widened, with_items};
 ghost use Rattle.level_items.specs.Faults.{insert_fault, retime_fault};
@@ -13,16 +6,11 @@ ghost use Rattle.emu_names.specs.Inner.Gives.{FindsFault};
 
 use crate::items::Item;
 use crate::marks::Marks;
-use crate::moves::{
-    copied, mark_of, marks_of, note_moved, place_of_mark, position_near, put_in, retime_passes,
-    set_label_in, set_time_in, widened,
-};
-use crate::places::place_for;
+use crate::moves::{make_room, mark_of, put_in, retime_passes, set_label_in, set_time_in, widened};
 use crate::times::Time;
 use emu_names::{Fault, ItemId, LevelKind, Memory, PlainData, Text};
 use std::alloc::{AllocError, Global};
 use std::marker::Model;
-use std::sync::Arc;
 
 /// The items of a level, which contracts see as the level's kind, its number of attributes and the list
 /// of its items (EMU-SDMS Manual, "The emuDB format": `levels` in `_annot.json`).
@@ -36,9 +24,7 @@ pub struct LevelList {
     kind: LevelKind,
     attributes: usize,
     items: Vec<Item>,
-    marks: Arc<Marks>,
-    /// How far an item may be from its mark.
-    far: usize,
+    marks: Marks,
 }
 
 impl Model for LevelList {
@@ -51,7 +37,7 @@ impl Model for LevelList {
 
     ghost view = { λ l. level_of l.kind l.attributes l.items.items };
 
-    ghost invariant = { λ l. IsKept (level_of l.kind l.attributes l.items.items) l.marks.value };
+    ghost invariant = { λ l. IsKept (level_of l.kind l.attributes l.items.items) l.marks };
 }
 
 impl LevelList {
@@ -60,14 +46,7 @@ impl LevelList {
     pub fn new(alloc: Global, kind: LevelKind, attributes: usize) -> Result<LevelList, Memory>
         ensures { IfOk result (λ list. list ≡ level_of kind attributes []) }
     {
-        let marks = Arc::new(alloc, Marks::new(alloc))?;
-        Ok(LevelList {
-            kind,
-            attributes,
-            items: Vec::new(alloc),
-            marks,
-            far: 0,
-        })
+        LevelList::from_items(alloc, kind, attributes, Vec::new(alloc))
     }
 
     /// The list of these items, which keep the level rule. The only refusal is want of memory.
@@ -80,13 +59,12 @@ impl LevelList {
         requires { KeepsLevelRule (level_of kind attributes items.items) }
         ensures { IfOk result (λ list. list ≡ level_of kind attributes items.items) }
     {
-        let marks = marks_of(alloc, items.as_slice())?;
+        let marks = Marks::of(alloc, items.as_slice())?;
         Ok(LevelList {
             kind,
             attributes,
             items,
             marks,
-            far: 0,
         })
     }
 
@@ -131,9 +109,7 @@ impl LevelList {
     pub fn find(&self, id: ItemId) -> Option<usize>
         ensures { result ≡ position (λ i. nat_eq i.id.0 id.0) self.now.items }
     {
-        let mark = self.marks.as_ref().get(id)?;
-        let guess = place_of_mark(self.kind, &self.items, mark);
-        position_near(&self.items, guess, self.far, id)
+        self.marks.find(self.kind, &self.items, id)
     }
 
     /// Puts an item in, and answers its place. On an ITEM level this is `position`, or the end where none
@@ -151,48 +127,24 @@ impl LevelList {
         ensures inserted { IfOk result (λ place. self.new ≡ with_items self.old (insert self.old.items place item)) }
         ensures kept { OnErr result (self.new ≡ self.old) }
     {
-        let place = match place_for(self.kind, &self.items, self.marks.as_ref(), position, &item) {
-            Ok(place) => place,
-            Err(fault) => {
-                drop(item);
-                return Err(fault);
-            }
-        };
-        let Ok(()) = self.items.reserve(1) else {
-            drop(item);
-            return Err(Fault::Memory);
-        };
-        let Ok(marks) = Arc::make_mut(&mut self.marks) else {
-            drop(item);
-            return Err(Fault::Memory);
-        };
-        let Ok(()) = marks.put(item.id, mark_of(place, item.time)) else {
-            drop(item);
-            return Err(Fault::Memory);
-        };
+        let (items, marks) = (&mut self.items, &mut self.marks);
+        let place = make_room(self.kind, items, marks, position, &item)?;
         put_in(&mut self.items, place, item);
-        self.far = note_moved(
-            marks,
-            self.kind,
-            &self.items,
-            place.saturating_add(1),
-            self.far,
-        );
+        self.marks
+            .note_moved(self.kind, &self.items, place.saturating_add(1));
         Ok(place)
     }
 
-    /// Takes the item at a position out, and closes up. The only refusal is want of memory, which changes
-    /// nothing.
+    /// Takes the item at a position out. The only refusal is want of memory, which changes nothing.
     pub fn remove(&mut self, position: usize) -> Result<Item, Memory>
         requires { position < length self.old.items }
         ensures item { IfOk result (λ item. slice_get self.old.items position ≡ Some item) }
         ensures removed { OnOk result (self.new ≡ with_items self.old (remove self.old.items position)) }
         ensures kept { OnErr result (self.new ≡ self.old) }
     {
-        let marks = Arc::make_mut(&mut self.marks)?;
+        self.marks.take_away(self.items[position].id)?;
         let item = self.items.remove(position);
-        marks.take_away(item.id);
-        self.far = note_moved(marks, self.kind, &self.items, position, self.far);
+        self.marks.note_moved(self.kind, &self.items, position);
         Ok(item)
     }
 
@@ -230,8 +182,8 @@ impl LevelList {
         ensures kept { OnErr result (self.new ≡ self.old) }
     {
         retime_passes(self.kind, &self.items, position, time)?;
-        let marks = Arc::make_mut(&mut self.marks)?;
-        marks.put(self.items[position].id, mark_of(position, time))?;
+        self.marks
+            .put(self.items[position].id, mark_of(position, time))?;
         set_time_in(&mut self.items, position, time);
         Ok(())
     }
@@ -240,15 +192,7 @@ impl LevelList {
     pub fn copy(&self, alloc: Global) -> Result<LevelList, Memory>
         ensures { IfOk result (λ made. made ≡ self.now) }
     {
-        let items = copied(alloc, self.items.as_slice())?;
-        let marks = self.marks.clone()?;
-        Ok(LevelList {
-            kind: self.kind,
-            attributes: self.attributes,
-            items,
-            marks,
-            far: self.far,
-        })
+        self.widened(alloc, self.attributes)
     }
 
     /// The same items on a level of so many attributes, at least as many as there are, with an empty label
@@ -258,13 +202,12 @@ impl LevelList {
         ensures { IfOk result (λ made. made ≡ widened attributes self.now) }
     {
         let items = widened(alloc, self.items.as_slice(), attributes)?;
-        let marks = self.marks.clone()?;
+        let marks = self.marks.copy()?;
         Ok(LevelList {
             kind: self.kind,
             attributes,
             items,
             marks,
-            far: self.far,
         })
     }
 }

@@ -1,30 +1,23 @@
 //! Work on the items of a level list, and the marks by which they are found.
-ghost use Rattle.std.specs.Prelude.{◌≡◌, ℕ, ◌+◌, ◌<◌, ◌≤◌, length, nat_eq, insert, map, position, slice_get, Some, vec_len, vec_capacity, IfOk, IfSome, OnOk, OnErr, IsTrue};
-ghost use Rattle.level_items.specs.Levels.{change_at, relabelled, retimed, are_different, ids_of, widened_item};
-ghost use Rattle.level_items.specs.Faults.{retime_fault};
+ghost use Rattle.std.specs.Prelude.{◌≡◌, ℕ, ◌+◌, ◌||◌, ◌<◌, ◌≤◌, length, nat_eq, insert, map, position, slice_get, Some, vec_len, vec_capacity, IfOk, IfSome, OnOk, OnErr, IsTrue};
+ghost use Rattle.level_items.specs.Levels.{are_different, are_in_order, change_at, ids_of, new_place, relabelled, retimed, widened_item};
+ghost use Rattle.level_items.specs.Faults.{insert_fault, retime_fault};
 ghost use Rattle.emu_names.specs.Inner.Gives.{FindsFault};
-ghost use Rattle.level_items.specs.Inner.Kept.{AreMarksOf};
-ghost use Rattle.level_items.specs.Inner.Marked.{is_marked};
+ghost use Rattle.level_items.specs.Inner.Marked.{AreMarked, is_id_of};
 ghost use Rattle.level_items.specs.declared.items.Item.{Item};
 
 use crate::items::Item;
 use crate::marks::Marks;
-use crate::places::{neighbours_pass, time_passes};
+use crate::places::{neighbours_pass, place_for, time_passes};
 use crate::times::Time;
 use emu_names::{Fault, ItemId, LevelKind, Memory, Text};
 use std::alloc::Global;
-use std::sync::Arc;
-
-/// How far an item without time may be from its mark: one place for each item that was put in or taken out
-/// before it.
-const FAR_FROM_MARK: usize = 256;
 
 /// The mark of an item that is put at this place: its first sample, or the place where it has no time.
 pub(crate) fn mark_of(place: usize, time: Time) -> u64 {
     match time {
         Time::NoTime => place as u64,
-        Time::Span { start, .. } => start,
-        Time::Point { at } => at,
+        _ => time.first_sample(),
     }
 }
 
@@ -46,8 +39,15 @@ pub(crate) fn position_near(items: &[Item], guess: usize, far: usize, id: ItemId
     let last = guess.saturating_add(far);
     match position_within(items, guess.saturating_sub(far), last, id) {
         Some(place) => Some(place),
-        None => items.iter().position(|item| item.id == id),
+        None => position_of(items, id),
     }
+}
+
+/// The position of the first item with this id.
+pub(crate) fn position_of(items: &[Item], id: ItemId) -> Option<usize>
+    ensures { result ≡ position (λ i. nat_eq i.id.0 id.0) items.now }
+{
+    items.iter().position(|item| item.id == id)
 }
 
 /// The position of an item, where it is one of these places.
@@ -65,47 +65,31 @@ fn position_within(items: &[Item], first: usize, last: usize, id: ItemId) -> Opt
     None
 }
 
-/// The marks of these items, for copies to share. The only refusal is want of memory.
-pub(crate) fn marks_of(alloc: Global, items: &[Item]) -> Result<Arc<Marks>, Memory>
-    ensures { IfOk result (λ marks. AreMarksOf items.now marks.value) }
-{
-    let mut marks = Marks::with_capacity(alloc, items.len())?;
-    for place in 0..items.len() {
-        let item = &items[place];
-        marks.put(item.id, mark_of(place, item.time))?;
-    }
-    Ok(Arc::new(alloc, marks)?)
-}
-
-/// Notes that the items of a level moved from a place on, and answers how far an item may be from its mark
-/// then, which was `far` places before. Only the marks of items without time depend on their places, and
-/// they are renewed once in 256 times, so that a run of changes does not renew them at each.
-pub(crate) fn note_moved(
-    marks: &mut Marks,
+/// The place of a new item, for which room is made and which is marked. A refusal, or want of memory,
+/// changes nothing.
+pub(crate) fn make_room(
     kind: LevelKind,
-    items: &[Item],
-    place: usize,
-    far: usize,
-) -> usize
-    ensures { (q : ℕ) → is_marked marks.new q ≡ is_marked marks.old q }
+    items: &mut Vec<Item>,
+    marks: &mut Marks,
+    position: Option<u32>,
+    item: &Item,
+) -> Result<usize, Fault>
+    requires order { IsTrue (are_in_order kind items.old.items) }
+    requires marked { AreMarked (is_id_of items.old.items) marks.old }
+    ensures fault { FindsFault result (insert_fault kind items.old.items position item.now) }
+    ensures place { IfOk result (λ place. place ≡ new_place kind items.old.items position item.now.time) }
+    ensures within { IfOk result (λ place. place ≤ vec_len items.new) }
+    ensures room { OnOk result (vec_len items.new < vec_capacity items.new) }
+    ensures items { items.new.items ≡ items.old.items }
+    ensures marked { OnOk result
+        (AreMarked (λ q. nat_eq q item.now.id.0 || is_id_of items.old.items q) marks.new) }
+    ensures kept { OnErr result (AreMarked (is_id_of items.old.items) marks.new) }
 {
-    if kind != LevelKind::Item || place >= items.len() {
-        return far;
-    }
-    if far < FAR_FROM_MARK {
-        return far + 1;
-    }
-    renew_all(marks, items);
-    0
-}
-
-/// Marks the items of an ITEM level by where they stand now.
-fn renew_all(marks: &mut Marks, items: &[Item])
-    ensures { (q : ℕ) → is_marked marks.new q ≡ is_marked marks.old q }
-{
-    for at in 0..items.len() {
-        marks.renew(items[at].id, at as u64);
-    }
+    let place = place_for(kind, items, marks, position, item)?;
+    items.reserve(1)?;
+    marks.grow(*items.allocator(), items)?;
+    marks.put(item.id, mark_of(place, item.time))?;
+    Ok(place)
 }
 
 /// Puts an item in at a place, where there is room.
@@ -171,17 +155,6 @@ pub(crate) fn widened(alloc: Global, items: &[Item], attributes: usize) -> Resul
             time: item.time,
             labels: item.labels.padded(alloc, attributes)?,
         })?;
-    }
-    Ok(made)
-}
-
-/// The same items again. The only refusal is want of memory.
-pub(crate) fn copied(alloc: Global, items: &[Item]) -> Result<Vec<Item>, Memory>
-    ensures { IfOk result (λ made. made.items ≡ items.now) }
-{
-    let mut made = Vec::with_capacity(alloc, items.len())?;
-    for item in items {
-        made.push(item.copy(alloc)?)?;
     }
     Ok(made)
 }

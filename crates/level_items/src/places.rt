@@ -4,7 +4,7 @@ ghost use Rattle.level_items.specs.Times.{starts_before};
 ghost use Rattle.level_items.specs.Levels.{are_apart, are_in_order, first_of, last_of, new_place};
 ghost use Rattle.level_items.specs.Faults.{time_fault, position_fault, order_fault, behind_fault, ahead_fault, neighbour_fault, insert_fault};
 ghost use Rattle.emu_names.specs.Inner.Gives.{FindsFault};
-ghost use Rattle.level_items.specs.Inner.Kept.{AreMarksOf};
+ghost use Rattle.level_items.specs.Inner.Marked.{AreMarked, is_id_of};
 
 use crate::items::Item;
 use crate::marks::Marks;
@@ -114,12 +114,12 @@ pub(crate) fn place_for(
     item: &Item,
 ) -> Result<usize, Fault>
     requires order { IsTrue (are_in_order kind items.now) }
-    requires marked { AreMarksOf items.now marks.now }
+    requires marked { AreMarked (is_id_of items.now) marks.now }
     ensures fault { FindsFault result (insert_fault kind items.now position item.now) }
     ensures place { IfOk result (λ place. place ≡ new_place kind items.now position item.now.time) }
     ensures within { IfOk result (λ place. place ≤ length items.now) }
 {
-    if marks.get(item.id).is_some() {
+    if marks.has(items, item.id) {
         return Err(Fault::Broken(Broken::IdTaken(item.id)));
     }
     time_passes(kind, item.time)?;

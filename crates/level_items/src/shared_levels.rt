@@ -150,8 +150,7 @@ impl SharedLevels {
         self.lists[level].insert(position, item)
     }
 
-    /// Takes the item at a position out of a level. The only refusal is want of memory, which changes
-    /// nothing.
+    /// Takes the item at a position of a level out. Only want of memory refuses it, and changes nothing.
     pub fn remove(&mut self, level: usize, position: usize) -> Result<(), Memory>
         requires level { level < length self.old }
         requires position { IfSome (slice_get self.old level) (λ l. position < length l.items) }

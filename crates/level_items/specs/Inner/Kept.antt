@@ -1,16 +1,9 @@
--- What a level list keeps beside its items: for each id a mark by which the item is found.
-use Rattle.std.specs.Prelude.{◌≡◌, ℕ, List, nat_eq}
-use Rattle.std.specs.List.{list_any}
+-- What a level list keeps beside its items: the marks by which they are found, where there are many.
 use Rattle.level_items.specs.declared.marks.Marks.{Marks}
-use Rattle.level_items.specs.declared.items.Item.{Item}
-use Rattle.level_items.specs.Levels.{Level, KeepsLevelRule, ids_of}
-use Rattle.level_items.specs.Inner.Marked.{is_marked}
-
--- the marked ids are those of the items
-abbrev pub AreMarksOf : List Item → Marks → Type 0
-AreMarksOf items marks = (q : ℕ) → is_marked marks q ≡ list_any (nat_eq q) (ids_of items)
+use Rattle.level_items.specs.Levels.{Level, KeepsLevelRule}
+use Rattle.level_items.specs.Inner.Marked.{AreMarked, is_id_of}
 
 -- the level rule, with the marks
 pub record IsKept (level : Level) (marks : Marks) : Type 0 where
   pub rule : KeepsLevelRule level
-  pub marked : AreMarksOf level.items marks
+  pub marked : AreMarked (is_id_of level.items) marks

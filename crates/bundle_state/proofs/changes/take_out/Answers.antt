@@ -4,7 +4,7 @@ use Rattle.link_graph.specs.Link.{names_item}
 use Rattle.bundle_state.proofs.NamedLinks.{none_taken}
 use Rattle.bundle_state.proofs.changes.take_out.Goals as goal
 
-pub returns-clause-unlinked : goal.returns-clause-unlinked
-returns-clause-unlinked c =
+pub returns-then-not-has_links-clause-unlinked : goal.returns-then-not-has_links-clause-unlinked
+returns-then-not-has_links-clause-unlinked c =
     let none : list_any (names_item c.args.id) c.args.links.now ≡ false = search rules in
     none_taken c.args.id c.args.links.now c.take_item.result none

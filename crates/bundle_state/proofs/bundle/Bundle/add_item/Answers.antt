@@ -38,7 +38,7 @@ invariant_of-self c =
     let low = subst (λ (s : BundleParts). number < length s.levels) (sym view) c.requires.level in
     let labels = subst (λ (s : BundleParts). IfSome (slice_get s.levels number) (λ l. IsTrue (are_labels_for l.attributes item.labels))) (sym view) c.requires.labels in
     let room = subst (λ (s : BundleParts). item_count s.levels < BUNDLE_ITEMS) (sym view) c.requires.room in
-    add_kept number c.args.position item b fresh c.put_item.result c.put_item.new.levels own.places c.put_item.new.places c.self.invariant low labels room
+    add_kept number c.args.position item b fresh c.put_item.result c.put_item.new.levels c.put_item.new.places c.self.invariant.rules low labels room
     c.put_item.ensures.fault c.put_item.ensures.inserted c.put_item.ensures.placed c.put_item.ensures.kept c.put_item.ensures.places
 
 pub returns-clause-ok : goal.returns-clause-ok

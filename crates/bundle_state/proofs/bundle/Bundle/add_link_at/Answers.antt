@@ -5,9 +5,8 @@ use Rattle.level_items.specs.declared.annot.AnnotLink.{AnnotLink}
 use Rattle.link_graph.specs.Link.{add_fault}
 use Rattle.std.specs.Option.{option_or}
 use Rattle.bundle_state.specs.Changed.{place_fault}
-use Rattle.bundle_state.specs.Bundle.{BundleParts}
+use Rattle.bundle_state.specs.Bundle.{BundleParts, level_of_id}
 use Rattle.bundle_state.specs.Linked.{kind_of, definition_for}
-use Rattle.bundle_state.specs.Inner.Placed.{level_in}
 use Rattle.bundle_state.proofs.ChangedKept.{kind_is}
 use Rattle.bundle_state.proofs.LinkPlaces.{placed_kept}
 use Rattle.bundle_state.proofs.bundle.Bundle.add_link_at.Goals as goal
@@ -20,9 +19,10 @@ invariant_of-self c =
     let number = c.in_ok-number.number in
     let links = c.args.config.now.links in
     let same : c.self.inside.definitions ≡ links = ap (λ (b : BundleParts). b.definitions) c.self.view_is ∙ c.requires.definitions in
-    let found : definition_for c.self.inside.definitions pair (level_in c.self.inside.places from.0) (level_in c.self.inside.places to.0) ≡ Ok number =
-    ap (λ ds. definition_for ds pair (level_in c.self.inside.places from.0) (level_in c.self.inside.places to.0)) same
-    ∙ ap (λ ps. definition_for links pair (level_in ps from.0) (level_in ps to.0)) (sym c.as_ref.ensures) ∙ c.in_ok-number.ensures.definition in
+    let levels = c.self.inside.levels in
+    let found : definition_for c.self.inside.definitions pair (level_of_id levels from.0) (level_of_id levels to.0) ≡ Ok number =
+    ap (λ ds. definition_for ds pair (level_of_id levels from.0) (level_of_id levels to.0)) same
+    ∙ ap (λ ls. definition_for links pair (level_of_id ls from.0) (level_of_id ls to.0)) (sym c.as_slice.ensures) ∙ c.in_ok-number.ensures.definition in
     let kind : kind_of c.self.inside.definitions number ≡ c.link_kind-kind.result =
     kind_is c.self.inside.definitions number c.link_kind-kind.result (ap (λ ds. option_map (λ d. d.kind) (slice_get ds number)) same ∙ c.link_kind-kind.ensures) in
     let finds : FindsFault c.add_at.result (option_or (add_fault (kind_of c.self.inside.definitions number) number from to c.self.inside.links) (place_fault c.args.place c.self.inside.links)) =

@@ -16,5 +16,5 @@ take_out-requires-clause-position c =
 pub invariant_of-self-2 : goal.invariant_of-self-2
 invariant_of-self-2 c =
     let is : place_of c.self.inside.levels c.args.id.0 ≡ Some (c.in-Some.level, c.in-Some.position) = search rules in
-    take_kept _ c.args.id c.in-Some.level c.in-Some.position c.take_out.new.levels c.take_out.new.links c.self.inside.places c.take_out.new.places is c.self.invariant
+    take_kept _ c.args.id c.in-Some.level c.in-Some.position c.take_out.new.levels c.take_out.new.links c.take_out.new.places is c.self.invariant.rules
     c.in_ok-take_out.ensures.removed c.in_ok-take_out.ensures.unlinked c.in_ok-take_out.ensures.forgotten

@@ -1,26 +1,25 @@
-use Rattle.std.proofs.Common.{rules, ◌≡◌, ℕ, ◌∙◌, length, refl, sym, subst}
+use Rattle.std.proofs.Common.{◌&&◌, not, nat_eq, length, refl, sym, subst}
 use Rattle.std.proofs.lemmas.Option.{slice_get_read}
 use Rattle.level_items.specs.Levels.{level_of}
 use Rattle.level_items.specs.Inner.Kept.{IsKept}
-use Rattle.level_items.proofs.Changes.{kept_remove, own_less}
+use Rattle.level_items.proofs.Changes.{kept_remove}
 use Rattle.level_items.proofs.levels.LevelList.remove.Goals as goal
 
 pub invariant_of-self-2 : goal.invariant_of-self-2
 invariant_of-self-2 c =
     let inside = c.self.inside in
+    let items = inside.items.items in
+    let item = c.index.result.now in
     let within = rw (← c.self.view_is) at c.requires in
-    let at = slice_get_read inside.items.items (length inside.items.items) c.args.position c.remove-item.result refl within c.remove-item.ensures.value in
-    let end = (c.make_mut.follows.lender c.note_moved-self-inside.new.marks).value in
-    let back : end ≡ c.note_moved-self-inside.new.marks = search rules in
-    let marked = own_less inside.marks.value _ c.note_moved-self-inside.new.marks end c.remove-item.result.id.0 back c.in_ok-marks.ensures.value
-    (λ (q : ℕ). c.note_moved-self-inside.ensures q ∙ c.take_away.ensures q) in
+    let at = slice_get_read items (length items) c.args.position item refl within c.index.ensures in
+    let end = c.note_moved.new.self in
     subst (λ zs. IsKept (level_of inside.kind inside.attributes zs) end) (sym c.remove-item.ensures.items)
-    (kept_remove inside.kind inside.attributes inside.items.items c.args.position c.remove-item.result inside.marks.value end
-    c.self.invariant at marked)
+    (kept_remove inside.kind inside.attributes items c.args.position item inside.marks end c.self.invariant at
+    (λ test marked. c.note_moved.ensures (λ q. not (nat_eq q item.id.0) && test q) (c.in_ok-take_away.ensures.ok test marked)))
 
 pub returns-clause-item : goal.returns-clause-item
 returns-clause-item c =
-    let inside = c.self.inside in
+    let items = c.self.inside.items.items in
     let within = rw (← c.self.view_is) at c.requires in
     rw (← c.self.view_is)
-    (slice_get_read inside.items.items (length inside.items.items) c.args.position c.remove-item.result refl within c.remove-item.ensures.value)
+    (slice_get_read items (length items) c.args.position c.remove-item.result refl within c.remove-item.ensures.value)

@@ -24,7 +24,7 @@ invariant_of-self c =
     let inside = c.self.inside in
     let items = inside.items.items in
     let new : c.set_label_in.new.items ≡ items = c.in_err-set_label_in.ensures.kept ∙ c.deref_mut.ensures.value in
-    subst (λ zs. IsKept (level_of inside.kind inside.attributes zs) inside.marks.value)
+    subst (λ zs. IsKept (level_of inside.kind inside.attributes zs) inside.marks)
     (sym (written items c.set_label_in.new.items inside.items.len inside.items.ok.0 (ap length new) ∙ new)) c.self.invariant
 
 pub invariant_of-self-2 : goal.invariant_of-self-2
@@ -37,6 +37,6 @@ invariant_of-self-2 c =
     let new : c.set_label_in.new.items ≡ change_at change c.args.position items =
     c.in_ok-set_label_in.ensures.labelled ∙ ap (change_at change c.args.position) c.deref_mut.ensures.value in
     let size = ap length new ∙ length-change_at change c.args.position items in
-    subst (λ zs. IsKept (level_of inside.kind inside.attributes zs) inside.marks.value) (sym (written items c.set_label_in.new.items inside.items.len inside.items.ok.0 size ∙ new))
-    (kept_label inside.kind inside.attributes items c.args.position item c.args.attribute c.args.label inside.marks.value c.self.invariant
+    subst (λ zs. IsKept (level_of inside.kind inside.attributes zs) inside.marks) (sym (written items c.set_label_in.new.items inside.items.len inside.items.ok.0 size ∙ new))
+    (kept_label inside.kind inside.attributes items c.args.position item c.args.attribute c.args.label inside.marks c.self.invariant
     (slice_get-get_or items c.args.position some_item within) c.requires.label)

@@ -1,6 +1,0 @@
-use Rattle.std.proofs.Common.{◌≡◌, take}
-use Rattle.level_items.proofs.moves.copied.Given as goal
-
--- the items so far are copied
-abbrev pub invariant-loop-item : goal.invariant-loop-item
-invariant-loop-item l = l.made.items ≡ take l.item-index l.items
