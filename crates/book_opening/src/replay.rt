@@ -84,9 +84,18 @@ fn put(replayed: &mut Replayed, entry: Entry, version: Version) -> Result<(), Me
     ensures version { OnOk result (replayed.new.version ≡ version) }
     ensures opening { OnOk result (replayed.new.opening ≡ replayed.old.opening) }
 {
-    replayed.entries.push(entry)?;
-    replayed.version = version;
-    Ok(())
+    let pushed = replayed.entries.push(&entry);
+    drop(entry);
+    match pushed {
+        Ok(()) => {
+            replayed.version = version;
+            Ok(())
+        }
+        Err(fault) => {
+            drop(version);
+            Err(fault)
+        }
+    }
 }
 
 /// Adds the entry of a body.

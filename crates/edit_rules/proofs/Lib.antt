@@ -1,6 +1,8 @@
+pub mod ActNames
 pub mod Beside
 pub mod Bundles
 pub mod Calls
+pub mod Crossings
 pub mod Fits
 pub mod KeyPlaces
 pub mod Lists

@@ -1,5 +1,6 @@
 pub mod Database
 pub mod Acts
+pub mod Words
 pub mod Effects
 pub mod Turns
 pub mod Laws

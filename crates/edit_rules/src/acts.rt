@@ -235,9 +235,6 @@ pub struct Entry {
     pub act: Act,
 }
 
-/// A history: the accepted acts, in order.
-pub type Entries = Series<Entry>;
-
 impl Entry {
     /// The same entry again. The only refusal is want of memory.
     pub fn copy(&self, alloc: Global) -> Result<Entry, Memory>

@@ -1,10 +1,7 @@
 -- What a commit owes: the checks before the disk is called, and the book behind each answer.
-use Rattle.std.proofs.Common.{◌≡◌, ◌⊎◌, inl, inr, ⊎_elim, true, Bool, ℕ, ◌+◌, ◌<◌, List, [], ◌∷◌, ◌++◌, length, take, drop, Option, None, Some, Result, Ok, Err, OnErr, IsErrOf, IsTrue, refl, sym, ◌∙◌, ap, subst, arith, length-append, take-append-drop}
+use Rattle.std.proofs.Common.{◌≡◌, ◌⊎◌, inl, inr, ⊎_elim, true, Bool, ℕ, ◌+◌, List, [], ◌∷◌, ◌++◌, length, take, drop, Option, None, Some, Result, Ok, Err, OnErr, IsErrOf, IsTrue, refl, sym, ◌∙◌, ap, subst, arith, length-append, take-append-drop}
 use Rattle.std.specs.Arc.{arc_value}
-use Rattle.std.specs.List.{slice_get}
 use Rattle.std.proofs.lemmas.List.{take-append-le, drop-append-le}
-use Rattle.std.proofs.lemmas.Option.{slice_get-get_or}
-use Rattle.std.proofs.Math.Seq.{get_or-append_seam, take-append_seam}
 use Rattle.db_config.specs.declared.parts.ConfigParts.{ConfigParts}
 use Rattle.version_steps.specs.edit_rules.declared.acts.ChangeFault.{ChangeFault}
 use Rattle.version_steps.specs.edit_rules.declared.acts.ChangeFault.TheVariants as faults
@@ -51,22 +48,6 @@ no_disk faults.Memory n is = absurd cc
 pub store_full : (stored : Bool) (config : ConfigParts) (history : List Entry) (next : Entry) (n : ℕ) → n ≡ length history → HasRoom history → BreaksNone config history next.act → IsTooMuch stored config history next
     → IsAnswer stored config history next (Err (edit_faults.StoreFull n))
 store_full stored config history next n is room none much = (is, room, none, much)
-
--- The list of entries, with one entry more and without it again.
-
-pub last_is : (xs ys : List Entry) (e y : Entry) (n : ℕ) → ys ≡ xs ++ e ∷ [] → n ≡ length xs → slice_get ys n ≡ Some y → y ≡ e
-last_is xs ys e y n is place got =
-    let at : slice_get (xs ++ e ∷ []) (length xs) ≡ Some y = subst (λ (l : List Entry). slice_get l (length xs) ≡ Some y) is (subst (λ (k : ℕ). slice_get ys k ≡ Some y) place got) in
-    let there : slice_get (xs ++ e ∷ []) (length xs) ≡ Some e = slice_get-get_or (xs ++ e ∷ []) (length xs) e (omega (arith, length-append xs (e ∷ []))) ∙ ap (λ (x : Entry). Some x) (get_or-append_seam xs e [] e) in
-    let both : Some y ≡ Some e = sym at ∙ there in
-    cc
-
-pub cut_back : (xs ys zs : List Entry) (e : Entry) (n : ℕ) → ys ≡ xs ++ e ∷ [] → n ≡ length xs → zs ≡ take n ys → zs ≡ xs
-cut_back xs ys zs e n is place cut =
-    cut ∙ ap (λ (l : List Entry). take n l) is ∙ ap (λ (k : ℕ). take k (xs ++ e ∷ [])) place ∙ take-append_seam xs (e ∷ [])
-
-pub longer : (xs ys : List Entry) (e : Entry) (n : ℕ) → ys ≡ xs ++ e ∷ [] → n ≡ length xs → n < length ys
-longer xs ys e n is place = omega (arith, ap (λ (l : List Entry). length l) is, place, length-append xs (e ∷ []))
 
 pub on_any : (r : Result (Unit {0}) EditFault) (P : Type 0) → P → OnErr r P
 on_any (Ok v) P is = tt

@@ -1,5 +1,6 @@
 pub mod States
 mod Codes
+pub mod Crossings
 pub mod Configs
 mod Ahead
 pub mod Storing

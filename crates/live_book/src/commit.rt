@@ -261,20 +261,20 @@ fn show<D: Disk, R: Wait>(
 fn enter<D: Disk>(
     entries: &mut Entries,
     journal: &mut Option<Journal<D>>,
-    entry: Entry,
-    frame: Option<Frame>,
+    entry: &Entry,
+    frame: &Option<Frame>,
 ) -> Result<(), EditFault>
-    requires frame { IsFrameOf entry journal.old frame }
-    requires kept { HasRoomFor D.may_leave (has_journal journal.old) entry journal.old }
-    ensures entries { entries.new ≡ entries_behind entries.old entry result }
-    ensures ok { ForStoreIn D.may_leave journal.old entry (λ config history lost.
-        OnOk result (KeepsIn D.may_leave config (history ++ entry ∷ []) None journal.new)) }
-    ensures err { ForStoreIn D.may_leave journal.old entry (λ config history lost.
-        OnErr result (IsAsBefore D.may_leave config history lost entry journal.new)) }
+    requires frame { IsFrameOf entry.now journal.old frame.now }
+    requires kept { HasRoomFor D.may_leave (has_journal journal.old) entry.now journal.old }
+    ensures entries { entries.new ≡ entries_behind entries.old entry.now result }
+    ensures ok { ForStoreIn D.may_leave journal.old entry.now (λ config history lost.
+        OnOk result (KeepsIn D.may_leave config (history ++ entry.now ∷ []) None journal.new)) }
+    ensures err { ForStoreIn D.may_leave journal.old entry.now (λ config history lost.
+        OnErr result (IsAsBefore D.may_leave config history lost entry.now journal.new)) }
     ensures still { IsErrOf result EditFault.Memory → journal.new ≡ journal.old }
-    ensures any_moment { ForStoreIn D.may_leave journal.old entry (λ config history lost.
+    ensures any_moment { ForStoreIn D.may_leave journal.old entry.now (λ config history lost.
         CrashLeaves D.moment D.left_since journal.old journal.new (
-        DuringCommit result config history lost entry)) }
+        DuringCommit result config history lost entry.now)) }
     ensures later { faults_in D.faults journal.old ≤ faults_in D.faults journal.new }
     ensures disk { IsErrOf result EditFault.Disk
         → Rose (faults_in D.faults journal.old) (faults_in D.faults journal.new) }
@@ -285,7 +285,7 @@ fn enter<D: Disk>(
 {
     let count = entries.len();
     entries.push(entry)?;
-    match append_in(journal, entries.get(count), &frame) {
+    match append_in(journal, entry, frame) {
         Ok(()) => Ok(()),
         Err(Failed) => {
             entries.truncate(count);
@@ -313,9 +313,15 @@ fn put<D: Disk, R: Wait>(rt: &R, parts: &mut Parts<D>, ready: Ready) -> Result<u
     } = ready;
     let count = parts.entries.len();
     let since = since_behind(&entry.act, parts.since, count);
-    match enter(&mut parts.entries, &mut parts.journal, entry, frame) {
-        Err(fault) => Err(fault),
+    match enter(&mut parts.entries, &mut parts.journal, &entry, &frame) {
+        Err(fault) => {
+            drop(entry);
+            drop(frame);
+            Err(fault)
+        }
         Ok(()) => {
+            drop(entry);
+            drop(frame);
             show(rt, parts, next, kept, since);
             Ok(parts.entries.len() as u64)
         }

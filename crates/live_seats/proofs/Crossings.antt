@@ -8,12 +8,14 @@ use denote.Param.SendFields.{declared_send, declared_sync}
 use denote.Ref.{NamedLft}
 use Rattle.std.proofs.Crossing.{crosses, Arc-send, Vec-send}
 use Rattle.std.proofs.option.Option.TheSendSync as option
+use Rattle.std.proofs.sync.OnceLock.TheSendSync as once
 use Rattle.std.proofs.sync.OnceToken.TheSendSync as token
 use Rattle.eql_resolve.proofs.Threads.{prepared_sync}
 use Rattle.edit_undo.proofs.of_edit_rules.acts.Act.TheSendSync as act
 use Rattle.textgrid.proofs.fault.GridFault.TheSendSync as fault
 use Rattle.requery.proofs.target.Requery.TheSendSync as requery
 use Rattle.version_gate.proofs.pass.Pass.TheSendSync as pass
+use Rattle.live_book.proofs.Crossings.{live_sync}
 use Rattle.live_book.proofs.live.Share.TheSendSync as share
 use Rattle.live_book.proofs.published.Published.TheSendSync as published
 use Rattle.query_workers.proofs.of_session_core.kept_acts.KeptActs.TheSendSync as kept_acts
@@ -23,6 +25,7 @@ use Rattle.query_workers.specs.session_core.contracts.line.Ask as ask
 use Rattle.query_workers.specs.session_core.contracts.line.Request as request
 use Rattle.query_workers.specs.session_core.contracts.line.Line as line
 use Rattle.live_seats.specs.contracts.answered.Answered as answered
+use Rattle.live_seats.specs.contracts.around.Around as around
 use Rattle.live_seats.specs.contracts.looks.Look as look
 use Rattle.live_seats.specs.contracts.notes.Told as told
 use Rattle.live_seats.specs.contracts.seat.Seat as seat
@@ -97,3 +100,14 @@ seat_send a K N o l r n =
         ),
       ),
     ))
+
+pub around_sync : (a l : NamedLft) (K N D G : RattleType) (x1 : _) (x2 : _) (x3 : _) (x4 : _) (x5 : _) → IsSend D
+    → IsSync G → IsSync (around.the_row a l K N D G x1 x2 x3 x4 x5)
+around_sync a l K N D G x1 x2 x3 x4 x5 s y =
+    declared_sync (around.the_type a l K N D G x1 x2 x3 x4 x5) (
+      search sendable depth 20,
+      (
+        search (live_sync, s, sendable) depth 20,
+        (search (once.the_sync, sendable) depth 20, (search (y, sendable) depth 20, (search sendable depth 20, tt))),
+      ),
+    )

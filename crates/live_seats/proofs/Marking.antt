@@ -1,6 +1,7 @@
 -- The marks of entries, one after another.
 use Rattle.std.proofs.Common.{◌≡◌, ℕ, zero, suc, ◌+◌, ◌≤◌, List, [], ◌∷◌, ◌++◌, length, drop, Some, arith, refl, sym, ap, ◌∙◌, add-one, append_assoc, append-nil, drop_of_length-le}
 use Rattle.std.specs.List.{slice_get}
+use Rattle.emu_names.specs.declared.kinds.SessionNo.{SessionNo}
 use Rattle.edit_undo.specs.edit_rules.declared.acts.Entry.{Entry}
 use Rattle.live_seats.specs.declared.marks.Mark.{Mark}
 use Rattle.live_seats.specs.Marks.{marks_from}
@@ -20,6 +21,13 @@ empty_is (x ∷ xs) is = absurd (omega (arith, is))
 -- the mark of an entry
 abbrev pub mark_of : ℕ → Entry → Mark
 mark_of at e = record { at = at; line = e.line; session = e.session }
+
+-- a mark of the line and the session of an entry
+pub is_mark_of : (at : ℕ) (e : Entry) (line : ℕ) (session : SessionNo) → line ≡ e.line → session ≡ e.session
+    → record { at = at; line = line; session = session } ≡ mark_of at e
+is_mark_of at e line session lines sessions =
+    ap (λ (n : ℕ). record { at = at; line = n; session = session }) lines
+    ∙ ap (λ (s : SessionNo). record { at = at; line = e.line; session = s }) sessions
 
 -- one mark more
 pub mark_more : (marks all : List Mark) (entries : List Entry) (i : ℕ) (e : Entry) → slice_get entries i ≡ Some e

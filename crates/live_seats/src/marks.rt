@@ -39,8 +39,8 @@ pub fn marks_of(room: Vec<Mark>, history: &Entries, from: usize) -> Marks
         let entry = history.get(place);
         marks.push_reserved(Mark {
             at: place as u64 + 1,
-            line: entry.line,
-            session: entry.session,
+            line: entry.line(),
+            session: entry.session(),
         });
     }
     Series::from_vec(marks)

@@ -7,4 +7,5 @@ mod moves;
 mod queries;
 
 pub use machine::Core;
+pub use moves::PlainHistory;
 pub use queries::answer;

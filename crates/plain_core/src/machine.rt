@@ -9,9 +9,11 @@ ghost use Rattle.session_core.specs.Inner.Steps.{place_of};
 ghost use Rattle.session_core.specs.Inner.Stops.{StopsAt};
 ghost use Rattle.std.specs.Prelude.{◌≡◌, ◌⊎◌, ◌++◌, ◌<◌, ◌≤◌, All, IfErr, IfOk, OnErr, OnOk, Some, length};
 
-use crate::moves::{begin_query, close_look, close_query, open_look, replay, try_given, try_undo};
+use crate::moves::{
+    PlainHistory, begin_query, close_look, close_query, open_look, replay, try_given, try_undo,
+};
 use db_config::Config;
-use edit_undo::edit_rules::{Database, Entries};
+use edit_undo::edit_rules::Database;
 use emu_names::{Fault, Memory, SessionNo};
 use session_core::{
     Answer, Ask, Command, Event, Events, Head, Held, KeptActs, Line, Replies, Reply, Request, Slots,
@@ -29,7 +31,7 @@ use std::marker::Model;
 pub struct Core {
     alloc: Global,
     config: Config,
-    entries: Entries,
+    entries: PlainHistory,
     base: usize,
     database: Database,
     kept: KeptActs,
@@ -56,7 +58,7 @@ impl Model for Core {
 impl Core {
     /// The core of a configuration and of a history of at most 100,000 entries, with no look open.
     /// A history that breaks a rule is refused by the first rule that it breaks.
-    pub fn new(alloc: Global, config: Config, history: Entries) -> Result<Core, Fault>
+    pub fn new(alloc: Global, config: Config, history: PlainHistory) -> Result<Core, Fault>
         requires { length history ≤ HISTORY_EDITS }
         ensures begun { IfOk result (λ core. core ≡ start config history) }
         ensures legal { IfOk result (λ core. IsLegal config history) }
@@ -88,7 +90,7 @@ impl Core {
     }
 
     /// The history, in which no entry breaks a rule.
-    pub fn history(&self) -> &Entries
+    pub fn history(&self) -> &PlainHistory
         ensures entries { result.now ≡ self.now.entries }
         ensures legal { IsLegal self.now.config self.now.entries }
     {

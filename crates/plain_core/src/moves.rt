@@ -15,10 +15,10 @@ ghost use Rattle.std.specs.Prelude.{◌≡◌, ◌<◌, None, Ok, Some, IfOk, If
 use crate::queries::answer;
 use bundle_state::Bundle;
 use db_config::Config;
-use edit_undo::edit_rules::{Act, ChangeFault, Database, Entries, Entry, apply};
+use edit_undo::edit_rules::{Act, ChangeFault, Database, Entry, apply};
 use edit_undo::{InverseFault, NoUndo, inverse};
 use emu_names::limits::HISTORY_EDITS;
-use emu_names::{Fault, Memory, SessionNo};
+use emu_names::{Fault, Memory, Series, SessionNo};
 use session_core::{
     Answer, Ask, Head, Held, KeptActs, Refusal, Reply, Slots, lacks_memory, memory_reply,
     refuse_grid, refuse_rule, refuse_undo,
@@ -26,9 +26,12 @@ use session_core::{
 use std::alloc::Global;
 use textgrid::GridFault;
 
+/// A history with all acts whole: its entries, in order.
+pub type PlainHistory = Series<Entry>;
+
 /// The database after a history, or the rule that it breaks first, or want of memory.
 #[tactic(auto, using(crate::proofs::Ruled::ruled_made, crate::proofs::Ruled::ruled_broken))]
-pub fn replay(alloc: Global, config: Config, history: &Entries) -> Result<Database, Fault>
+pub fn replay(alloc: Global, config: Config, history: &PlainHistory) -> Result<Database, Fault>
     ensures { GivesOrBroken result (ruled (after config history.now)) }
 {
     let mut database = Database::new(alloc, config)?;
@@ -43,7 +46,7 @@ pub fn replay(alloc: Global, config: Config, history: &Entries) -> Result<Databa
 }
 
 /// Whether a history has no room for one entry more.
-fn is_full(entries: &Entries) -> bool
+fn is_full(entries: &PlainHistory) -> bool
     ensures { result ≡ is_full_list entries.now }
 {
     HISTORY_EDITS <= entries.len()
@@ -92,7 +95,7 @@ fn take_back(alloc: Global, database: &Database, act: &Act) -> Result<Result<Act
 /// memory changes nothing.
 fn accept(
     alloc: Global,
-    entries: &mut Entries,
+    entries: &mut PlainHistory,
     database: &mut Database,
     kept: &mut KeptActs,
     head: Head,
@@ -122,7 +125,7 @@ fn accept(
 /// Tries an act: the reply to it. Want of memory changes nothing.
 fn try_edit(
     alloc: Global,
-    entries: &mut Entries,
+    entries: &mut PlainHistory,
     database: &mut Database,
     kept: &mut KeptActs,
     head: Head,
@@ -153,7 +156,7 @@ fn try_edit(
 /// nothing.
 pub fn try_undo(
     alloc: Global,
-    entries: &mut Entries,
+    entries: &mut PlainHistory,
     database: &mut Database,
     kept: &mut KeptActs,
     head: Head,
@@ -179,7 +182,7 @@ pub fn try_undo(
 /// Tries the act of a line, unless its TextGrid has a fault: the reply. Want of memory changes nothing.
 pub fn try_given(
     alloc: Global,
-    entries: &mut Entries,
+    entries: &mut PlainHistory,
     database: &mut Database,
     kept: &mut KeptActs,
     head: Head,

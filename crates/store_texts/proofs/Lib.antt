@@ -1,5 +1,4 @@
 mod Printed
 mod Pieces
 mod Asks
-mod ActNames
 pub use Rattle.reply_texts.proofs as of_reply_texts

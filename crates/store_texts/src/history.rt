@@ -4,12 +4,12 @@ ghost use Rattle.reply_texts.specs.Members.{line_text};
 ghost use Rattle.store_texts.specs.Texts.{entry_data, lines_from, history_text};
 
 use crate::print::entry_line;
-use edit_rules::{Entries, Entry};
+use edit_rules::{Entries, Noted};
 use emu_names::{Memory, Text};
 use std::alloc::Global;
 
 /// Writes the line of an entry at its place. The only refusal is want of memory.
-fn push_entry(out: &mut String, alloc: Global, at: u64, entry: &Entry) -> Result<(), Memory>
+fn push_entry(out: &mut String, alloc: Global, at: u64, entry: &Noted) -> Result<(), Memory>
     ensures { OnOk result (string_bytes out.new
         ≡ string_bytes out.old ++ line_text (entry_data at entry.now)) }
 {
@@ -19,7 +19,7 @@ fn push_entry(out: &mut String, alloc: Global, at: u64, entry: &Entry) -> Result
 }
 
 /// Writes a line for each entry. The only refusal is want of memory.
-fn push_entries(out: &mut String, alloc: Global, entries: &[Entry]) -> Result<(), Memory>
+fn push_entries(out: &mut String, alloc: Global, entries: &[Noted]) -> Result<(), Memory>
     ensures { OnOk result (string_bytes out.new ≡ string_bytes out.old ++ lines_from 1 entries.now) }
 {
     for (place, entry) in entries.iter().enumerate() {

@@ -11,7 +11,6 @@ mod history;
 mod print;
 mod segments;
 mod values;
-mod words;
 
 pub use ask::ask_text;
 pub use config::config_text;

@@ -7,7 +7,7 @@ ghost use Rattle.store_texts.specs.Texts.{damaged_text, done_text, entry_data, f
 use crate::causes::refused_value;
 use crate::faults::Refused;
 use crate::values::{damaged_value, done_value, entry_value, from_value, mark_value};
-use edit_rules::Entry;
+use edit_rules::Noted;
 use emu_names::{Memory, SessionNo, Text};
 use reply_texts::print_value;
 use std::alloc::Global;
@@ -67,7 +67,7 @@ pub fn print_mark(alloc: Global, at: u64, line: u32, session: SessionNo) -> Resu
 }
 
 /// The line of an entry at its place.
-pub(crate) fn entry_line(alloc: Global, at: u64, entry: &Entry) -> Result<Text, Memory>
+pub(crate) fn entry_line(alloc: Global, at: u64, entry: &Noted) -> Result<Text, Memory>
     ensures { IfOk result (λ text. text ≡ line_text (entry_data at entry.now)) }
 {
     let value = entry_value(alloc, at, entry)?;

@@ -3,8 +3,7 @@ ghost use Rattle.std.specs.Prelude.{◌≡◌, IfOk};
 ghost use Rattle.serde_json.specs.View.{view};
 ghost use Rattle.store_texts.specs.Texts.{damaged_data, done_data, entry_data, from_data, mark_data};
 
-use crate::words::act_word;
-use edit_rules::Entry;
+use edit_rules::Noted;
 use emu_names::{Memory, SessionNo};
 use serde_json::{Value, json};
 use std::alloc::Global;
@@ -43,13 +42,13 @@ pub(crate) fn mark_value(
 }
 
 /// The object of an entry at its place.
-pub(crate) fn entry_value(alloc: Global, at: u64, entry: &Entry) -> Result<Value, Memory>
+pub(crate) fn entry_value(alloc: Global, at: u64, entry: &Noted) -> Result<Value, Memory>
     ensures { IfOk result (λ v. view v ≡ entry_data at entry.now) }
 {
     Ok(json!(in alloc; {
         "at": at,
-        "do": act_word(&entry.act),
-        "line": entry.line,
-        "s": entry.session.0
+        "do": entry.word(),
+        "line": entry.line(),
+        "s": entry.session().0
     })?)
 }

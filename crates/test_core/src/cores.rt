@@ -5,11 +5,11 @@ ghost use Rattle.session_core.specs.Inner.Steps.{place_of};
 
 use crate::made::{adding, config};
 use db_config::Config;
-use edit_rules::{Act, Entries, Entry};
+use edit_rules::{Act, Entry};
 use emu_names::{Broken, Fault, Memory, SessionNo};
 use eql_resolve::prepare;
 use label_match::RegexMaker;
-use plain_core::Core;
+use plain_core::{Core, PlainHistory};
 use reply_texts::print_reply;
 use session_core::{Ask, Command, Event, Events, Line, Replies, Request};
 use std::alloc::Global;
@@ -47,7 +47,7 @@ fn events(alloc: Global) -> Result<Events, Memory>
 }
 
 /// The core over a history that is not too long.
-fn core(alloc: Global, config: Config, history: Entries) -> Result<Core, Fault> {
+fn core(alloc: Global, config: Config, history: PlainHistory) -> Result<Core, Fault> {
     if history.len() > 100_000 {
         drop(config);
         drop(history);
@@ -93,8 +93,8 @@ fn entry(alloc: Global) -> Result<Entry, Fail> {
 }
 
 /// So many entries, each of which adds the same bundle.
-fn entries(alloc: Global, count: usize) -> Result<Entries, Fail> {
-    let mut entries = Entries::new(alloc);
+fn entries(alloc: Global, count: usize) -> Result<PlainHistory, Fail> {
+    let mut entries = PlainHistory::new(alloc);
     for _ in 0..count {
         entries.push(entry(alloc)?)?;
     }

@@ -12,7 +12,7 @@ use mir.Syntax.{named}
 use Rattle.live_run.specs.contracts.lanes.Job as job
 use Rattle.live_seats.specs.contracts.around.Around as around_contract
 use Rattle.live_run.proofs.Crossings.{First, job_send, ran_send, two_send}
-use Rattle.live_seats.proofs.around.Around.TheSendSync as around
+use Rattle.live_seats.proofs.Crossings.{around_sync}
 use Rattle.live_run.proofs.Joins.{few_of, free_idle, idle_more, next_free, rest_free, thread_more, thread_none}
 use Rattle.live_run.proofs.lanes.fn.run_lanes.scope.Goals as goal
 
@@ -104,7 +104,7 @@ spawn_with-requires-send-F g c κs within =
     let l : NamedLft = record { mir = named 7; lft = κs.1.1.1.1.1.1.1.0 } in
     let shared : IsSync (param 0 g.row.R) = c.requires.bounds.0 in
     let live : IsSync (around_contract.the_row a l (param 1 g.row.K) (param 2 g.row.N) (param 3 g.row.D) (param 4 g.row.G)
-    g.K.Opening g.K.Row g.D.Disk g.K.Ledger g.N.Ledger) = search (around.the_sync, param_sync, param_send) depth 20 in
+    g.K.Opening g.K.Row g.D.Disk g.K.Ledger g.N.Ledger) = search (around_sync, param_sync, param_send) depth 20 in
     let first : First IsSend (job.the_type a l (param 1 g.row.K) (param 2 g.row.N) (param 3 g.row.D) (param 4 g.row.G)
     g.K.Opening g.K.Row g.D.Disk g.K.Ledger g.N.Ledger).parts = shr_send _ _ _ live in
     param_send 2 _ (arg_send _ no _ (two_send _ _ _ (shr_send _ _ (param 0 g.row.R) shared)

@@ -3,7 +3,7 @@ use Rattle.std.proofs.Common.{◌≡◌, ◌≢◌, ℕ, List, [], ◌∷◌, le
 use Rattle.std.specs.Prelude.{Option, Some}
 use Rattle.std.specs.List.{slice_get}
 use Rattle.bundle_edits.specs.declared.edit.Edit.{Edit}
-use Rattle.store_texts.specs.Texts.{edit_word, edits_word}
+use Rattle.edit_rules.specs.Words.{edit_word, edits_word}
 
 abbrev some_edit : Edit → Option Edit
 some_edit e = Some e

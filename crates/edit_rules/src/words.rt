@@ -1,8 +1,9 @@
-//! The names of acts in a history.
+//! The words of acts in a history.
 ghost use Rattle.std.specs.Prelude.{◌≡◌};
-ghost use Rattle.store_texts.specs.Texts.{act_word, addition_word, edit_word, edits_word};
+ghost use Rattle.edit_rules.specs.Words.{act_word, addition_word, edit_word, edits_word};
 
-use edit_rules::{Act, ConfigEdit, Edit, Edits};
+use crate::acts::{Act, ConfigEdit, Edits};
+use bundle_edits::Edit;
 
 /// The name of an edit.
 fn edit_word(edit: &Edit) -> &'static str
