@@ -1,2 +1,2 @@
-pub mod FrontLemmas
 mod LineLemmas
+mod RowLemmas

@@ -1,11 +1,14 @@
 -- The text of a reply as the pieces that are written one behind another.
-use Rattle.std.proofs.Common.{◌≡◌, ℕ, List, [], ◌∷◌, ◌++◌, Option, None, Some, true, codes, decimal, refl, ap, ◌∙◌, append_assoc}
+use Rattle.std.proofs.Common.{◌≡◌, ℕ, List, [], ◌∷◌, ◌++◌, Option, None, Some, true, false, codes, decimal, refl, ap, sym, subst, ◌∙◌, append_assoc, Result, Ok, Err, IfOk}
 use Rattle.json.specs.Print.{escape_byte}
+use Rattle.emu_names.specs.declared.shortage.Memory.{Memory}
 use Rattle.serde_json.specs.Data.{string, no_members, member}
 use Rattle.serde_json.specs.Written.{compact_text, members_text}
 use Rattle.eql_rows.specs.declared.row.Row.{Row}
 use Rattle.session_core.specs.segment_list.Texts.{rows_data}
+use Rattle.session_core.specs.segment_list.Inner.Pieces.{row_texts}
 use Rattle.session_core.specs.segment_list.Inner.Texts.{rows_text}
+use Rattle.session_core.proofs.of_segment_list.Listed.{whole_list}
 use Rattle.session_core.specs.declared.line.Command.{Command}
 use Rattle.session_core.specs.declared.line.Command.TheVariants as commands
 use Rattle.session_core.specs.declared.line.Refusal.{Refusal}
@@ -13,9 +16,10 @@ use Rattle.session_core.specs.declared.line.Answer.{Answer}
 use Rattle.session_core.specs.declared.line.Answer.TheVariants.{Done, Segments, Refused}
 use Rattle.session_core.specs.declared.line.Reply.{Reply}
 use Rattle.reply_texts.specs.Inner.Pieces.{answer_piece, done_piece, edits_piece, head_piece, refused_piece}
+use Rattle.reply_texts.specs.Inner.Rows.{IsBeforeRows}
 use Rattle.reply_texts.specs.Texts.{answer_members, command_word, numbered_members, refusal_data, reply_text}
 use Rattle.reply_texts.specs.Members.{line_text}
-use Rattle.reply_texts.proofs.Pushed.{three}
+use Rattle.reply_texts.proofs.Pushed.{three, two}
 
 -- the last member, with the closing brace
 
@@ -71,3 +75,25 @@ written r o empty head answer end =
     three o (head_piece r.line r.n) (answer_piece r.answer) (codes "}\n") head answer end
     ∙ ap (λ (x : List ℕ). x ++ (head_piece r.line r.n ++ (answer_piece r.answer ++ codes "}\n"))) empty
     ∙ in_pieces r
+
+-- the rows apart
+
+apart : (head key rows end : List ℕ) → (head ++ (key ++ 91 ∷ [])) ++ (rows ++ 93 ∷ end) ≡ head ++ ((key ++ 91 ∷ (rows ++ 93 ∷ [])) ++ end)
+apart head key rows end = simp append_assoc
+
+pub before_rows : (r : Reply) (o : List ℕ) {p q : List ℕ} → o ≡ [] → p ≡ o ++ head_piece r.line r.n
+    → q ≡ p ++ codes ",\"segments\":[" → IsBeforeRows q r
+before_rows r o empty head opening rows lists =
+    ap (λ (t : List ℕ). t ++ (row_texts false rows ++ codes "]}\n"))
+    (two o (head_piece r.line r.n) (codes ",\"segments\":[") head opening
+    ∙ ap (λ (t : List ℕ). t ++ (head_piece r.line r.n ++ codes ",\"segments\":[")) empty)
+    ∙ apart (head_piece r.line r.n) (codes ",\"segments\":") (row_texts false rows) (codes "}\n")
+    ∙ ap (λ (t : List ℕ). head_piece r.line r.n ++ ((codes ",\"segments\":" ++ t) ++ codes "}\n")) (whole_list rows)
+    ∙ ap (λ (a : Answer). head_piece r.line r.n ++ (answer_piece a ++ codes "}\n")) (sym lists)
+    ∙ in_pieces r
+
+-- and so the text that was made
+pub made_before : (result : Result (List ℕ) Memory) (whole : List ℕ) (r : Reply) → IfOk result (λ made. made ≡ whole) → IsBeforeRows whole r
+    → IfOk result (λ text. IsBeforeRows text r)
+made_before (Ok text) whole r is fits = subst (λ (t : List ℕ). IsBeforeRows t r) (sym is) fits
+made_before (Err fault) whole r is fits = tt

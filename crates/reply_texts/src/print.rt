@@ -2,6 +2,7 @@
 ghost use Rattle.std.specs.Prelude.{◌≡◌, IfOk, false};
 ghost use Rattle.serde_json.specs.View.{view};
 ghost use Rattle.serde_json.specs.Written.{has_float};
+ghost use Rattle.reply_texts.specs.Inner.Rows.{IsBeforeRows, after_rows};
 ghost use Rattle.reply_texts.specs.Members.{line_text};
 ghost use Rattle.reply_texts.specs.Texts.{refusal_data, reply_text};
 
@@ -41,4 +42,22 @@ pub fn print_reply(alloc: Global, reply: &Reply) -> Result<Text, Memory>
     push_answer(&mut out, alloc, &reply.answer)?;
     out.push_str("}\n")?;
     Text::from_string(out)
+}
+
+/// The text of a reply that lists rows, up to the opening of their list. Behind it come the texts of the rows, with a
+/// comma between each two, and [`after_rows`]. The only refusal is want of memory.
+pub fn print_before_rows(alloc: Global, reply: &Reply) -> Result<Text, Memory>
+    ensures { IfOk result (λ text. IsBeforeRows text reply.now) }
+{
+    let mut out = String::new(alloc);
+    push_head(&mut out, reply.line, reply.n)?;
+    out.push_str(",\"segments\":[")?;
+    Text::from_string(out)
+}
+
+/// What a reply that lists rows has behind them.
+pub fn after_rows() -> &'static str
+    ensures { result.now ≡ after_rows }
+{
+    "]}\n"
 }

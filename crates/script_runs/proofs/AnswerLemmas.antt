@@ -7,16 +7,7 @@ use Rattle.program_output.specs.declared.ended.Ended.{Ended}
 use Rattle.program_output.specs.declared.ended.Ended.TheVariants as ends
 use Rattle.emu_names.specs.Count.{Rose}
 use Rattle.program_output.specs.Inner.Written.{EndHasCause, WritesText, WritesTexts}
-use Rattle.program_output.proofs.FrontLemmas.{front_more, whole_more}
-
--- a front of a text is one of a longer text
-front_in : (n : ℕ) (text more : List ℕ) → (m : ℕ) × (take m (text ++ more) ≡ take n text)
-front_in zero text more = (0, refl)
-front_in (suc n) [] more = (0, refl)
-front_in (suc n) (x ∷ xs) more = let r = front_in n xs more in (suc r.0, ap (λ t. x ∷ t) r.1)
-
-front_longer : (before now : Option (List ℕ)) (text more : List ℕ) → WritesFront before now text → WritesFront before now (text ++ more)
-front_longer before now text more (n, h) = let r = front_in n text more in (r.0, subst (λ t. Appends before now t) (sym r.1) h)
+use Rattle.emu_io.proofs.Fronts.{front_longer, front_more, whole_more}
 
 pub texts_one : {A : Type 0} (result : Result A Ended) (before now : Option (List ℕ)) (text : List ℕ) → WritesText result before now text → WritesTexts result before now text
 texts_one (Ok x) before now text w = w

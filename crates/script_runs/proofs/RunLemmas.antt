@@ -39,7 +39,7 @@ use Rattle.program_output.specs.Inner.Written.{WritesText}
 use Rattle.script_runs.proofs.ParseLemmas.{parse_push, parse_stop, front_stop, front_whole}
 use Rattle.script_runs.proofs.ReadLemmas.{read_none, read_push, read_later, read_more, read_same, read_front, script_behind}
 use Rattle.script_runs.proofs.TextLemmas.{text_begun, begun_push}
-use Rattle.program_output.proofs.FrontLemmas.{whole_more}
+use Rattle.emu_io.proofs.Fronts.{whole_more}
 use Rattle.script_runs.proofs.LastLemmas.{all_to_last, cut_to_last, flat_run, texts_more}
 use Rattle.script_runs.proofs.KeptLemmas.{here, pushed, replies_are}
 use Rattle.script_runs.proofs.MomentLemmas.{run_blank, run_config, run_none, run_request, run_store}

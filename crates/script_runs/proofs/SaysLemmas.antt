@@ -28,7 +28,7 @@ use Rattle.script_runs.specs.Inner.Reached.{IsDone, BrokeIn, RanScript, StoppedS
 use Rattle.program_output.specs.Inner.Written.{EndHasCause}
 use Rattle.program_output.specs.Inner.Statuses.{Closes}
 use Rattle.script_runs.proofs.ReadLemmas.{count_is, read_none, read_same}
-use Rattle.program_output.proofs.FrontLemmas.{front_more, whole_more}
+use Rattle.emu_io.proofs.Fronts.{front_more, whole_more}
 use Rattle.script_runs.proofs.LastLemmas.{all_to_last, cut_to_last, flat_run, last_as}
 use Rattle.script_runs.proofs.DiskLemmas.{RunFailedBy}
 use Rattle.script_runs.proofs.OrderedLemmas.{IsLegalBase, legal_base, legal_run}

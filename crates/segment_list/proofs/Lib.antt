@@ -1,7 +1,8 @@
 mod Backwards
-mod Listed
+pub mod Listed
 mod Parted
 mod Plain
 mod Pushed
 mod Rising
 pub mod Threads
+mod Written

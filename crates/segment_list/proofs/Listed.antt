@@ -1,8 +1,7 @@
 -- The text of rows as the pieces that are written one behind another.
-use Rattle.std.proofs.Common.{◌≡◌, ◌<◌, ◌≤◌, ◌+◌, ℕ, suc, List, [], ◌∷◌, ◌++◌, Bool, true, false, codes, decimal, drop, get_or, length, nat_lt, refl, ap, sym, ◌∙◌, arith, append_assoc, add-one}
+use Rattle.std.proofs.Common.{◌≡◌, ◌<◌, ◌≤◌, ◌+◌, ℕ, suc, List, [], ◌∷◌, ◌++◌, Bool, true, false, codes, decimal, drop, get_or, length, refl, ap, sym, ◌∙◌, append_assoc, add-one}
 use Rattle.std.proofs.Math.ListN.{drop_of_length-le}
 use Rattle.std.proofs.Math.Seq.{drop-cons}
-use Rattle.std.proofs.lemmas.Bool.{lt-ltb}
 use Rattle.std.proofs.lemmas.List.{append-nil}
 use Rattle.json.specs.Print.{escape_byte, quoted}
 use Rattle.serde_json.specs.Written.{comma_if, items_text}
@@ -98,9 +97,6 @@ whole_list rows = ap (λ (text : List ℕ). 91 ∷ text) (sym (elements false ro
 
 -- ---- a loop over rows
 
-behind : (n : ℕ) → nat_lt 0 (n + 1) ≡ true
-behind n = lt-ltb 0 (n + 1) (omega arith)
-
 first_left : (rows : List Row) (place : ℕ) (row : Row) → place < length rows → row ≡ get_or rows place row →
     drop place rows ≡ row ∷ drop (place + 1) rows
 first_left rows place row lt at = rw (add-one place) (drop-cons rows place row lt ∙ ap (λ (x : Row). x ∷ drop
@@ -110,14 +106,12 @@ seam : (o c r rest : List ℕ) → (o ++ (c ++ r)) ++ rest ≡ o ++ (c ++ (r ++ 
 seam o c r rest = simp append_assoc
 
 pub next_row : (out out' whole : List ℕ) (rows : List Row) (place : ℕ) (row : Row) → place < length rows →
-    row ≡ get_or rows place row → out' ≡ out ++ (comma_if (nat_lt 0 place) ++ row_text row) →
-    out ++ row_texts (nat_lt 0 place) (drop place rows) ≡ whole →
-    out' ++ row_texts (nat_lt 0 (place + 1)) (drop (place + 1) rows) ≡ whole
+    row ≡ get_or rows place row → out' ≡ out ++ (codes "," ++ row_text row) →
+    out ++ row_texts true (drop place rows) ≡ whole → out' ++ row_texts true (drop (place + 1) rows) ≡ whole
 next_row out out' whole rows place row lt at e before =
-    ap (λ (b : Bool). out' ++ row_texts b (drop (place + 1) rows)) (behind place)
-    ∙ ap (λ (t : List ℕ). t ++ row_texts true (drop (place + 1) rows)) e
-    ∙ seam out (comma_if (nat_lt 0 place)) (row_text row) (row_texts true (drop (place + 1) rows))
-    ∙ ap (λ (rs : List Row). out ++ row_texts (nat_lt 0 place) rs) (sym (first_left rows place row lt at))
+    ap (λ (t : List ℕ). t ++ row_texts true (drop (place + 1) rows)) e
+    ∙ seam out (codes ",") (row_text row) (row_texts true (drop (place + 1) rows))
+    ∙ ap (λ (rs : List Row). out ++ row_texts true rs) (sym (first_left rows place row lt at))
     ∙ before
 
 pub no_more : (out whole : List ℕ) (rows : List Row) (place : ℕ) (later : Bool) → length rows ≤ place →

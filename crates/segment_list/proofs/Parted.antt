@@ -1,9 +1,8 @@
 -- Lists that are made part by part: their rows, their number and their text.
-use Rattle.std.proofs.Common.{◌≡◌, ◌<◌, ◌≤◌, ◌+◌, ◌==◌, ◌||◌, ℕ, suc, List, [], ◌∷◌, ◌++◌, Bool, true, false, not, drop, get_or, length, refl, ap, sym, ◌∙◌, arith, append_assoc, add-one}
+use Rattle.std.proofs.Common.{◌≡◌, ◌≢◌, ◌<◌, ◌≤◌, ◌+◌, ◌==◌, ◌||◌, ℕ, suc, List, [], ◌∷◌, ◌++◌, Bool, true, false, not, drop, get_or, length, refl, ap, sym, ◌∙◌, append_assoc, add-one}
 use Rattle.std.proofs.Math.Dec.{eqb-suc-zero}
 use Rattle.std.proofs.Math.ListN.{drop_of_length-le}
 use Rattle.std.proofs.Math.Seq.{drop-cons}
-use Rattle.std.proofs.lemmas.Bool.{eqb-true}
 use Rattle.std.proofs.lemmas.Grind.{flat_map-append}
 use Rattle.std.proofs.lemmas.List.{append-nil, length-append}
 use Rattle.serde_json.specs.Written.{comma_if}
@@ -27,15 +26,17 @@ count_of_both parts behind all count others here there is =
 
 -- ---- the text of a part
 
-pub nothing : (out : List ℕ) (later : Bool) (rows : List Row) → (length rows == 0) ≡ true → out ≡ out ++ row_texts later rows
-nothing out later [] none = sym (append-nil out)
-nothing out later (r ∷ rows) none =
-    let no : suc (length rows) ≡ 0 = eqb-true (suc (length rows)) 0 none in
+-- without the comma that it begins with
+pub comma_off : (text rest : List ℕ) (rows : List Row) → text ≡ 44 ∷ rest → text ≡ row_texts true rows → rest ≡ row_texts false rows
+comma_off text rest [] begins is =
+    let no : 44 ∷ rest ≡ [] = sym begins ∙ is in
     absurd cc
+comma_off text rest (r ∷ rows) begins is = ap (λ (t : List ℕ). drop 1 t) (sym begins ∙ is)
 
-pub something : (later : Bool) (rows : List Row) → (length rows == 0) ≡ false → comma_if later ++ row_texts false rows ≡ row_texts later rows
-something later [] some = absurd cc
-something later (r ∷ rows) some = refl
+-- where it has none
+pub no_comma : (text : List ℕ) (rows : List Row) → ((rest : List ℕ) → text ≢ 44 ∷ rest) → text ≡ row_texts true rows → text ≡ row_texts false rows
+no_comma text [] none is = is
+no_comma text (r ∷ rows) none is = absurd (none (row_text r ++ row_texts true rows) is)
 
 -- ---- the text of parts
 
@@ -68,7 +69,7 @@ part_then later (r ∷ rows) rest =
     ∙ ap (λ (b : Bool). row_texts later (r ∷ rows) ++ row_texts b rest)
     (sym (ap (λ (b : Bool). later || not b) (not_none (length rows)) ∙ any_later later))
 
-first_part : (parts : List (List Row)) (at : ℕ) (part : List Row) → at < length parts → part ≡ get_or parts at part →
+pub first_part : (parts : List (List Row)) (at : ℕ) (part : List Row) → at < length parts → part ≡ get_or parts at part →
     in_turn (drop at parts) ≡ part ++ in_turn (drop (at + 1) parts)
 first_part parts at part lt is =
     ap in_turn (drop-cons parts at part lt)

@@ -1,13 +1,16 @@
 //! The rows of an answer as their text, which is made where the rows are made.
-ghost use Rattle.std.specs.Prelude.{◌≡◌, ◌==◌, ◌+◌, ◌++◌, ◌||◌, [], ◌∷◌, Bool, List, false, not, length, IfOk, OnOk, string_bytes};
+ghost use Rattle.std.specs.Prelude.{◌≡◌, ◌≤◌, ◌==◌, ◌+◌, ◌++◌, ◌||◌, [], ◌∷◌, Bool, List, true, false, not, length, IfOk, OnErr, OnOk, string_bytes};
+ghost use Rattle.std.specs.Io.KnownBytes.{Appends};
+ghost use Rattle.emu_names.specs.Count.{Rose};
+ghost use Rattle.emu_io.specs.Fronts.{WritesFront};
 ghost use Rattle.eql_rows.specs.declared.row.Row.{Row};
 ghost use Rattle.eql_model.specs.Inner.Rows.{GivesRows};
 ghost use Rattle.segment_list.specs.Inner.Listing.{in_turn};
 ghost use Rattle.segment_list.specs.Inner.Pieces.{row_texts};
 ghost use Rattle.segment_list.specs.Inner.Texts.{rows_text};
 
-use crate::pieces::push_comma;
 use crate::print::text_of_rows;
+use emu_io::{Failed, Sink, write_all};
 use emu_names::{Memory, Series, Text};
 use eql_rows::SegmentList;
 use eql_tuples::MatchFault;
@@ -15,7 +18,7 @@ use std::alloc::Global;
 use std::marker::Model;
 use std::snapshot::Snapshot;
 
-/// The text of rows, which contracts see as the rows.
+/// The text of rows, each behind a comma, which contracts see as the rows.
 #[derive(Drop)]
 struct Printed {
     rows: Snapshot<SegmentList>,
@@ -55,16 +58,22 @@ impl Printed {
         self.count == 0
     }
 
-    /// Writes the rows, behind a comma where something stands before. The only refusal is want of memory.
-    fn push_text(&self, out: &mut String, later: bool) -> Result<(), Memory>
-        ensures { OnOk result (string_bytes out.new ≡ string_bytes out.old ++ row_texts later self.now) }
+    /// The text of the rows, behind a comma where something stands before.
+    fn text(&self, later: bool) -> &str
+        ensures { result.now ≡ row_texts later self.now }
     {
-        if self.is_empty() {
-            return Ok(());
-        }
-        push_comma(out, later)?;
-        out.push_str(self.text.as_str())?;
-        Ok(())
+        let text = self.text.as_str();
+        if later { text } else { behind_comma(text) }
+    }
+}
+
+/// What stands behind the first comma of the text of rows, each behind a comma.
+fn behind_comma(text: &str) -> &str
+    ensures { (rows : List Row) → text.now ≡ row_texts true rows → result.now ≡ row_texts false rows }
+{
+    match text.strip_prefix(',') {
+        Some(rest) => rest,
+        None => text,
     }
 }
 
@@ -148,6 +157,18 @@ impl Listing {
         out.push_str("]")?;
         Ok(())
     }
+
+    /// Writes the text of the rows to a sink, as it stands between the brackets of their list. It is written part by
+    /// part, without a copy. `Failed` comes only where a write failed in this call, and then the sink has taken a
+    /// front of the text.
+    pub fn write_to<K: Sink>(&self, out: &mut K) -> Result<(), Failed>
+        ensures ok { OnOk result (Appends (K.written out.old) (K.written out.new) (row_texts false self.now)) }
+        ensures front { WritesFront (K.written out.old) (K.written out.new) (row_texts false self.now) }
+        ensures failed { OnErr result (Rose (K.faults out.old) (K.faults out.new)) }
+        ensures later { K.faults out.old ≤ K.faults out.new }
+    {
+        write_parts(out, self.parts.as_slice())
+    }
 }
 
 /// One part. The only refusal is want of memory.
@@ -196,7 +217,25 @@ fn push_parts(out: &mut String, parts: &[Printed]) -> Result<(), Memory>
 {
     let mut later = false;
     for part in parts {
-        part.push_text(out, later)?;
+        out.push_str(part.text(later))?;
+        later = stands_now(later, part);
+    }
+    Ok(())
+}
+
+/// Writes the rows of some parts to a sink, with a comma between each two. `Failed` comes only where a write failed
+/// in this call, and then the sink has taken a front of the text.
+fn write_parts<K: Sink>(out: &mut K, parts: &[Printed]) -> Result<(), Failed>
+    ensures ok { OnOk result (Appends (K.written out.old) (K.written out.new)
+        (row_texts false (in_turn parts.now))) }
+    ensures front { WritesFront (K.written out.old) (K.written out.new)
+        (row_texts false (in_turn parts.now)) }
+    ensures failed { OnErr result (Rose (K.faults out.old) (K.faults out.new)) }
+    ensures later { K.faults out.old ≤ K.faults out.new }
+{
+    let mut later = false;
+    for part in parts {
+        write_all(out, part.text(later).as_bytes())?;
         later = stands_now(later, part);
     }
     Ok(())

@@ -2,23 +2,12 @@
 ghost use Rattle.std.specs.Prelude.{◌≡◌, ◌++◌, IfOk, OnOk, IsTrue, decimal, string_bytes};
 ghost use Rattle.std.specs.List.{list_all};
 ghost use Rattle.json.specs.Print.{quoted};
-ghost use Rattle.serde_json.specs.Written.{comma_if};
 ghost use Rattle.segment_list.specs.Inner.Pieces.{is_plain, number_behind, number_or_null};
 
 use emu_names::Memory;
 use itoa::Buffer;
 use serde_json::json;
 use std::alloc::Global;
-
-/// Writes a comma where something stands before. The only refusal is want of memory.
-pub(crate) fn push_comma(out: &mut String, later: bool) -> Result<(), Memory>
-    ensures { OnOk result (string_bytes out.new ≡ string_bytes out.old ++ comma_if later) }
-{
-    if later {
-        out.push_str(",")?;
-    }
-    Ok(())
-}
 
 /// Writes a number. The only refusal is want of memory.
 fn push_digits(out: &mut String, n: u64) -> Result<(), Memory>

@@ -1,10 +1,9 @@
 //! The text of rows.
-ghost use Rattle.std.specs.Prelude.{◌≡◌, ◌++◌, IfOk, OnOk, false, string_bytes};
-ghost use Rattle.serde_json.specs.Written.{comma_if};
+ghost use Rattle.std.specs.Prelude.{◌≡◌, ◌++◌, IfOk, OnOk, true, codes, string_bytes};
 ghost use Rattle.segment_list.specs.Inner.Pieces.{back_text, front_text, names_of, row_text, row_texts, samples_text};
 
 use crate::names::NamePieces;
-use crate::pieces::{push_comma, push_number, push_or_null, push_quoted};
+use crate::pieces::{push_number, push_or_null, push_quoted};
 use emu_names::{Memory, Text};
 use eql_rows::Row;
 use std::alloc::Global;
@@ -62,25 +61,19 @@ fn push_row(out: &mut String, alloc: Global, pieces: &NamePieces, row: &Row) -> 
     Ok(())
 }
 
-/// Writes the next row, behind a comma where one stands before. The only refusal is want of memory.
-fn push_next(
-    out: &mut String,
-    alloc: Global,
-    pieces: &NamePieces,
-    later: bool,
-    row: &Row,
-) -> Result<(), Memory>
+/// Writes a row behind a comma. The only refusal is want of memory.
+fn push_next(out: &mut String, alloc: Global, pieces: &NamePieces, row: &Row) -> Result<(), Memory>
     requires { pieces.now ≡ names_of row.now }
     ensures { OnOk result (string_bytes out.new
-        ≡ string_bytes out.old ++ (comma_if later ++ row_text row.now)) }
+        ≡ string_bytes out.old ++ (codes "," ++ row_text row.now)) }
 {
-    push_comma(out, later)?;
+    out.push_str(",")?;
     push_row(out, alloc, pieces, row)?;
     Ok(())
 }
 
-/// Writes rows with a comma between each two, with pieces that are made anew where the names change. The only
-/// refusal is want of memory.
+/// Writes rows, each behind a comma, with pieces that are made anew where the names change. The only refusal is want
+/// of memory.
 fn push_each<'a>(
     out: &mut String,
     alloc: Global,
@@ -88,20 +81,20 @@ fn push_each<'a>(
     rows: &'a [Row],
 ) -> Result<(), Memory>
     ensures { OnOk result (string_bytes out.new
-        ≡ string_bytes out.old ++ row_texts false rows.now) }
+        ≡ string_bytes out.old ++ row_texts true rows.now) }
 {
     let mut pieces = first;
-    for (place, row) in rows.iter().enumerate() {
+    for row in rows {
         pieces = pieces.turned_to(alloc, row)?;
-        push_next(out, alloc, &pieces, place > 0, row)?;
+        push_next(out, alloc, &pieces, row)?;
     }
     Ok(())
 }
 
-/// Writes rows with a comma between each two. The only refusal is want of memory.
+/// Writes rows, each behind a comma. The only refusal is want of memory.
 fn push_rows(out: &mut String, alloc: Global, rows: &[Row]) -> Result<(), Memory>
     ensures { OnOk result (string_bytes out.new
-        ≡ string_bytes out.old ++ row_texts false rows.now) }
+        ≡ string_bytes out.old ++ row_texts true rows.now) }
 {
     let Some(first) = rows.first() else {
         return Ok(());
@@ -110,9 +103,9 @@ fn push_rows(out: &mut String, alloc: Global, rows: &[Row]) -> Result<(), Memory
     push_each(out, alloc, pieces, rows)
 }
 
-/// The text of rows with a comma between each two. The only refusal is want of memory.
+/// The text of rows, each behind a comma. The only refusal is want of memory.
 pub(crate) fn text_of_rows(alloc: Global, rows: &[Row]) -> Result<Text, Memory>
-    ensures { IfOk result (λ text. text ≡ row_texts false rows.now) }
+    ensures { IfOk result (λ text. text ≡ row_texts true rows.now) }
 {
     let mut out = String::with_capacity(alloc, rows.len().saturating_mul(ROW_BYTES))?;
     push_rows(&mut out, alloc, rows)?;

@@ -18,3 +18,4 @@ pub mod ReadingSteps
 pub mod Readings
 pub mod Threads
 pub use Rattle.requery.proofs as of_requery
+pub use Rattle.segment_list.proofs as of_segment_list

@@ -1,5 +1,5 @@
 -- How the program goes about the text of a row: pieces that follow each other, some of which are the same
--- for all rows of one bundle, level and attribute. No public clause names them.
+-- for all rows of one bundle, level and attribute. Public clauses name `row_texts` alone.
 use Rattle.std.specs.Prelude.{◌≡◌, ℕ, Bool, true, List, [], ◌∷◌, ◌++◌, ◌&&◌, ◌==◌, not, nat_le, Option, codes, decimal}
 use Rattle.json.specs.Print.{quoted}
 use Rattle.serde_json.specs.Written.{comma_if, compact_text}

@@ -1,7 +1,4 @@
-use Rattle.std.proofs.Common.{◌≡◌, ℕ, ap, sym, subst, ◌∙◌}
-use Rattle.eql_resolve.specs.Asked.{result_level}
 use Rattle.eql_resolve.proofs.Kept.{result_within}
-use Rattle.eql_rows.specs.Spans.{AreThere}
 use Rattle.segment_list.proofs.rows.rows_of.Goals as goal
 
 pub rows_at-requires-clause-level : goal.rows_at-requires-clause-level
