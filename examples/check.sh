@@ -4,7 +4,7 @@
 # A file NAME.cases has many scripts, parted by empty lines: a line '# TITLE' says what a script shows, '$ WORDS' gives the words of the
 # command line where they are not 'run', '<' stands before each line of the script, and '>' before each line of the output.
 # Then it asks the queries of make-wide.sh, where 1,000,000 tuples are answered and more are not, fills a history, takes back the longest lists (make-undo.sh), walks over a store (store.sh),
-# tries the tools for tables, TextGrids and pictures (tools.sh), stores that are cut or altered (damage.py), and a store of the first version (first-version.py). BINARY is crates/emu/out/emu where it is not given. The last line says how many agreed; the status is 0 where all did.
+# tries the tools for tables, TextGrids and pictures (tools.sh), stores that are cut or altered (damage.py), a store of the first version (first-version.py), and lists of many rows (long-list.py). BINARY is crates/emu/out/emu where it is not given. The last line says how many agreed; the status is 0 where all did.
 # check.sh --try [NAME.cases ..] compares what 'rt try' gives for the scripts NAME.jsonl, or for the cases of these files, in a minute or two:
 # nothing is built and nothing is proved, statuses are not looked at, and cases with other words are left out.
 export LC_ALL=C
@@ -139,8 +139,8 @@ else
     echo "tools.sh:"
 fi
 grep -v ' agree, 0 do not$' "$wrote"
-# Stores that are cut or altered, and a store of the first version.
-for script in damage.py first-version.py; do
+# Stores that are cut or altered, a store of the first version, and lists of many rows.
+for script in damage.py first-version.py long-list.py; do
     if "./$script" "$binary" >"$wrote"; then
         passed=$((passed + 1))
     else
