@@ -1,3 +1,4 @@
+pub mod Agree
 pub mod Alike
 pub mod Bits
 pub mod Heights

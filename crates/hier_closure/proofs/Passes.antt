@@ -5,7 +5,7 @@ use Rattle.std.specs.List.{slice_get, All}
 use Rattle.std.proofs.lemmas.Bool.{and_parts, not-true, cases_Bool, eqb-true, eq-eqb}
 use Rattle.std.proofs.lemmas.Simd.{zip2-map, splat_is_map}
 use Rattle.std.proofs.lemmas.List.{length-map}
-use Rattle.std.proofs.lemmas.List.Elements.{All-head, All-tail}
+use Rattle.std.proofs.lemmas.List.Elements.{All-head, All-nil, All-tail}
 use Rattle.std.proofs.lemmas.List.Folds.{list_any_more}
 use Rattle.std.proofs.lemmas.Option.{slice_get-map, slice_get_within, get_or_from_slice_get}
 use Rattle.link_graph.specs.declared.link.Link.{Link}
@@ -255,6 +255,13 @@ all_links config bundle upper lower fits rules none =
     (λ a above. same_row (links_to bundle.links a) (dominates bundle.links a) lowers
     (λ b below. same_bit bundle upper lower a b rules aside (level_is bundle.levels upper a rules.apart above)
     (level_is bundle.levels lower b rules.apart below)))
+
+-- where no rows are kept
+pub linked_none : (bundle : BundleParts) → KeepsBundleRules bundle → AreLinkedIn bundle []
+linked_none bundle rules = record {
+  rules = rules;
+  each = All-nil (λ (one : LinkedLevels). one.closure ≡ linked_of bundle one.upper one.lower bundle.links);
+}
 
 pub kept_rows : (config : ConfigParts) (all : List LinkedLevels) (upper lower : ℕ) (r : Option (Bor (List (List Bool)))) →
     any_between config.links (length config.levels) upper lower ≡ false →

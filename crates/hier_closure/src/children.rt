@@ -8,7 +8,7 @@ ghost use Rattle.hier_closure.specs.Dominance.{is_or_dominates, ids_at};
 ghost use Rattle.hier_closure.specs.Inner.Ranks.{IsUnder, AreMadeAtItem};
 ghost use Rattle.hier_closure.specs.Inner.Stands.{IsReady, id_at, stand_id};
 
-use crate::levels::Rows;
+use crate::closure::Closure;
 use crate::stands::Stand;
 use bundle_state::Bundle;
 use db_config::Config;
@@ -17,11 +17,11 @@ use lane_bits::{BitRow, or_into};
 use std::alloc::Global;
 
 /// The row that is kept of the item at a position of a level.
-fn kept_row(table: &[Rows], level: usize, position: usize) -> &BitRow
+fn kept_row(table: &[Closure], level: usize, position: usize) -> &BitRow
     requires { position < length (get_or table.now level []) }
     ensures { slice_get (get_or table.now level []) position ≡ Some result.now }
 {
-    table[level].get(position)
+    table[level].row(position)
 }
 
 /// The level and the position of an item, which is looked for at a position of a level first.
@@ -62,7 +62,7 @@ fn add_stand(
     config: &Config,
     bundle: &Bundle,
     lower: usize,
-    table: &[Rows],
+    table: &[Closure],
     stand: Stand,
 )
     requires under { IsUnder config.now bundle.now }
@@ -89,7 +89,7 @@ pub(crate) fn joined_row(
     config: &Config,
     bundle: &Bundle,
     lower: usize,
-    table: &[Rows],
+    table: &[Closure],
     stands: &[Stand],
 ) -> Result<BitRow, Memory>
     requires under { IsUnder config.now bundle.now }

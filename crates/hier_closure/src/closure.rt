@@ -1,14 +1,16 @@
 //! Which items of a level dominate which items of a lower one.
-ghost use Rattle.std.specs.Prelude.{◌≡◌, ◌<◌, length, slice_get, IfOk, IfSome, Some};
+ghost use Rattle.std.specs.Prelude.{◌≡◌, ◌<◌, [], length, slice_get, IfOk, IfSome, Some};
 ghost use Rattle.bundle_state.specs.Bundle.{BundleParts};
 ghost use Rattle.bundle_state.specs.Built.{FitsConfig};
-ghost use Rattle.hier_closure.specs.Dominance.{closure_of};
+ghost use Rattle.hier_closure.specs.Dominance.{closure_of, ids_at};
+ghost use Rattle.hier_closure.specs.Inner.Asked.{AgreeWhere};
 ghost use Rattle.hier_closure.specs.Inner.Linked.{AreLinkedIn};
 ghost use Rattle.hier_closure.specs.Inner.Stands.{AreStandsIn};
 
+use crate::asked::closure_where;
 use crate::held::Held;
-use crate::levels::{Rows, level_rows, rows_between};
-use crate::linked::{LinkedLevels, rows_at};
+use crate::levels::{Rows, level_closure, rows_between};
+use crate::linked::{LinkedLevels, rows_at, unset_row};
 use crate::ranks::any_between;
 use crate::stands::{LevelStands, stands_in};
 use bundle_state::Bundle;
@@ -78,23 +80,17 @@ impl Closure {
         requires stands { AreStandsIn bundle.now stands.now }
         ensures { IfOk result (λ made. made ≡ closure_of bundle.now lower upper) }
     {
-        let _parts = config.parts();
-        let _items = bundle.item_count();
-        if !config.is_above(upper, lower) {
-            let held = Held::unset(alloc, bundle, upper, lower)?;
-            return Ok(Closure { held });
-        }
-        let table = rows_between(alloc, config, bundle, stands, upper, lower)?;
-        let rows = level_rows(
-            alloc,
-            config,
-            bundle,
-            stands,
-            lower,
-            table.as_slice(),
-            upper,
-        )?;
-        Closure::of(alloc, rows)
+        Closure::kept(alloc, config, bundle, &[], stands, upper, lower)
+    }
+
+    /// No rows, which take no block of memory. The only refusal is want of memory.
+    pub(crate) fn none(alloc: Global) -> Result<Closure, Memory>
+        ensures { IfOk result (λ made. made ≡ []) }
+    {
+        let row = unset_row(alloc, 0)?;
+        Ok(Closure {
+            held: Held::Alike(0, row),
+        })
     }
 
     /// These rows. The only refusal is want of memory.
@@ -144,10 +140,56 @@ impl Closure {
         requires stands { AreStandsIn bundle.now stands.now }
         ensures { IfOk result (λ made. made ≡ closure_of bundle.now lower upper) }
     {
-        match Closure::kept_at(config, all, upper, lower) {
-            Some(closure) => closure.copy(alloc),
-            None => Closure::placed(alloc, config, bundle, stands, upper, lower),
+        let _parts = config.parts();
+        let _items = bundle.item_count();
+        if !config.is_above(upper, lower) {
+            let held = Held::unset(alloc, bundle, upper, lower)?;
+            return Ok(Closure { held });
         }
+        let table = rows_between(alloc, config, bundle, all, stands, upper, lower)?;
+        level_closure(
+            alloc,
+            config,
+            bundle,
+            all,
+            stands,
+            lower,
+            table.as_slice(),
+            upper,
+        )
+    }
+
+    /// The same rows of dominance for the items of the upper level that are asked for. Of the row of another
+    /// item nothing is promised but its length. The only refusal is want of memory.
+    pub fn kept_where(
+        alloc: Global,
+        config: &Config,
+        bundle: &Bundle,
+        all: &[LinkedLevels],
+        stands: &[LevelStands],
+        upper: usize,
+        lower: usize,
+        asked: &BitRow,
+    ) -> Result<Closure, Memory>
+        requires fits { FitsConfig config.now bundle.now }
+        requires upper { upper < length bundle.now.levels }
+        requires lower { lower < length bundle.now.levels }
+        requires kept { AreLinkedIn bundle.now all.now }
+        requires stands { AreStandsIn bundle.now stands.now }
+        requires asked { length asked.now ≡ length (ids_at bundle.now.levels upper) }
+        ensures { IfOk result (λ made. AgreeWhere asked.now (closure_of bundle.now lower upper) made) }
+    {
+        let _parts = config.parts();
+        let _items = bundle.item_count();
+        if !config.is_above(upper, lower) {
+            let held = Held::unset(alloc, bundle, upper, lower)?;
+            return Ok(Closure { held });
+        }
+        let between = rows_between(alloc, config, bundle, all, stands, upper, lower)?;
+        let table = between.as_slice();
+        closure_where(
+            alloc, config, bundle, all, stands, lower, table, upper, asked,
+        )
     }
 
     /// The row of an item of the upper level, by its position.

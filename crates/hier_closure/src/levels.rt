@@ -1,15 +1,18 @@
 //! The rows of the levels between two levels, from the lower one upwards.
 ghost use Rattle.std.specs.Prelude.{◌≡◌, ◌<◌, ◌+◌, length, IfOk, OnOk};
 ghost use Rattle.hier_closure.specs.Dominance.{closure_of};
+ghost use Rattle.hier_closure.specs.Inner.Linked.{AreLinkedIn};
 ghost use Rattle.hier_closure.specs.Inner.Ranks.{IsUnder, AreMadeBelow, AreMadeTo};
 ghost use Rattle.hier_closure.specs.Inner.Stands.{AreStandsIn};
 
 use crate::children::joined_row;
+use crate::closure::Closure;
+use crate::linked::LinkedLevels;
 use crate::ranks::{any_between, is_between, rank_of};
 use crate::stands::LevelStands;
 use bundle_state::Bundle;
 use db_config::Config;
-use emu_names::{Memory, Series};
+use emu_names::{Memory, PlainData, Series};
 use lane_bits::BitRow;
 use std::alloc::Global;
 
@@ -17,13 +20,13 @@ use std::alloc::Global;
 pub(crate) type Rows = Series<BitRow>;
 
 /// The rows of a level. The only refusal is want of memory.
-pub(crate) fn level_rows(
+fn level_rows(
     alloc: Global,
     config: &Config,
     bundle: &Bundle,
     stands: &[LevelStands],
     lower: usize,
-    table: &[Rows],
+    table: &[Closure],
     level: usize,
 ) -> Result<Rows, Memory>
     requires under { IsUnder config.now bundle.now }
@@ -44,18 +47,47 @@ pub(crate) fn level_rows(
     Ok(rows)
 }
 
+/// The rows of a level. They are shared with the rows of the bundle's links, where no level lies between it and
+/// the lower one and theirs are among them, and made else. The only refusal is want of memory.
+pub(crate) fn level_closure(
+    alloc: Global,
+    config: &Config,
+    bundle: &Bundle,
+    all: &[LinkedLevels],
+    stands: &[LevelStands],
+    lower: usize,
+    table: &[Closure],
+    level: usize,
+) -> Result<Closure, Memory>
+    requires under { IsUnder config.now bundle.now }
+    requires kept { AreLinkedIn bundle.now all.now }
+    requires stands { AreStandsIn bundle.now stands.now }
+    requires lower { lower < length bundle.now.levels }
+    requires level { level < length bundle.now.levels }
+    requires made { AreMadeBelow bundle.now lower table.now level }
+    ensures { IfOk result (λ made. made ≡ closure_of bundle.now lower level) }
+{
+    if let Some(closure) = Closure::kept_at(config, all, level, lower) {
+        return closure.copy(alloc);
+    }
+    let rows = level_rows(alloc, config, bundle, stands, lower, table, level)?;
+    Closure::of(alloc, rows)
+}
+
 /// Puts the rows of a level into the table, if it has the rank and lies between the two levels.
 fn add_level(
     alloc: Global,
     config: &Config,
     bundle: &Bundle,
+    all: &[LinkedLevels],
     stands: &[LevelStands],
     between: (usize, usize),
-    table: &mut Vec<Rows>,
+    table: &mut Vec<Closure>,
     rank: usize,
     level: usize,
 ) -> Result<(), Memory>
     requires under { IsUnder config.now bundle.now }
+    requires kept { AreLinkedIn bundle.now all.now }
     requires stands { AreStandsIn bundle.now stands.now }
     requires upper { between.0 < length bundle.now.levels }
     requires lower { between.1 < length bundle.now.levels }
@@ -73,16 +105,17 @@ fn add_level(
     if rank_of(config, level) != rank {
         return Ok(());
     }
-    let rows = level_rows(
+    let closure = level_closure(
         alloc,
         config,
         bundle,
+        all,
         stands,
         lower,
         table.as_slice(),
         level,
     )?;
-    table[level] = rows;
+    table[level] = closure;
     Ok(())
 }
 
@@ -91,12 +124,14 @@ fn add_rank(
     alloc: Global,
     config: &Config,
     bundle: &Bundle,
+    all: &[LinkedLevels],
     stands: &[LevelStands],
     between: (usize, usize),
-    table: &mut Vec<Rows>,
+    table: &mut Vec<Closure>,
     rank: usize,
 ) -> Result<(), Memory>
     requires under { IsUnder config.now bundle.now }
+    requires kept { AreLinkedIn bundle.now all.now }
     requires stands { AreStandsIn bundle.now stands.now }
     requires upper { between.0 < length bundle.now.levels }
     requires lower { between.1 < length bundle.now.levels }
@@ -107,33 +142,37 @@ fn add_rank(
         (AreMadeTo bundle.now between.0 between.1 (rank + 1) 0 table.new.items) }
 {
     for level in 0..bundle.level_count() {
-        add_level(alloc, config, bundle, stands, between, table, rank, level)?;
+        add_level(
+            alloc, config, bundle, all, stands, between, table, rank, level,
+        )?;
     }
     Ok(())
 }
 
-/// A table without rows. The only refusal is want of memory.
-fn empty_table(alloc: Global, count: usize) -> Result<Vec<Rows>, Memory>
+/// A table without rows, whose entries take no block of memory. The only refusal is want of memory.
+fn empty_table(alloc: Global, count: usize) -> Result<Vec<Closure>, Memory>
     ensures { IfOk result (λ table. length table.items ≡ count) }
 {
     let mut table = Vec::with_capacity(alloc, count)?;
     for _ in 0..count {
-        table.push(Series::new(alloc))?;
+        table.push(Closure::none(alloc)?)?;
     }
     Ok(table)
 }
 
-/// The rows of all levels between two levels; none, where there is no such level. The only refusal is
-/// want of memory.
+/// The rows of all levels between two levels; none, where there is no such level. Those that are among the
+/// rows of the bundle's links are shared with them. The only refusal is want of memory.
 pub(crate) fn rows_between(
     alloc: Global,
     config: &Config,
     bundle: &Bundle,
+    all: &[LinkedLevels],
     stands: &[LevelStands],
     upper: usize,
     lower: usize,
-) -> Result<Vec<Rows>, Memory>
+) -> Result<Vec<Closure>, Memory>
     requires under { IsUnder config.now bundle.now }
+    requires kept { AreLinkedIn bundle.now all.now }
     requires stands { AreStandsIn bundle.now stands.now }
     requires upper { upper < length bundle.now.levels }
     requires lower { lower < length bundle.now.levels }
@@ -148,6 +187,7 @@ pub(crate) fn rows_between(
             alloc,
             config,
             bundle,
+            all,
             stands,
             (upper, lower),
             &mut table,

@@ -2,6 +2,7 @@
 //! upper item.
 #![tactic(auto)]
 
+mod asked;
 mod children;
 mod closure;
 mod held;

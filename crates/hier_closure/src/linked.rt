@@ -43,7 +43,7 @@ impl PlainData for LinkedLevels {
 }
 
 /// A row of which no bit is set. The only refusal is want of memory.
-fn unset_row(alloc: Global, width: usize) -> Result<BitRow, Memory>
+pub(crate) fn unset_row(alloc: Global, width: usize) -> Result<BitRow, Memory>
     ensures { IfOk result (λ row. row ≡ replicate width false) }
 {
     match BitRow::new(alloc, width) {

@@ -20,8 +20,8 @@ returns-then-rank_of-rank-clause-made c =
     made_skip c.args.bundle.now c.args.between.0 c.args.between.1 c.args.rank c.args.level c.args.table.now.items c.requires.made
     (λ up down same. c.if-rank_of-rank.true (c.rank_of.ensures ∙ rank_is c.args.config.now c.args.bundle.now c.args.level c.requires.under.fits ∙ same))
 
-pub level_rows-requires-clause-made : goal.level_rows-requires-clause-made
-level_rows-requires-clause-made c =
+pub level_closure-requires-clause-made : goal.level_closure-requires-clause-made
+level_closure-requires-clause-made c =
     let own : rank_in c.args.bundle.now c.args.level ≡ c.args.rank =
     sym (c.rank_of.ensures ∙ rank_is c.args.config.now c.args.bundle.now c.args.level c.requires.under.fits) ∙ c.if-rank_of-rank.false in
     let both : is_between c.args.config.now.links c.args.between.0 c.args.between.1 c.args.level ≡ true = sym c.is_between.ensures ∙ c.if-not-is_between.false in

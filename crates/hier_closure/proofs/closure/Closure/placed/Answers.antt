@@ -1,5 +1,8 @@
-use Rattle.hier_closure.proofs.Passes.{made_as}
+use Rattle.std.proofs.Common.{List, sym, subst}
+use Rattle.hier_closure.specs.Inner.Linked.{AreLinkedIn}
+use Rattle.hier_closure.specs.declared.linked.LinkedLevels.{LinkedLevels}
+use Rattle.hier_closure.proofs.Passes.{linked_none}
 use Rattle.hier_closure.proofs.closure.Closure.placed.Goals as goal
 
-pub returns : goal.returns
-returns c = made_as c.of.result _ _ c.of.ensures c.in_ok-rows.ensures
+pub kept-requires-clause-kept : goal.kept-requires-clause-kept
+kept-requires-clause-kept c = linked_none c.args.bundle.now c.requires.stands.rules
