@@ -1,12 +1,12 @@
 -- The places of the items that items link to: how they are put together, and what stands there.
-use Rattle.std.proofs.Common.{◌≡◌, ◌⊎◌, inl, inr, ℕ, suc, ◌+◌, ◌-◌, ◌<◌, ◌≤◌, Bool, List, [], ◌∷◌, ◌++◌, length, map, take, drop, get_or, Option, None, Some, Result, Ok, Err, refl, sym, ap, subst, ◌∙◌, arith}
+use Rattle.std.proofs.Common.{◌≡◌, ◌⊎◌, inl, inr, ℕ, suc, ◌+◌, ◌-◌, ◌<◌, ◌≤◌, Bool, List, [], ◌∷◌, ◌++◌, length, map, take, drop, get_or, Some, Result, Ok, Err, refl, sym, ap, subst, ◌∙◌, arith}
 use Rattle.std.specs.Prelude.{All, IfOk, IsSome, unwrap_or}
 use Rattle.std.specs.List.{slice_get}
 use Rattle.std.specs.Option.{option_map_or}
 use Rattle.std.proofs.lemmas.Bool.{cases_lt}
 use Rattle.std.proofs.lemmas.List.{length-append, length-drop, map-append, take_all, take_more, take-append-drop, take-append-le, drop-append-le, get_or_append_left, get_or_push, append_assoc, map_more}
 use Rattle.std.proofs.lemmas.List.Elements.{All-nil, All-cons}
-use Rattle.std.proofs.lemmas.Option.{get_or_from_slice_get, slice_get-get_or, slice_get_within, unwrap_or-slice_get}
+use Rattle.std.proofs.lemmas.Option.{get_or_from_slice_get, slice_get-get_or, slice_get_within}
 use Rattle.emu_names.specs.declared.kinds.ItemId.{ItemId}
 use Rattle.level_items.specs.declared.items.Item.{Item}
 use Rattle.level_items.specs.Levels.{Level, ids_of}
@@ -14,7 +14,7 @@ use Rattle.link_graph.specs.Link.{children_of}
 use Rattle.bundle_state.specs.Bundle.{BundleParts, level_of_id, place_of}
 use Rattle.bundle_state.specs.Valid.{KeepsBundleRules}
 use Rattle.bundle_state.proofs.IdLevels.{number_within}
-use Rattle.hier_closure.specs.Dominance.{ids_at, is_or_dominates, closure_of, closure_row}
+use Rattle.hier_closure.specs.Dominance.{ids_at, closure_of, closure_row}
 use Rattle.hier_closure.specs.declared.stands.LevelStands.{LevelStands}
 use Rattle.hier_closure.specs.declared.stands.Stand.{Stand}
 use Rattle.hier_closure.specs.Inner.Linked.{AreAlike, HaveSameIdsBut}

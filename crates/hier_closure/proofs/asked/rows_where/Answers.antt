@@ -1,6 +1,6 @@
-use Rattle.std.proofs.Common.{◌≡◌, ◌∙◌, length, sym, arith}
+use Rattle.std.proofs.Common.{arith}
 use Rattle.hier_closure.specs.Dominance.{closure_of}
-use Rattle.hier_closure.proofs.Agree.{agree_none, agree_whole, row_more, rows_long}
+use Rattle.hier_closure.proofs.Agree.{agree_whole, row_more, rows_long}
 use Rattle.hier_closure.proofs.Places.{own_of, ready_at}
 use Rattle.hier_closure.proofs.asked.rows_where.Goals as goal
 

@@ -5,7 +5,6 @@ use Rattle.std.proofs.lemmas.List.{length-map}
 use Rattle.db_config.specs.Above.{is_above}
 use Rattle.hier_closure.specs.Dominance.{dominates, ids_at, closure_row, closure_of}
 use Rattle.hier_closure.specs.Inner.Stands.{stand_id}
-use Rattle.hier_closure.proofs.Ids.{Stands}
 use Rattle.hier_closure.proofs.Heights.{not_above_self, same_count}
 use Rattle.hier_closure.proofs.Joins.{either, child_here, child_above, child_aside, kept_row}
 use Rattle.hier_closure.proofs.Places.{standing}

@@ -1,4 +1,4 @@
-use Rattle.std.proofs.Common.{◌≡◌, sym, ap, ◌∙◌, length, map, take, arith}
+use Rattle.std.proofs.Common.{sym, ap, ◌∙◌, length, map, take, arith}
 use Rattle.std.specs.List.{list_any}
 use Rattle.std.proofs.lemmas.List.{length-map, take_all}
 use Rattle.hier_closure.specs.Dominance.{ids_at, is_or_dominates}

@@ -1,5 +1,4 @@
-use Rattle.std.proofs.Common.{◌≡◌, ◌∙◌, length, sym, arith}
-use Rattle.hier_closure.specs.Dominance.{ids_at}
+use Rattle.std.proofs.Common.{arith}
 use Rattle.hier_closure.proofs.Joins.{ids_count}
 use Rattle.hier_closure.proofs.Places.{own_of, ready_at, rows_more, rows_whole}
 use Rattle.hier_closure.proofs.levels.level_rows.Goals as goal

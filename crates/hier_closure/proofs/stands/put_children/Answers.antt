@@ -1,4 +1,4 @@
-use Rattle.std.proofs.Common.{◌≡◌, sym, ap, ◌∙◌}
+use Rattle.std.proofs.Common.{ap, ◌∙◌}
 use Rattle.link_graph.specs.Link.{children_of}
 use Rattle.bundle_state.specs.Bundle.{level_of_id}
 use Rattle.hier_closure.proofs.Heights.{AreAbove}

@@ -1,6 +1,3 @@
-use Rattle.std.proofs.Common.{List, sym, subst}
-use Rattle.hier_closure.specs.Inner.Linked.{AreLinkedIn}
-use Rattle.hier_closure.specs.declared.linked.LinkedLevels.{LinkedLevels}
 use Rattle.hier_closure.proofs.Passes.{linked_none}
 use Rattle.hier_closure.proofs.closure.Closure.placed.Goals as goal
 
