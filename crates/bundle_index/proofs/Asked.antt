@@ -329,6 +329,14 @@ pub within_config : (config : ConfigParts) (bundle : BundleParts) (level : ℕ) 
     level < length bundle.levels → level < length config.levels
 within_config config bundle level fits within = omega (arith, same_count config bundle fits)
 
+pub ids_long : (levels : List Level) (n : ℕ) → length (ids_at levels n) ≡ length (items_at levels n)
+ids_long levels n = by (slice_get levels n)
+  where
+    by : (o : Option Level) →
+        length (option_map_or (λ (l : Level). ids_of l.items) o []) ≡ length (option_map_or (λ (l : Level). l.items) o [])
+    by None = refl
+    by (Some l) = length-map l.items (λ (i : Item). i.id.0)
+
 pub kept_rows : (config : ConfigParts) (x y : IndexParts) (all rows : List LinkedLevels) (upper lower : ℕ)
     (r : Option (Bor (List (List Bool)))) → x ≡ y → FitsConfig config y.bundle → rows ≡ all → AreLinkedIn x.bundle all →
     IfSome r (λ made. (bundle : BundleParts) → FitsConfig config bundle → AreLinkedIn bundle rows → made.now ≡ closure_of bundle lower upper) →

@@ -5,6 +5,7 @@ ghost use Rattle.std.specs.Str.{bytes_eq};
 ghost use Rattle.lane_bits.specs.Inner.Row.{is_between};
 ghost use Rattle.bundle_state.specs.Built.{FitsConfig};
 ghost use Rattle.hier_closure.specs.Dominance.{closure_of};
+ghost use Rattle.hier_closure.specs.Inner.Asked.{AgreeWhere};
 ghost use Rattle.bundle_index.specs.Inner.Numbered.{AreNumbered, HasGrown, IsColumnOf};
 ghost use Rattle.bundle_index.specs.Inner.Index.{IsTimed, attributes_on, has_label, starts_within};
 ghost use Rattle.level_items.specs.Levels.{Level, items_at, label_of};
@@ -224,8 +225,39 @@ impl Indexed {
         Closure::kept(alloc, config, &self.bundle, linked, stands, upper, lower)
     }
 
-    /// The same rows of dominance where the bundle keeps them, that is where no level lies between the two and a
-    /// link leads from the upper one to the lower one; none in a bundle of over 512 links.
+    /// The same rows of dominance for the items of the upper level that are asked for. Of the row of another item
+    /// nothing is promised but its length. The only refusal is want of memory.
+    pub fn closure_where(
+        &self,
+        alloc: Global,
+        config: &Config,
+        upper: usize,
+        lower: usize,
+        asked: &BitRow,
+    ) -> Result<Closure, Memory>
+        requires fits { FitsConfig config.now self.now.bundle }
+        requires upper { upper < length self.now.bundle.levels }
+        requires lower { lower < length self.now.bundle.levels }
+        requires asked { length asked.now ≡ length (items_at self.now.bundle.levels upper) }
+        ensures { IfOk result (λ made.
+            AgreeWhere asked.now (closure_of self.now.bundle lower upper) made) }
+    {
+        let linked = self.linked.as_slice();
+        let stands = self.stands.as_ref().as_slice();
+        Closure::kept_where(
+            alloc,
+            config,
+            &self.bundle,
+            linked,
+            stands,
+            upper,
+            lower,
+            asked,
+        )
+    }
+
+    /// The rows of dominance between two levels where the bundle keeps them, that is where no level lies between
+    /// the two and a link leads from the upper one to the lower one; none in a bundle of over 512 links.
     pub fn kept_closure(&self, config: &Config, upper: usize, lower: usize) -> Option<&Closure>
         requires fits { FitsConfig config.now self.now.bundle }
         requires upper { upper < length self.now.bundle.levels }
