@@ -1,5 +1,5 @@
 -- The rows of a level, of which some are asked for, one after another.
-use Rattle.std.proofs.Common.{◌≡◌, ℕ, ◌+◌, ◌<◌, ◌≤◌, ◌⊎◌, inl, inr, Bool, true, false, List, [], ◌∷◌, ◌++◌, length, map, get_or, refl, sym, ap, subst, ◌∙◌, arith, Some, Result, Ok, Err, IfOk}
+use Rattle.std.proofs.Common.{◌≡◌, ℕ, ◌+◌, ◌<◌, ◌≤◌, ◌⊎◌, inl, inr, Bool, true, false, List, [], ◌∷◌, ◌++◌, length, map, get_or, sym, ap, subst, ◌∙◌, arith, Some, Result, Ok, Err, IfOk}
 use Rattle.std.specs.List.{slice_get}
 use Rattle.std.proofs.lemmas.Bool.{cases_lt}
 use Rattle.std.proofs.lemmas.List.{length-map, length-append, get_or-map, get_or_past, get_or_push, get_or_append_left}
@@ -18,13 +18,6 @@ pub record AgreeTo (asked : List Bool) (rows made : List (List Bool)) (n : ℕ) 
   pub count : length made ≡ n
   pub wide : (k : ℕ) → k < n → length (get_or made k []) ≡ length (get_or rows k [])
   pub each : (k : ℕ) → k < n → get_or asked k false ≡ true → get_or made k [] ≡ get_or rows k []
-
-pub agree_none : (asked : List Bool) (rows : List (List Bool)) → AgreeTo asked rows [] 0
-agree_none asked rows = record {
-  count = refl;
-  wide = λ k low. absurd (omega arith);
-  each = λ k low is. absurd (omega arith);
-}
 
 pub agree_more : (asked : List Bool) (rows made more : List (List Bool)) (row : List Bool) (n : ℕ) → AgreeTo asked rows made n →
     length row ≡ length (get_or rows n []) → (get_or asked n false ≡ true → row ≡ get_or rows n []) → more ≡ made ++ row ∷ [] →
