@@ -37,11 +37,18 @@ impl<'a> NamePieces<'a> {
     pub(crate) fn new(alloc: Global, row: &'a Row) -> Result<NamePieces<'a>, Memory>
         ensures { IfOk result (λ made. made ≡ names_of row.now) }
     {
-        let head = String::new(alloc);
-        let before_end = String::new(alloc);
-        let before_sample = String::new(alloc);
-        let before_start = String::new(alloc);
-        made_pieces(alloc, row, head, before_end, before_sample, before_start)
+        let attribute = row.attribute.as_str();
+        let head = head_piece(String::new(alloc), alloc, attribute, row.bundle.as_str())?;
+        let before_end = level_piece(String::new(alloc), alloc, row.level.as_str())?;
+        let before_sample = rate_piece(String::new(alloc), row.rate)?;
+        let before_start = session_piece(String::new(alloc), alloc, row.session.as_str())?;
+        Ok(NamePieces {
+            row,
+            head,
+            before_end,
+            before_sample,
+            before_start,
+        })
     }
 
     /// The text from the brace to the time of the end.
@@ -83,7 +90,7 @@ impl<'a> NamePieces<'a> {
             && self.row.attribute == row.attribute
     }
 
-    /// The pieces for the names of a row: these, where they are its names, or else others in their room. The only
+    /// The pieces for the names of a row: these, but where a name is another, others in their room. The only
     /// refusal is want of memory.
     #[tactic(auto, using(crate::proofs::Plain::same_names))]
     pub(crate) fn turned_to(self, alloc: Global, row: &'a Row) -> Result<NamePieces<'a>, Memory>
@@ -93,40 +100,68 @@ impl<'a> NamePieces<'a> {
             return Ok(self);
         }
         let NamePieces {
-            row: _,
+            row: old,
             head,
             before_end,
             before_sample,
             before_start,
         } = self;
-        made_pieces(alloc, row, head, before_end, before_sample, before_start)
+        Ok(NamePieces {
+            row,
+            head: turned_head(head, alloc, old, row)?,
+            before_end: turned_level(before_end, alloc, old, row)?,
+            before_sample: turned_rate(before_sample, old, row)?,
+            before_start: turned_session(before_start, alloc, old, row)?,
+        })
     }
 }
 
-/// The pieces for the names of a row, each in the room of a text that goes. The only refusal is want of memory.
-fn made_pieces<'a>(
-    alloc: Global,
-    row: &'a Row,
-    head: String,
-    before_end: String,
-    before_sample: String,
-    before_start: String,
-) -> Result<NamePieces<'a>, Memory>
-    ensures { IfOk result (λ made. made ≡ names_of row.now) }
+/// The beginning of a row's text: this one, where it has the row's attribute and bundle, or else another in its
+/// room. The only refusal is want of memory.
+fn turned_head(room: String, alloc: Global, old: &Row, row: &Row) -> Result<String, Memory>
+    requires { string_bytes room ≡ head_text (names_of old.now) }
+    ensures { IfOk result (λ made. string_bytes made ≡ head_text (names_of row.now)) }
 {
-    let head = head_piece(head, alloc, row.attribute.as_str(), row.bundle.as_str())?;
-    let level = row.level.as_str();
-    let before_end = piece(before_end, alloc, ",\"level\":", level, ",\"sampleEnd\":")?;
-    let before_sample = rate_piece(before_sample, row.rate)?;
-    let session = row.session.as_str();
-    let before_start = piece(before_start, alloc, ",\"session\":", session, ",\"start\":")?;
-    Ok(NamePieces {
-        row,
-        head,
-        before_end,
-        before_sample,
-        before_start,
-    })
+    if old.bundle == row.bundle && old.attribute == row.attribute {
+        return Ok(room);
+    }
+    head_piece(room, alloc, row.attribute.as_str(), row.bundle.as_str())
+}
+
+/// The text from the level to the last sample: this one, where it has the row's level, or else another in its room.
+/// The only refusal is want of memory.
+fn turned_level(room: String, alloc: Global, old: &Row, row: &Row) -> Result<String, Memory>
+    requires { string_bytes room ≡ level_text (names_of old.now) }
+    ensures { IfOk result (λ made. string_bytes made ≡ level_text (names_of row.now)) }
+{
+    if old.level == row.level {
+        return Ok(room);
+    }
+    level_piece(room, alloc, row.level.as_str())
+}
+
+/// The text from the rate to the first sample: this one, where it has the row's rate, or else another in its room.
+/// The only refusal is want of memory.
+fn turned_rate(room: String, old: &Row, row: &Row) -> Result<String, Memory>
+    requires { string_bytes room ≡ rate_text (names_of old.now) }
+    ensures { IfOk result (λ made. string_bytes made ≡ rate_text (names_of row.now)) }
+{
+    if old.rate == row.rate {
+        return Ok(room);
+    }
+    rate_piece(room, row.rate)
+}
+
+/// The text from the session to the time of the start: this one, where it has the row's session, or else another
+/// in its room. The only refusal is want of memory.
+fn turned_session(room: String, alloc: Global, old: &Row, row: &Row) -> Result<String, Memory>
+    requires { string_bytes room ≡ session_text (names_of old.now) }
+    ensures { IfOk result (λ made. string_bytes made ≡ session_text (names_of row.now)) }
+{
+    if old.session == row.session {
+        return Ok(room);
+    }
+    session_piece(room, alloc, row.session.as_str())
 }
 
 /// A text in quotes between two others, in the room of a text that goes. The only refusal is want of memory.
@@ -145,6 +180,23 @@ fn piece(
     push_quoted(&mut out, alloc, text)?;
     out.push_str(behind)?;
     Ok(out)
+}
+
+/// The text from the level to the last sample, in the room of a text that goes. The only refusal is want of memory.
+fn level_piece(room: String, alloc: Global, level: &str) -> Result<String, Memory>
+    ensures { IfOk result (λ made. string_bytes made
+        ≡ codes ",\"level\":" ++ (quoted level.now ++ codes ",\"sampleEnd\":")) }
+{
+    piece(room, alloc, ",\"level\":", level, ",\"sampleEnd\":")
+}
+
+/// The text from the session to the time of the start, in the room of a text that goes. The only refusal is want of
+/// memory.
+fn session_piece(room: String, alloc: Global, session: &str) -> Result<String, Memory>
+    ensures { IfOk result (λ made. string_bytes made
+        ≡ codes ",\"session\":" ++ (quoted session.now ++ codes ",\"start\":")) }
+{
+    piece(room, alloc, ",\"session\":", session, ",\"start\":")
 }
 
 /// The text from the rate to the first sample, in the room of a text that goes. The only refusal is want of memory.
