@@ -23,7 +23,7 @@ use Rattle.eql_match.specs.declared.found.Found.TheVariants.{Items, Tuples}
 use Rattle.eql_match.proofs.ByRows.{dominating_gives, followed_gives}
 use Rattle.eql_match.proofs.RowsBetween.{row_few}
 
-none_of_three : (a b c : Bool) → a ≡ false → b ≡ false → c ≡ false → ((a || b) || c) ≡ false
+pub none_of_three : (a b c : Bool) → a ≡ false → b ≡ false → c ≡ false → ((a || b) || c) ≡ false
 none_of_three a b c first second third = (λ i. (first i || second i) || third i)
 
 pub sequence_of_rows : (c : ConfigParts) (b : BundleParts) (p q : AskedQuery) (l r : List Bool) (made : List Tuple) →

@@ -3,6 +3,7 @@ pub mod Bare
 pub mod ByRows
 pub mod Clear
 mod Ends
+pub mod FewTuples
 pub mod FoundBy
 pub mod FoundWhere
 pub mod ItemsShown

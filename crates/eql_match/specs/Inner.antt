@@ -1,3 +1,4 @@
+pub mod Few
 pub mod Found
 pub mod Reach
 pub mod Shown

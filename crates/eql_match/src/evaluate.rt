@@ -1,16 +1,19 @@
 //! What a query finds in a bundle with its columns.
-ghost use Rattle.std.specs.Prelude.{◌≡◌, map};
+ghost use Rattle.std.specs.Prelude.{◌≡◌, [], map};
 ghost use Rattle.bundle_state.specs.Built.{FitsConfig};
 ghost use Rattle.eql_resolve.specs.Asked.{AreOnOneLevel, dominance, is_marked, level_of, sequence, terms};
 ghost use Rattle.eql_resolve.specs.Sound.{IsQueryOf};
 ghost use Rattle.eql_resolve.specs.Inner.View.{query_in, term_in};
-ghost use Rattle.eql_match.specs.Inner.Found.{AreFoundFor, FindsAll};
+ghost use Rattle.eql_match.specs.Inner.Few.{AreFewAlways};
+ghost use Rattle.eql_match.specs.Inner.Found.{tuples_in, AreFoundFor, FindsAll};
 
 use crate::conjunction::{are_marked, conjunction};
+use crate::few::is_settled;
 use crate::found::{Found, Sides, dominating, follow, side_by_side};
 use crate::ways::{dominance, sequence};
 use bundle_index::Indexed;
 use db_config::Config;
+use emu_names::Series;
 use eql_columns::Matchers;
 use eql_resolve::{AskedQuery, AskedTerm};
 use eql_tuples::{MatchFault, Tuple};
@@ -120,6 +123,25 @@ fn sequence_found(
     }
 }
 
+/// What a sequence finds of which the left part finds nothing, and the right one cannot have too many tuples.
+fn nothing_in_sequence(
+    alloc: Global,
+    config: &Config,
+    indexed: &Indexed,
+    left: &AskedQuery,
+    right: &AskedQuery,
+    lefts: Found,
+) -> Result<Found, MatchFault>
+    requires nothing { tuples_in lefts ≡ [] }
+    requires few { AreFewAlways (query_in right.now) }
+    requires lefts { AreFoundFor lefts config.now indexed.now.bundle (query_in left.now) }
+    ensures { FindsAll result config.now indexed.now.bundle
+        (sequence (query_in left.now) (query_in right.now)) }
+{
+    let _items = indexed.bundle().item_count();
+    Ok(Found::Tuples(Series::new(alloc)))
+}
+
 /// What a dominance of two rows finds.
 fn dominance_by_rows(
     alloc: Global,
@@ -214,8 +236,28 @@ fn dominance_found(
     }
 }
 
+/// What a dominance finds of which the left part finds nothing, and the right one cannot have too many tuples.
+fn nothing_in_dominance(
+    alloc: Global,
+    config: &Config,
+    indexed: &Indexed,
+    left: &AskedQuery,
+    right: &AskedQuery,
+    lefts: Found,
+) -> Result<Found, MatchFault>
+    requires nothing { tuples_in lefts ≡ [] }
+    requires few { AreFewAlways (query_in right.now) }
+    requires lefts { AreFoundFor lefts config.now indexed.now.bundle (query_in left.now) }
+    ensures { FindsAll result config.now indexed.now.bundle
+        (dominance (query_in left.now) (query_in right.now)) }
+{
+    let _items = indexed.bundle().item_count();
+    Ok(Found::Tuples(Series::new(alloc)))
+}
+
 /// What a query finds. `TooManyTuples` comes exactly where the query or some part of it
-/// has over 1,000,000 tuples; the only other refusal is want of memory.
+/// has over 1,000,000 tuples; the only other refusal is want of memory. Where the left part of a sequence
+/// or a dominance finds nothing, and the right one cannot have too many tuples, the right one is not asked.
 pub(crate) fn evaluate<'q>(
     alloc: Global,
     config: &Config,
@@ -243,6 +285,9 @@ pub(crate) fn evaluate<'q>(
                 Ok(found) => found,
                 Err(fault) => return Err(fault),
             };
+            if is_settled(&lefts, right) {
+                return nothing_in_sequence(alloc, config, indexed, left, right, lefts);
+            }
             let rights = match evaluate(alloc, config, indexed, right, matchers) {
                 Ok(found) => found,
                 Err(fault) => return Err(fault),
@@ -254,6 +299,9 @@ pub(crate) fn evaluate<'q>(
                 Ok(found) => found,
                 Err(fault) => return Err(fault),
             };
+            if is_settled(&lefts, right) {
+                return nothing_in_dominance(alloc, config, indexed, left, right, lefts);
+            }
             let rights = match evaluate(alloc, config, indexed, right, matchers) {
                 Ok(found) => found,
                 Err(fault) => return Err(fault),

@@ -5,6 +5,7 @@
 mod bundle;
 mod conjunction;
 mod evaluate;
+mod few;
 mod found;
 mod reach;
 mod runs;
