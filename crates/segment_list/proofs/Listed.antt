@@ -12,10 +12,10 @@ use Rattle.segment_list.specs.Inner.Pieces.{back_text, front_text, number_or_nul
 
 -- ---- a row
 
--- the front of a row's text before another text, and so the other parts
+-- the front of a row's text, behind a comma, before another text, and so the other parts
 abbrev front_onto : Row → List ℕ → List ℕ
 front_onto r rest =
-    codes "{\"attribute\":" ++ (quoted r.attribute ++ (codes ",\"bundle\":" ++ (quoted r.bundle
+    codes ",{\"attribute\":" ++ (quoted r.attribute ++ (codes ",\"bundle\":" ++ (quoted r.bundle
     ++ (codes ",\"end\":" ++ (number_or_null r.end
     ++ (codes ",\"endItem\":" ++ (decimal r.end_item.0 ++ (codes ",\"endPos\":" ++ (decimal r.end_pos
     ++ (codes ",\"labels\":" ++ (quoted r.labels ++ rest)))))))))))
@@ -48,7 +48,7 @@ back_flat h a i e k d l f z = simp append_assoc
 
 front_is : (r : Row) (rest : List ℕ) → front_text r ++ rest ≡ front_onto r rest
 front_is r rest =
-    front_flat (codes "{\"attribute\":") (quoted r.attribute) (codes ",\"bundle\":") (quoted r.bundle)
+    front_flat (codes ",{\"attribute\":") (quoted r.attribute) (codes ",\"bundle\":") (quoted r.bundle)
     (codes ",\"end\":") (number_or_null r.end)
     (codes ",\"endItem\":") (decimal r.end_item.0) (codes ",\"endPos\":") (decimal r.end_pos)
     (codes ",\"labels\":") (quoted r.labels) rest
@@ -65,12 +65,12 @@ back_is r =
     (codes ",\"startItem\":") (decimal r.start_item.0)
     (codes ",\"startPos\":") (decimal r.start_pos) (codes "}")
 
-whole_is : (r : Row) → front_onto r (samples_onto r (back_onto r)) ≡ row_text r
+whole_is : (r : Row) → front_onto r (samples_onto r (back_onto r)) ≡ codes "," ++ row_text r
 unfolding row_text escape_byte
 whole_is r = refl
 
--- the three parts of a row are its text
-pub row_in_parts : (r : Row) → front_text r ++ (samples_text r ++ back_text r) ≡ row_text r
+-- the three parts of a row are its text behind a comma
+pub row_in_parts : (r : Row) → front_text r ++ (samples_text r ++ back_text r) ≡ codes "," ++ row_text r
 row_in_parts r =
     front_is r (samples_text r ++ back_text r)
     ∙ ap (λ (t : List ℕ). front_onto r t) (samples_is r (back_text r) ∙ ap (λ (t : List ℕ). samples_onto r t)

@@ -51,7 +51,7 @@ impl<'a> NamePieces<'a> {
         })
     }
 
-    /// The text from the brace to the time of the end.
+    /// The text from the comma before the row to the time of the end.
     pub(crate) fn head(&self) -> &str
         ensures { result.now ≡ head_text self.now }
     {
@@ -116,8 +116,8 @@ impl<'a> NamePieces<'a> {
     }
 }
 
-/// The beginning of a row's text: this one, where it has the row's attribute and bundle, or else another in its
-/// room. The only refusal is want of memory.
+/// The comma before a row and the beginning of its text: these, where they have its attribute and bundle, or else
+/// others in their room. The only refusal is want of memory.
 fn turned_head(room: String, alloc: Global, old: &Row, row: &Row) -> Result<String, Memory>
     requires { string_bytes room ≡ head_text (names_of old.now) }
     ensures { IfOk result (λ made. string_bytes made ≡ head_text (names_of row.now)) }
@@ -211,15 +211,15 @@ fn rate_piece(room: String, rate: u32) -> Result<String, Memory>
     Ok(out)
 }
 
-/// The beginning of a row's text, up to the time of the end, in the room of a text that goes. The only refusal is
-/// want of memory.
+/// The comma before a row and the beginning of its text, up to the time of the end, in the room of a text that goes.
+/// The only refusal is want of memory.
 fn head_piece(room: String, alloc: Global, attribute: &str, bundle: &str) -> Result<String, Memory>
-    ensures { IfOk result (λ made. string_bytes made ≡ codes "{\"attribute\":" ++ (quoted attribute.now
+    ensures { IfOk result (λ made. string_bytes made ≡ codes ",{\"attribute\":" ++ (quoted attribute.now
         ++ (codes ",\"bundle\":" ++ (quoted bundle.now ++ codes ",\"end\":")))) }
 {
     let mut out = room;
     out.clear();
-    out.push_str("{\"attribute\":")?;
+    out.push_str(",{\"attribute\":")?;
     push_quoted(&mut out, alloc, attribute)?;
     out.push_str(",\"bundle\":")?;
     push_quoted(&mut out, alloc, bundle)?;

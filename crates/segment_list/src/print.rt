@@ -11,7 +11,7 @@ use std::alloc::Global;
 /// The bytes of a row's text for which room is taken, about as many as most rows have.
 const ROW_BYTES: usize = 240;
 
-/// Writes a row from the brace to the labels. The only refusal is want of memory.
+/// Writes a row from the comma before it to the labels. The only refusal is want of memory.
 fn push_front(out: &mut String, alloc: Global, pieces: &NamePieces, row: &Row) -> Result<(), Memory>
     requires { pieces.now ≡ names_of row.now }
     ensures { OnOk result (string_bytes out.new ≡ string_bytes out.old ++ front_text row.now) }
@@ -50,25 +50,15 @@ fn push_back(out: &mut String, pieces: &NamePieces, row: &Row) -> Result<(), Mem
     Ok(())
 }
 
-/// Writes a row. The only refusal is want of memory.
-fn push_row(out: &mut String, alloc: Global, pieces: &NamePieces, row: &Row) -> Result<(), Memory>
-    requires { pieces.now ≡ names_of row.now }
-    ensures { OnOk result (string_bytes out.new ≡ string_bytes out.old ++ row_text row.now) }
-{
-    push_front(out, alloc, pieces, row)?;
-    push_samples(out, pieces, row)?;
-    push_back(out, pieces, row)?;
-    Ok(())
-}
-
 /// Writes a row behind a comma. The only refusal is want of memory.
-fn push_next(out: &mut String, alloc: Global, pieces: &NamePieces, row: &Row) -> Result<(), Memory>
+fn push_row(out: &mut String, alloc: Global, pieces: &NamePieces, row: &Row) -> Result<(), Memory>
     requires { pieces.now ≡ names_of row.now }
     ensures { OnOk result (string_bytes out.new
         ≡ string_bytes out.old ++ (codes "," ++ row_text row.now)) }
 {
-    out.push_str(",")?;
-    push_row(out, alloc, pieces, row)?;
+    push_front(out, alloc, pieces, row)?;
+    push_samples(out, pieces, row)?;
+    push_back(out, pieces, row)?;
     Ok(())
 }
 
@@ -86,7 +76,7 @@ fn push_each<'a>(
     let mut pieces = first;
     for row in rows {
         pieces = pieces.turned_to(alloc, row)?;
-        push_next(out, alloc, &pieces, row)?;
+        push_row(out, alloc, &pieces, row)?;
     }
     Ok(())
 }

@@ -38,10 +38,10 @@ is_plain b = nat_le 32 b && not (b == 34) && not (b == 92)
 abbrev pub number_or_null : Option ℕ → List ℕ
 number_or_null n = compact_text (whole_or_null n)
 
--- from the brace to the time of the end
+-- from the comma before a row to the time of its end
 abbrev pub head_text : Names → List ℕ
 head_text n =
-    codes "{\"attribute\":" ++ (quoted n.attribute ++ (codes ",\"bundle\":" ++ (quoted n.bundle
+    codes ",{\"attribute\":" ++ (quoted n.attribute ++ (codes ",\"bundle\":" ++ (quoted n.bundle
     ++ codes ",\"end\":")))
 
 -- from the level to the last sample
@@ -67,7 +67,7 @@ pub record ArePieces (n : Names) (head level rate session : List ℕ) : Type 0 w
 abbrev pub number_behind : List ℕ → ℕ → List ℕ
 number_behind before n = before ++ decimal n
 
--- from the brace to the labels
+-- from the comma before a row to its labels
 abbrev pub front_text : Row → List ℕ
 front_text r =
     head_text (names_of r)

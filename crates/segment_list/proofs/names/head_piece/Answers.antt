@@ -7,8 +7,8 @@ pub returns : goal.returns
 returns c =
     let a = quoted c.args.attribute.now in
     let b = quoted c.args.bundle.now in
-    five (string_bytes c.clear.new.self) (codes "{\"attribute\":") a (codes ",\"bundle\":") b (codes ",\"end\":")
+    five (string_bytes c.clear.new.self) (codes ",{\"attribute\":") a (codes ",\"bundle\":") b (codes ",\"end\":")
     c.in_ok-push_str.ensures.bytes c.in_ok-push_quoted.ensures c.in_ok-push_str-2.ensures.bytes
     c.in_ok-push_quoted-2.ensures c.in_ok-push_str-3.ensures.bytes
-    ∙ ap (λ (t : List ℕ). t ++ (codes "{\"attribute\":" ++ (a ++ (codes ",\"bundle\":" ++ (b ++ codes ",\"end\":")))))
+    ∙ ap (λ (t : List ℕ). t ++ (codes ",{\"attribute\":" ++ (a ++ (codes ",\"bundle\":" ++ (b ++ codes ",\"end\":")))))
     c.clear.ensures.bytes
