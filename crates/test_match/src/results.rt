@@ -29,7 +29,7 @@ static BUNDLE: &str =
     r#"{"name":"b1","sampleRate":20000,"levels":[{"name":"Word","type":"ITEM","items":[{"id":1,"labels":[{"name":"Word","value":"more"},{"name":"Accent","value":"S"}]},{"id":2,"labels":[{"name":"Word","value":"of"},{"name":"Accent","value":"W"}]},{"id":3,"labels":[{"name":"Word","value":""},{"name":"Accent","value":"S"}]}]},{"name":"Syllable","type":"ITEM","items":[{"id":11,"labels":[{"name":"Syllable","value":"S"}]},{"id":12,"labels":[{"name":"Syllable","value":"W"}]},{"id":13,"labels":[{"name":"Syllable","value":"W"}]},{"id":14,"labels":[{"name":"Syllable","value":"S"}]}]},{"name":"Phoneme","type":"ITEM","items":[{"id":21,"labels":[{"name":"Phoneme","value":"m"}]},{"id":22,"labels":[{"name":"Phoneme","value":"o:"}]},{"id":23,"labels":[{"name":"Phoneme","value":"r"}]},{"id":24,"labels":[{"name":"Phoneme","value":"V"}]},{"id":25,"labels":[{"name":"Phoneme","value":"v"}]},{"id":26,"labels":[{"name":"Phoneme","value":"m"}]},{"id":27,"labels":[{"name":"Phoneme","value":"V"}]}]},{"name":"Phonetic","type":"SEGMENT","items":[{"id":31,"labels":[{"name":"Phonetic","value":"m"}],"sampleStart":0,"sampleDur":99},{"id":32,"labels":[{"name":"Phonetic","value":"o:"}],"sampleStart":100,"sampleDur":99},{"id":33,"labels":[{"name":"Phonetic","value":"r"}],"sampleStart":200,"sampleDur":49},{"id":34,"labels":[{"name":"Phonetic","value":"V"}],"sampleStart":250,"sampleDur":49},{"id":35,"labels":[{"name":"Phonetic","value":"v"}],"sampleStart":300,"sampleDur":99},{"id":36,"labels":[{"name":"Phonetic","value":"m"}],"sampleStart":500,"sampleDur":9},{"id":37,"labels":[{"name":"Phonetic","value":"V"}],"sampleStart":510,"sampleDur":89}]},{"name":"Tone","type":"EVENT","items":[{"id":41,"labels":[{"name":"Tone","value":"H*"}],"samplePoint":120},{"id":42,"labels":[{"name":"Tone","value":"L%"}],"samplePoint":360}]}],"links":[{"fromID":1,"toID":11},{"fromID":1,"toID":12},{"fromID":2,"toID":13},{"fromID":3,"toID":14},{"fromID":11,"toID":21},{"fromID":11,"toID":22},{"fromID":12,"toID":23},{"fromID":13,"toID":24},{"fromID":13,"toID":25},{"fromID":14,"toID":26},{"fromID":14,"toID":27},{"fromID":21,"toID":31},{"fromID":22,"toID":32},{"fromID":23,"toID":33},{"fromID":24,"toID":34},{"fromID":25,"toID":35},{"fromID":26,"toID":36},{"fromID":27,"toID":37},{"fromID":11,"toID":41},{"fromID":13,"toID":42}]}"#;
 
 /// Queries, and the first and last positions of their results.
-static ROWS: [(&str, &str); 33] = [
+static ROWS: [(&str, &str); 37] = [
     ("Phonetic == m", "0-0 5-5"),
     ("Phonetic != m", "1-1 2-2 3-3 4-4 6-6"),
     ("Phonetic == x", ""),
@@ -58,6 +58,10 @@ static ROWS: [(&str, &str); 33] = [
     ("[#Syllable == W ^ Phonetic != q]", "1-1 2-2"),
     ("[[Word =~ '.*' ^ Syllable == W] ^ #Phoneme == V]", "3-3"),
     ("[[Phoneme == 'o:' ^ Syllable == S] -> Phoneme != m]", "1-2"),
+    ("[Phonetic == x -> Phonetic == vowel]", ""),
+    ("[Phonetic == x ^ [Syllable == S ^ Accent == S]]", ""),
+    ("[[Phonetic == x -> Phonetic == m] ^ #Syllable == S]", ""),
+    ("[Phonetic == m -> [Phonetic == x ^ Syllable == W]]", ""),
     ("Start(Word,Phoneme) == 1", "0-0 3-3 5-5"),
     ("Start(Word,Phoneme) == 0", "1-1 2-2 4-4 6-6"),
     ("Medial(Word,Phoneme) == 1", "1-1"),

@@ -199,11 +199,16 @@ fn wide_text(alloc: Global, count: u32) -> Result<String, AllocError> {
 }
 
 /// How many items A there are, a query, and how many results it has: 1,000,000 pairs are no fault.
-static WIDE: [(u32, &str, Result<usize, MatchFault>); 4] = [
+static WIDE: [(u32, &str, Result<usize, MatchFault>); 5] = [
     (1000, "[A == x ^ #B == x]", Ok(1000)),
     (1000, "[A == x ^ B == x]", Ok(1000)),
     (1001, "[A == x ^ #B == x]", Err(MatchFault::TooManyTuples)),
     (1001, "[A == x ^ B == x]", Ok(1001)),
+    (
+        1001,
+        "[A == z -> [A == x ^ #B == x]]",
+        Err(MatchFault::TooManyTuples),
+    ),
 ];
 
 /// How many results the fast evaluator finds.
