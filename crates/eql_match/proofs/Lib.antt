@@ -1,3 +1,4 @@
+pub mod Agreed
 pub mod Aside
 pub mod Bare
 pub mod ByRows

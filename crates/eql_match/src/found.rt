@@ -193,7 +193,7 @@ fn set_above_right(
         set_above(rows, lefts, rights, made);
         return Ok(());
     }
-    let rows = indexed.closure(alloc, config, levels.0, levels.1)?;
+    let rows = indexed.closure_where(alloc, config, levels.0, levels.1, lefts)?;
     set_above(&rows, lefts, rights, made);
     Ok(())
 }
@@ -228,7 +228,7 @@ fn add_below_right(
         add_below(rows, lefts, rights, made);
         return Ok(());
     }
-    let rows = indexed.closure(alloc, config, levels.1, levels.0)?;
+    let rows = indexed.closure_where(alloc, config, levels.1, levels.0, rights)?;
     add_below(&rows, lefts, rights, made);
     Ok(())
 }

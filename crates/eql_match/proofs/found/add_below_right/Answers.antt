@@ -4,6 +4,7 @@ use Rattle.bundle_state.specs.Valid.{KeepsBundleRules}
 use Rattle.hier_closure.specs.Dominance.{closure_of}
 use Rattle.eql_match.specs.Inner.Found.{with_below}
 use Rattle.eql_match.proofs.ByRows.{above_long, put_together}
+use Rattle.eql_match.proofs.Agreed.{agreed_below, agreed_count, agreed_wide}
 use Rattle.eql_match.proofs.RowsBetween.{only_above, rows_are, all_wide, row_few}
 use Rattle.eql_match.proofs.found.add_below_right.Goals as goal
 
@@ -45,11 +46,13 @@ add_below-requires-2-clause-few c =
 
 pub add_below-requires-2-clause-rows : goal.add_below-requires-2-clause-rows
 add_below-requires-2-clause-rows c =
-    rows_are c.args.indexed.now.bundle c.args.levels.1 c.args.levels.0 (length c.args.rights.now) c.in_ok-rows.rows c.in_ok-rows.ensures c.requires.rights
+    agreed_count c.args.indexed.now.bundle c.args.levels.1 c.args.levels.0 (length c.args.rights.now) c.args.rights.now c.in_ok-rows.rows
+    c.in_ok-rows.ensures c.requires.rights
 
 pub add_below-requires-2-clause-wide : goal.add_below-requires-2-clause-wide
 add_below-requires-2-clause-wide c =
-    all_wide c.args.indexed.now.bundle c.args.levels.1 c.args.levels.0 (length c.args.lefts.now) c.in_ok-rows.rows c.in_ok-rows.ensures c.requires.lefts
+    agreed_wide c.args.indexed.now.bundle c.args.levels.1 c.args.levels.0 (length c.args.lefts.now) c.args.rights.now c.in_ok-rows.rows
+    c.in_ok-rows.ensures c.requires.lefts
 
 pub add_below-requires-2-clause-long : goal.add_below-requires-2-clause-long
 add_below-requires-2-clause-long c =
@@ -59,4 +62,6 @@ pub returns : goal.returns
 returns c =
     put_together (closure_of c.args.indexed.now.bundle c.args.levels.1 c.args.levels.0) (closure_of c.args.indexed.now.bundle c.args.levels.0 c.args.levels.1)
     c.args.lefts.now c.args.rights.now c.args.made.now c.add_below-2.new.made c.requires.above
-    (c.add_below-2.ensures ∙ ap (λ rows. with_below rows c.args.lefts.now c.args.rights.now c.args.made.now) c.in_ok-rows.ensures)
+    (c.add_below-2.ensures
+    ∙ agreed_below (closure_of c.args.indexed.now.bundle c.args.levels.0 c.args.levels.1) c.in_ok-rows.rows c.args.lefts.now c.args.rights.now
+    c.args.made.now c.in_ok-rows.ensures)

@@ -1,7 +1,9 @@
 use Rattle.std.proofs.Common.{length, sym, ap, subst, ◌∙◌}
 use Rattle.db_config.specs.Above.{is_above}
 use Rattle.bundle_state.specs.Valid.{KeepsBundleRules}
+use Rattle.hier_closure.specs.Dominance.{closure_of}
 use Rattle.eql_match.specs.Inner.Found.{above_some}
+use Rattle.eql_match.proofs.Agreed.{agreed_above, agreed_count, agreed_wide}
 use Rattle.eql_match.proofs.RowsBetween.{none_above, rows_are, all_wide, row_few}
 use Rattle.eql_match.proofs.found.set_above_right.Goals as goal
 
@@ -36,11 +38,16 @@ set_above-requires-2-clause-few c =
 
 pub set_above-requires-2-clause-rows : goal.set_above-requires-2-clause-rows
 set_above-requires-2-clause-rows c =
-    rows_are c.args.indexed.now.bundle c.args.levels.0 c.args.levels.1 (length c.args.lefts.now) c.in_ok-rows.rows c.in_ok-rows.ensures c.requires.lefts
+    agreed_count c.args.indexed.now.bundle c.args.levels.0 c.args.levels.1 (length c.args.lefts.now) c.args.lefts.now c.in_ok-rows.rows
+    c.in_ok-rows.ensures c.requires.lefts
 
 pub set_above-requires-2-clause-wide : goal.set_above-requires-2-clause-wide
 set_above-requires-2-clause-wide c =
-    all_wide c.args.indexed.now.bundle c.args.levels.0 c.args.levels.1 (length c.args.rights.now) c.in_ok-rows.rows c.in_ok-rows.ensures c.requires.rights
+    agreed_wide c.args.indexed.now.bundle c.args.levels.0 c.args.levels.1 (length c.args.rights.now) c.args.lefts.now c.in_ok-rows.rows
+    c.in_ok-rows.ensures c.requires.rights
 
 pub returns : goal.returns
-returns c = c.set_above-2.ensures ∙ ap (λ rows. above_some rows c.args.lefts.now c.args.rights.now) c.in_ok-rows.ensures
+returns c =
+    c.set_above-2.ensures
+    ∙ agreed_above (closure_of c.args.indexed.now.bundle c.args.levels.1 c.args.levels.0) c.in_ok-rows.rows c.args.lefts.now c.args.rights.now
+    c.in_ok-rows.ensures
