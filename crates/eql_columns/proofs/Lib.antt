@@ -1,3 +1,4 @@
+mod Known
 mod Added
 pub mod Bits
 pub mod Standing

@@ -123,6 +123,14 @@ pub numbers_of : (numbered : List (List ℕ)) (column : List ℕ) (attribute : �
     IsColumnOf numbered column (map (label_of attribute) items) → AreNumbersOf column (map (label_of attribute) items)
 numbers_of numbered column attribute items is = numbers_by numbered column (map (label_of attribute) items) is
 
+-- the label of an item stands at its number
+pub label_numbered : (numbered : List (List ℕ)) (column : List ℕ) (attribute : ℕ) (items : List Item) (at : ℕ) →
+    IsColumnOf numbered column (map (label_of attribute) items) → at < length items →
+    slice_get numbered (get_or column at 0) ≡ Some (label_at attribute items at)
+label_numbered numbered column attribute items at is below =
+    numbered_at numbered column (map (label_of attribute) items) is at (omega (arith, below, length-map items (label_of attribute)))
+    (numbers_by numbered column (map (label_of attribute) items) is).count
+
 -- a column has a number for each item
 pub column_long : (numbered : List (List ℕ)) (column : List ℕ) (attribute : ℕ) (items : List Item) →
     IsColumnOf numbered column (map (label_of attribute) items) → length column ≡ length items

@@ -1,13 +1,15 @@
 -- Labels of items by rows and by numbers.
-use Rattle.std.specs.Prelude.{◌≡◌, ℕ, ◌<◌, ◌++◌, Bool, List, [], Option, Some, length, get_or, map}
+use Rattle.std.specs.Prelude.{◌≡◌, ◌≢◌, ℕ, ◌<◌, ◌++◌, Bool, List, [], Option, Some, length, get_or, map}
 use Rattle.level_items.specs.declared.items.Item.{Item}
 use Rattle.std.specs.List.{list_any, slice_get}
 use Rattle.db_config.specs.declared.parts.AttributePlace.{AttributePlace}
 use Rattle.emu_names.specs.Texts.{same_text}
 use Rattle.bundle_state.specs.Bundle.{BundleParts}
 use Rattle.bundle_index.specs.Inner.Index.{attributes_on}
+use Rattle.bundle_index.specs.Inner.Keys.{IsKeyOf}
 use Rattle.label_match.specs.Pattern.{matches_label}
 use Rattle.level_items.specs.Levels.{label_of, items_at}
+use Rattle.eql_columns.specs.declared.matchers.Known.{Known}
 
 -- the level of an attribute is there, and the attribute is
 pub record HasColumn (b : BundleParts) (place : AttributePlace) : Type 0 where
@@ -43,6 +45,15 @@ pub record AreNumbersOf (column : List ℕ) (labels : List (List ℕ)) : Type 0 
 pub record AreAnswers (pattern : List ℕ) (column : List ℕ) (labels : List (List ℕ)) (answers : List (Option Bool)) : Type 0 where
   pub right : (k : ℕ) (is : Bool) → k < length labels →
       slice_get answers (get_or column k 0) ≡ Some (Some is) → is ≡ matches_label pattern (get_or labels k [])
+
+-- this is whether the pattern matches the labels of a key; of the key 0 it says nothing
+abbrev pub IsAnswerTo : List ℕ → ℕ → Bool → Type 0
+IsAnswerTo pattern key is = (label : List ℕ) → key ≢ 0 → IsKeyOf label key → is ≡ matches_label pattern label
+
+-- there are 512 places, and what is known at each is whether the pattern matches the labels of its key
+pub record AreKnownOf (pattern : List ℕ) (known : List Known) : Type 0 where
+  pub count : length known ≡ 512
+  pub right : (place : ℕ) (one : Known) → slice_get known place ≡ Some one → IsAnswerTo pattern one.key one.is
 
 -- the label of the item at a position
 abbrev pub label_at : ℕ → List Item → ℕ → List ℕ
