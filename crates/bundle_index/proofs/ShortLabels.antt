@@ -1,13 +1,15 @@
 -- Labels that are found by their keys.
-use Rattle.std.proofs.Common.{◌≡◌, ◌<◌, ◌≤◌, ◌+◌, ◌*◌, ◌==◌, ◌⊎◌, inl, inr, ℕ, zero, suc, Bool, cond, not, nat_lt, List, [], ◌∷◌, ◌++◌, length, take, drop, get_or, slice_get, ◌-◌, Some, None, refl, sym, ap, subst, ◌∙◌, arith}
-use Rattle.std.proofs.lemmas.Bool.{cases_lt}
+use Rattle.std.proofs.Common.{◌≡◌, ◌<◌, ◌≤◌, ◌+◌, ◌*◌, ◌%◌, ◌==◌, ◌≢◌, ◌⊎◌, inl, inr, ℕ, zero, suc, Bool, true, false, cond, not, nat_lt, List, [], ◌∷◌, ◌++◌, length, take, drop, get_or, slice_get, ◌-◌, Option, Some, None, refl, sym, ap, subst, ◌∙◌, arith, true≢false}
+use Rattle.std.specs.Prelude.{slice_set}
+use Rattle.std.proofs.lemmas.Bool.{cases_eq, cases_lt}
 use Rattle.std.proofs.lemmas.Bool.Decides.{Decides-eqb, same_from_decides}
-use Rattle.std.proofs.lemmas.List.{drop_more, length-drop, take_more, take_all}
-use Rattle.std.proofs.lemmas.Option.{slice_get_within, get_or_from_slice_get}
+use Rattle.std.proofs.lemmas.List.{drop_more, get_or-set_other, get_or-set_same, length-drop, length-set, take_more, take_all}
+use Rattle.std.proofs.lemmas.List.Quantifiers.{position-Some}
+use Rattle.std.proofs.lemmas.Option.{slice_get_within, slice_get-get_or, get_or_from_slice_get, same_Some}
 use Rattle.std.proofs.lemmas.Slice.Eq.{bytes_eq-Decides}
 use Rattle.std.specs.List.{AllZip, position, position_or_len}
 use Rattle.std.specs.Str.{bytes_eq}
-use Rattle.bundle_index.specs.Inner.Keys.{AreBytes, AreKeysOf, IsKeyOf, number_of}
+use Rattle.bundle_index.specs.Inner.Keys.{AreBytes, AreKeysOf, AreMarksOf, IsKeyOf, number_of}
 
 -- ---- the number of some bytes
 
@@ -96,6 +98,77 @@ module _ (label : List ℕ) (key : ℕ) (short : length label ≤ 7) (mine : IsK
       same_length [] (k ∷ keys) zip = absurd zip
       same_length (l ∷ labels) [] zip = absurd zip
       same_length (l ∷ labels) (k ∷ keys) zip = ap (λ (n : ℕ). suc n) (same_length labels keys zip.1)
+
+-- labels of the same key that is not 0 are the same
+pub same_labels : (label l : List ℕ) (key : ℕ) → key ≢ 0 → IsKeyOf label key → IsKeyOf l key → label ≡ l
+same_labels label l key some mine other = by (cases_lt 7 (length label))
+  where
+    by : (7 < length label) ⊎ (length label ≤ 7) → label ≡ l
+    by (inl long) = absurd (some (mine.long long))
+    by (inr few) = key_tells label l key key few mine other refl
+
+-- the key at the place of a label is its key
+pub key_at : (labels : List (List ℕ)) (keys : List ℕ) (i k : ℕ) (label : List ℕ) → AllZip IsKeyOf labels keys →
+    slice_get labels i ≡ Some label → slice_get keys i ≡ Some k → IsKeyOf label k
+key_at [] keys i k label zip here there = absurd (omega (arith, slice_get_within [] i label here))
+key_at (l ∷ labels) [] i k label zip here there = absurd zip
+key_at (l ∷ labels) (x ∷ keys) zero k label zip here there =
+    subst (λ (n : ℕ). IsKeyOf label n) (same_Some x k there)
+    (subst (λ (t : List ℕ). IsKeyOf t x) (same_Some l label here) zip.0)
+key_at (l ∷ labels) (x ∷ keys) (suc i) k label zip here there = key_at labels keys i k label zip.1 here there
+
+pub kept_key : (labels : List (List ℕ)) (keys : List ℕ) (i k : ℕ) (label : List ℕ) → AreKeysOf labels keys →
+    slice_get labels i ≡ Some label → slice_get keys i ≡ Some k → IsKeyOf label k
+kept_key labels keys i k label are here there =
+    key_at labels keys i k label (are.each (omega (arith, slice_get_within keys i k there))) here there
+
+-- ---- the marks of keys
+
+-- the first keys have their marks
+pub record AreMarkedSoFar (keys : List ℕ) (marks : List Bool) (n : ℕ) : Type 0 where
+  pub count : length marks ≡ 63
+  pub each : (i k : ℕ) → i < n → slice_get keys i ≡ Some k → get_or marks (k % 63) false ≡ true
+
+pub none_marked : (keys : List ℕ) (marks : List Bool) → length marks ≡ 63 → AreMarkedSoFar keys marks 0
+none_marked keys marks long = record { count = long; each = λ i k below at. absurd (omega arith) }
+
+pub mark_more : (keys : List ℕ) (marks : List Bool) (n key : ℕ) → AreMarkedSoFar keys marks n → n < length keys →
+    key ≡ get_or keys n key → AreMarkedSoFar keys (slice_set marks (key % 63) true) (n + 1)
+mark_more keys marks n key so within is = record {
+  count = length-set marks (key % 63) true ∙ so.count;
+  each = λ i k below at. by i k below at (cases_eq (k % 63) (key % 63));
+}
+  where
+    by : (i k : ℕ) → i < n + 1 → slice_get keys i ≡ Some k → (k % 63 ≡ key % 63) ⊎ (k % 63 ≡ key % 63 → ⊥) →
+        get_or (slice_set marks (key % 63) true) (k % 63) false ≡ true
+    by i k below at (inl same) =
+        ap (λ (m : ℕ). get_or (slice_set marks (key % 63) true) m false) same
+        ∙ get_or-set_same marks (key % 63) true false (omega (arith, so.count))
+    by i k below at (inr other) =
+        let apart : i ≡ n → ⊥ = λ (same : i ≡ n). other (ap (λ (m : ℕ). m % 63) (sym (get_or_from_slice_get keys i k key at)
+        ∙ ap (λ (m : ℕ). get_or keys m key) same ∙ sym is)) in
+        get_or-set_other marks (key % 63) (k % 63) true false other ∙ so.each i k (omega (arith, apart)) at
+
+pub all_marked : (keys : List ℕ) (marks : List Bool) (n : ℕ) → AreMarkedSoFar keys marks n → length keys ≤ n → AreMarksOf keys marks
+all_marked keys marks n so past = record {
+  count = so.count;
+  each = λ i k at. so.each i k (omega (arith, past, slice_get_within keys i k at)) at;
+}
+
+-- a key whose mark is not set is not among the keys
+pub unmarked : (keys : List ℕ) (marks : List Bool) (key : ℕ) → AreMarksOf keys marks → slice_get marks (key % 63) ≡ Some false →
+    position (λ k. k == key) keys ≡ None
+unmarked keys marks key are off = by (position (λ k. k == key) keys) refl
+  where
+    by : (o : Option ℕ) → position (λ k. k == key) keys ≡ o → o ≡ None
+    by None is = refl
+    by (Some i) is =
+        let found = position-Some (λ k. k == key) keys i 0 is in
+        let same : get_or keys i 0 ≡ key = (Decides-eqb (get_or keys i 0) key).0 found.1 in
+        let set : get_or marks (key % 63) false ≡ true =
+        ap (λ (k : ℕ). get_or marks (k % 63) false) (sym same)
+        ∙ are.each i (get_or keys i 0) (slice_get-get_or keys i 0 found.0) in
+        absurd (true≢false (sym set ∙ get_or_from_slice_get marks (key % 63) false false off))
 
 -- ---- the loops
 

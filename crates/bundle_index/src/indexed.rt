@@ -1,5 +1,5 @@
 //! A bundle with its columns.
-ghost use Rattle.std.specs.Prelude.{◌≡◌, ◌<◌, true, false, get_or, length, map, replicate, IfOk, IfSome, OnOk, Some, position};
+ghost use Rattle.std.specs.Prelude.{◌≡◌, ◌≢◌, ◌<◌, ℕ, List, true, false, get_or, length, map, replicate, IfOk, IfSome, OnOk, Some, position};
 ghost use Rattle.std.specs.List.{slice_get};
 ghost use Rattle.std.specs.Str.{bytes_eq};
 ghost use Rattle.lane_bits.specs.Inner.Row.{is_between};
@@ -10,7 +10,7 @@ ghost use Rattle.bundle_index.specs.Inner.Numbered.{AreNumbered, HasGrown, IsCol
 ghost use Rattle.bundle_index.specs.Inner.Index.{IsTimed, attributes_on, has_label, starts_within};
 ghost use Rattle.level_items.specs.Levels.{Level, items_at, label_of};
 ghost use Rattle.bundle_index.specs.Inner.Columns.{AreColumnsBut, AreColumnsFor, AreColumnsOf, AreKeptOf, AreOtherwiseSame, AreSameBut, ends_of, starts_of};
-ghost use Rattle.bundle_index.specs.Inner.Keys.{AreKeysOf};
+ghost use Rattle.bundle_index.specs.Inner.Keys.{AreKeysOf, IsKeyOf};
 
 use crate::columns::LevelColumns;
 use crate::labels::Labels;
@@ -170,6 +170,15 @@ impl Indexed {
         } else {
             self.labels.find(label)
         }
+    }
+
+    /// The key of the label of a number: labels of the same key that is not 0 are the same, in whatever bundles they
+    /// are. It is 0 where the label has more than seven bytes, or where the bundle keeps no keys.
+    pub fn label_key(&self, number: u32) -> u64
+        ensures { (label : List ℕ) → slice_get self.now.labels number ≡ Some label
+            → result ≢ 0 → IsKeyOf label result }
+    {
+        self.keys.at(number as usize)
     }
 
     /// The numbers of the items' labels for an attribute of a level, one for each item in order.

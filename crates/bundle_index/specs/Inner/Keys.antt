@@ -1,6 +1,6 @@
 -- The keys of labels, which tell short labels apart.
-use Rattle.std.specs.Prelude.{◌≡◌, ℕ, ◌<◌, ◌≤◌, ◌+◌, ◌*◌, ⊤, List, [], ◌∷◌, length}
-use Rattle.std.specs.List.{AllZip}
+use Rattle.std.specs.Prelude.{◌≡◌, ℕ, ◌<◌, ◌≤◌, ◌+◌, ◌*◌, ◌%◌, ⊤, Bool, true, false, List, [], ◌∷◌, length, get_or, Some}
+use Rattle.std.specs.List.{AllZip, slice_get}
 
 -- the bytes as digits to base 256, the first one lowest, with a 1 above the last
 abbrev pub number_of : List ℕ → ℕ
@@ -20,3 +20,8 @@ pub record IsKeyOf (label : List ℕ) (key : ℕ) : Type 0 where
 -- the keys are those of these labels, one for each in order, or there is none
 pub record AreKeysOf (labels : List (List ℕ)) (keys : List ℕ) : Type 0 where
   pub each : 0 < length keys → AllZip IsKeyOf labels keys
+
+-- of sixty-three marks that of each key is set, at the rest of the key by 63
+pub record AreMarksOf (keys : List ℕ) (marks : List Bool) : Type 0 where
+  pub count : length marks ≡ 63
+  pub each : (i k : ℕ) → slice_get keys i ≡ Some k → get_or marks (k % 63) false ≡ true

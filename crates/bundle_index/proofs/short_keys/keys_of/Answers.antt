@@ -1,7 +1,7 @@
 use Rattle.std.proofs.Common.{[], ◌∷◌, arith}
 use Rattle.std.proofs.lemmas.List.{length-append}
 use Rattle.bundle_index.proofs.ShortLabels.{all_keyed, key_more}
-use Rattle.bundle_index.proofs.short_keys.ShortKeys.of.Goals as goal
+use Rattle.bundle_index.proofs.short_keys.keys_of.Goals as goal
 
 pub loop-place-preserved : goal.loop-place-preserved
 loop-place-preserved c =
@@ -12,5 +12,5 @@ loop-place-preserved c =
           c.key_of.ensures;
     })
 
-pub returns : goal.returns
-returns c = all_keyed c.args.labels.now c.loop-place.keys c.loop-place.place (omega arith) c.loop-place.invariant.each
+pub returns-clause-keys : goal.returns-clause-keys
+returns-clause-keys c = all_keyed c.args.labels.now c.loop-place.keys c.loop-place.place (omega arith) c.loop-place.invariant.each

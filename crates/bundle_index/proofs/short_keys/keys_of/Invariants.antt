@@ -1,7 +1,7 @@
 use Rattle.std.proofs.Common.{◌≡◌, length, take}
 use Rattle.std.specs.List.{AllZip}
 use Rattle.bundle_index.specs.Inner.Keys.{IsKeyOf}
-use Rattle.bundle_index.proofs.short_keys.ShortKeys.of.Given as goal
+use Rattle.bundle_index.proofs.short_keys.keys_of.Given as goal
 
 abbrev pub invariant-loop-place : goal.invariant-loop-place
 invariant-loop-place l = record {
