@@ -1,7 +1,6 @@
 use Rattle.std.proofs.Common.{◌≡◌, List, ℕ, [], ap, subst, sym, ◌∙◌}
 use Rattle.std.proofs.lemmas.List.{get_or-map}
 use Rattle.bundle_index.specs.Inner.Keys.{IsKeyOf}
-use Rattle.label_match.specs.Pattern.{matches_label}
 use Rattle.level_items.specs.Levels.{label_of}
 use Rattle.eql_columns.specs.Inner.Labels.{label_at}
 use Rattle.eql_columns.proofs.patterns.learned_at.Goals as goal
