@@ -2,6 +2,7 @@
 ghost use Rattle.std.specs.Prelude.{IfOk};
 ghost use Rattle.bundle_state.specs.Built.{FitsConfig};
 
+use crate::compared::same;
 use annot_json::{print_annot, read_annot};
 use bundle_state::Bundle;
 use config_json::read_config;
@@ -96,8 +97,22 @@ fn expect_text(
     requires { FitsConfig config.now bundle.now }
 {
     let text = print_annot(alloc, config, bundle)?;
-    assert_eq!(rt; text.as_str(), wanted);
+    same(rt, text.as_str(), wanted);
     Ok(())
+}
+
+/// Prints the bundle b1 of an annotation, and compares.
+fn expect_bundle(
+    rt: &impl Abort,
+    alloc: Global,
+    config: &Config,
+    annot: &Annot,
+    wanted: &str,
+) -> Result<(), Fail> {
+    let bundle = bundle_of(alloc, config, annot)?;
+    let compared = expect_text(rt, alloc, config, &bundle, wanted);
+    drop(bundle);
+    compared
 }
 
 /// Prints the bundle b1 of the annotation of a text, and compares.
@@ -109,15 +124,18 @@ fn expect_annot(
     wanted: &str,
 ) -> Result<(), Fail> {
     let annot = annot_of(alloc, annot)?;
-    let bundle = bundle_of(alloc, config, &annot)?;
-    expect_text(rt, alloc, config, &bundle, wanted)
+    let compared = expect_bundle(rt, alloc, config, &annot, wanted);
+    drop(annot);
+    compared
 }
 
 /// Prints the bundle of a row, and compares.
 fn expect_row(rt: &impl Abort, alloc: Global, row: &Row) -> Result<(), Fail> {
     let &(config, annot, wanted) = row;
     let config = config_of(alloc, config)?;
-    expect_annot(rt, alloc, &config, annot, wanted)
+    let compared = expect_annot(rt, alloc, &config, annot, wanted);
+    drop(config);
+    compared
 }
 
 #[test]

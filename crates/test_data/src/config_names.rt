@@ -3,6 +3,7 @@ ghost use Rattle.std.specs.Prelude.{◌≡◌, ◌<◌, length, IsSome};
 ghost use Rattle.db_config.specs.Lookups.{attribute_at};
 
 use crate::annot_printing::config_of;
+use crate::compared::same;
 use crate::levels::crosses_threads;
 use db_config::Config;
 use emu_names::{LevelKind, LinkKind};
@@ -80,7 +81,7 @@ fn first_odd(config: &Config) -> Option<(usize, usize)> {
 
 /// Compares each two levels with the table.
 fn expect_listed(rt: &impl Abort, config: &Config) {
-    assert_eq!(rt; first_odd(config), None);
+    same(rt, first_odd(config), None);
 }
 
 /// Compares the levels of a copy of the configuration.
@@ -113,11 +114,8 @@ static DEFINITIONS: [(usize, usize, Option<u32>); 5] = [
 /// Compares the link definitions of the table.
 fn expect_definitions(rt: &impl Abort, config: &Config) {
     for &(upper, lower, wanted) in &DEFINITIONS {
-        assert_eq!(rt;
-            config.link_definition(upper, lower),
-            wanted,
-            "{upper} {lower}"
-        );
+        let found = config.link_definition(upper, lower);
+        same(rt, (upper, lower, found), (upper, lower, wanted));
     }
 }
 
@@ -131,7 +129,7 @@ fn expect_counts(rt: &impl Abort, config: &Config) {
         config.kind(8),
         parts.tracks.get(1).as_str(),
     );
-    assert_eq!(rt; some, (LinkKind::ManyToMany, LevelKind::Event, "fm"));
+    same(rt, some, (LinkKind::ManyToMany, LevelKind::Event, "fm"));
 }
 
 #[test]
@@ -159,9 +157,10 @@ static NAMES: [Named; 6] = [
 fn expect_names(rt: &impl Abort, config: &Config) {
     for &(name, level, place) in &NAMES {
         let found = config.name_place(name).map(|p| (p.level, p.attribute));
-        assert!(rt;
-            config.level_named(name) == level && found == place,
-            "{name}"
+        same(
+            rt,
+            (name, config.level_named(name), found),
+            (name, level, place),
         );
     }
 }
@@ -182,7 +181,7 @@ fn expect_legal(rt: &impl Abort, config: &Config) {
             Some(place) => Some(config.is_legal(place, label)),
             None => None,
         };
-        assert_eq!(rt; found, Some(legal), "{name} {label}");
+        same(rt, (name, label, found), (name, label, Some(legal)));
     }
 }
 

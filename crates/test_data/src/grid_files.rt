@@ -1,6 +1,7 @@
 //! Texts with what each gives, the worked example in every encoding, and its cuts.
 ghost use Rattle.std.specs.Prelude.{◌≤◌};
 
+use crate::compared::{at_arrow, same_start, same_text};
 use crate::grid_told::told;
 use std::alloc::{AllocError, Global};
 use std::process::Abort;
@@ -77,15 +78,31 @@ static BYTES: [(&[u8], &str); 11] = [
     (b"\xef\xbb\xbf\x22", "BadText 0"),
 ];
 
+/// Reads the bytes of a row at a rate, and compares.
+fn expect(
+    rt: &impl Abort,
+    alloc: Global,
+    rate: u32,
+    bytes: &[u8],
+    row: &str,
+    wanted: &str,
+) -> Result<(), AllocError>
+    requires rate_above { 1 ≤ rate }
+    requires rate_below { rate ≤ 1000000 }
+{
+    let found = told(alloc, rate, bytes)?;
+    same_text(rt, row, found.as_str(), wanted);
+    Ok(())
+}
+
 /// Reads the texts of a table at a rate, and compares.
-fn expect_rows(rt: &impl Abort, alloc: Global, rate: u32, rows: &[&str]) -> Result<(), Fail>
+fn expect_rows(rt: &impl Abort, alloc: Global, rate: u32, rows: &[&str]) -> Result<(), AllocError>
     requires rate_above { 1 ≤ rate }
     requires rate_below { rate ≤ 1000000 }
 {
     for row in rows {
-        let (wanted, text) = row.split_once(" <- ").unwrap_or(("no row", ""));
-        let found = told(alloc, rate, text.as_bytes())?;
-        assert_eq!(rt; found.as_str(), wanted, "{text}");
+        let (wanted, text) = at_arrow(row);
+        expect(rt, alloc, rate, text.as_bytes(), text, wanted)?;
     }
     Ok(())
 }
@@ -93,14 +110,14 @@ fn expect_rows(rt: &impl Abort, alloc: Global, rate: u32, rows: &[&str]) -> Resu
 #[test]
 fn texts(rt: HostRuntime) -> Result<(), Fail> {
     expect_rows(&rt, rt.alloc(), 20_000, &ROWS)?;
-    expect_rows(&rt, rt.alloc(), 3, &SLOW)
+    expect_rows(&rt, rt.alloc(), 3, &SLOW)?;
+    Ok(())
 }
 
 #[test]
 fn encodings(rt: HostRuntime) -> Result<(), Fail> {
     for (bytes, answer) in &BYTES {
-        let found = told(rt.alloc(), 20_000, bytes)?;
-        assert_eq!(rt; found.as_str(), *answer);
+        expect(&rt, rt.alloc(), 20_000, bytes, "encodings", answer)?;
     }
     Ok(())
 }
@@ -113,6 +130,19 @@ fn cut_told(alloc: Global, open: Option<usize>, end: usize) -> Result<String, Al
     }
 }
 
+/// Reads a cut of the example, and compares how the answer begins.
+fn expect_cut(
+    rt: &impl Abort,
+    alloc: Global,
+    cut: &[u8],
+    open: Option<usize>,
+) -> Result<(), AllocError> {
+    let found = told(alloc, 20_000, cut)?;
+    let wanted = cut_told(alloc, open, cut.len())?;
+    same_start(rt, found.as_str(), wanted.as_str());
+    Ok(())
+}
+
 #[test]
 fn cuts(rt: HostRuntime) -> Result<(), Fail> {
     let alloc = rt.alloc();
@@ -120,18 +150,12 @@ fn cuts(rt: HostRuntime) -> Result<(), Fail> {
     let mut open = None;
     for (end, byte) in example.iter().enumerate() {
         if end + 1 < example.len() {
-            let found = told(alloc, 20_000, &example[..end])?;
-            let wanted = cut_told(alloc, open, end)?;
-            assert!(rt;
-                found.as_str().starts_with(wanted.as_str()),
-                "{found} at {end}"
-            );
+            expect_cut(&rt, alloc, &example[..end], open)?;
         }
         if *byte == b'"' {
             open = if open.is_none() { Some(end) } else { None };
         }
     }
-    let found = told(alloc, 20_000, example)?;
-    assert_eq!(rt; found.as_str(), ITEMS);
+    expect(&rt, alloc, 20_000, example, "the example", ITEMS)?;
     Ok(())
 }

@@ -4,63 +4,92 @@ ghost use Rattle.std.specs.Prelude.{◌≤◌};
 use emu_names::LevelKind;
 use level_items::{Annot, AnnotItem, AnnotLevel, Time};
 use std::alloc::{AllocError, Global};
-use textgrid::{Grid, GridFault, read_textgrid, to_annot};
+use textgrid::{Grid, GridFault, GridWhat, read_textgrid, to_annot};
+
+/// A word, and a place.
+fn place_told(alloc: Global, word: &str, at: u64) -> Result<String, AllocError> {
+    format!(in alloc; "{word} {at}")
+}
+
+/// A word, and an entry of a tier.
+fn entry_told(alloc: Global, word: &str, tier: u32, entry: u32) -> Result<String, AllocError> {
+    format!(in alloc; "{word} {tier} {entry}")
+}
+
+/// What is missed at a place.
+fn missed_told(alloc: Global, at: u64, what: GridWhat) -> Result<String, AllocError> {
+    let word = what.word();
+    format!(in alloc; "Expected {at} {word}")
+}
 
 /// A fault, with its place.
 fn fault_told(alloc: Global, fault: GridFault) -> Result<String, AllocError> {
     match fault {
-        GridFault::BadEncoding(at) => format!(in alloc; "BadEncoding {at}"),
-        GridFault::BadText(at) => format!(in alloc; "BadText {at}"),
-        GridFault::TooManyDigits(at) => format!(in alloc; "TooManyDigits {at}"),
-        GridFault::Expected { at, what } => {
-            let word = what.copy().word();
-            format!(in alloc; "Expected {at} {word}")
-        }
-        GridFault::NegativeTime { tier, entry } => format!(in alloc; "NegativeTime {tier} {entry}"),
-        GridFault::TimeTooLarge { tier, entry } => format!(in alloc; "TimeTooLarge {tier} {entry}"),
-        GridFault::EmptyInterval { tier, entry } => {
-            format!(in alloc; "EmptyInterval {tier} {entry}")
-        }
-        GridFault::Memory => format!(in alloc; "Memory"),
+        GridFault::BadEncoding(at) => place_told(alloc, "BadEncoding", at),
+        GridFault::BadText(at) => place_told(alloc, "BadText", at),
+        GridFault::TooManyDigits(at) => place_told(alloc, "TooManyDigits", at),
+        GridFault::Expected { at, what } => missed_told(alloc, at, what.copy()),
+        GridFault::NegativeTime { tier, entry } => entry_told(alloc, "NegativeTime", tier, entry),
+        GridFault::TimeTooLarge { tier, entry } => entry_told(alloc, "TimeTooLarge", tier, entry),
+        GridFault::EmptyInterval { tier, entry } => entry_told(alloc, "EmptyInterval", tier, entry),
+        GridFault::Memory => String::from_str(alloc, "Memory"),
     }
 }
 
-/// An item behind what was told before it: its id, its samples and its label.
-fn item_told(alloc: Global, before: String, item: &AnnotItem) -> Result<String, AllocError> {
+/// Adds a time to what is told: its samples, with a colon behind them.
+fn add_time(told: &mut String, time: &Time) -> Result<(), AllocError> {
+    match *time {
+        Time::NoTime => Ok(()),
+        Time::Span { start, dur } => write!(told, "{start}+{dur}:"),
+        Time::Point { at } => write!(told, "{at}:"),
+    }
+}
+
+/// Adds an item to what is told: its id, its samples and its label.
+fn add_item(told: &mut String, item: &AnnotItem) -> Result<(), AllocError> {
     let id = item.id.0;
-    let mut told = match item.time {
-        Time::NoTime => format!(in alloc; "{before} {id}:")?,
-        Time::Span { start, dur } => format!(in alloc; "{before} {id}:{start}+{dur}:")?,
-        Time::Point { at } => format!(in alloc; "{before} {id}:{at}:")?,
-    };
+    write!(told, " {id}:")?;
+    add_time(told, &item.time)?;
     for label in item.labels.as_slice() {
         told.push_str(label.value.as_str())?;
     }
-    Ok(told)
+    Ok(())
 }
 
-/// A level behind what was told before it: its name, its kind and its items.
-fn level_told(alloc: Global, before: String, level: &AnnotLevel) -> Result<String, AllocError> {
-    let name = level.name.as_str();
-    let kind = match level.kind {
+/// The word of a kind.
+fn kind_told(kind: LevelKind) -> &'static str {
+    match kind {
         LevelKind::Item => "ITEM",
         LevelKind::Segment => "SEGMENT",
         LevelKind::Event => "EVENT",
-    };
-    let mut told = format!(in alloc; "{before}/{name} {kind}")?;
-    for item in level.items.as_slice() {
-        told = item_told(alloc, told, item)?;
     }
-    Ok(told)
+}
+
+/// Adds a level to what is told: its name, its kind and its items.
+fn add_level(told: &mut String, level: &AnnotLevel) -> Result<(), AllocError> {
+    let name = level.name.as_str();
+    let kind = kind_told(level.kind);
+    write!(told, "/{name} {kind}")?;
+    for item in level.items.as_slice() {
+        add_item(told, item)?;
+    }
+    Ok(())
+}
+
+/// Adds an annotation to what is told: its rate and its levels.
+fn add_annot(told: &mut String, annot: &Annot) -> Result<(), AllocError> {
+    let rate = annot.rate;
+    write!(told, "{rate}")?;
+    for level in annot.levels.as_slice() {
+        add_level(told, level)?;
+    }
+    Ok(())
 }
 
 /// An annotation: its rate and its levels.
 fn annot_told(alloc: Global, annot: &Annot) -> Result<String, AllocError> {
-    let rate = annot.rate;
-    let mut told = format!(in alloc; "{rate}")?;
-    for level in annot.levels.as_slice() {
-        told = level_told(alloc, told, level)?;
-    }
+    let mut told = String::new(alloc);
+    add_annot(&mut told, annot)?;
     Ok(told)
 }
 
@@ -72,23 +101,37 @@ fn is_copied(alloc: Global, grid: &Grid) -> bool {
     }
 }
 
+/// What is answered of an annotation that was made, or was not.
+fn made_told(alloc: Global, made: Result<Annot, GridFault>) -> Result<String, AllocError> {
+    match made {
+        Err(fault) => fault_told(alloc, fault),
+        Ok(annot) => {
+            let told = annot_told(alloc, &annot);
+            drop(annot);
+            told
+        }
+    }
+}
+
 /// What is answered of the bytes of a file at this rate.
 pub fn told(alloc: Global, rate: u32, bytes: &[u8]) -> Result<String, AllocError>
     requires rate_above { 1 ≤ rate }
     requires rate_below { rate ≤ 1000000 }
 {
     if bytes.len() > u32::MAX as usize {
-        return format!(in alloc; "too many bytes");
+        return String::from_str(alloc, "too many bytes");
     }
     match read_textgrid(alloc, bytes) {
         Err(fault) => fault_told(alloc, fault.copy()),
         Ok(grid) => {
-            if !is_copied(alloc, &grid) {
-                return format!(in alloc; "no copy");
-            }
-            match to_annot(alloc, rate, &grid) {
-                Err(fault) => fault_told(alloc, fault),
-                Ok(annot) => annot_told(alloc, &annot),
+            let copied = is_copied(alloc, &grid);
+            let made = to_annot(alloc, rate, &grid);
+            drop(grid);
+            if copied {
+                made_told(alloc, made)
+            } else {
+                drop(made);
+                String::from_str(alloc, "no copy")
             }
         }
     }

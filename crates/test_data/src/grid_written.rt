@@ -3,10 +3,12 @@ ghost use Rattle.std.specs.Prelude.{◌≤◌};
 ghost use Rattle.bundle_state.specs.Built.{FitsConfig};
 
 use crate::annot_printing::{annot_of, bundle_of, config_of};
+use crate::compared::{same, same_start};
 use crate::grid_told::told;
 use bundle_state::Bundle;
 use db_config::Config;
 use grid_writing::{WriteFault, write_textgrid};
+use level_items::Annot;
 use std::alloc::{AllocError, Global};
 use std::process::Abort;
 use std::test::Fail;
@@ -69,11 +71,27 @@ fn written(alloc: Global, config: &Config, bundle: &Bundle) -> Result<String, Al
 }
 
 /// What writing the bundle of an annotation answers.
+fn bundle_written(alloc: Global, config: &Config, annot: &Annot) -> Result<String, Fail> {
+    let bundle = bundle_of(alloc, config, annot)?;
+    let text = written(alloc, config, &bundle);
+    drop(bundle);
+    Ok(text?)
+}
+
+/// What writing the bundle of the annotation of a text answers.
+fn annot_written(alloc: Global, config: &Config, annot: &str) -> Result<String, Fail> {
+    let annot = annot_of(alloc, annot)?;
+    let text = bundle_written(alloc, config, &annot);
+    drop(annot);
+    text
+}
+
+/// What writing the bundle of a configuration and an annotation answers, which are given as texts.
 fn written_of(alloc: Global, config: &str, annot: &str) -> Result<String, Fail> {
     let config = config_of(alloc, config)?;
-    let annot = annot_of(alloc, annot)?;
-    let bundle = bundle_of(alloc, &config, &annot)?;
-    Ok(written(alloc, &config, &bundle)?)
+    let text = annot_written(alloc, &config, annot);
+    drop(config);
+    text
 }
 
 /// Writes the bundle of a row and reads it again, and compares.
@@ -82,7 +100,8 @@ fn expect_row(rt: &impl Abort, alloc: Global, row: &Row) -> Result<(), Fail> {
     assert!(rt; 1 <= rate && rate <= 1_000_000);
     let text = written_of(alloc, config, annot)?;
     let read = told(alloc, rate, text.as_bytes())?;
-    assert_eq!(rt; (text.as_str(), read.as_str()), (wanted, again));
+    same(rt, text.as_str(), wanted);
+    same(rt, read.as_str(), again);
     Ok(())
 }
 
@@ -124,7 +143,7 @@ fn crowded_tiers_are_refused(rt: HostRuntime) -> Result<(), Fail> {
         assert!(&rt; count <= 65_536);
         let annot = segments_apart(rt.alloc(), count)?;
         let text = written_of(rt.alloc(), ROWS[1].0, annot.as_str())?;
-        assert!(&rt; text.starts_with(wanted));
+        same_start(&rt, text.as_str(), wanted);
     }
     Ok(())
 }

@@ -1,6 +1,7 @@
 //! Lists worked by hand from the level rule, and each call that allocates on its happy path.
 ghost use Rattle.std.specs.Prelude.{◌≡◌, IfOk};
 
+use crate::compared::same;
 use emu_names::{Broken, Fault, ItemId, LevelKind, Memory, Text};
 use level_items::{Item, Labels, LevelList, Time};
 use std::alloc::Global;
@@ -166,6 +167,23 @@ fn put(
     list.insert(position, Item { id, time, labels })
 }
 
+/// The word and the number of a fault.
+fn refused(fault: Fault) -> (&'static str, u64) {
+    let answer = match &fault {
+        Fault::Broken(rule) => told(rule),
+        Fault::Memory => ("Memory", 0),
+    };
+    drop(fault);
+    answer
+}
+
+/// What is answered when an item is taken out.
+fn taken(item: Item) -> (&'static str, u64) {
+    let id = item.id.0;
+    drop(item);
+    ("taken", u64::from(id))
+}
+
 /// What one step is answered on a level without attributes.
 fn answered(alloc: Global, list: &mut LevelList, row: &Row) -> (&'static str, u64)
     requires { list.old.attributes ≡ 0 }
@@ -176,45 +194,47 @@ fn answered(alloc: Global, list: &mut LevelList, row: &Row) -> (&'static str, u6
     match step {
         Put(position) => match put(alloc, list, position, ItemId(id), time) {
             Ok(place) => ("at", place as u64),
-            Err(Fault::Broken(rule)) => told(&rule),
-            Err(Fault::Memory) => ("Memory", 0),
+            Err(fault) => refused(fault),
         },
         Move(position) if position < list.len() => match list.retime(position, time) {
             Ok(()) => ("moved", 0),
-            Err(Fault::Broken(rule)) => told(&rule),
-            Err(Fault::Memory) => ("Memory", 0),
+            Err(fault) => refused(fault),
         },
         Take(position) if position < list.len() => match list.remove(position) {
-            Ok(item) => ("taken", u64::from(item.id.0)),
+            Ok(item) => taken(item),
             Err(Memory) => ("Memory", 0),
         },
         _ => ("no such position", 0),
     }
 }
 
-/// The list after these steps, of which each is answered as its row says.
-fn after(
-    rt: &impl Abort,
-    alloc: Global,
-    kind: LevelKind,
-    rows: &[Row],
-) -> Result<LevelList, Memory> {
-    let mut list = LevelList::new(alloc, kind, 0)?;
+/// Takes these steps, of which each is answered as its row says, behind the id of the row.
+fn take_steps(rt: &impl Abort, alloc: Global, list: &mut LevelList, rows: &[Row])
+    requires { list.old.attributes ≡ 0 }
+{
     for row in rows {
-        let (word, number) = answered(alloc, &mut list, row);
-        assert_eq!(rt; (word, number), (row.3, row.4), "the id {}", row.1);
+        let found = answered(alloc, list, row);
+        same(rt, (row.1, found), (row.1, (row.3, row.4)));
     }
-    Ok(list)
+}
+
+/// The id of the item at a place, and where that id is found.
+fn found_at(list: &LevelList, place: usize) -> Option<(u32, Option<usize>)> {
+    if place < list.len() {
+        let id = list.get(place).id;
+        Some((id.0, list.find(id)))
+    } else {
+        None
+    }
 }
 
 /// Asserts that these ids stand on the list in this order, each where it is found.
 fn stand(rt: &impl Abort, list: &LevelList, ids: &[u32]) {
-    assert_eq!(rt; list.len(), ids.len());
+    let ends = (list.len(), list.find(ItemId(99)));
+    same(rt, ends, (ids.len(), None));
     for place in 0..ids.len() {
-        assert_eq!(rt; list.get(place).id, ItemId(ids[place]));
-        assert_eq!(rt; list.find(ItemId(ids[place])), Some(place));
+        same(rt, found_at(list, place), Some((ids[place], Some(place))));
     }
-    assert_eq!(rt; list.find(ItemId(99)), None);
 }
 
 /// Asserts the same of a copy.
@@ -226,6 +246,7 @@ fn copy_stands(
 ) -> Result<(), Memory> {
     let copied = list.copy(alloc)?;
     stand(rt, &copied, ids);
+    drop(copied);
     Ok(())
 }
 
@@ -237,9 +258,12 @@ fn expect_after(
     rows: &[Row],
     ids: &[u32],
 ) -> Result<(), Memory> {
-    let list = after(rt, alloc, kind, rows)?;
+    let mut list = LevelList::new(alloc, kind, 0)?;
+    take_steps(rt, alloc, &mut list, rows);
     stand(rt, &list, ids);
-    copy_stands(rt, alloc, &list, ids)
+    let compared = copy_stands(rt, alloc, &list, ids);
+    drop(list);
+    compared
 }
 
 #[test]
@@ -252,29 +276,55 @@ fn lists_keep_the_level_rule(rt: HostRuntime) -> Result<(), Fail> {
     Ok(())
 }
 
+/// A time for the item of a number, behind those of the items before it.
+fn time_at(kind: LevelKind, number: u32) -> Time {
+    let start = u64::from(number) * 2;
+    match kind {
+        LevelKind::Item => Time::NoTime,
+        LevelKind::Segment => Time::Span { start, dur: 1 },
+        LevelKind::Event => Time::Point { at: start },
+    }
+}
+
+/// Puts so many items in, one after the other.
+fn fill(alloc: Global, list: &mut LevelList, kind: LevelKind, count: u32) -> Result<(), Fault>
+    requires { list.old.attributes ≡ 0 }
+    ensures { list.new.attributes ≡ 0 }
+{
+    for number in 0..count {
+        put(
+            alloc,
+            list,
+            None,
+            ItemId(count - number),
+            time_at(kind, number),
+        )?;
+    }
+    Ok(())
+}
+
 /// A list of so many items, put in one after the other.
-fn row_of(rt: &impl Abort, alloc: Global, kind: LevelKind, count: u32) -> Result<LevelList, Fail>
+fn row_of(rt: &impl Abort, alloc: Global, kind: LevelKind, count: u32) -> Result<LevelList, Fault>
     ensures { IfOk result (λ list. list.attributes ≡ 0) }
 {
     let mut list = LevelList::new(alloc, kind, 0)?;
-    for number in 0..count {
-        let start = u64::from(number) * 2;
-        let time = match kind {
-            LevelKind::Item => Time::NoTime,
-            LevelKind::Segment => Time::Span { start, dur: 1 },
-            LevelKind::Event => Time::Point { at: start },
-        };
-        put(alloc, &mut list, None, ItemId(count - number), time)?;
+    match fill(alloc, &mut list, kind, count) {
+        Ok(()) => {
+            same(rt, list.len(), count as usize);
+            Ok(list)
+        }
+        Err(fault) => {
+            drop(list);
+            Err(fault)
+        }
     }
-    assert_eq!(rt; list.len(), count as usize);
-    Ok(list)
 }
 
 /// Asserts that so many items are found, each so many places further than it was put.
 fn expect_found(rt: &impl Abort, list: &LevelList, count: u32, further: usize) {
     for number in 0..count {
         let place = list.find(ItemId(count - number));
-        assert_eq!(rt; place, (number as usize).checked_add(further));
+        same(rt, place, (number as usize).checked_add(further));
     }
 }
 
@@ -288,6 +338,7 @@ fn many_items_are_built_and_found(rt: HostRuntime) -> Result<(), Fail> {
     for &kind in &KINDS {
         let list = row_of(&rt, alloc, kind, count)?;
         expect_found(&rt, &list, count, 0);
+        drop(list);
     }
     Ok(())
 }
@@ -300,8 +351,8 @@ fn change_front(rt: &impl Abort, list: &mut LevelList, alloc: Global) -> Result<
     put(alloc, list, Some(0), ItemId(1_000_000), Time::NoTime)?;
     put(alloc, list, Some(0), ItemId(1_000_001), Time::NoTime)?;
     assert!(rt; list.len() > 0);
-    let taken = list.remove(0)?;
-    assert_eq!(rt; taken.id, ItemId(1_000_001));
+    let item = list.remove(0)?;
+    same(rt, taken(item), ("taken", 1_000_001));
     Ok(())
 }
 
@@ -311,38 +362,71 @@ fn change_front(rt: &impl Abort, list: &mut LevelList, alloc: Global) -> Result<
 fn items_are_found_behind_a_change(rt: HostRuntime) -> Result<(), Fail> {
     let count = 65_536;
     let mut list = row_of(&rt, rt.alloc(), LevelKind::Item, count)?;
-    change_front(&rt, &mut list, rt.alloc())?;
+    let changed = change_front(&rt, &mut list, rt.alloc());
     expect_found(&rt, &list, count, 1);
-    Ok(())
+    drop(list);
+    Ok(changed?)
 }
 
 /// Values that go to other threads and are shared among them.
 pub(crate) fn crosses_threads<T: Send + Sync>(_value: &T) {}
 
-/// Checks that there are these two labels.
-fn expect_labels(rt: &impl Abort, labels: &Labels, first: &str, second: &str) {
-    assert_eq!(rt; labels.len(), 2);
-    assert_eq!(rt; labels.get(0).as_str(), first);
-    assert_eq!(rt; labels.get(1).as_str(), second);
-}
-
-#[test]
-fn labels_are_set_and_copied(rt: HostRuntime) -> Result<(), Fail> {
-    let label = Text::new(rt.alloc(), "m")?;
-    let mut labels = Labels::new(rt.alloc());
-    labels.push(Text::new(rt.alloc(), "V")?)?;
-    labels.push(Text::new(rt.alloc(), "")?)?;
-    let mut list = LevelList::new(rt.alloc(), LevelKind::Item, 2)?;
+/// Puts an item with the labels `V` and none first.
+fn expect_put(rt: &impl Abort, alloc: Global, list: &mut LevelList) -> Result<(), Fail>
+    requires { list.old.attributes ≡ 2 }
+    ensures { list.new.attributes ≡ 2 }
+{
+    let mut labels = Labels::new(alloc);
+    labels.push(Text::new(alloc, "V")?)?;
+    labels.push(Text::new(alloc, "")?)?;
     let item = Item {
         id: ItemId(7),
         time: Time::NoTime,
         labels,
     };
-    assert_eq!(rt; list.insert(None, item)?, 0);
-    list.set_label(0, 1, label)?;
-    let copied = list.copy(rt.alloc())?;
-    crosses_threads(&copied);
-    assert_eq!(rt; copied.len(), 1);
-    expect_labels(&rt, &copied.get(0).labels, "V", "m");
+    let place = list.insert(None, item)?;
+    same(rt, place, 0);
     Ok(())
+}
+
+/// Sets the second label of the first item to `m`.
+fn set_second(rt: &impl Abort, alloc: Global, list: &mut LevelList) -> Result<(), Memory>
+    requires { list.old.attributes ≡ 2 }
+{
+    let label = Text::new(alloc, "m")?;
+    assert!(rt; list.len() > 0);
+    list.set_label(0, 1, label)
+}
+
+/// Whether there are these two labels.
+fn are_labels(labels: &Labels, first: &str, second: &str) -> bool {
+    labels.len() == 2 && labels.get(0).as_str() == first && labels.get(1).as_str() == second
+}
+
+/// Asserts that a copy has one item with these two labels.
+fn expect_copy(
+    rt: &impl Abort,
+    alloc: Global,
+    list: &LevelList,
+    first: &str,
+    second: &str,
+) -> Result<(), Memory> {
+    let copied = list.copy(alloc)?;
+    crosses_threads(&copied);
+    let stands = copied.len() == 1 && are_labels(&copied.get(0).labels, first, second);
+    assert!(rt; stands);
+    drop(copied);
+    Ok(())
+}
+
+#[test]
+fn labels_are_set_and_copied(rt: HostRuntime) -> Result<(), Fail> {
+    let mut list = LevelList::new(rt.alloc(), LevelKind::Item, 2)?;
+    let put = expect_put(&rt, rt.alloc(), &mut list);
+    let set = set_second(&rt, rt.alloc(), &mut list);
+    let compared = expect_copy(&rt, rt.alloc(), &list, "V", "m");
+    drop(list);
+    put?;
+    set?;
+    Ok(compared?)
 }

@@ -4,6 +4,8 @@
 #[cfg(test)]
 mod annot_printing;
 #[cfg(test)]
+mod compared;
+#[cfg(test)]
 mod config_names;
 #[cfg(test)]
 mod grid_files;

@@ -1,8 +1,9 @@
 //! What no clause says: that calls succeed where memory is ample, and are soon done.
 ghost use Rattle.std.specs.Prelude.{◌<◌};
 
+use crate::compared::same;
 use crate::levels::crosses_threads;
-use emu_names::{Broken, Fault, ItemId, LinkKind, What};
+use emu_names::{Broken, Fault, ItemId, LinkKind, Memory, What};
 use link_graph::{Ends, Links};
 use std::alloc::Global;
 use std::process::Abort;
@@ -49,13 +50,17 @@ fn number_of(added: &Result<(), Fault>) -> (u8, u32) {
 /// The rule that adding a link breaks, with its id.
 fn add(links: &mut Links, row: &Row) -> (u8, u32) {
     let (definition, kind, from, to, _, _) = *row;
-    number_of(&links.add(definition, kind, ItemId(from), ItemId(to)))
+    let added = links.add(definition, kind, ItemId(from), ItemId(to));
+    let number = number_of(&added);
+    drop(added);
+    number
 }
 
 /// Adds the links of the table, and compares each answer.
 fn add_all(rt: &impl Abort, links: &mut Links) {
     for row in &ROWS {
-        assert_eq!(rt; add(links, row), (row.4, row.5), "{} {}", row.2, row.3);
+        let found = add(links, row);
+        same(rt, (row.2, row.3, found), (row.2, row.3, (row.4, row.5)));
     }
 }
 
@@ -79,18 +84,32 @@ fn check_ends(rt: &impl Abort, ends: Ends<'_>, ids: &[u32]) {
         assert!(rt; place < ids.len() && id.0 == ids[place]);
         place += 1;
     }
-    assert_eq!(rt; place, ids.len());
+    same(rt, place, ids.len());
+}
+
+/// The pair of ids at a place, and where that pair is found.
+fn found_at(links: &Links, place: usize) -> Option<((u32, u32), Option<usize>)> {
+    if place < links.len() {
+        let link = links.get(place).copy();
+        Some(((link.from.0, link.to.0), links.place(link.from, link.to)))
+    } else {
+        None
+    }
+}
+
+/// Compares the pairs of ids in order, each where it is found.
+fn check_pairs(rt: &impl Abort, links: &Links, pairs: &[(u32, u32)]) {
+    let ends = (links.len(), links.place(ItemId(2), ItemId(1)));
+    same(rt, ends, (pairs.len(), None));
+    for place in 0..pairs.len() {
+        let wanted = Some((pairs[place], Some(place)));
+        same(rt, found_at(links, place), wanted);
+    }
 }
 
 fn check(rt: &impl Abort, links: &Links, state: &State) {
     let (pairs, id, parents, children) = *state;
-    assert_eq!(rt; links.len(), pairs.len());
-    for place in 0..links.len() {
-        let link = links.get(place).copy();
-        assert_eq!(rt; (link.from.0, link.to.0), pairs[place]);
-        assert_eq!(rt; links.place(link.from, link.to), Some(place));
-    }
-    assert_eq!(rt; links.place(ItemId(2), ItemId(1)), None);
+    check_pairs(rt, links, pairs);
     check_ends(rt, links.parents(ItemId(id)), parents);
     check_ends(rt, links.children(ItemId(id)), children);
 }
@@ -98,10 +117,27 @@ fn check(rt: &impl Abort, links: &Links, state: &State) {
 /// Links to be taken out, with the rule that is broken.
 static REMOVALS: [(u32, u32, u8); 3] = [(3, 1, 23), (1, 3, 0), (1, 3, 23)];
 
+/// The rule that taking a link out breaks.
+fn remove(links: &mut Links, from: u32, to: u32) -> u8 {
+    let removed = links.remove(ItemId(from), ItemId(to));
+    let number = number_of(&removed);
+    drop(removed);
+    number.0
+}
+
 fn remove_all(rt: &impl Abort, links: &mut Links) {
     for &(from, to, rule) in &REMOVALS {
-        assert_eq!(rt; number_of(&links.remove(ItemId(from), ItemId(to))).0, rule);
+        let found = remove(links, from, to);
+        same(rt, (from, to, found), (from, to, rule));
     }
+}
+
+/// Compares a copy.
+fn check_copy(rt: &impl Abort, alloc: Global, links: &Links, state: &State) -> Result<(), Memory> {
+    let copied = links.copy(alloc)?;
+    check(rt, &copied, state);
+    drop(copied);
+    Ok(())
 }
 
 #[test]
@@ -111,11 +147,11 @@ fn links_are_added_and_taken_out(rt: HostRuntime) -> Result<(), Fail> {
     crosses_threads(&links);
     check(&rt, &links, &ADDED);
     remove_all(&rt, &mut links);
-    let copied = links.copy(rt.alloc())?;
-    check(&rt, &copied, &REMOVED);
+    let compared = check_copy(&rt, rt.alloc(), &links, &REMOVED);
     links.remove_item(ItemId(5));
     check(&rt, &links, &WITHOUT_ITEM);
-    Ok(())
+    drop(links);
+    Ok(compared?)
 }
 
 /// 262,144 links from each of some items to each of some others.
@@ -137,14 +173,22 @@ fn expect_ends(rt: &impl Abort, ends: Ends<'_>, wanted: u32) {
     for _ in ends {
         count = count.saturating_add(1);
     }
-    assert_eq!(rt; count, wanted);
+    same(rt, count, wanted);
 }
 
-/// Asserts that there is no room for more links, that each item has the others, and that an item is taken
-/// out with its links.
-fn expect_full(rt: &impl Abort, links: &mut Links, upper: u32, lower: u32) {
+/// Whether one link more is refused, since there are too many.
+fn is_full(links: &mut Links) -> bool {
     let more = links.add(0, MANY, ItemId(1_000_000), ItemId(0));
-    assert!(rt; more == Err(Fault::Broken(Broken::TooMany(What::BundleLinks))));
+    let refused = matches!(
+        &more,
+        Err(Fault::Broken(Broken::TooMany(What::BundleLinks)))
+    );
+    drop(more);
+    refused
+}
+
+/// Asserts that each item has the others.
+fn expect_all_ends(rt: &impl Abort, links: &Links, upper: u32, lower: u32) {
     for id in 0..upper {
         expect_ends(rt, links.children(ItemId(id)), lower);
     }
@@ -152,8 +196,15 @@ fn expect_full(rt: &impl Abort, links: &mut Links, upper: u32, lower: u32) {
         let upper_ends = links.parents(ItemId(1_000_000u32.saturating_add(id)));
         expect_ends(rt, upper_ends, upper);
     }
+}
+
+/// Asserts that there is no room for more links, that each item has the others, and that an item is taken
+/// out with its links.
+fn expect_full(rt: &impl Abort, links: &mut Links, upper: u32, lower: u32) {
+    assert!(rt; is_full(links));
+    expect_all_ends(rt, links, upper, lower);
     links.remove_item(ItemId(0));
-    assert_eq!(rt; links.len(), 262_144usize.saturating_sub(lower as usize));
+    same(rt, links.len(), 262_144usize.saturating_sub(lower as usize));
 }
 
 /// How many items there are above, and how many below.
@@ -165,6 +216,7 @@ fn many_links_are_soon_there(rt: HostRuntime) -> Result<(), Fail> {
         assert!(rt; lower > 0);
         let mut links = full(rt.alloc(), lower)?;
         expect_full(&rt, &mut links, upper, lower);
+        drop(links);
     }
     Ok(())
 }
@@ -174,7 +226,15 @@ fn expect_places(rt: &impl Abort, links: &Links) {
     for step in 0..4_096u32 {
         let number = 65_536 + 48 * step;
         let place = links.place(ItemId(number / 512), ItemId(1_000_000 + number % 512));
-        assert_eq!(rt; place, Some((48 * step) as usize));
+        same(rt, (step, place), (step, Some((48 * step) as usize)));
+    }
+}
+
+/// Takes a quarter of the links out, one by one.
+fn take_quarter(rt: &impl Abort, links: &mut Links) {
+    for number in 0..65_536 {
+        let found = remove(links, number / 512, 1_000_000 + number % 512);
+        assert!(rt; found == 0);
     }
 }
 
@@ -182,11 +242,9 @@ fn expect_places(rt: &impl Abort, links: &Links) {
 #[test]
 fn many_links_are_soon_taken_out(rt: HostRuntime) -> Result<(), Fail> {
     let mut links = full(rt.alloc(), 512)?;
-    for number in 0..65_536 {
-        let removed = links.remove(ItemId(number / 512), ItemId(1_000_000 + number % 512));
-        assert!(rt; removed.is_ok());
-    }
-    assert_eq!(rt; links.len(), 196_608);
+    take_quarter(&rt, &mut links);
+    same(&rt, links.len(), 196_608);
     expect_places(&rt, &links);
+    drop(links);
     Ok(())
 }

@@ -1,4 +1,5 @@
 //! Values that are a configuration or an annotation, and the first fault of those that are none.
+use crate::compared::{at_arrow, same_text};
 use annot_json::read_annot;
 use config_json::{ConfigFault, read_config};
 use json_view::{View, Wanted};
@@ -150,15 +151,25 @@ fn fault_told(alloc: Global, fault: &ConfigFault) -> Result<String, AllocError> 
 /// What reading a configuration answers.
 fn config_told(alloc: Global, view: &View) -> Result<String, AllocError> {
     match read_config(alloc, view) {
-        Ok(_) => String::from_str(alloc, "ok"),
-        Err(fault) => fault_told(alloc, &fault),
+        Ok(config) => {
+            drop(config);
+            String::from_str(alloc, "ok")
+        }
+        Err(fault) => {
+            let told = fault_told(alloc, &fault);
+            drop(fault);
+            told
+        }
     }
 }
 
 /// What reading an annotation answers.
 fn annot_told(alloc: Global, view: &View) -> Result<String, AllocError> {
     match read_annot(alloc, view) {
-        Ok(_) => String::from_str(alloc, "ok"),
+        Ok(annot) => {
+            drop(annot);
+            String::from_str(alloc, "ok")
+        }
         Err(fault) => format!(in alloc; "{fault}"),
     }
 }
@@ -190,14 +201,14 @@ fn answer(alloc: Global, name: &str, text: &str) -> Result<String, Fail> {
 /// Reads a member, and compares.
 fn check(rt: &impl Abort, alloc: Global, name: &str, text: &str, wanted: &str) -> Result<(), Fail> {
     let told = answer(alloc, name, text)?;
-    assert_eq!(rt; told.as_str(), wanted, "{text}");
+    same_text(rt, text, told.as_str(), wanted);
     Ok(())
 }
 
 /// Reads the members of a table, and compares.
 fn check_all(rt: &impl Abort, alloc: Global, name: &str, rows: &[&str]) -> Result<(), Fail> {
     for row in rows {
-        let (wanted, text) = row.split_once(" <- ").unwrap_or(("no row", ""));
+        let (wanted, text) = at_arrow(row);
         check(rt, alloc, name, text, wanted)?;
     }
     Ok(())
@@ -238,8 +249,8 @@ fn check_zeros(
 
 /// Reads a configuration with as many zeros as there may be, and with one more.
 fn check_limit(rt: &impl Abort, alloc: Global, most: usize, row: &str) -> Result<(), Fail> {
-    let (what, rest) = row.split_once(" <- ").unwrap_or(("no row", ""));
-    let (within, text) = rest.split_once(" <- ").unwrap_or(("no row", ""));
+    let (what, rest) = at_arrow(row);
+    let (within, text) = at_arrow(rest);
     let past = format!(in alloc; "too many: {what}")?;
     check_zeros(rt, alloc, text, most.saturating_add(1), past.as_str())?;
     check_zeros(rt, alloc, text, most, within)

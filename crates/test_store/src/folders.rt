@@ -1,5 +1,6 @@
 //! What no clause of folders and gates says: that calls succeed where memory is ample, the real
 //! folder on what is not there, and what a gate that holds notes.
+use crate::compared::{same, same_text};
 use emu_io::{
     Folder, FolderEntries, FolderFault, Gate, Hold, HoldGate, LineMoment, Memory, Moment, OpenGate,
     RealFolder, Stored,
@@ -18,12 +19,18 @@ static FILES: [(&str, &str); 5] = [
     ("a.TextGrid", ""),
 ];
 
-fn stored(alloc: Global) -> Result<Vec<Stored>, Memory> {
-    let mut all = Vec::new(alloc);
+/// Puts the files and the folder last.
+fn store(alloc: Global, all: &mut Vec<Stored>) -> Result<(), Memory> {
     for (path, text) in &FILES {
         all.push(Stored::file(alloc, path, text.as_bytes())?)?;
     }
     all.push(Stored::folder(alloc, "t_emuDB/s0_ses")?)?;
+    Ok(())
+}
+
+fn stored(alloc: Global) -> Result<Vec<Stored>, Memory> {
+    let mut all = Vec::new(alloc);
+    store(alloc, &mut all)?;
     Ok(all)
 }
 
@@ -40,7 +47,11 @@ fn shown(alloc: Global, entries: &FolderEntries) -> Result<String, Memory> {
 /// What listing a folder answers: the entries as one text, or the word of the fault.
 fn listing(alloc: Global, folder: &mut SureFolder, path: &str) -> Result<String, Memory> {
     match folder.list(alloc, path) {
-        Ok(entries) => shown(alloc, &entries),
+        Ok(entries) => {
+            let text = shown(alloc, &entries);
+            drop(entries);
+            text
+        }
         Err(FolderFault::Absent) => Ok(String::from_str(alloc, "absent")?),
         Err(_) => Ok(String::from_str(alloc, "another fault")?),
     }
@@ -60,7 +71,7 @@ static LISTINGS: [(&str, &str); 6] = [
 fn expect_listings(rt: &impl Abort, alloc: Global, folder: &mut SureFolder) -> Result<(), Memory> {
     for &(path, wanted) in &LISTINGS {
         let told = listing(alloc, folder, path)?;
-        assert_eq!(rt; told.as_str(), wanted, "{path}");
+        same_text(rt, path, told.as_str(), wanted);
     }
     Ok(())
 }
@@ -69,7 +80,8 @@ fn expect_listings(rt: &impl Abort, alloc: Global, folder: &mut SureFolder) -> R
 fn folders_are_listed(rt: HostRuntime) -> Result<(), Fail> {
     let mut folder = SureFolder::new(stored(rt.alloc())?);
     let compared = expect_listings(&rt, rt.alloc(), &mut folder);
-    assert_eq!(rt; (compared, folder.misses()), (Ok(()), 2));
+    same(&rt, (compared, folder.misses()), (Ok(()), 2));
+    drop(folder);
     Ok(())
 }
 
@@ -109,15 +121,30 @@ fn reading(
     Ok(bytes.as_slice() == text.as_bytes())
 }
 
+/// Compares all readings of a folder.
+fn expect_readings(rt: &impl Abort, alloc: Global, folder: &mut MapFolder) {
+    for &(path, text, wanted, faults, misses) in &READINGS {
+        let answer = reading(alloc, folder, path, text);
+        let counts = (folder.faults(), folder.misses());
+        same(
+            rt,
+            (path, (answer, counts)),
+            (path, (wanted, (faults, misses))),
+        );
+    }
+}
+
+/// A folder of which the second and the fourth call fail.
+fn failing(alloc: Global) -> Result<MapFolder, Fail> {
+    let calls = vec![in alloc; 2, 4]?;
+    Ok(MapFolder::new(stored(alloc)?, calls))
+}
+
 #[test]
 fn files_are_read_and_listed_calls_fail(rt: HostRuntime) -> Result<(), Fail> {
-    let alloc = rt.alloc();
-    let mut folder = MapFolder::new(stored(alloc)?, vec![in alloc; 2, 4]?);
-    for &(path, text, wanted, faults, misses) in &READINGS {
-        let answer = reading(alloc, &mut folder, path, text);
-        let counts = (folder.faults(), folder.misses());
-        assert_eq!(rt; (answer, counts), (wanted, (faults, misses)), "{path}");
-    }
+    let mut folder = failing(rt.alloc())?;
+    expect_readings(&rt, rt.alloc(), &mut folder);
+    drop(folder);
     Ok(())
 }
 
@@ -138,10 +165,12 @@ fn the_real_folder_counts(rt: HostRuntime) {
     let listed = list_fault(rt.alloc(), &mut folder, "no_emuDB");
     let read = read_fault(rt.alloc(), &mut folder, "no_emuDB/no_DBconfig.json");
     let counts = (folder.faults(), folder.misses());
+    drop(folder);
     let absent = Some(FolderFault::Absent);
-    assert_eq!(rt;
+    same(
+        &rt,
         (here, listed, read, counts),
-        (None, absent, absent, (0, 2))
+        (None, absent, absent, (0, 2)),
     );
 }
 
@@ -166,9 +195,11 @@ fn a_gate_notes_what_it_saw(rt: HostRuntime) -> Result<(), Fail> {
     let then = (gate.saw(answered(5)), gate.saw_all());
     gate.at(3, Moment::Answered);
     let at_last = (gate.saw_all(), gate.gave_up());
-    assert_eq!(rt;
+    drop(gate);
+    same(
+        &rt,
         (at_first, then, at_last),
-        (false, (true, false), (true, false))
+        (false, (true, false), (true, false)),
     );
     Ok(())
 }

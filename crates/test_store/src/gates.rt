@@ -2,6 +2,7 @@
 //! publisher on another.
 ghost use Rattle.std.specs.Prelude.{◌≡◌, ◌≤◌, IfOk};
 
+use crate::compared::same;
 use std::alloc::Global;
 use std::marker::Model;
 use std::sync::atomic::AtomicBool;
@@ -51,7 +52,9 @@ fn look(pass: &mut Pass<u64>) -> Option<(u64, u64, u64)>
         return None;
     };
     is_shared(&found);
-    Some((found.number, *found.version, pass.seen()))
+    let given = (found.number, *found.version);
+    drop(found);
+    Some((given.0, given.1, pass.seen()))
 }
 
 // What the looks give at the opening, after two stages of one number, and after the publish and
@@ -90,9 +93,10 @@ fn a_version_is_seen_once_it_is_published(rt: HostRuntime) -> Result<(), Fail> {
     let Two {
         publisher,
         mut pass,
-        other: _other,
+        other,
     } = two;
     publisher.close(&rt);
+    drop(other);
     let wanted = [
         Some((7, 70, 7)),
         Some((7, 70, 7)),
@@ -102,9 +106,12 @@ fn a_version_is_seen_once_it_is_published(rt: HostRuntime) -> Result<(), Fail> {
         Some((8, 80, 8)),
     ];
     let closed = pass.look().err();
-    assert_eq!(rt;
-        (found, closed, pass.seen()),
-        (Ok((wanted, true)), Some(LookFault::NoEntry), 8)
+    let seen = pass.seen();
+    drop(pass);
+    same(
+        &rt,
+        (found, closed, seen),
+        (Ok((wanted, true)), Some(LookFault::NoEntry), 8),
     );
     Ok(())
 }
@@ -135,7 +142,9 @@ fn counts_for<R: Wait>(rt: &R, alloc: Global, readers: u32) -> Result<Counts, Me
         mut passes,
     } = new_gate(rt, alloc, 3, opening, readers)?;
     publisher.close(rt);
-    counts(&mut passes, readers as usize)
+    let found = counts(&mut passes, readers as usize);
+    drop(passes);
+    found
 }
 
 #[test]
@@ -151,7 +160,7 @@ fn a_gate_has_as_many_passes_as_readers(rt: HostRuntime) -> Result<(), Fail> {
         Ok((2, Some(3), false, 1, 2)),
         Ok((16, Some(3), false, 15, 16)),
     ];
-    assert_eq!(rt; found, wanted);
+    same(&rt, found, wanted);
     Ok(())
 }
 
@@ -268,9 +277,13 @@ fn looks_beside_a_publisher_never_go_back(rt: HostRuntime) -> Result<(), Fail> {
     all_cross(&counted.publisher, &pass, &note);
     let found = look(&mut pass);
     counted.close(&rt);
-    assert_eq!(rt;
+    drop(note);
+    drop(pass);
+    drop(other);
+    same(
+        &rt,
         (raced, found),
-        ((Ok(()), (true, true)), Some((107, 321, 107)))
+        ((Ok(()), (true, true)), Some((107, 321, 107))),
     );
     Ok(())
 }

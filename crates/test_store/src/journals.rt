@@ -3,7 +3,10 @@ ghost use Rattle.std.specs.Prelude.{IfOk};
 ghost use Rattle.emu_disk.specs.Inner.Planned.{images_of};
 ghost use Rattle.edit_journal.specs.Inner.Held.{IsHeld};
 
-use edit_journal::{Bodies, Body, BodyBytes, Frame, Journal, JournalFault, Memory};
+use crate::compared::same;
+use edit_journal::{
+    Bodies, Body, BodyBytes, Frame, Journal, JournalFault, Memory, NoJournal, Recovered,
+};
 use emu_disk::{Call, Fate, MemoryDisk};
 use std::alloc::Global;
 use std::process::Abort;
@@ -22,26 +25,41 @@ static FATES: [Fate; 5] = [
 
 fn is_sendable<T: Send>(_: &T) {}
 
+// Why a store stands for no list; the disk is let go of.
+fn fault_of(none: NoJournal<MemoryDisk>) -> JournalFault {
+    let fault = none.fault;
+    drop(none);
+    fault
+}
+
 fn opened(alloc: Global, disk: MemoryDisk) -> Result<Journal<MemoryDisk>, JournalFault>
     ensures { IfOk result (λ journal. IsHeld images_of journal) }
 {
     match Journal::recover(alloc, disk) {
-        Ok(recovered) => Ok(recovered.journal),
-        Err(none) => Err(none.fault),
+        Ok(Recovered { journal, bodies }) => {
+            drop(bodies);
+            Ok(journal)
+        }
+        Err(none) => Err(fault_of(none)),
     }
 }
 
 fn bodies_of(alloc: Global, disk: MemoryDisk) -> Result<Bodies, JournalFault> {
     match Journal::recover(alloc, disk) {
-        Ok(recovered) => Ok(recovered.bodies),
-        Err(none) => Err(none.fault),
+        Ok(Recovered { journal, bodies }) => {
+            drop(journal);
+            Ok(bodies)
+        }
+        Err(none) => Err(fault_of(none)),
     }
 }
 
 // Whether an image stands for these bodies.
 fn stands_for(alloc: Global, image: &[u8], wanted: &[&[u8]]) -> Result<bool, Fail> {
     let bodies = bodies_of(alloc, MemoryDisk::new(alloc, image)?)?;
-    Ok(are(&bodies, wanted))
+    let stands = are(&bodies, wanted);
+    drop(bodies);
+    Ok(stands)
 }
 
 fn are(bodies: &Bodies, wanted: &[&[u8]]) -> bool {
@@ -69,6 +87,14 @@ fn are_those(bodies: &Bodies, safe: bool) -> bool {
     are(bodies, &[b"x", b"AB"]) || (!safe && are(bodies, &[b"x"]))
 }
 
+// Whether an image stands for such bodies.
+fn stands_for_those(alloc: Global, image: &[u8], safe: bool) -> Result<bool, Fail> {
+    let bodies = bodies_of(alloc, MemoryDisk::new(alloc, image)?)?;
+    let stands = are_those(&bodies, safe);
+    drop(bodies);
+    Ok(stands)
+}
+
 // Whether the image of these fates stands for such bodies.
 fn image_stands(
     alloc: Global,
@@ -77,8 +103,7 @@ fn image_stands(
     safe: bool,
 ) -> Result<bool, Fail> {
     let image = disk.image(alloc, fates)?;
-    let bodies = bodies_of(alloc, MemoryDisk::new(alloc, image.as_slice())?)?;
-    Ok(are_those(&bodies, safe))
+    stands_for_those(alloc, image.as_slice(), safe)
 }
 
 // Whether each image of a disk stands for `x` with `AB` or, unless it is safe, without.
@@ -91,6 +116,13 @@ fn each_image_stands(alloc: Global, disk: &MemoryDisk, safe: bool) -> Result<boo
         }
     }
     Ok(true)
+}
+
+// The same of a disk that is then let go of.
+fn each_image_of(alloc: Global, disk: MemoryDisk, safe: bool) -> Result<bool, Fail> {
+    let stands = each_image_stands(alloc, &disk, safe);
+    drop(disk);
+    stands
 }
 
 /// Writes, each of which is synced behind it: the place of the write among the calls, the place on the
@@ -113,19 +145,22 @@ static FIRST: [Written; 3] = [
     (6, 8, "\x01"),
 ];
 
-/// The end of the list behind a first append, and the disk.
-fn first_append(alloc: Global) -> Result<(u64, MemoryDisk), Fail> {
+/// What a first append answers, the end of the list behind it, and the disk.
+fn first_append(alloc: Global) -> Result<(Answer, u64, MemoryDisk), Fail> {
     let mut journal = failing(alloc, "", &[])?;
-    append(alloc, &mut journal)?;
-    Ok((journal.end(), journal.into_disk()))
+    let answer = append(alloc, &mut journal);
+    Ok((answer, journal.end(), journal.into_disk()))
 }
 
 #[test]
 fn the_calls_of_a_first_append(rt: HostRuntime) -> Result<(), Fail> {
-    let (end, disk) = first_append(rt.alloc())?;
+    let (answer, end, disk) = first_append(rt.alloc())?;
     let calls = disk.calls();
-    assert_eq!(rt; (end, calls.len(), has(calls, &FIRST)), (15, 8, true));
-    assert_eq!(rt; disk.bytes(), b"EMUSTORE\x01\0\0\0\x02AB\0".as_slice());
+    let found = (answer, end, calls.len(), has(calls, &FIRST));
+    same(&rt, found, (Ok(()), 15, 8, true));
+    let wanted = b"EMUSTORE\x01\0\0\0\x02AB\0".as_slice();
+    same(&rt, disk.bytes(), wanted);
+    drop(disk);
     Ok(())
 }
 
@@ -135,18 +170,28 @@ fn large(alloc: Global) -> Result<Frame, Memory> {
     Frame::new(alloc, bytes.as_slice())
 }
 
-/// What an append of a body that is too large answers, and how many calls the disk then got.
+/// What an append of a body answers, and how many calls the disk then got.
+fn append_frame(alloc: Global, frame: &Frame) -> Result<(Answer, usize), Fail> {
+    let mut journal = failing(alloc, "", &[])?;
+    let answer = journal.append(frame);
+    let disk = journal.into_disk();
+    let count = disk.calls().len();
+    drop(disk);
+    Ok((answer, count))
+}
+
+/// The same of a body that is too large.
 fn append_large(alloc: Global) -> Result<(Answer, usize), Fail> {
     let large = large(alloc)?;
-    let mut journal = failing(alloc, "", &[])?;
-    let answer = journal.append(&large);
-    Ok((answer, journal.into_disk().calls().len()))
+    let found = append_frame(alloc, &large);
+    drop(large);
+    found
 }
 
 #[test]
 fn a_body_that_is_too_large(rt: HostRuntime) -> Result<(), Fail> {
     let found = append_large(rt.alloc())?;
-    assert_eq!(rt; found, (Err(JournalFault::StoreFull), 2));
+    same(&rt, found, (Err(JournalFault::StoreFull), 2));
     Ok(())
 }
 
@@ -157,8 +202,13 @@ fn failing_disk(
     places: &[u64],
 ) -> Result<MemoryDisk, emu_disk::Memory> {
     let mut disk = MemoryDisk::new(alloc, store.as_bytes())?;
-    disk.fail_at(places)?;
-    Ok(disk)
+    match disk.fail_at(places) {
+        Ok(()) => Ok(disk),
+        Err(fault) => {
+            drop(disk);
+            Err(fault)
+        }
+    }
 }
 
 /// A journal over a store, of which some calls of the disk fail.
@@ -174,7 +224,9 @@ fn append(alloc: Global, journal: &mut Journal<MemoryDisk>) -> Result<(), Journa
     ensures { IsHeld images_of journal.new }
 {
     let frame = Frame::new(alloc, b"AB")?;
-    journal.append(&frame)
+    let answer = journal.append(&frame);
+    drop(frame);
+    answer
 }
 
 /// What an append answers, and whether the last one then failed.
@@ -191,9 +243,10 @@ fn expect_doubt(rt: &impl Abort, alloc: Global, journal: &mut Journal<MemoryDisk
     requires { IsHeld images_of journal.old }
     ensures { IsHeld images_of journal.new }
 {
-    assert_eq!(rt; tried(alloc, journal), (Err(JournalFault::Disk), true));
-    assert_eq!(rt; append(alloc, journal), Err(JournalFault::Disk));
-    assert_eq!(rt; tried(alloc, journal), (Ok(()), false));
+    let refused = Err(JournalFault::Disk);
+    same(rt, tried(alloc, journal), (refused, true));
+    same(rt, append(alloc, journal), refused);
+    same(rt, tried(alloc, journal), (Ok(()), false));
 }
 
 /// The disk behind three such appends.
@@ -213,9 +266,10 @@ fn closings(calls: &[Call]) -> (usize, bool) {
 #[test]
 fn a_gate_in_doubt_is_closed_first(rt: HostRuntime) -> Result<(), Fail> {
     let disk = disk_behind_doubt(&rt, rt.alloc())?;
-    assert_eq!(rt; closings(disk.calls()), (16, true));
-    let stands = stands_for(rt.alloc(), disk.bytes(), &[b"AB"])?;
-    assert!(rt; stands);
+    same(&rt, closings(disk.calls()), (16, true));
+    let stands = stands_for(rt.alloc(), disk.bytes(), &[b"AB"]);
+    drop(disk);
+    assert!(rt; stands?);
     Ok(())
 }
 
@@ -231,7 +285,7 @@ fn stopping(alloc: Global, stop: u64) -> Result<MemoryDisk, emu_disk::Memory> {
 fn stopped(alloc: Global, stop: u64) -> Result<(bool, bool), Fail> {
     let mut journal = opened(alloc, stopping(alloc, stop)?)?;
     let safe = append(alloc, &mut journal).is_ok();
-    let stands = each_image_stands(alloc, &journal.into_disk(), safe)?;
+    let stands = each_image_of(alloc, journal.into_disk(), safe)?;
     Ok((safe, stands))
 }
 
@@ -239,7 +293,7 @@ fn stopped(alloc: Global, stop: u64) -> Result<(bool, bool), Fail> {
 fn each_stop_with_each_image(rt: HostRuntime) -> Result<(), Fail> {
     for stop in 3..=7 {
         let found = stopped(rt.alloc(), stop)?;
-        assert_eq!(rt; found, (stop == 7, true), "after {stop} calls");
+        same(&rt, (stop, found), (stop, (stop == 7, true)));
     }
     Ok(())
 }
@@ -253,7 +307,7 @@ fn failed(alloc: Global, place: u64) -> Result<(Answer, Answer, bool), Fail> {
     let mut journal = failing(alloc, STORE, &[place])?;
     let first = append(alloc, &mut journal);
     let second = append(alloc, &mut journal);
-    let stands = each_image_stands(alloc, &journal.into_disk(), true)?;
+    let stands = each_image_of(alloc, journal.into_disk(), true)?;
     Ok((first, second, stands))
 }
 
@@ -261,11 +315,8 @@ fn failed(alloc: Global, place: u64) -> Result<(Answer, Answer, bool), Fail> {
 fn each_failed_call(rt: HostRuntime) -> Result<(), Fail> {
     for place in 3..7 {
         let found = failed(rt.alloc(), place)?;
-        assert_eq!(rt;
-            found,
-            (Err(JournalFault::Disk), Ok(()), true),
-            "call {place}"
-        );
+        let wanted = (Err(JournalFault::Disk), Ok(()), true);
+        same(&rt, (place, found), (place, wanted));
     }
     Ok(())
 }
@@ -283,7 +334,10 @@ static DAMAGED: [(&str, u64); 6] = [
 /// Whether a store is opened, or why not.
 fn opening(alloc: Global, store: &str) -> Result<Answer, emu_disk::Memory> {
     match opened(alloc, MemoryDisk::new(alloc, store.as_bytes())?) {
-        Ok(_journal) => Ok(Ok(())),
+        Ok(journal) => {
+            drop(journal);
+            Ok(Ok(()))
+        }
         Err(fault) => Ok(Err(fault)),
     }
 }
@@ -292,7 +346,7 @@ fn opening(alloc: Global, store: &str) -> Result<Answer, emu_disk::Memory> {
 fn places_of_damage(rt: HostRuntime) -> Result<(), Fail> {
     for &(store, at) in &DAMAGED {
         let found = opening(rt.alloc(), store)?;
-        assert_eq!(rt; found, Err(JournalFault::Damaged(at)), "{store}");
+        same(&rt, (store, found), (store, Err(JournalFault::Damaged(at))));
     }
     Ok(())
 }
@@ -314,7 +368,7 @@ fn bytes_are_a_list(rt: HostRuntime) -> Result<(), Fail> {
     let mut bytes = BodyBytes::new(rt.alloc());
     bytes.push(b'x')?;
     let ends = (bytes.len(), bytes.get(0), bytes.get(1));
-    assert_eq!(rt; ends, (1, Some(b'x'), None));
+    same(&rt, ends, (1, Some(b'x'), None));
     Ok(())
 }
 
@@ -327,24 +381,36 @@ fn one_body(alloc: Global) -> Result<Bodies, Memory> {
     Ok(bodies)
 }
 
+/// A copy of them.
+fn copy_of_one(alloc: Global) -> Result<Bodies, Memory> {
+    let bodies = one_body(alloc)?;
+    let copied = bodies.copy(alloc);
+    drop(bodies);
+    copied
+}
+
 #[test]
 fn bodies_are_copied(rt: HostRuntime) -> Result<(), Fail> {
-    let copied = one_body(rt.alloc())?.copy(rt.alloc())?;
-    assert!(rt; are(&copied, &[b"x"]));
-    assert_eq!(rt; copied.get(0).map(|body| body.at), Some(8));
+    let copied = copy_of_one(rt.alloc())?;
+    let found = (are(&copied, &[b"x"]), copied.get(0).map(|body| body.at));
+    drop(copied);
+    same(&rt, found, (true, Some(8)));
     Ok(())
 }
 
 #[test]
 fn frames_are_copied(rt: HostRuntime) -> Result<(), Fail> {
     let frame = Frame::new(rt.alloc(), b"AB")?.copy(rt.alloc())?;
-    assert_eq!(rt; frame.len(), 2);
+    same(&rt, frame.len(), 2);
     is_sendable(&frame);
+    drop(frame);
     Ok(())
 }
 
 #[test]
 fn journals_may_be_sent(rt: HostRuntime) -> Result<(), Fail> {
-    is_sendable(&opened(rt.alloc(), MemoryDisk::new(rt.alloc(), b"")?)?);
+    let journal = opened(rt.alloc(), MemoryDisk::new(rt.alloc(), b"")?)?;
+    is_sendable(&journal);
+    drop(journal);
     Ok(())
 }

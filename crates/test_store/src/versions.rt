@@ -2,6 +2,7 @@
 ghost use Rattle.std.specs.Prelude.{◌≡◌, IfOk};
 ghost use Rattle.bundle_state.specs.Built.{FitsConfig};
 
+use crate::compared::same;
 use bundle_index::Indexed;
 use bundle_state::Bundle;
 use config_json::read_config;
@@ -96,7 +97,9 @@ fn bundle_numbered(alloc: Global, config: &Config, number: u32) -> Result<Bundle
     ensures { IfOk result (λ bundle. FitsConfig config.now bundle) }
 {
     let annot = annot_of(alloc)?;
-    bundle_with(alloc, config, number, &annot)
+    let bundle = bundle_with(alloc, config, number, &annot);
+    drop(annot);
+    bundle
 }
 
 /// The bundle of a number, with its columns.
@@ -127,7 +130,7 @@ fn name_at(version: &Version, place: usize) -> Option<&str> {
 /// Checks that a bundle stands at a place, and is found.
 fn check_at(rt: &impl Abort, version: &Version, place: usize, key: &BundleKey) {
     let found = (name_at(version, place), version.get(key).is_some());
-    assert_eq!(rt; found, (Some(key.bundle.as_str()), true));
+    same(rt, found, (Some(key.bundle.as_str()), true));
 }
 
 /// Checks that the bundle of a number stands at a place, and is found.
@@ -140,12 +143,13 @@ fn check_number(
 ) -> Result<(), NameFault> {
     let key = key_of(alloc, number)?;
     check_at(rt, version, place, &key);
+    drop(key);
     Ok(())
 }
 
 /// Checks that just the bundles from a number on stand in order.
 fn check(rt: &impl Abort, alloc: Global, version: &Version, first: u32) -> Result<(), NameFault> {
-    assert_eq!(rt; version.len(), (COUNT - first.min(COUNT)) as usize);
+    same(rt, version.len(), (COUNT - first.min(COUNT)) as usize);
     let mut number = first;
     for place in 0..version.len() {
         check_number(rt, alloc, version, place, number)?;
@@ -163,12 +167,19 @@ fn with_number(alloc: Global, version: &Version, number: u32) -> Result<Version,
     Ok(version.with(alloc, next)?)
 }
 
+/// The version with the bundle of a number, where there is room, in the place of the one before.
+fn put_number(alloc: Global, version: Version, number: u32) -> Result<Version, Fail> {
+    let next = with_number(alloc, &version, number);
+    drop(version);
+    next
+}
+
 /// A version with all bundles, put in by steps.
 fn filled(alloc: Global, step: u32) -> Result<Version, Fail> {
     let mut version = empty(alloc)?;
     let mut number = 0;
     for _bundle in 0..COUNT {
-        version = with_number(alloc, &version, number)?;
+        version = put_number(alloc, version, number)?;
         number = number.saturating_add(step) % COUNT;
     }
     Ok(version)
@@ -182,7 +193,19 @@ fn empty(alloc: Global) -> Result<Version, Fail> {
 /// The version without the bundle of a number, where it is there.
 fn without_number(alloc: Global, version: &Version, number: u32) -> Result<Version, Fail> {
     let key = key_of(alloc, number)?;
-    Ok(without(alloc, version, &key)?)
+    let left = without(alloc, version, &key);
+    drop(key);
+    Ok(left?)
+}
+
+/// The version without the bundle of a number below a limit, in the place of the one before.
+fn take_number(alloc: Global, version: Version, number: u32, limit: u32) -> Result<Version, Fail> {
+    if number >= limit {
+        return Ok(version);
+    }
+    let left = without_number(alloc, &version, number);
+    drop(version);
+    left
 }
 
 /// A version without the bundles below a limit, taken out by steps.
@@ -190,9 +213,7 @@ fn emptied(alloc: Global, version: &Version, step: u32, limit: u32) -> Result<Ve
     let mut left = version.copy(alloc)?;
     let mut number = 0;
     for _bundle in 0..COUNT {
-        if number < limit {
-            left = without_number(alloc, &left, number)?;
-        }
+        left = take_number(alloc, left, number, limit)?;
         number = number.saturating_add(step) % COUNT;
     }
     Ok(left)
@@ -201,27 +222,33 @@ fn emptied(alloc: Global, version: &Version, step: u32, limit: u32) -> Result<Ve
 /// How many bundles are left when all are taken out of a version.
 fn left_of(alloc: Global, version: &Version, step: u32) -> Result<usize, Fail> {
     let left = emptied(alloc, version, step, COUNT)?;
-    Ok(left.len())
+    let count = left.len();
+    drop(left);
+    Ok(count)
 }
 
 /// Checks the half of the bundles that is left, and takes it out too.
 fn expect_half(rt: &impl Abort, alloc: Global, half: &Version, step: u32) -> Result<(), Fail> {
     check(rt, alloc, half, 5_000)?;
     let left = left_of(alloc, half, step)?;
-    assert_eq!(rt; left, 0);
+    same(rt, left, 0);
     Ok(())
 }
 
 /// Takes the bundles out of a version, first one half, and checks what is left.
 fn expect_emptied(rt: &impl Abort, alloc: Global, full: &Version, step: u32) -> Result<(), Fail> {
     let half = emptied(alloc, full, step, 5_000)?;
-    expect_half(rt, alloc, &half, step)
+    let compared = expect_half(rt, alloc, &half, step);
+    drop(half);
+    compared
 }
 
 /// Fills a version, and checks it.
 fn expect_full(rt: &impl Abort, alloc: Global, step: u32) -> Result<(), Fail> {
     let full = filled(alloc, step)?;
-    expect_kept(rt, alloc, &full, step)
+    let compared = expect_kept(rt, alloc, &full, step);
+    drop(full);
+    compared
 }
 
 /// Checks a full version, and once more when the bundles were taken out of its copy.
@@ -267,7 +294,7 @@ fn levels_at(version: &Version, place: usize) -> Option<usize> {
 fn three(alloc: Global) -> Result<Version, Fail> {
     let mut version = empty(alloc)?;
     for number in 0..3 {
-        version = with_number(alloc, &version, number)?;
+        version = put_number(alloc, version, number)?;
     }
     Ok(version)
 }
@@ -282,19 +309,49 @@ fn expect_levels(
     for number in 0..3 {
         let place = number as usize;
         check_number(rt, alloc, version, place, number)?;
-        assert_eq!(rt; levels_at(version, place), Some(count));
+        same(rt, levels_at(version, place), Some(count));
     }
     Ok(())
 }
 
+/// Checks the levels and the numbers of a version and of the next one.
+fn expect_both(
+    rt: &impl Abort,
+    alloc: Global,
+    version: &Version,
+    next: &Version,
+) -> Result<(), Fail> {
+    expect_levels(rt, alloc, version, 1)?;
+    expect_levels(rt, alloc, next, 2)?;
+    same(rt, (version.number(), next.number()), (3, 4));
+    Ok(())
+}
+
+/// Checks a version and the next one, which has the last level of a configuration more.
+fn expect_next(
+    rt: &impl Abort,
+    alloc: Global,
+    version: &Version,
+    wider: &Config,
+) -> Result<(), Fail> {
+    let next = widened(alloc, version, wider)?;
+    let compared = expect_both(rt, alloc, version, &next);
+    drop(next);
+    compared
+}
+
+/// Checks a version of three bundles and the next one.
+fn expect_widened(rt: &impl Abort, alloc: Global, wider: &Config) -> Result<(), Fail> {
+    let version = three(alloc)?;
+    let compared = expect_next(rt, alloc, &version, wider);
+    drop(version);
+    compared
+}
+
 #[test]
 fn levels_come(rt: HostRuntime) -> Result<(), Fail> {
-    let alloc = rt.alloc();
-    let wider = config_of_text(alloc, WIDER)?;
-    let version = three(alloc)?;
-    let next = widened(alloc, &version, &wider)?;
-    expect_levels(&rt, alloc, &version, 1)?;
-    expect_levels(&rt, alloc, &next, 2)?;
-    assert_eq!(rt; (version.number(), next.number()), (3, 4));
-    Ok(())
+    let wider = config_of_text(rt.alloc(), WIDER)?;
+    let compared = expect_widened(&rt, rt.alloc(), &wider);
+    drop(wider);
+    compared
 }

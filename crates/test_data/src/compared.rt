@@ -1,0 +1,24 @@
+//! What was found beside what is wanted. A test calls these in the place of an assertion of its own, so that each of its functions is soon
+//! proved.
+use std::fmt::Debug;
+use std::process::Abort;
+
+/// Compares two values.
+pub(crate) fn same<T: Copy + Debug + PartialEq>(rt: &impl Abort, found: T, wanted: T) {
+    assert_eq!(rt; found, wanted);
+}
+
+/// Compares two texts, of which a row speaks.
+pub(crate) fn same_text(rt: &impl Abort, row: &str, found: &str, wanted: &str) {
+    assert_eq!(rt; found, wanted, "{row}");
+}
+
+/// Compares how a text begins.
+pub(crate) fn same_start(rt: &impl Abort, found: &str, wanted: &str) {
+    assert!(rt; found.starts_with(wanted), "{found} and not {wanted}");
+}
+
+/// What a row wants, and what stands behind its arrow.
+pub(crate) fn at_arrow(row: &str) -> (&str, &str) {
+    row.split_once(" <- ").unwrap_or(("no row", ""))
+}
