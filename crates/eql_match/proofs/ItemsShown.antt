@@ -1,4 +1,4 @@
--- What the items of a row show.
+-- What the items of a row show, and that nothing shows nothing.
 use Rattle.std.proofs.Common.{◌≡◌, ℕ, Bool, true, false, List, [], ◌∷◌, length, map, Option, Some, None, refl, sym, ap, ◌∙◌}
 use Rattle.std.specs.Prelude.{unwrap_or}
 use Rattle.std.specs.List.{filter, flat_map, list_all, range_with_len}
@@ -16,7 +16,8 @@ use Rattle.eql_model.specs.Results.{results}
 use Rattle.eql_rows.specs.Spans.{span_at}
 use Rattle.eql_rows.specs.Inner.Spans.{row_spans}
 use Rattle.eql_tuples.specs.Sets.{each_once}
-use Rattle.eql_match.specs.Inner.Found.{items_of, AreFoundFor}
+use Rattle.eql_match.specs.Inner.Found.{items_of, tuples_in, AreFoundFor}
+use Rattle.eql_match.specs.declared.found.Found.{Found}
 use Rattle.eql_match.specs.Inner.Shown.{is_bare}
 use Rattle.eql_match.specs.declared.found.Found.TheVariants.{Items}
 use Rattle.eql_match.proofs.Bare.{show_themselves}
@@ -46,6 +47,14 @@ items_match c b q place row spans at found is =
           ∙ (λ i. map (span_at (shown_place q)) (each_once (flat_map (shown (mark i)) (found.0 i)))),
       found.1,
     )
+
+-- where nothing is found, nothing is shown
+pub nothing_matches : (c : ConfigParts) (b : BundleParts) (q : AskedQuery) (found : Found) (spans : List Span) → tuples_in found ≡ [] →
+    AreFoundFor found c b q → spans ≡ [] → (spans ≡ results c b q) × (has_too_many c b q ≡ false)
+nothing_matches c b q found spans nothing finds none = (
+  none ∙ ap (λ ts. map (span_at (shown_place q)) (each_once (flat_map (shown (is_marked q)) ts))) (sym nothing ∙ finds.0),
+  finds.1,
+)
 
 none_shown : (mark : Option AttributePlace) (first : AttributePlace) → is_some mark ≡ false → first ≡ unwrap_or mark first
 none_shown None first unmarked = refl

@@ -3,6 +3,7 @@ ghost use Rattle.std.specs.Prelude.{◌≡◌, false};
 ghost use Rattle.std.specs.List.{flat_map, list_all};
 ghost use Rattle.std.specs.List.Sorted.{IsStrictlySortedBy};
 ghost use Rattle.bundle_state.specs.Built.{FitsConfig};
+ghost use Rattle.eql_resolve.specs.Asked.{mark_place, shown_place};
 ghost use Rattle.eql_resolve.specs.Sound.{IsQueryOf};
 ghost use Rattle.eql_resolve.specs.Inner.Sound.{IsResolvedBy};
 ghost use Rattle.eql_resolve.specs.Inner.View.{query_in};
@@ -14,9 +15,11 @@ ghost use Rattle.eql_match.specs.Inner.Found.{AreFoundFor};
 ghost use Rattle.eql_match.specs.Inner.Shown.{is_bare};
 
 use crate::evaluate::evaluate;
+use crate::few::is_nothing;
 use crate::found::Found;
 use bundle_index::Indexed;
-use db_config::Config;
+use db_config::{AttributePlace, Config};
+use emu_names::Series;
 use eql_columns::Matchers;
 use eql_resolve::{Asked, AskedQuery};
 use eql_rows::Spans;
@@ -49,6 +52,17 @@ fn shown_of(alloc: Global, marked: bool, found: Tuples) -> Result<Tuples, MatchF
     eql_tuples::shown_once(alloc, marked, found.as_slice())
 }
 
+/// The attribute that the results of a query show, of which this is that of the marked condition, where there is one.
+fn place_shown(query: &AskedQuery, mark: Option<AttributePlace>) -> AttributePlace
+    requires { mark ≡ mark_place (query_in query.now) }
+    ensures { result ≡ shown_place (query_in query.now) }
+{
+    match mark {
+        Some(place) => place,
+        None => query.first_place(),
+    }
+}
+
 /// The results of a query of which these are the tuples.
 fn spans_of_tuples(
     alloc: Global,
@@ -61,12 +75,12 @@ fn spans_of_tuples(
     requires found { AreFoundFor (Found.Tuples found) config.now indexed.now.bundle (query_in query.now) }
     ensures { Matches result config.now indexed.now.bundle (query_in query.now) }
 {
-    let marked = query.is_marked();
-    let stretches = match shown_of(alloc, marked, found) {
+    let mark = query.mark_place();
+    let stretches = match shown_of(alloc, mark.is_some(), found) {
         Ok(stretches) => stretches,
         Err(fault) => return Err(fault),
     };
-    match eql_rows::spans_of(alloc, config, query.shown_place(), stretches.as_slice()) {
+    match eql_rows::spans_of(alloc, config, place_shown(query, mark), stretches.as_slice()) {
         Ok(spans) => Ok(spans),
         Err(_) => Err(MatchFault::Memory),
     }
@@ -91,7 +105,7 @@ fn spans_of_items(
     }
 }
 
-/// The results of a query that finds this.
+/// The results of a query that finds this: none, where it is nothing.
 fn spans_of_found(
     alloc: Global,
     config: &Config,
@@ -103,6 +117,9 @@ fn spans_of_found(
     requires found { AreFoundFor found config.now indexed.now.bundle (query_in query.now) }
     ensures { Matches result config.now indexed.now.bundle (query_in query.now) }
 {
+    if is_nothing(&found) {
+        return Ok(Series::new(alloc));
+    }
     match found {
         Found::Items(row) => spans_of_items(alloc, config, indexed, query, &row),
         Found::Tuples(tuples) => spans_of_tuples(alloc, config, indexed, query, tuples),

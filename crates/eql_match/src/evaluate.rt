@@ -123,8 +123,9 @@ fn sequence_found(
     }
 }
 
-/// What a sequence finds of which the left part finds nothing, and the right one cannot have too many tuples.
-fn nothing_in_sequence(
+/// What a sequence or a dominance finds of which the left part finds nothing, and the right one cannot have too
+/// many tuples.
+fn nothing_joined(
     alloc: Global,
     config: &Config,
     indexed: &Indexed,
@@ -135,8 +136,10 @@ fn nothing_in_sequence(
     requires nothing { tuples_in lefts ≡ [] }
     requires few { AreFewAlways (query_in right.now) }
     requires lefts { AreFoundFor lefts config.now indexed.now.bundle (query_in left.now) }
-    ensures { FindsAll result config.now indexed.now.bundle
+    ensures sequence { FindsAll result config.now indexed.now.bundle
         (sequence (query_in left.now) (query_in right.now)) }
+    ensures dominance { FindsAll result config.now indexed.now.bundle
+        (dominance (query_in left.now) (query_in right.now)) }
 {
     let _items = indexed.bundle().item_count();
     Ok(Found::Tuples(Series::new(alloc)))
@@ -236,25 +239,6 @@ fn dominance_found(
     }
 }
 
-/// What a dominance finds of which the left part finds nothing, and the right one cannot have too many tuples.
-fn nothing_in_dominance(
-    alloc: Global,
-    config: &Config,
-    indexed: &Indexed,
-    left: &AskedQuery,
-    right: &AskedQuery,
-    lefts: Found,
-) -> Result<Found, MatchFault>
-    requires nothing { tuples_in lefts ≡ [] }
-    requires few { AreFewAlways (query_in right.now) }
-    requires lefts { AreFoundFor lefts config.now indexed.now.bundle (query_in left.now) }
-    ensures { FindsAll result config.now indexed.now.bundle
-        (dominance (query_in left.now) (query_in right.now)) }
-{
-    let _items = indexed.bundle().item_count();
-    Ok(Found::Tuples(Series::new(alloc)))
-}
-
 /// What a query finds. `TooManyTuples` comes exactly where the query or some part of it
 /// has over 1,000,000 tuples; the only other refusal is want of memory. Where the left part of a sequence
 /// or a dominance finds nothing, and the right one cannot have too many tuples, the right one is not asked.
@@ -286,7 +270,7 @@ pub(crate) fn evaluate<'q>(
                 Err(fault) => return Err(fault),
             };
             if is_settled(&lefts, right) {
-                return nothing_in_sequence(alloc, config, indexed, left, right, lefts);
+                return nothing_joined(alloc, config, indexed, left, right, lefts);
             }
             let rights = match evaluate(alloc, config, indexed, right, matchers) {
                 Ok(found) => found,
@@ -300,7 +284,7 @@ pub(crate) fn evaluate<'q>(
                 Err(fault) => return Err(fault),
             };
             if is_settled(&lefts, right) {
-                return nothing_in_dominance(alloc, config, indexed, left, right, lefts);
+                return nothing_joined(alloc, config, indexed, left, right, lefts);
             }
             let rights = match evaluate(alloc, config, indexed, right, matchers) {
                 Ok(found) => found,

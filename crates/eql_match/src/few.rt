@@ -32,8 +32,8 @@ fn is_few(query: &AskedQuery) -> bool
     }
 }
 
-/// Whether a part of a query finds nothing.
-fn is_nothing(found: &Found) -> bool
+/// Whether a query, or a part of one, finds nothing.
+pub(crate) fn is_nothing(found: &Found) -> bool
     ensures { result ≡ true → tuples_in found.now ≡ [] }
 {
     match found {
