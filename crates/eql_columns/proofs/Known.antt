@@ -1,4 +1,4 @@
--- Answers that a matcher keeps by the keys of labels.
+-- Answers of a test that are kept by the keys of labels.
 use Rattle.std.proofs.Common.{◌≡◌, ◌≢◌, ◌⊎◌, inl, inr, ℕ, ◌<◌, Bool, false, List, length, get_or, Some, sym, ap, subst, ◌∙◌, arith}
 use Rattle.std.specs.Prelude.{replicate, slice_set}
 use Rattle.std.specs.List.{slice_get}
@@ -7,16 +7,15 @@ use Rattle.std.proofs.lemmas.List.{get_or-replicate, get_or-set_other, get_or-se
 use Rattle.std.proofs.lemmas.Option.{get_or_from_slice_get, slice_get-get_or, slice_get_within}
 use Rattle.bundle_index.specs.Inner.Keys.{IsKeyOf}
 use Rattle.bundle_index.proofs.ShortLabels.{same_labels}
-use Rattle.label_match.specs.Pattern.{matches_label}
-use Rattle.eql_columns.specs.declared.matchers.Known.{Known}
+use Rattle.eql_columns.specs.declared.answers.Known.{Known}
 use Rattle.eql_columns.specs.Inner.Labels.{AreKnownOf, IsAnswerTo}
 
 abbrev pub none : Known
 none = record { key = 0; is = false }
 
 -- nothing is known
-pub known_none : (pattern : List ℕ) (known : List Known) → known ≡ replicate 512 none → AreKnownOf pattern known
-known_none pattern known is = record {
+pub known_none : (test : List ℕ → Bool) (known : List Known) → known ≡ replicate 512 none → AreKnownOf test known
+known_none test known is = record {
   count = ap length is ∙ length-replicate 512 none;
   right = λ place one at label some key. absurd (some (key_of place one at));
 }
@@ -29,22 +28,22 @@ known_none pattern known is = record {
         ∙ get_or-replicate 512 place none none (omega (arith, within, length-replicate 512 none)))
 
 -- one more is known
-pub known_more : (pattern : List ℕ) (known : List Known) (at : ℕ) (one : Known) → AreKnownOf pattern known →
-    IsAnswerTo pattern one.key one.is → AreKnownOf pattern (slice_set known at one)
-known_more pattern known at one so right = record {
+pub known_more : (test : List ℕ → Bool) (known : List Known) (at : ℕ) (one : Known) → AreKnownOf test known →
+    IsAnswerTo test one.key one.is → AreKnownOf test (slice_set known at one)
+known_more test known at one so right = record {
   count = length-set known at one ∙ so.count;
   right = λ place other there. by place other there (cases_eq place at);
 }
   where
     by : (place : ℕ) (other : Known) → slice_get (slice_set known at one) place ≡ Some other →
-        (place ≡ at) ⊎ (place ≡ at → ⊥) → IsAnswerTo pattern other.key other.is
+        (place ≡ at) ⊎ (place ≡ at → ⊥) → IsAnswerTo test other.key other.is
     by place other there (inl same) =
         let within : place < length (slice_set known at one) = slice_get_within (slice_set known at one) place other there in
         let is : other ≡ one =
         sym (get_or_from_slice_get (slice_set known at one) place other one there)
         ∙ ap (λ (i : ℕ). get_or (slice_set known at one) i one) same
         ∙ get_or-set_same known at one one (omega (arith, within, length-set known at one, same)) in
-        subst (λ (k : Known). IsAnswerTo pattern k.key k.is) (sym is) right
+        subst (λ (k : Known). IsAnswerTo test k.key k.is) (sym is) right
     by place other there (inr apart) =
         let within : place < length (slice_set known at one) = slice_get_within (slice_set known at one) place other there in
         let is : get_or known place other ≡ other =
@@ -53,12 +52,12 @@ known_more pattern known at one so right = record {
         so.right place other (slice_get-get_or known place other (omega (arith, within, length-set known at one)) ∙ ap Some is)
 
 -- what is known at a place of this key
-pub known_at : (pattern : List ℕ) (known : List Known) (place key : ℕ) (one : Known) → AreKnownOf pattern known →
-    slice_get known place ≡ Some one → one.key ≡ key → IsAnswerTo pattern key one.is
-known_at pattern known place key one so at same = subst (λ (k : ℕ). IsAnswerTo pattern k one.is) same (so.right place one at)
+pub known_at : (test : List ℕ → Bool) (known : List Known) (place key : ℕ) (one : Known) → AreKnownOf test known →
+    slice_get known place ≡ Some one → one.key ≡ key → IsAnswerTo test key one.is
+known_at test known place key one so at same = subst (λ (k : ℕ). IsAnswerTo test k one.is) same (so.right place one at)
 
 -- the answer to a label is that to all labels of its key
-pub answer_to : (pattern label : List ℕ) (key : ℕ) (is : Bool) → (key ≢ 0 → IsKeyOf label key) → is ≡ matches_label pattern label →
-    IsAnswerTo pattern key is
-answer_to pattern label key is mine told other some own =
-    told ∙ ap (matches_label pattern) (same_labels label other key some (mine some) own)
+pub answer_to : (test : List ℕ → Bool) (label : List ℕ) (key : ℕ) (is : Bool) → (key ≢ 0 → IsKeyOf label key) → is ≡ test label →
+    IsAnswerTo test key is
+answer_to test label key is mine told other some own =
+    told ∙ ap test (same_labels label other key some (mine some) own)

@@ -7,7 +7,7 @@ use Rattle.std.specs.Simd.Lanes.{zip2}
 use Rattle.std.specs.Str.{bytes_eq}
 use Rattle.std.proofs.lemmas.Bool.{cases_eq}
 use Rattle.std.proofs.lemmas.Bool.Decides.{nat_tests}
-use Rattle.std.proofs.lemmas.List.{get_or-map, get_or-replicate, get_or-set_other, get_or-set_same, length-map, length-replicate, length-set, take-append-drop, take_all}
+use Rattle.std.proofs.lemmas.List.{ext_get_or, get_or-map, get_or-replicate, get_or-set_other, get_or-set_same, length-map, length-replicate, length-set, take-append-drop, take_all}
 use Rattle.std.proofs.lemmas.List.Folds.{list_all-append}
 use Rattle.std.proofs.lemmas.List.FromFn.{fill_by_all, get_or-range_with_len, length-range_with_len}
 use Rattle.std.proofs.lemmas.Option.{get_or_from_slice_get, same_Some, slice_get-get_or, slice_get_within}
@@ -34,7 +34,7 @@ use Rattle.eql_model.specs.Inner.Labels.{matched_row}
 use Rattle.eql_model.specs.Meaning.{meets}
 use Rattle.eql_model.specs.Inner.Meaning.{met_row}
 use Rattle.eql_model.proofs.MadeRows.{no_item}
-use Rattle.eql_columns.specs.Inner.Labels.{label_row, label_at, HasColumn, AreNumbersOf, AreAnswers}
+use Rattle.eql_columns.specs.Inner.Labels.{is_among, label_row, labels_row, label_at, HasColumn, AreNumbersOf, AreAnswers}
 use Rattle.eql_columns.specs.Inner.Rows.{any_bits, all_bits}
 use Rattle.eql_columns.proofs.Bits.{IsFilled, filled_all, any_rows_are, rows_wide, all_long, all_first, all_none, all_step}
 
@@ -210,6 +210,29 @@ matched_all pattern attribute items row n at so_far long end =
     (λ k below.
     get_or-map (λ item. matches_label pattern (label_of attribute item)) items k no_item false (omega arith)
     ∙ ap (matches_label pattern) (sym (get_or-map (label_of attribute) items k no_item [] (omega arith)))))
+
+-- lists of labels that are the same at each place
+pub same_lists : (one other : List (List ℕ)) (at : ℕ) → length one ≡ length other → length one ≤ at →
+    ((k : ℕ) → k < at → get_or one k [] ≡ get_or other k []) → one ≡ other
+same_lists one other at long past each = ext_get_or [] one other long (λ k below. each k (omega arith))
+
+-- the first places of a row are whether the items' labels are among some
+pub held_all : (labels : List (List ℕ)) (attribute : ℕ) (items : List Item) (row : List Bool) (n at : ℕ) →
+    IsFilled (λ k. is_among labels (label_at attribute items k)) row n at → n ≡ length items → n ≡ at →
+    row ≡ map (λ item. is_among labels (label_of attribute item)) items
+held_all labels attribute items row n at so_far long end =
+    filled_all (λ k. is_among labels (label_at attribute items k)) row n at so_far end
+    ∙ sym (fill_by_all (λ k. is_among labels (label_at attribute items k)) (map (λ item. is_among labels (label_of attribute item)) items) n
+    false (length-map items (λ item. is_among labels (label_of attribute item)) ∙ sym long)
+    (λ k below.
+    get_or-map (λ item. is_among labels (label_of attribute item)) items k no_item false (omega arith)
+    ∙ ap (is_among labels) (sym (get_or-map (label_of attribute) items k no_item [] (omega arith)))))
+
+pub group_row : (b : BundleParts) (place : AttributePlace) (labels held : List (List ℕ)) (items : List Item) (row : List Bool) → held ≡ labels →
+    items ≡ items_at b.levels place.level → row ≡ map (λ item. is_among held (label_of place.attribute item)) items →
+    row ≡ labels_row b place labels
+group_row b place labels held items row same its told =
+    told ∙ (λ i. map (λ item. is_among (same i) (label_of place.attribute item)) (its i))
 
 -- ---- conditions one after another
 

@@ -34,6 +34,7 @@ fn set_labels_pass(
     place: AttributePlace,
     found: bool,
     labels: &[Text],
+    matchers: &mut Matchers,
     row: &mut BitRow,
 ) -> Result<(), Memory>
     requires fits { FitsConfig config.now indexed.now.bundle }
@@ -42,7 +43,7 @@ fn set_labels_pass(
     ensures { OnOk result (row.new ≡ map (λ item. is_as found (is_wanted config.now place labels.now
         (label_of place.attribute item))) (items_at indexed.now.bundle.levels place.level)) }
 {
-    set_label_bits(alloc, config, indexed, place, labels, row)?;
+    set_label_bits(alloc, config, indexed, place, labels, matchers, row)?;
     turn_unless(found, row);
     Ok(())
 }
@@ -92,7 +93,7 @@ fn set_test_bits<'q>(
 {
     match wanted {
         Wanted::Labels(labels) => {
-            set_labels_pass(alloc, config, indexed, place, found, labels, row)
+            set_labels_pass(alloc, config, indexed, place, found, labels, matchers, row)
         }
         Wanted::Patterns(patterns) => {
             set_patterns_pass(

@@ -6,12 +6,21 @@ ghost use Rattle.level_items.specs.Levels.{label_of, items_at};
 ghost use Rattle.eql_columns.specs.Inner.Labels.{label_row, labels_row, AddsLabels, AreLong, HasColumn};
 ghost use Rattle.eql_columns.specs.Inner.Rows.{IsUnsetFor};
 
+use crate::groups::set_held;
+use crate::matchers::Matchers;
 use crate::rows::none_set;
 use bundle_index::Indexed;
-use db_config::{AttributePlace, Config};
+use db_config::{AttributePlace, Config, GroupValues};
 use emu_names::{Memory, Text};
 use lane_bits::{BitRow, eq_lanes, or_into};
 use std::alloc::Global;
+
+/// How many items there may be for each label of a group, that they are asked for their labels: with more of them it
+/// costs less to look the labels up, and to compare each with the whole column.
+const ITEMS_A_LABEL: usize = 4;
+
+/// How many items there may be at most: the labels of those that have no key are compared with the whole group.
+const ASKED_ITEMS: usize = 256;
 
 /// Sets the bits of the items of a level whose label this is, in a row of which no bit is set.
 fn set_label_row(indexed: &Indexed, place: AttributePlace, label: &str, row: &mut BitRow)
@@ -108,6 +117,39 @@ fn set_labels(
     Ok(())
 }
 
+/// Whether the items are asked for their labels, and the labels are not looked up: there are few items for each label,
+/// and the bundle keeps keys.
+fn are_asked(indexed: &Indexed, column: &[u32], labels: &GroupValues) -> bool {
+    !column.is_empty()
+        && column.len() <= ASKED_ITEMS
+        && column.len() / ITEMS_A_LABEL <= labels.len()
+        && indexed.label_key(column[0]) != 0
+}
+
+/// Sets the bits of the items of a level whose label is in a group, in a row of which no bit is set. The only
+/// refusal is want of memory.
+fn set_group(
+    alloc: Global,
+    indexed: &Indexed,
+    place: AttributePlace,
+    labels: &GroupValues,
+    matchers: &mut Matchers,
+    row: &mut BitRow,
+) -> Result<(), Memory>
+    requires column { HasColumn indexed.now.bundle place }
+    requires unset { IsUnsetFor indexed.now.bundle place.level row.old }
+    ensures { OnOk result (row.new ≡ labels_row indexed.now.bundle place labels.now) }
+{
+    let column = indexed.column(place.level, place.attribute);
+    if !are_asked(indexed, column, labels) {
+        return set_labels(alloc, indexed, place, labels.as_slice(), row);
+    }
+    let items = eql_rows::items_at(indexed.bundle(), place.level);
+    let group = matchers.group(alloc, labels)?;
+    set_held(group, indexed, column, place.attribute, items, row);
+    Ok(())
+}
+
 /// Sets the bits of the items of a level whose label the one written stands for, in a row of which no bit is set.
 /// The only refusal is want of memory.
 fn set_only_written(
@@ -116,6 +158,7 @@ fn set_only_written(
     indexed: &Indexed,
     place: AttributePlace,
     written: &Text,
+    matchers: &mut Matchers,
     row: &mut BitRow,
 ) -> Result<(), Memory>
     requires place { IsSome (attribute_at place config.now.levels) }
@@ -125,7 +168,7 @@ fn set_only_written(
         ≡ labels_row indexed.now.bundle place (stands_for config.now place written.now)) }
 {
     match config.group(place, written.as_str()) {
-        Some(values) => set_labels(alloc, indexed, place, values.as_slice(), row),
+        Some(values) => set_group(alloc, indexed, place, values, matchers, row),
         None => {
             set_label_row(indexed, place, written.as_str(), row);
             Ok(())
@@ -141,6 +184,7 @@ pub(crate) fn set_label_bits(
     indexed: &Indexed,
     place: AttributePlace,
     written: &[Text],
+    matchers: &mut Matchers,
     row: &mut BitRow,
 ) -> Result<(), Memory>
     requires place { IsSome (attribute_at place config.now.levels) }
@@ -150,7 +194,7 @@ pub(crate) fn set_label_bits(
         (label_of place.attribute item)) (items_at indexed.now.bundle.levels place.level)) }
 {
     if written.len() == 1 {
-        return set_only_written(alloc, config, indexed, place, &written[0], row);
+        return set_only_written(alloc, config, indexed, place, &written[0], matchers, row);
     }
     let mut spare = none_set(alloc, row.len())?;
     for one in written {

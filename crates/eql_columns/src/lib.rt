@@ -2,7 +2,9 @@
 //! Manual, "The EMU Query Language (EQL)": simple queries, position and count functions, conjunction).
 #![tactic(auto)]
 
+mod answers;
 mod conditions;
+mod groups;
 mod labels;
 mod matchers;
 mod patterns;

@@ -1,32 +1,17 @@
-//! The matchers of the patterns that were asked for, each of which is made once.
-ghost use Rattle.std.specs.Prelude.{◌≡◌, ◌≢◌, ◌<◌, ℕ, List, true, IfOk, IfSome, Some};
+//! The matchers of the patterns and the groups of labels that were asked for, each of which is made once.
+ghost use Rattle.std.specs.Prelude.{◌≡◌, ◌≢◌, true, IfOk, IfSome, Some};
 ghost use Rattle.std.specs.List.{slice_get};
 ghost use Rattle.bundle_index.specs.Inner.Keys.{IsKeyOf};
 ghost use Rattle.label_match.specs.Pattern.{matches_label};
-ghost use Rattle.eql_columns.specs.Inner.Labels.{AreKnownOf, IsAnswerTo};
+ghost use Rattle.eql_columns.specs.Inner.Labels.{IsAnswerTo};
 
-use emu_names::{Memory, Series};
+use crate::answers::Answers;
+use crate::groups::Group;
+use db_config::GroupValues;
+use emu_names::Memory;
 use label_match::{Matching, Pattern};
 use std::alloc::Global;
 use std::marker::Model;
-
-/// How many answers a matcher keeps.
-const KNOWN_ANSWERS: usize = 512;
-
-/// What a pattern answered to the labels of a key; nothing where the key is 0.
-#[derive(Clone, Copy)]
-pub(crate) struct Known {
-    key: u64,
-    is: bool,
-}
-
-/// The place at which the answer to a key is kept: the highest nine bits of its product with an odd number, which sends
-/// keys that differ in few bits to different places.
-fn place_of(key: u64) -> usize
-    ensures { result < 512 }
-{
-    (key.wrapping_mul(0x9E37_79B9_7F4A_7C15) >> 55) as usize
-}
 
 /// A pattern with its matcher, which contracts see as the bytes of the pattern's text. It keeps what it answered to
 /// short labels of late, by their keys, which are the same in all bundles.
@@ -34,26 +19,19 @@ fn place_of(key: u64) -> usize
 pub(crate) struct Matcher<'p> {
     pattern: &'p Pattern,
     matching: Matching<'p>,
-    known: Series<Known>,
+    answers: Answers,
 }
 
 impl<'p> Model for Matcher<'p> {
     ghost use Rattle.std.specs.Prelude.{◌≡◌, List, ℕ};
+    ghost use Rattle.label_match.specs.Pattern.{matches_label};
     ghost use Rattle.eql_columns.specs.Inner.Labels.{AreKnownOf};
 
     ghost Value = { List ℕ };
 
     ghost view = { λ m. m.pattern.now };
 
-    ghost invariant = { λ m. (m.matching ≡ m.pattern.now) × AreKnownOf m.pattern.now m.known };
-}
-
-/// The list of answers, of which none is known. The only refusal is want of memory.
-fn none_known(alloc: Global) -> Result<Series<Known>, Memory>
-    ensures { (pattern : List ℕ) → IfOk result (AreKnownOf pattern) }
-{
-    let none = Known { key: 0, is: false };
-    Ok(Series::from_vec(vec![in alloc; none; KNOWN_ANSWERS]?))
+    ghost invariant = { λ m. (m.matching ≡ m.pattern.now) × AreKnownOf (matches_label m.pattern.now) m.answers };
 }
 
 impl<'p> Matcher<'p> {
@@ -61,12 +39,12 @@ impl<'p> Matcher<'p> {
     fn new(alloc: Global, pattern: &'p Pattern) -> Result<Matcher<'p>, Memory>
         ensures { IfOk result (λ made. made ≡ pattern.now) }
     {
-        let known = none_known(alloc)?;
+        let answers = Answers::none(alloc)?;
         match pattern.matcher(alloc) {
             Ok(matching) => Ok(Matcher {
                 pattern,
                 matching,
-                known,
+                answers,
             }),
             Err(_) => Err(Memory),
         }
@@ -89,23 +67,18 @@ impl<'p> Matcher<'p> {
 
     /// What the pattern answered to the labels of a key, where that is still known. Of the key 0 nothing is known.
     pub(crate) fn known(&self, key: u64) -> Option<bool>
-        ensures answer { IfSome result (IsAnswerTo self.now key) }
+        ensures answer { IfSome result (IsAnswerTo (matches_label self.now) key) }
         ensures key { IfSome result (λ _. key ≢ 0) }
     {
-        let known = *self.known.get(place_of(key));
-        if key != 0 && known.key == key {
-            Some(known.is)
-        } else {
-            None
-        }
+        self.answers.find(key)
     }
 
     /// Keeps what the pattern answers to the labels of a key, in the place of what was kept there.
     fn keep(&mut self, key: u64, is: bool)
-        requires { IsAnswerTo self.old key is }
+        requires { IsAnswerTo (matches_label self.old) key is }
         ensures { self.new ≡ self.old }
     {
-        self.known.set(place_of(key), Known { key, is });
+        self.answers.keep(key, is);
     }
 
     /// Whether the pattern matches the whole label of this key, as `Pattern::matches` says it. The answer is known from
@@ -123,10 +96,12 @@ impl<'p> Matcher<'p> {
 
 /// The matchers of the patterns that were asked for so far. A query has few patterns, and whoever asks it of one
 /// bundle after another hands these on, so that each matcher is made once and keeps what it has learned of the
-/// labels before. No clause says what they hold: a matcher that is not there is made.
+/// labels before. No clause says what they hold: a matcher that is not there is made. The same goes for the groups
+/// of labels.
 #[derive(Drop)]
 pub struct Matchers<'p> {
     made: Vec<Matcher<'p>>,
+    groups: Vec<Group>,
 }
 
 impl<'p> Matchers<'p> {
@@ -134,6 +109,7 @@ impl<'p> Matchers<'p> {
     pub fn new(alloc: Global) -> Matchers<'p> {
         Matchers {
             made: Vec::new(alloc),
+            groups: Vec::new(alloc),
         }
     }
 
@@ -178,5 +154,48 @@ impl<'p> Matchers<'p> {
     {
         let at = self.place(alloc, pattern)?;
         Ok(&mut self.made[at])
+    }
+
+    /// The place of the group of these labels, where it was made.
+    fn find_group(&self, labels: &GroupValues) -> Option<usize>
+        ensures { IfSome result (λ at. slice_get self.now.groups.items at ≡ Some labels.now) }
+    {
+        for at in 0..self.groups.len() {
+            if self.groups[at].is_of(labels) {
+                return Some(at);
+            }
+        }
+        None
+    }
+
+    /// Puts the group of these labels last, and answers its place. The only refusal is want of memory.
+    fn add_group(&mut self, alloc: Global, labels: &GroupValues) -> Result<usize, Memory>
+        ensures { IfOk result (λ at. slice_get self.new.groups.items at ≡ Some labels.now) }
+    {
+        let at = self.groups.len();
+        self.groups.push(Group::new(alloc, labels)?)?;
+        Ok(at)
+    }
+
+    /// The place of the group of these labels, which is made where there is none. The only refusal is want of memory.
+    fn group_place(&mut self, alloc: Global, labels: &GroupValues) -> Result<usize, Memory>
+        ensures { IfOk result (λ at. slice_get self.new.groups.items at ≡ Some labels.now) }
+    {
+        match self.find_group(labels) {
+            Some(at) => Ok(at),
+            None => self.add_group(alloc, labels),
+        }
+    }
+
+    /// The group of these labels, which is made where there is none. The only refusal is want of memory.
+    pub(crate) fn group(
+        &mut self,
+        alloc: Global,
+        labels: &GroupValues,
+    ) -> Result<&mut Group, Memory>
+        ensures { IfOk result (λ group. group.now ≡ labels.now) }
+    {
+        let at = self.group_place(alloc, labels)?;
+        Ok(&mut self.groups[at])
     }
 }

@@ -80,7 +80,12 @@ fn spans_of_tuples(
         Ok(stretches) => stretches,
         Err(fault) => return Err(fault),
     };
-    match eql_rows::spans_of(alloc, config, place_shown(query, mark), stretches.as_slice()) {
+    match eql_rows::spans_of(
+        alloc,
+        config,
+        place_shown(query, mark),
+        stretches.as_slice(),
+    ) {
         Ok(spans) => Ok(spans),
         Err(_) => Err(MatchFault::Memory),
     }

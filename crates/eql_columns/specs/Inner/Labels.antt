@@ -9,7 +9,7 @@ use Rattle.bundle_index.specs.Inner.Index.{attributes_on}
 use Rattle.bundle_index.specs.Inner.Keys.{IsKeyOf}
 use Rattle.label_match.specs.Pattern.{matches_label}
 use Rattle.level_items.specs.Levels.{label_of, items_at}
-use Rattle.eql_columns.specs.declared.matchers.Known.{Known}
+use Rattle.eql_columns.specs.declared.answers.Known.{Known}
 
 -- the level of an attribute is there, and the attribute is
 pub record HasColumn (b : BundleParts) (place : AttributePlace) : Type 0 where
@@ -46,14 +46,18 @@ pub record AreAnswers (pattern : List ℕ) (column : List ℕ) (labels : List (L
   pub right : (k : ℕ) (is : Bool) → k < length labels →
       slice_get answers (get_or column k 0) ≡ Some (Some is) → is ≡ matches_label pattern (get_or labels k [])
 
--- this is whether the pattern matches the labels of a key; of the key 0 it says nothing
-abbrev pub IsAnswerTo : List ℕ → ℕ → Bool → Type 0
-IsAnswerTo pattern key is = (label : List ℕ) → key ≢ 0 → IsKeyOf label key → is ≡ matches_label pattern label
+-- a label is one of these
+abbrev pub is_among : List (List ℕ) → List ℕ → Bool
+is_among labels label = list_any (same_text label) labels
 
--- there are 512 places, and what is known at each is whether the pattern matches the labels of its key
-pub record AreKnownOf (pattern : List ℕ) (known : List Known) : Type 0 where
+-- this is whether the labels of a key pass a test; of the key 0 it says nothing
+abbrev pub IsAnswerTo : (List ℕ → Bool) → ℕ → Bool → Type 0
+IsAnswerTo test key is = (label : List ℕ) → key ≢ 0 → IsKeyOf label key → is ≡ test label
+
+-- there are 512 places, and what is known at each is whether the labels of its key pass a test
+pub record AreKnownOf (test : List ℕ → Bool) (known : List Known) : Type 0 where
   pub count : length known ≡ 512
-  pub right : (place : ℕ) (one : Known) → slice_get known place ≡ Some one → IsAnswerTo pattern one.key one.is
+  pub right : (place : ℕ) (one : Known) → slice_get known place ≡ Some one → IsAnswerTo test one.key one.is
 
 -- the label of the item at a position
 abbrev pub label_at : ℕ → List Item → ℕ → List ℕ

@@ -5,5 +5,5 @@ use Rattle.eql_columns.proofs.matchers.Matcher.learn.Goals as goal
 
 pub keep-requires : goal.keep-requires
 keep-requires c =
-    answer_to c.matches-is.new.self c.args.label.now c.args.key c.matches-is.result c.requires
+    answer_to (matches_label c.matches-is.new.self) c.args.label.now c.args.key c.matches-is.result c.requires
     (c.matches-is.ensures.found ∙ ap (λ pattern. matches_label pattern c.args.label.now) (sym c.matches-is.ensures.same))
