@@ -21,5 +21,5 @@ pub use conjunction::single;
 pub use joins::{bit_at, bits_cover};
 pub use laws::{results_are_there, tuples_lie_on_level};
 pub use positions::row_counts;
-pub use rows::{rows_at, rows_below, rows_of};
+pub use rows::{numbers_below, rows_at, rows_below, rows_of};
 pub use times::Below;

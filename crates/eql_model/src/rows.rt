@@ -6,6 +6,7 @@ ghost use Rattle.eql_resolve.specs.Inner.Sound.{IsResolvedBy, IsTimeLevel};
 ghost use Rattle.eql_rows.specs.Spans.{AreThere, IsStretchIn};
 ghost use Rattle.eql_model.specs.Inner.Below.{IsBelow};
 ghost use Rattle.eql_rows.specs.Inner.Names.{AreNames};
+ghost use Rattle.eql_rows.specs.Inner.Numbers.{numbers_of};
 ghost use Rattle.eql_rows.specs.Rows.{kind_of};
 ghost use Rattle.eql_model.specs.Rows.{row_of};
 
@@ -14,7 +15,9 @@ use bundle_state::Bundle;
 use db_config::Config;
 use emu_names::{Memory, Series};
 use eql_resolve::Asked;
-use eql_rows::{Row, RowNames, SegmentList, Span, kind_of, names_of, row_between};
+use eql_rows::{
+    Row, RowNames, RowNumbers, SegmentList, Span, kind_of, names_of, numbers_between, row_between,
+};
 use hier_closure::Closure;
 use std::alloc::Global;
 
@@ -37,6 +40,24 @@ fn timed_row(
     let kind = kind_of(config, span.level as usize);
     let samples = samples_of(bundle, kind, below, span);
     row_between(alloc, config, bundle, names, samples, span)
+}
+
+/// The numbers of the row of a result. On an ITEM level it has its times by `below`, where it is given.
+pub fn numbers_below(
+    config: &Config,
+    bundle: &Bundle,
+    below: &Option<Below>,
+    span: Span,
+) -> RowNumbers
+    requires span { IsStretchIn bundle.now span }
+    requires level { span.level < length bundle.now.levels }
+    requires below { IfSome below.now (IsBelow bundle.now span.level) }
+    ensures { result ≡ numbers_of
+        (row_of config.now bundle.now (option_map (λ b. b.time) below.now) span) }
+{
+    let kind = kind_of(config, span.level as usize);
+    let samples = samples_of(bundle, kind, below, span);
+    numbers_between(config, bundle, samples, span)
 }
 
 /// The rows of some results on a level, in their order. The only refusal is want of memory.

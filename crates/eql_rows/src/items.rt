@@ -39,7 +39,7 @@ pub(crate) fn id_at(items: &[Item], position: usize) -> ItemId
 }
 
 /// The items of a result.
-pub(crate) fn items_of(bundle: &Bundle, span: Span) -> &[Item]
+pub fn items_of(bundle: &Bundle, span: Span) -> &[Item]
     requires span { IsStretchIn bundle.now span }
     requires level { span.level < length bundle.now.levels }
     ensures { result.now ≡ items_of bundle.now span }
@@ -75,7 +75,7 @@ fn own_label(alloc: Global, item: &Item, attribute: usize) -> Result<Text, Memor
 }
 
 /// The labels of items, joined by `->`; that of one item shares its bytes. The only refusal is want of memory.
-pub(crate) fn joined_labels(alloc: Global, attribute: usize, items: &[Item]) -> Result<Text, Memory>
+pub fn joined_labels(alloc: Global, attribute: usize, items: &[Item]) -> Result<Text, Memory>
     ensures { IfOk result (λ made. made ≡ joined_labels attribute items.now) }
 {
     if let [item] = items {

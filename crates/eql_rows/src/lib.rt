@@ -11,11 +11,11 @@ mod span;
 mod spans;
 mod times;
 
-pub use items::{items_at, label_of};
+pub use items::{items_at, items_of, joined_labels, label_of};
 pub use laws::touching_segments_meet;
-pub use names::{RowNames, kind_of, names_of};
-pub use row::{Row, SegmentList};
-pub use rows::row_between;
+pub use names::{RowNames, attribute_name, kind_of, level_name, names_of};
+pub use row::{Row, RowNumbers, SegmentList};
+pub use rows::{numbers_between, row_between};
 pub use span::{Span, Spans};
 pub use spans::{spans_of, spans_of_row};
 pub use times::{ends_between, ends_of, timed_items};

@@ -9,8 +9,8 @@ use db_config::Config;
 use emu_names::{LevelKind, Memory, Text};
 use std::alloc::Global;
 
-/// The name of a level.
-fn level_name(config: &Config, level: usize) -> &str
+/// The name of a level; empty where there is no such level.
+pub fn level_name(config: &Config, level: usize) -> &str
     ensures { result.now ≡ level_name config.now level }
 {
     match config.parts().levels.as_slice().get(level) {
@@ -19,8 +19,8 @@ fn level_name(config: &Config, level: usize) -> &str
     }
 }
 
-/// The name of an attribute of a level.
-fn attribute_name(config: &Config, level: usize, attribute: usize) -> &str
+/// The name of an attribute of a level; empty where there is no such attribute.
+pub fn attribute_name(config: &Config, level: usize, attribute: usize) -> &str
     ensures { result.now ≡ attribute_name config.now level attribute }
 {
     match config.parts().levels.as_slice().get(level) {

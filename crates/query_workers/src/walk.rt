@@ -1,19 +1,16 @@
 //! The rows that are asked for in each bundle of a version, bundle by bundle.
 ghost use Rattle.std.specs.Prelude.{◌≤◌};
-ghost use Rattle.bundle_state.specs.Built.{FitsConfig};
 ghost use Rattle.eql_resolve.specs.Inner.Sound.{IsResolvedBy};
-ghost use Rattle.eql_match.specs.eql_model.Inner.Rows.{AddsRows, ListsRows};
+ghost use Rattle.eql_match.specs.eql_model.Inner.Rows.{ListsRows};
 ghost use Rattle.session_core.specs.requery.Inner.Answers.{ListsCarried};
 ghost use Rattle.session_core.specs.requery.Inner.Sound.{IsReachedBy};
 ghost use Rattle.version_tree.specs.Version.{bundles_of};
-ghost use Rattle.query_workers.specs.Inner.Questions.{IsAskedOf, rows_for, too_many_for};
+ghost use Rattle.query_workers.specs.Inner.Questions.{IsAskedOf};
 ghost use Rattle.query_workers.specs.Inner.Runs.{GivesRun, GivesOver, IsRun};
 
 use crate::halves::{halves, runs_for};
 use crate::question::Question;
-use db_config::Config;
 use emu_io::{Gate, Moment};
-use eql_match::bundle_index::Indexed;
 use eql_match::eql_columns::Matchers;
 use eql_match::eql_tuples::MatchFault;
 use eql_resolve::Asked;
@@ -22,31 +19,6 @@ use session_core::segment_list::{Listing, ListingBuilder, finished};
 use std::alloc::Global;
 use std::thread::Threads;
 use version_tree::Version;
-
-/// Puts the rows that are asked for in one bundle behind those of the bundles before it. `TooManyTuples` comes
-/// exactly where the bundle has too many. The only other refusal is want of memory.
-fn add_bundle<'a>(
-    alloc: Global,
-    list: &mut ListingBuilder,
-    config: &Config,
-    indexed: &Indexed,
-    question: &Question<'_, 'a>,
-    matchers: &mut Matchers<'a>,
-) -> Result<(), MatchFault>
-    requires resolved { IsAskedOf config.now question.now }
-    requires fits { FitsConfig config.now indexed.now.bundle }
-    ensures { AddsRows result (rows_for question.now config.now indexed.now.bundle)
-        (too_many_for question.now config.now indexed.now.bundle) list.old list.new }
-{
-    let more = match question.rows_in(alloc, config, indexed, matchers) {
-        Ok(more) => more,
-        Err(fault) => return Err(fault),
-    };
-    match list.append(alloc, more) {
-        Ok(()) => Ok(()),
-        Err(_) => Err(MatchFault::Memory),
-    }
-}
 
 /// The rows that are asked for in the bundles of a version from one place to before another, in their order.
 /// `TooManyTuples` comes exactly where some of these bundles has too many. The only other refusal is want of
@@ -73,11 +45,16 @@ fn walk<G: Gate + Sync>(
     for place in from..to {
         gate.at(line, Moment::Piece(place as u32));
         let indexed = version.at(place);
-        match add_bundle(alloc, &mut list, config, indexed, question, &mut matchers) {
+        match question.add_rows(alloc, config, indexed, &mut matchers, &mut list) {
             Ok(()) => {}
-            Err(fault) => return Err(fault),
+            Err(fault) => {
+                drop(list);
+                drop(matchers);
+                return Err(fault);
+            }
         }
     }
+    drop(matchers);
     Ok(list)
 }
 

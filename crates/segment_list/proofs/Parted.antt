@@ -24,6 +24,11 @@ count_of_both parts behind all count others here there is =
     ap (λ (n : ℕ). n + others) here ∙ ap (λ (n : ℕ). length (in_turn parts) + n) there
     ∙ sym (ap length (of_both parts behind all is) ∙ length-append (in_turn parts) (in_turn behind))
 
+pub one_more : (parts : List (List Row)) (more : List Row) (all : List (List Row)) → all ≡ parts ++ more ∷ [] →
+    in_turn all ≡ in_turn parts ++ more
+one_more parts more all is =
+    of_both parts (more ∷ []) all is ∙ ap (λ (rows : List Row). in_turn parts ++ rows) (append-nil more)
+
 -- ---- the text of a part
 
 -- without the comma that it begins with
@@ -43,7 +48,7 @@ no_comma text (r ∷ rows) none is = absurd (none (row_text r ++ row_texts true 
 joined : (comma row front rest : List ℕ) → comma ++ (row ++ (front ++ rest)) ≡ (comma ++ (row ++ front)) ++ rest
 joined comma row front rest = simp append_assoc
 
-behind_rows : (rows rest : List Row) → row_texts true (rows ++ rest) ≡ row_texts true rows ++ row_texts true rest
+pub behind_rows : (rows rest : List Row) → row_texts true (rows ++ rest) ≡ row_texts true rows ++ row_texts true rest
 behind_rows [] rest = refl
 behind_rows (r ∷ rows) rest =
     ap (λ (t : List ℕ). comma_if true ++ (row_text r ++ t)) (behind_rows rows rest)

@@ -1,12 +1,11 @@
 -- Texts whose bytes stand for themselves, and names that are the same.
 use Rattle.std.proofs.Common.{◌≡◌, ℕ, List, [], ◌∷◌, Bool, true, false, ◌&&◌, ◌==◌, refl, ap, ◌∙◌, arith}
 use Rattle.std.specs.List.{list_all}
-use Rattle.std.proofs.lemmas.Bool.{eqb-true}
 use Rattle.std.proofs.lemmas.Bool.Decides.{nat_tests}
 use Rattle.std.proofs.lemmas.Slice.Eq.{bytes_eq-Decides}
 use Rattle.emu_names.specs.Texts.{same_text}
 use Rattle.json.specs.Print.{escape, escape_byte}
-use Rattle.segment_list.specs.Inner.Pieces.{is_plain, Names, names, are_same_names}
+use Rattle.segment_list.specs.Inner.Pieces.{is_plain, Names, names, are_beside}
 
 both : (a b : Bool) → (a && b) ≡ true → (a ≡ true) × (b ≡ true)
 both true b e = (refl, e)
@@ -23,25 +22,20 @@ plain_text (b ∷ s) plain =
     let parts = both (is_plain b) (list_all is_plain s) plain in
     rw (plain_byte b parts.0, plain_text s parts.1) refl
 
-same : (a b : List ℕ) → same_text a b ≡ true → a ≡ b
+pub same : (a b : List ℕ) → same_text a b ≡ true → a ≡ b
 same a b e = (bytes_eq-Decides a b).0 e
 
--- names that are compared alike are the same
-pub same_names : (a b : Names) → are_same_names a b ≡ true → a ≡ b
-same_names a b e =
-    let fourth = both (a.rate == b.rate && same_text a.session b.session && same_text a.bundle b.bundle
-    && same_text a.level b.level) (same_text a.attribute b.attribute) e in
-    let third = both (a.rate == b.rate && same_text a.session b.session && same_text a.bundle b.bundle)
-    (same_text a.level b.level) fourth.0 in
-    let second = both (a.rate == b.rate && same_text a.session b.session) (same_text a.bundle b.bundle) third.0 in
-    let first = both (a.rate == b.rate) (same_text a.session b.session) second.0 in
-    let rate = eqb-true a.rate b.rate first.0 in
-    let session = same a.session b.session first.1 in
-    let bundle = same a.bundle b.bundle second.1 in
-    let level = same a.level b.level third.1 in
-    let attribute = same a.attribute b.attribute fourth.1 in
-    ap (λ (s : List ℕ). names s a.bundle a.level a.attribute a.rate) session
-    ∙ ap (λ (s : List ℕ). names b.session s a.level a.attribute a.rate) bundle
-    ∙ ap (λ (s : List ℕ). names b.session b.bundle s a.attribute a.rate) level
-    ∙ ap (λ (s : List ℕ). names b.session b.bundle b.level s a.rate) attribute
-    ∙ ap (λ (n : ℕ). names b.session b.bundle b.level b.attribute n) rate
+-- names that were compared are the same
+pub same_beside : (n : Names) (session bundle level attribute : List ℕ) → are_beside n session level attribute ≡ true →
+    names n.session bundle n.level n.attribute ≡ names session bundle level attribute
+same_beside n session bundle level attribute e =
+    let second = both (same_text n.session session && same_text n.level level) (same_text n.attribute attribute) e in
+    let first = both (same_text n.session session) (same_text n.level level) second.0 in
+    ap (λ (s : List ℕ). names s bundle n.level n.attribute) (same n.session session first.0)
+    ∙ ap (λ (s : List ℕ). names session bundle s n.attribute) (same n.level level first.1)
+    ∙ ap (λ (s : List ℕ). names session bundle level s) (same n.attribute attribute second.1)
+
+-- the same names, where the bundle was compared
+pub same_bundle : (n : Names) (bundle : List ℕ) → same_text n.bundle bundle ≡ true →
+    n ≡ names n.session bundle n.level n.attribute
+same_bundle n bundle e = ap (λ (s : List ℕ). names n.session s n.level n.attribute) (same n.bundle bundle e)

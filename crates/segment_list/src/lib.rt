@@ -1,8 +1,10 @@
-//! Segment lists: the rows of results in an indexed bundle, those of many bundles in the order of their
-//! keys, and their text.
+//! Segment lists: the rows of results in indexed bundles, those of many bundles in the order of their keys, and their
+//! text.
 #![tactic(auto)]
 
 mod builder;
+mod digits;
+mod growing;
 mod laws;
 mod listing;
 mod merge;
@@ -10,11 +12,10 @@ mod names;
 mod parts;
 mod pieces;
 mod print;
-mod rows;
+mod results;
 
 pub use builder::{ListingBuilder, finished};
 pub use laws::merges_are_one;
 pub use listing::{Listing, print_rows, with_text};
 pub use merge::merge_in_order;
 pub use parts::{Part, Parts};
-pub use rows::{rows_at, rows_of};

@@ -9,7 +9,9 @@ ghost use Rattle.segment_list.specs.Inner.Listing.{in_turn};
 ghost use Rattle.segment_list.specs.Inner.Pieces.{row_texts};
 ghost use Rattle.segment_list.specs.Inner.Texts.{rows_text};
 
+use crate::growing::Growing;
 use crate::print::text_of_rows;
+use crate::results::Results;
 use emu_io::{Failed, Sink, write_all};
 use emu_names::{Memory, Series, Text};
 use eql_rows::SegmentList;
@@ -18,10 +20,12 @@ use std::alloc::Global;
 use std::marker::Model;
 use std::snapshot::Snapshot;
 
-/// The text of rows, each behind a comma, which contracts see as the rows.
+/// The text of rows, each behind a comma, which contracts see as the rows: those of results, and others that were
+/// made.
 #[derive(Drop)]
 struct Printed {
     rows: Snapshot<SegmentList>,
+    results: Series<Results>,
     count: usize,
     text: Text,
 }
@@ -29,13 +33,14 @@ struct Printed {
 impl Model for Printed {
     ghost use Rattle.std.specs.Prelude.{List};
     ghost use Rattle.eql_rows.specs.declared.row.Row.{Row};
-    ghost use Rattle.segment_list.specs.Inner.Listing.{IsPrinted};
+    ghost use Rattle.std.specs.Prelude.{◌++◌};
+    ghost use Rattle.segment_list.specs.Inner.Listing.{IsPrinted, in_turn};
 
     ghost Value = { List Row };
 
-    ghost view = { λ p. p.rows.value };
+    ghost view = { λ p. in_turn p.results ++ p.rows.value };
 
-    ghost invariant = { λ p. IsPrinted p.rows.value p.count p.text };
+    ghost invariant = { λ p. IsPrinted (in_turn p.results ++ p.rows.value) p.count p.text };
 }
 
 impl Printed {
@@ -46,7 +51,23 @@ impl Printed {
         let text = text_of_rows(alloc, rows.as_slice())?;
         Ok(Printed {
             rows: Snapshot::of(rows),
+            results: Series::new(alloc),
             count: rows.len(),
+            text,
+        })
+    }
+
+    /// The text of the rows of results, which no longer grows. The only refusal is want of memory.
+    fn of_text(alloc: Global, text: Growing) -> Result<Printed, Memory>
+        ensures { IfOk result (λ made. made ≡ text) }
+    {
+        let (results, count, text) = text.into_parts();
+        let text = Text::from_string(text)?;
+        let none = SegmentList::new(alloc);
+        Ok(Printed {
+            rows: Snapshot::of(&none),
+            results,
+            count,
             text,
         })
     }
@@ -122,6 +143,16 @@ impl Listing {
             },
             Err(fault) => Err(fault),
         }
+    }
+
+    /// The rows of a text that no longer grows. The only refusal is want of memory.
+    pub(crate) fn of_text(alloc: Global, text: Growing) -> Result<Listing, Memory>
+        ensures { IfOk result (λ made. made ≡ text) }
+    {
+        let part = Printed::of_text(alloc, text)?;
+        let count = part.count;
+        let parts = alone(alloc, part)?;
+        Ok(Listing { parts, count })
     }
 
     /// These rows, and those of another list behind them. No text is copied. The only refusal is want of memory.

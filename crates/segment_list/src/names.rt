@@ -1,52 +1,61 @@
 //! The pieces of a row's text that are the same for all rows of one bundle, level and attribute.
-ghost use Rattle.std.specs.Prelude.{◌≡◌, ◌++◌, ◌&&◌, IfOk, OnOk, IsTrue, codes, decimal, string_bytes};
-ghost use Rattle.emu_names.specs.Texts.{same_text};
-ghost use Rattle.json.specs.Print.{quoted};
-ghost use Rattle.segment_list.specs.Inner.Pieces.{are_same_names, head_text, level_text, names_of, rate_text, session_text};
+ghost use Rattle.std.specs.Prelude.{◌≡◌, ◌++◌, IfOk, codes, string_bytes};
+ghost use Rattle.json.specs.Print.{escape, quoted};
+ghost use Rattle.segment_list.specs.Inner.Pieces.{are_beside, front_of_head, head_text, level_text, names, session_text};
 
-use crate::pieces::{push_number, push_quoted};
-use emu_names::Memory;
-use eql_rows::Row;
+use crate::pieces::{push_quoted, push_within};
+use emu_names::{Memory, Text};
 use std::alloc::Global;
 use std::marker::Model;
 
-/// The pieces for the names of a row, which contracts see as these names.
+/// The pieces for the names of rows, which contracts see as these names.
 #[derive(Drop)]
-pub(crate) struct NamePieces<'a> {
-    row: &'a Row,
+pub(crate) struct NamePieces {
+    session: Text,
+    bundle: Text,
+    level: Text,
+    attribute: Text,
+    front: String,
     head: String,
     before_end: String,
-    before_sample: String,
     before_start: String,
 }
 
-impl<'a> Model for NamePieces<'a> {
+impl Model for NamePieces {
     ghost use Rattle.std.specs.Prelude.{string_bytes};
-    ghost use Rattle.segment_list.specs.Inner.Pieces.{ArePieces, Names, names_of};
+    ghost use Rattle.segment_list.specs.Inner.Pieces.{ArePieces, Names, names};
 
     ghost Value = { Names };
 
-    ghost view = { λ p. names_of p.row.now };
+    ghost view = { λ p. names p.session p.bundle p.level p.attribute };
 
-    ghost invariant = { λ p. ArePieces (names_of p.row.now) (string_bytes p.head)
-        (string_bytes p.before_end) (string_bytes p.before_sample) (string_bytes p.before_start) };
+    ghost invariant = { λ p. ArePieces (names p.session p.bundle p.level p.attribute) (string_bytes p.front)
+        (string_bytes p.head) (string_bytes p.before_end) (string_bytes p.before_start) };
 }
 
-impl<'a> NamePieces<'a> {
-    /// The pieces for the names of a row. The only refusal is want of memory.
-    pub(crate) fn new(alloc: Global, row: &'a Row) -> Result<NamePieces<'a>, Memory>
-        ensures { IfOk result (λ made. made ≡ names_of row.now) }
+impl NamePieces {
+    /// The pieces for names. The only refusal is want of memory.
+    pub(crate) fn new(
+        alloc: Global,
+        session: &str,
+        bundle: Text,
+        level: &str,
+        attribute: &str,
+    ) -> Result<NamePieces, Memory>
+        ensures { IfOk result (λ made. made ≡ names session.now bundle level.now attribute.now) }
     {
-        let attribute = row.attribute.as_str();
-        let head = head_piece(String::new(alloc), alloc, attribute, row.bundle.as_str())?;
-        let before_end = level_piece(String::new(alloc), alloc, row.level.as_str())?;
-        let before_sample = rate_piece(String::new(alloc), row.rate)?;
-        let before_start = session_piece(String::new(alloc), alloc, row.session.as_str())?;
+        let front = head_front(alloc, attribute)?;
+        let head = head_piece(String::new(alloc), alloc, front.as_str(), bundle.as_str())?;
+        let before_end = piece(alloc, "\",\"level\":", level, ",\"sampleEnd\":")?;
+        let before_start = piece(alloc, ",\"session\":", session, ",\"start\":")?;
         Ok(NamePieces {
-            row,
+            session: Text::new(alloc, session)?,
+            bundle,
+            level: Text::new(alloc, level)?,
+            attribute: Text::new(alloc, attribute)?,
+            front,
             head,
             before_end,
-            before_sample,
             before_start,
         })
     }
@@ -58,18 +67,11 @@ impl<'a> NamePieces<'a> {
         self.head.as_str()
     }
 
-    /// The text from the level to the last sample.
+    /// The text from the quote behind the labels to the last sample.
     pub(crate) fn before_end(&self) -> &str
         ensures { result.now ≡ level_text self.now }
     {
         self.before_end.as_str()
-    }
-
-    /// The text from the rate to the first sample.
-    pub(crate) fn before_sample(&self) -> &str
-        ensures { result.now ≡ rate_text self.now }
-    {
-        self.before_sample.as_str()
     }
 
     /// The text from the session to the time of the start.
@@ -79,150 +81,93 @@ impl<'a> NamePieces<'a> {
         self.before_start.as_str()
     }
 
-    /// Whether these are the names of a row.
-    fn are_of(&self, row: &Row) -> bool
-        ensures { result ≡ are_same_names self.now (names_of row.now) }
+    /// Whether these are the names of the session, the level and the attribute.
+    fn are_beside(&self, session: &str, level: &str, attribute: &str) -> bool
+        ensures { result ≡ are_beside self.now session.now level.now attribute.now }
     {
-        self.row.rate == row.rate
-            && self.row.session == row.session
-            && self.row.bundle == row.bundle
-            && self.row.level == row.level
-            && self.row.attribute == row.attribute
+        self.session.as_str() == session
+            && self.level.as_str() == level
+            && self.attribute.as_str() == attribute
     }
 
-    /// The pieces for the names of a row: these, but where a name is another, others in their room. The only
-    /// refusal is want of memory.
-    #[tactic(auto, using(crate::proofs::Plain::same_names))]
-    pub(crate) fn turned_to(self, alloc: Global, row: &'a Row) -> Result<NamePieces<'a>, Memory>
-        ensures { IfOk result (λ made. made ≡ names_of row.now) }
+    /// The pieces for the names of rows: these, but where a name is another, others. The only refusal is want of
+    /// memory.
+    #[tactic(auto, using(crate::proofs::Plain::same_beside))]
+    pub(crate) fn turned_to(
+        self,
+        alloc: Global,
+        session: &str,
+        bundle: Text,
+        level: &str,
+        attribute: &str,
+    ) -> Result<NamePieces, Memory>
+        ensures { IfOk result (λ made. made ≡ names session.now bundle level.now attribute.now) }
     {
-        if self.are_of(row) {
+        if self.are_beside(session, level, attribute) {
+            return self.in_bundle(alloc, bundle);
+        }
+        NamePieces::new(alloc, session, bundle, level, attribute)
+    }
+
+    /// The pieces for the same names but that of the bundle, in the room of these. The only refusal is want of memory.
+    #[tactic(auto, using(crate::proofs::Plain::same_bundle))]
+    fn in_bundle(self, alloc: Global, bundle: Text) -> Result<NamePieces, Memory>
+        ensures { IfOk result (λ made. made ≡ names self.session bundle self.level self.attribute) }
+    {
+        if self.bundle == bundle {
             return Ok(self);
         }
         let NamePieces {
-            row: old,
+            session,
+            bundle: _,
+            level,
+            attribute,
+            front,
             head,
             before_end,
-            before_sample,
             before_start,
         } = self;
+        let head = head_piece(head, alloc, front.as_str(), bundle.as_str())?;
         Ok(NamePieces {
-            row,
-            head: turned_head(head, alloc, old, row)?,
-            before_end: turned_level(before_end, alloc, old, row)?,
-            before_sample: turned_rate(before_sample, old, row)?,
-            before_start: turned_session(before_start, alloc, old, row)?,
+            session,
+            bundle,
+            level,
+            attribute,
+            front,
+            head,
+            before_end,
+            before_start,
         })
     }
 }
 
-/// The comma before a row and the beginning of its text: these, where they have its attribute and bundle, or else
-/// others in their room. The only refusal is want of memory.
-fn turned_head(room: String, alloc: Global, old: &Row, row: &Row) -> Result<String, Memory>
-    requires { string_bytes room ≡ head_text (names_of old.now) }
-    ensures { IfOk result (λ made. string_bytes made ≡ head_text (names_of row.now)) }
-{
-    if old.bundle == row.bundle && old.attribute == row.attribute {
-        return Ok(room);
-    }
-    head_piece(room, alloc, row.attribute.as_str(), row.bundle.as_str())
-}
-
-/// The text from the level to the last sample: this one, where it has the row's level, or else another in its room.
-/// The only refusal is want of memory.
-fn turned_level(room: String, alloc: Global, old: &Row, row: &Row) -> Result<String, Memory>
-    requires { string_bytes room ≡ level_text (names_of old.now) }
-    ensures { IfOk result (λ made. string_bytes made ≡ level_text (names_of row.now)) }
-{
-    if old.level == row.level {
-        return Ok(room);
-    }
-    level_piece(room, alloc, row.level.as_str())
-}
-
-/// The text from the rate to the first sample: this one, where it has the row's rate, or else another in its room.
-/// The only refusal is want of memory.
-fn turned_rate(room: String, old: &Row, row: &Row) -> Result<String, Memory>
-    requires { string_bytes room ≡ rate_text (names_of old.now) }
-    ensures { IfOk result (λ made. string_bytes made ≡ rate_text (names_of row.now)) }
-{
-    if old.rate == row.rate {
-        return Ok(room);
-    }
-    rate_piece(room, row.rate)
-}
-
-/// The text from the session to the time of the start: this one, where it has the row's session, or else another
-/// in its room. The only refusal is want of memory.
-fn turned_session(room: String, alloc: Global, old: &Row, row: &Row) -> Result<String, Memory>
-    requires { string_bytes room ≡ session_text (names_of old.now) }
-    ensures { IfOk result (λ made. string_bytes made ≡ session_text (names_of row.now)) }
-{
-    if old.session == row.session {
-        return Ok(room);
-    }
-    session_piece(room, alloc, row.session.as_str())
-}
-
-/// A text in quotes between two others, in the room of a text that goes. The only refusal is want of memory.
-fn piece(
-    room: String,
-    alloc: Global,
-    before: &str,
-    text: &str,
-    behind: &str,
-) -> Result<String, Memory>
+/// A text in quotes between two others. The only refusal is want of memory.
+fn piece(alloc: Global, before: &str, text: &str, behind: &str) -> Result<String, Memory>
     ensures { IfOk result (λ made. string_bytes made ≡ before.now ++ (quoted text.now ++ behind.now)) }
 {
-    let mut out = room;
-    out.clear();
+    let mut out = String::new(alloc);
     out.push_str(before)?;
     push_quoted(&mut out, alloc, text)?;
     out.push_str(behind)?;
     Ok(out)
 }
 
-/// The text from the level to the last sample, in the room of a text that goes. The only refusal is want of memory.
-fn level_piece(room: String, alloc: Global, level: &str) -> Result<String, Memory>
-    ensures { IfOk result (λ made. string_bytes made
-        ≡ codes ",\"level\":" ++ (quoted level.now ++ codes ",\"sampleEnd\":")) }
+/// The comma before a row and the beginning of its text, up to the quote before the bundle. The only refusal is want of memory.
+fn head_front(alloc: Global, attribute: &str) -> Result<String, Memory>
+    ensures { IfOk result (λ made. string_bytes made ≡ front_of_head attribute.now) }
 {
-    piece(room, alloc, ",\"level\":", level, ",\"sampleEnd\":")
-}
-
-/// The text from the session to the time of the start, in the room of a text that goes. The only refusal is want of
-/// memory.
-fn session_piece(room: String, alloc: Global, session: &str) -> Result<String, Memory>
-    ensures { IfOk result (λ made. string_bytes made
-        ≡ codes ",\"session\":" ++ (quoted session.now ++ codes ",\"start\":")) }
-{
-    piece(room, alloc, ",\"session\":", session, ",\"start\":")
-}
-
-/// The text from the rate to the first sample, in the room of a text that goes. The only refusal is want of memory.
-fn rate_piece(room: String, rate: u32) -> Result<String, Memory>
-    ensures { IfOk result (λ made. string_bytes made
-        ≡ codes ",\"sampleRate\":" ++ (decimal rate ++ codes ",\"sampleStart\":")) }
-{
-    let mut out = room;
-    out.clear();
-    push_number(&mut out, ",\"sampleRate\":", rate as u64)?;
-    out.push_str(",\"sampleStart\":")?;
-    Ok(out)
+    piece(alloc, ",{\"attribute\":", attribute, ",\"bundle\":\"")
 }
 
 /// The comma before a row and the beginning of its text, up to the time of the end, in the room of a text that goes.
 /// The only refusal is want of memory.
-fn head_piece(room: String, alloc: Global, attribute: &str, bundle: &str) -> Result<String, Memory>
-    ensures { IfOk result (λ made. string_bytes made ≡ codes ",{\"attribute\":" ++ (quoted attribute.now
-        ++ (codes ",\"bundle\":" ++ (quoted bundle.now ++ codes ",\"end\":")))) }
+fn head_piece(room: String, alloc: Global, front: &str, bundle: &str) -> Result<String, Memory>
+    ensures { IfOk result (λ made. string_bytes made ≡ front.now ++ (escape bundle.now ++ codes "\",\"end\":")) }
 {
     let mut out = room;
     out.clear();
-    out.push_str(",{\"attribute\":")?;
-    push_quoted(&mut out, alloc, attribute)?;
-    out.push_str(",\"bundle\":")?;
-    push_quoted(&mut out, alloc, bundle)?;
-    out.push_str(",\"end\":")?;
+    out.push_str(front)?;
+    push_within(&mut out, alloc, bundle)?;
+    out.push_str("\",\"end\":")?;
     Ok(out)
 }

@@ -16,7 +16,7 @@ returns-in-Err g c =
     rw c.config-config.ensures at
     (refused (bundles_of (run_of c.loop-place.place c.args.to list)) (bundles_of (run_of (c.loop-place.place + 1) c.args.to list)) here.bundle
     (ap bundles_of (run_from list c.loop-place.place c.args.to here c.at-indexed.ensures.bundle (search (rules, c.loop-place-test.true)))) c.in-Err.fault
-    (λ b. too_many_for question config b) (rows_for question config here.bundle) c.loop-place.list c.add_bundle.new.list
+    (λ b. too_many_for question config b) (rows_for question config here.bundle) c.loop-place.list c.add_rows.new.list
     (flat_map (λ b. rows_for question config b) (bundles_of (run_of c.args.from c.args.to list)))
     (list_any (λ b. too_many_for question config b) (bundles_of (run_of c.args.from c.args.to list)))
     c.loop-place.invariant.few c.in-Err.ensures)
@@ -31,7 +31,7 @@ loop-place-preserved g c =
     let others = bundles_of (run_of (c.loop-place.place + 1) c.args.to list) in
     let split = ap bundles_of (run_from list c.loop-place.place c.args.to here c.at-indexed.ensures.bundle (search (rules, c.loop-place-test.true))) in
     record {
-      rows = list_more left others here.bundle split (λ b. rows_for question config b) c.loop-place.list c.add_bundle.new.list _
+      rows = list_more left others here.bundle split (λ b. rows_for question config b) c.loop-place.list c.add_rows.new.list _
           c.loop-place.invariant.rows c.in-Ok.ensures.0;
       few = few_more left others here.bundle split (λ b. too_many_for question config b) _
           c.loop-place.invariant.few c.in-Ok.ensures.1;

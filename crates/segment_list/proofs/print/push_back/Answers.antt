@@ -1,15 +1,17 @@
-use Rattle.std.proofs.Common.{◌++◌, ap, ◌∙◌, ℕ, List, codes, string_bytes}
-use Rattle.segment_list.specs.Inner.Pieces.{names_of, number_behind, number_or_null, session_text}
-use Rattle.segment_list.proofs.Pushed.{five}
+use Rattle.std.proofs.Common.{◌++◌, ap, ◌∙◌, ℕ, List, string_bytes}
+use Rattle.segment_list.specs.Inner.Pieces.{level_text, samples_text, session_text, start_text}
+use Rattle.segment_list.proofs.Pushed.{four}
 use Rattle.segment_list.proofs.print.push_back.Goals as goal
 
 pub returns : goal.returns
 returns c =
-    let row = c.args.row.now in
-    let piece = c.before_start.ensures ∙ ap session_text c.requires in
-    five (string_bytes c.args.out.now) (session_text (names_of row)) (number_or_null row.start)
-    (number_behind (codes ",\"startItem\":") row.start_item.0) (number_behind
-    (codes ",\"startPos\":") row.start_pos) (codes "}")
-    (c.in_ok-push_str.ensures.bytes ∙ ap (λ (t : List ℕ). string_bytes c.args.out.now ++ t) piece)
-    c.in_ok-push_or_null.ensures c.in_ok-push_number.ensures c.in_ok-push_number-2.ensures
-    c.in_ok-push_str-2.ensures.bytes
+    let n = c.args.pieces.now in
+    let m = c.args.row.now in
+    four (string_bytes c.args.out.now) (level_text n) (samples_text m) (session_text n) (start_text m)
+    (c.in_ok-push_str.ensures.bytes ∙ ap (λ (t : List ℕ). string_bytes c.args.out.now ++ t) c.before_end.ensures)
+    (c.in_ok-push_str-2.ensures.bytes ∙ ap (λ (t : List ℕ). string_bytes c.push_str.new.self ++ t)
+    (c.as_str.ensures ∙ c.sample_numbers.ensures))
+    (c.in_ok-push_str-3.ensures.bytes ∙ ap (λ (t : List ℕ). string_bytes c.push_str-2.new.self ++ t)
+    c.before_start.ensures)
+    (c.in_ok-push_str-4.ensures.bytes ∙ ap (λ (t : List ℕ). string_bytes c.push_str-3.new.self ++ t)
+    (c.as_str-2.ensures ∙ c.start_numbers.ensures))

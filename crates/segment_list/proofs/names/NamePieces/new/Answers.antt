@@ -1,14 +1,21 @@
-use Rattle.std.proofs.Common.{ℕ, List, [], ap, ◌∙◌}
-use Rattle.segment_list.specs.Inner.Pieces.{head_text, level_text, names, session_text}
+use Rattle.std.proofs.Common.{rules, ◌≡◌, ◌++◌, ℕ, List, [], ap, sym, ◌∙◌, codes}
+use Rattle.json.specs.Print.{escape}
+use Rattle.emu_names.specs.contracts.texts.Text.{the_view}
+use Rattle.segment_list.specs.Inner.Pieces.{front_of_head, level_text, names, session_text}
 use Rattle.segment_list.proofs.names.NamePieces.new.Goals as goal
 
 pub invariant_of-result : goal.invariant_of-result
 invariant_of-result c =
+    let bundle : c.as_str-2.result.now ≡ the_view c.bundle.inside = search rules in
+    let attribute = sym c.in_ok-new-3.ensures in
+    let front = c.in_ok-front.ensures ∙ ap (λ (x : List ℕ). front_of_head x) attribute in
     record {
+      front_is = front;
       head_is = c.in_ok-head.ensures
-          ∙ ap (λ (x : List ℕ). head_text (names [] c.as_str.result.now [] x 0)) c.as_str-attribute.ensures
-          ∙ ap (λ (x : List ℕ). head_text (names [] x [] c.args.row.now.attribute 0)) c.as_str.ensures;
-      level_is = c.in_ok-before_end.ensures ∙ ap (λ (x : List ℕ). level_text (names [] [] x [] 0)) c.as_str-2.ensures;
-      rate_is = c.in_ok-before_sample.ensures;
-      session_is = c.in_ok-before_start.ensures ∙ ap (λ (x : List ℕ). session_text (names x [] [] [] 0)) c.as_str-3.ensures;
+          ∙ ap (λ (x : List ℕ). x ++ (escape c.as_str-2.result.now ++ codes "\",\"end\":")) (c.as_str.ensures.value ∙ front)
+          ∙ ap (λ (x : List ℕ). front_of_head c.in_ok-new-3.field-0 ++ (escape x ++ codes "\",\"end\":")) bundle;
+      level_is = c.in_ok-before_end.ensures
+          ∙ ap (λ (x : List ℕ). level_text (names [] [] x [])) (sym c.in_ok-new-2.ensures);
+      session_is = c.in_ok-before_start.ensures
+          ∙ ap (λ (x : List ℕ). session_text (names x [] [] [])) (sym c.in_ok-new.ensures);
     }
