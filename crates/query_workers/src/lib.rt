@@ -1,6 +1,7 @@
 //! The answer to a query over all bundles of a version.
 #![tactic(auto)]
 
+mod ahead;
 mod answers;
 mod carried;
 mod halves;

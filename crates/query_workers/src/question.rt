@@ -7,7 +7,7 @@ ghost use Rattle.eql_match.specs.eql_model.Inner.Rows.{AddsRows};
 ghost use Rattle.query_workers.specs.Inner.Questions.{IsAskedOf, rows_for, too_many_for};
 
 use crate::carried::add_carried;
-use db_config::Config;
+use db_config::{AttributePlace, Config};
 use eql_match::bundle_index::Indexed;
 use eql_match::eql_columns::Matchers;
 use eql_match::eql_tuples::MatchFault;
@@ -56,6 +56,15 @@ fn add_found<'a>(
 }
 
 impl<'a> Question<'_, 'a> {
+    /// The attribute of the first condition of the query.
+    pub(crate) fn first_place(&self) -> AttributePlace {
+        let asked = match self {
+            Question::Rows(asked) => asked,
+            Question::Carried(reached) => reached.asked(),
+        };
+        asked.query().first_place()
+    }
+
     /// Puts the rows that are asked for in one bundle behind those of the bundles before it. `TooManyTuples` comes
     /// exactly where the bundle has too many. The only other refusal is want of memory, after which nothing is
     /// promised of the list.

@@ -8,6 +8,7 @@ ghost use Rattle.version_tree.specs.Version.{bundles_of};
 ghost use Rattle.query_workers.specs.Inner.Questions.{IsAskedOf};
 ghost use Rattle.query_workers.specs.Inner.Runs.{GivesRun, GivesOver, IsRun};
 
+use crate::ahead::Ahead;
 use crate::halves::{halves, runs_for};
 use crate::question::Question;
 use emu_io::{Gate, Moment};
@@ -42,7 +43,10 @@ fn walk<G: Gate + Sync>(
     let config = version.config();
     let mut list = ListingBuilder::new(alloc);
     let mut matchers = Matchers::new(alloc);
+    let first = question.first_place();
+    let mut ahead = Ahead::new(alloc);
     for place in from..to {
+        ahead.look(version, first, place, to);
         gate.at(line, Moment::Piece(place as u32));
         let indexed = version.at(place);
         match question.add_rows(alloc, config, indexed, &mut matchers, &mut list) {
