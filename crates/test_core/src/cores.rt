@@ -13,6 +13,7 @@ use plain_core::{Core, PlainHistory};
 use reply_texts::print_reply;
 use session_core::{Ask, Command, Event, Events, Line, Replies, Request};
 use std::alloc::Global;
+use std::process::Abort;
 use std::test::Fail;
 
 fn query(alloc: Global) -> Request {
@@ -72,14 +73,21 @@ fn queried(alloc: Global, core: Core) -> Result<Replies, Memory> {
     }
 }
 
+/// Compares the one reply to the query.
+fn expect_reply(rt: &impl Abort, alloc: Global, replies: &Replies) -> Result<(), Fail> {
+    assert_eq!(rt; replies.len(), 1);
+    let text = print_reply(alloc, replies.get(0))?;
+    assert_eq!(rt; text.as_str(), "{\"line\":2,\"n\":0,\"segments\":[]}\n");
+    Ok(())
+}
+
 #[test]
 fn a_query_is_run(rt: HostRuntime) -> Result<(), Fail> {
     let core = replayed(rt.alloc(), 0)??;
     let replies = queried(rt.alloc(), core)?;
-    assert_eq!(rt; replies.len(), 1);
-    let text = print_reply(rt.alloc(), replies.get(0))?;
-    assert_eq!(rt; text.as_str(), "{\"line\":2,\"n\":0,\"segments\":[]}\n");
-    Ok(())
+    let compared = expect_reply(&rt, rt.alloc(), &replies);
+    drop(replies);
+    compared
 }
 
 /// The entry that adds a bundle without items.

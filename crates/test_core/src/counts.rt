@@ -27,13 +27,17 @@ fn word<T>(ended: &Result<T, ChangeFault>) -> &'static str {
 /// What ends a list of edits of a database with so many bundles and items.
 fn ended(alloc: Global, config: &Config, counts: Counts, edits: &Edits) -> &'static str {
     let made = change(alloc, config, counts, None, edits);
-    word(&made)
+    let word = word(&made);
+    drop(made);
+    word
 }
 
 /// Adds one bundle of so many words to so many bundles with so many items.
 fn added(alloc: Global, config: &Config, counts: Counts, count: u32) -> Result<&'static str, Fail> {
     let edits = adding(alloc, count)?;
-    Ok(ended(alloc, config, counts, &edits))
+    let word = ended(alloc, config, counts, &edits);
+    drop(edits);
+    Ok(word)
 }
 
 /// How many bundles and items there are, how many words the bundle has that is added, and what ends the edit.

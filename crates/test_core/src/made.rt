@@ -14,11 +14,18 @@ use std::test::Fail;
 static DATABASE: &str =
     r#"{"name":"t","levelDefinitions":[{"name":"Word","type":"ITEM","attributeDefinitions":[{"name":"Word"}]}]}"#;
 
+/// The configuration of a JSON value.
+fn config_of(alloc: Global, value: &Value) -> Result<Config, Fail> {
+    let view = View::root(alloc, value)?;
+    Ok(read_config(alloc, &view)?)
+}
+
 /// The configuration with the level Word.
 pub fn config(alloc: Global) -> Result<Config, Fail> {
     let value = Value::from_str(alloc, DATABASE)?;
-    let view = View::root(alloc, &value)?;
-    Ok(read_config(alloc, &view)?)
+    let config = config_of(alloc, &value);
+    drop(value);
+    config
 }
 
 /// The key of a bundle.

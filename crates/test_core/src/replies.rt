@@ -20,16 +20,26 @@ fn reply(line: u32, n: Option<u64>, answer: Answer) -> Reply {
 }
 
 fn expect_reply(rt: &impl Abort, alloc: Global, reply: Reply, wanted: &str) -> Result<(), Fail> {
-    let text = print_reply(alloc, &reply)?;
+    let printed = print_reply(alloc, &reply);
+    drop(reply);
+    let text = printed?;
     assert_eq!(rt; text.as_str(), wanted);
     Ok(())
 }
 
-/// The answer of one row.
-fn segments(alloc: Global, row: Row) -> Result<Answer, Memory> {
+/// The list of one row.
+fn list_of(alloc: Global, row: Row) -> Result<SegmentList, Memory> {
     let mut rows = SegmentList::new(alloc);
     rows.push(row)?;
-    Ok(Answer::Segments(Listing::of(alloc, &rows)?))
+    Ok(rows)
+}
+
+/// The answer of one row.
+fn segments(alloc: Global, row: Row) -> Result<Answer, Memory> {
+    let rows = list_of(alloc, row)?;
+    let listed = Listing::of(alloc, &rows);
+    drop(rows);
+    Ok(Answer::Segments(listed?))
 }
 
 /// A row without times, whose names and labels have escapes.
