@@ -12,6 +12,17 @@ use std::{env, io};
 /// The status where memory ran out before the program began.
 const OUT_OF_MEMORY: u8 = 8;
 
+/// The bytes of the block that is taken and let go of first: close to the largest one after which the C library's
+/// allocator keeps memory.
+const BLOCK: usize = 32_000_000;
+
+/// Takes a large block and lets go of it. From then on the C library's allocator keeps memory that is let go of for what
+/// comes next, in place of giving it back to the system with each list. Nothing else hangs on it.
+fn keep_memory<R: AllocGlobal>(rt: &R) {
+    let block: Result<Vec<u8>, _> = Vec::with_capacity(rt.alloc(), BLOCK);
+    drop(block);
+}
+
 /// The words after the program's name. Words that are not UTF-8 are no command, and count as none.
 fn words<R: Env + AllocGlobal>(rt: &R) -> io::Result<Vec<String>> {
     let mut words = Vec::new(rt.alloc());
@@ -28,6 +39,7 @@ fn words<R: Env + AllocGlobal>(rt: &R) -> io::Result<Vec<String>> {
 }
 
 fn main(rt: HostRuntime) -> ExitCode {
+    keep_memory(&rt);
     let Ok(words) = words(&rt) else {
         return ExitCode::from(OUT_OF_MEMORY);
     };
