@@ -75,7 +75,9 @@ pub fn history_is_one_of<R: Threads + Wait + Sync>(
     let disk = MemoryDisk::new(alloc, store)?;
     let ran = command(rt, alloc, "history", 0, 0, disk)?;
     let told = ran.sink.bytes();
-    Ok(texts.iter().any(|text| told == text.as_bytes()))
+    let is_one = texts.iter().any(|text| told == text.as_bytes());
+    drop(ran);
+    Ok(is_one)
 }
 
 /// What `history` writes over a store without a configuration.
@@ -195,13 +197,11 @@ fn expect_failing<R: Abort + Threads + Wait + Sync>(
     let done = ran.status == 0;
     let stored = done || part.0 == Part::Sink;
     let texts = if stored { row.done } else { row.failed };
-    let kept = history_is_one_of(rt, alloc, ran.disk.bytes(), texts)?;
-    assert!(rt;
-        is_told(row, &ran, part.1) && kept,
-        "{} {} {call}",
-        row.words,
-        part.1
-    );
+    let told = is_told(row, &ran, part.1);
+    let kept = history_is_one_of(rt, alloc, ran.disk.bytes(), texts);
+    drop(ran);
+    let good = kept? && told;
+    assert!(rt; good, "{} {} {call}", row.words, part.1);
     Ok(done)
 }
 
@@ -243,12 +243,35 @@ fn expect_row<R: Abort + Threads + Wait + Sync>(
     Ok(ran)
 }
 
+/// Lets each call of the commands fail that only read, over a store.
+fn expect_reading<R: Abort + Threads + Wait + Sync>(
+    rt: &R,
+    alloc: Global,
+    store: &[u8],
+) -> Result<(), Fail> {
+    for row in &READING {
+        let ran = expect_row(rt, alloc, row, store)?;
+        drop(ran);
+    }
+    Ok(())
+}
+
+/// Lets each call of an import over a store fail, and then of those that only read.
+fn expect_import<R: Abort + Threads + Wait + Sync>(
+    rt: &R,
+    alloc: Global,
+    store: &[u8],
+) -> Result<(), Fail> {
+    let both = expect_row(rt, alloc, &IMPORT, store)?;
+    let compared = expect_reading(rt, alloc, both.disk.bytes());
+    drop(both);
+    compared
+}
+
 #[test]
 fn each_call_of_a_command_fails(rt: HostRuntime) -> Result<(), Fail> {
     let loaded = expect_row(&rt, rt.alloc(), &LOAD, &[])?;
-    let both = expect_row(&rt, rt.alloc(), &IMPORT, loaded.disk.bytes())?;
-    for row in &READING {
-        expect_row(&rt, rt.alloc(), row, both.disk.bytes())?;
-    }
-    Ok(())
+    let compared = expect_import(&rt, rt.alloc(), loaded.disk.bytes());
+    drop(loaded);
+    compared
 }

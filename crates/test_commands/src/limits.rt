@@ -80,6 +80,14 @@ fn run_row<R: Threads + Wait + Sync>(rt: &R, alloc: Global, row: &Row) -> Result
     Ok(run_by(rt, alloc, given, &mut source, disk, &mut patterns))
 }
 
+/// Whether the script of a row ends as the row says.
+fn ends<R: Threads + Wait + Sync>(rt: &R, alloc: Global, row: &Row) -> Result<bool, Fail> {
+    let ran = run_row(rt, alloc, row)?;
+    let good = ran.gave(row.2, row.3);
+    drop(ran);
+    Ok(good)
+}
+
 /// Runs the scripts of rows, and compares how they end.
 fn expect_rows<R: Abort + Threads + Wait + Sync>(
     rt: &R,
@@ -87,7 +95,7 @@ fn expect_rows<R: Abort + Threads + Wait + Sync>(
     rows: &[Row],
 ) -> Result<(), Fail> {
     for row in rows {
-        let good = run_row(rt, alloc, row)?.gave(row.2, row.3);
+        let good = ends(rt, alloc, row)?;
         assert!(rt; good, "width {}, {} bytes", row.0, row.1);
     }
     Ok(())

@@ -30,10 +30,18 @@ fn run_row<R: Threads + Wait + Sync>(rt: &R, alloc: Global, row: &Row) -> Result
     Ok(run(rt, alloc, given, script, disk))
 }
 
+/// Whether the run of a row ends as the row says.
+fn ends<R: Threads + Wait + Sync>(rt: &R, alloc: Global, row: &Row) -> Result<bool, Fail> {
+    let ran = run_row(rt, alloc, row)?;
+    let good = ran.gave(row.3, row.4);
+    drop(ran);
+    Ok(good)
+}
+
 #[test]
 fn reads_and_writes_that_fail(rt: HostRuntime) -> Result<(), Fail> {
     for row in &ROWS {
-        let good = run_row(&rt, rt.alloc(), row)?.gave(row.3, row.4);
+        let good = ends(&rt, rt.alloc(), row)?;
         assert!(rt; good, "{} {} {}", row.0, row.1, row.2);
     }
     Ok(())

@@ -33,7 +33,9 @@ fn run_queries<R: Threads + Wait + Sync>(
 #[test]
 fn a_pattern_that_is_too_large_is_refused(rt: HostRuntime) -> Result<(), Fail> {
     let mut maker = ListMaker::new(vec![in rt.alloc(); 1]?);
-    let good = run_queries(&rt, rt.alloc(), &mut maker)?.gave(0, &REFUSED_ONCE);
+    let ran = run_queries(&rt, rt.alloc(), &mut maker)?;
+    let good = ran.gave(0, &REFUSED_ONCE);
+    drop(ran);
     assert!(rt; good && maker.refusals() == 1);
     Ok(())
 }

@@ -113,8 +113,7 @@ pub fn over_script(
     Ok((given, ListSource::new(script, bad_reads)))
 }
 
-/// Runs the program over a source. All tests of the crate call it here; everything that it is given is dropped at its
-/// one exit.
+/// Runs the program over a source. All tests of the crate call it here; what it is given is let go of by calls.
 pub fn run_by<R: Threads + Wait + Sync, S: Source, P: PatternMaker>(
     rt: &R,
     alloc: Global,
@@ -140,6 +139,8 @@ pub fn run_by<R: Threads + Wait + Sync, S: Source, P: PatternMaker>(
         patterns,
         &OpenGate,
     );
+    drop(words);
+    drop(folder);
     Ran { status, sink, disk }
 }
 
@@ -153,5 +154,7 @@ pub fn run<R: Threads + Wait + Sync>(
 ) -> Ran {
     let mut source = script;
     let mut patterns = RegexMaker::new();
-    run_by(rt, alloc, given, &mut source, disk, &mut patterns)
+    let ran = run_by(rt, alloc, given, &mut source, disk, &mut patterns);
+    drop(source);
+    ran
 }

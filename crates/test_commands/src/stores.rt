@@ -131,8 +131,11 @@ fn expect_failing<R: Abort + Threads + Wait + Sync>(
 ) -> Result<(), Fail> {
     for call in row.0..row.1 {
         let ran = run_twice(rt, alloc, call)?;
-        let kept = history_is_one_of(rt, alloc, ran.disk.bytes(), row.4)?;
-        assert!(rt; ran.gave(row.2, row.3) && kept, "call {call}");
+        let gave = ran.gave(row.2, row.3);
+        let kept = history_is_one_of(rt, alloc, ran.disk.bytes(), row.4);
+        drop(ran);
+        let good = kept? && gave;
+        assert!(rt; good, "call {call}");
     }
     Ok(())
 }
@@ -237,7 +240,9 @@ fn a_disk_that_stops_leaves_what_was_acknowledged(rt: HostRuntime) -> Result<(),
     for words in &WORDS {
         for calls in 0..STOPS.len() {
             let ran = stopped(&rt, rt.alloc(), words, calls)?;
-            expect_images(&rt, rt.alloc(), &ran.disk, calls % 2 == 1, &STOPS[calls])?;
+            let compared = expect_images(&rt, rt.alloc(), &ran.disk, calls % 2 == 1, &STOPS[calls]);
+            drop(ran);
+            compared?;
         }
     }
     Ok(())
@@ -268,7 +273,10 @@ fn a_session_alone_calls_the_disk_alike_in_order_and_live(rt: HostRuntime) -> Re
     let first = run_alike(&rt, rt.alloc(), in_order)?;
     let second = run_alike(&rt, rt.alloc(), live)?;
     let calls = second.disk.calls();
-    assert!(rt; first.disk.calls() == calls && calls.len() == ALIKE_CALLS);
+    let alike = first.disk.calls() == calls && calls.len() == ALIKE_CALLS;
+    drop(first);
+    drop(second);
+    assert!(rt; alike);
     Ok(())
 }
 
@@ -284,16 +292,26 @@ fn expect_history<R: Abort + Threads + Wait + Sync>(
     Ok(())
 }
 
+/// Compares what `history` writes over a store without its last byte.
+fn expect_cut<R: Abort + Threads + Wait + Sync>(
+    rt: &R,
+    alloc: Global,
+    store: &[u8],
+) -> Result<(), Fail> {
+    let [cut @ .., _] = store else {
+        return Ok(());
+    };
+    let len = cut.len();
+    let wanted = format!(in alloc; "{{\"at\":{len},\"cause\":\"Damaged\",\"status\":7}}\n")?;
+    expect_history(rt, alloc, cut, wanted.as_str())
+}
+
 #[test]
 fn a_store_without_its_last_byte_is_damaged(rt: HostRuntime) -> Result<(), Fail> {
     let ran = stopped(&rt, rt.alloc(), RUN, STOPS.len())?;
-    if let [cut @ .., _] = ran.disk.bytes() {
-        let len = cut.len();
-        let wanted = format!(in rt.alloc();
-            "{{\"at\":{len},\"cause\":\"Damaged\",\"status\":7}}\n"
-        )?;
-        expect_history(&rt, rt.alloc(), cut, wanted.as_str())?;
-    }
+    let compared = expect_cut(&rt, rt.alloc(), ran.disk.bytes());
+    drop(ran);
+    compared?;
     expect_history(
         &rt,
         rt.alloc(),
@@ -309,6 +327,8 @@ fn bytes_that_are_no_store(rt: HostRuntime) -> Result<(), Fail> {
     let disk = MemoryDisk::new(alloc, b"NOTASTORE!")?;
     let wanted = ["{\"at\":0,\"cause\":\"Damaged\",\"status\":7}"];
     let disk = expect_stored(&rt, alloc, &[CONFIG], disk, 7, &wanted)?;
-    assert_eq!(rt; disk.bytes(), b"NOTASTORE!".as_slice());
+    let is_same = disk.bytes() == b"NOTASTORE!".as_slice();
+    drop(disk);
+    assert!(rt; is_same);
     Ok(())
 }

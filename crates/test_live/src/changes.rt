@@ -123,7 +123,9 @@ fn run<R: Threads + Wait + Sync>(rt: &R, alloc: Global) -> Result<Ran, Fail> {
 fn a_bundle_comes_while_the_configuration_changes(rt: HostRuntime) -> Result<(), Fail> {
     for _ in 0..TIMES {
         let ran = run(&rt, rt.alloc())?;
-        assert!(rt; is_one(&ran));
+        let good = is_one(&ran);
+        drop(ran);
+        assert!(rt; good);
     }
     Ok(())
 }

@@ -109,10 +109,10 @@ fn run<R: Threads + Wait + Sync>(
         &mut patterns,
         &OpenGate,
     );
-    Ended {
-        status: ran.status,
-        sink,
-    }
+    let status = ran.status;
+    drop(ran);
+    drop(source);
+    Ended { status, sink }
 }
 
 /// Runs each script once, with so many passes asked for, and compares.
@@ -128,6 +128,7 @@ fn expect_rows<R: Abort + Threads + Wait + Sync>(
         let disk = MemoryDisk::new(alloc, &[])?;
         let ended = run(rt, alloc, readers, script, disk);
         let good = ended.status == Status::Fine && has_lines(ended.sink.bytes(), wanted);
+        drop(ended);
         assert!(rt; good, "{readers} passes, {} lines", lines.len());
     }
     Ok(())

@@ -69,16 +69,25 @@ fn run<R: Threads + Wait + Sync, G: Gate + Sync>(
     run_on(rt, alloc, &["live"], lines, &[], disk, gate)
 }
 
-/// Runs the held script behind a gate of these holds: the gate sees all its moments and does not give up, and the
-/// output is the one wanted.
+/// Whether the held script has the output that is wanted behind a gate, which sees all its moments and does not give up.
+fn is_held<R: Threads + Wait + Sync>(rt: &R, alloc: Global, gate: &HoldGate) -> Result<bool, Fail> {
+    let ran = run(rt, alloc, &HELD, gate)?;
+    let good = ran.gave(0, &HELD_OUTPUT);
+    drop(ran);
+    Ok(good && gate.saw_all() && !gate.gave_up())
+}
+
+/// Runs the held script behind a gate of these holds, and compares.
 fn expect_held<R: Abort + Threads + Wait + Sync>(
     rt: &R,
     alloc: Global,
     holds: &[Hold],
 ) -> Result<(), Fail> {
     let gate = HoldGate::new(alloc, holds)?;
-    let ran = run(rt, alloc, &HELD, &gate)?;
-    assert!(rt; ran.gave(0, &HELD_OUTPUT) && gate.saw_all() && !gate.gave_up());
+    let held = is_held(rt, alloc, &gate);
+    drop(gate);
+    let good = held?;
+    assert!(rt; good);
     Ok(())
 }
 
@@ -184,7 +193,9 @@ fn is_free(ran: &Ran) -> bool {
 fn an_edit_that_names_no_line_comes_when_it_likes(rt: HostRuntime) -> Result<(), Fail> {
     for _ in 0..TIMES {
         let ran = run(&rt, rt.alloc(), &FREE, &OpenGate)?;
-        assert!(rt; is_free(&ran));
+        let good = is_free(&ran);
+        drop(ran);
+        assert!(rt; good);
     }
     Ok(())
 }

@@ -63,8 +63,7 @@ fn words_of(alloc: Global, words: &[&str]) -> Result<Vec<String>, AllocError> {
     Ok(all)
 }
 
-/// Calls the program on these words, over an empty folder and behind a gate. Everything that it takes is dropped at its
-/// one exit.
+/// Calls the program on these words, over an empty folder and behind a gate. What it takes is let go of by calls.
 fn call<R: Threads + Wait + Sync, G: Gate + Sync>(
     rt: &R,
     alloc: Global,
@@ -89,6 +88,9 @@ fn call<R: Threads + Wait + Sync, G: Gate + Sync>(
         &mut patterns,
         gate,
     );
+    drop(words);
+    drop(source);
+    drop(folder);
     Ran { status, sink, disk }
 }
 

@@ -73,7 +73,9 @@ fn run_twice<R: Threads + Wait + Sync>(rt: &R, alloc: Global, call: u64) -> Resu
 fn is_there<R: Threads + Wait + Sync>(rt: &R, alloc: Global, store: &[u8]) -> Result<bool, Fail> {
     let disk = MemoryDisk::new(alloc, store)?;
     let ran = run_on(rt, alloc, &LIVE, &[BUNDLE], &[], disk, &OpenGate)?;
-    Ok(ran.gave(0, &AGAIN))
+    let good = ran.gave(0, &AGAIN);
+    drop(ran);
+    Ok(good)
 }
 
 /// How a run ends of whose disk a call fails. Where its store was opened, that has the bundle then.
@@ -84,8 +86,13 @@ fn expect_end<R: Abort + Threads + Wait + Sync>(
 ) -> Result<End, Fail> {
     let ran = run_twice(rt, alloc, call)?;
     let end = end_of(&ran);
-    let good = end == End::Unopened || is_there(rt, alloc, ran.disk.bytes())?;
-    assert!(rt; end != End::Wrong && good, "call {call}");
+    let there = match end {
+        End::Unopened => Ok(true),
+        _ => is_there(rt, alloc, ran.disk.bytes()),
+    };
+    drop(ran);
+    let good = there? && end != End::Wrong;
+    assert!(rt; good, "call {call}");
     Ok(end)
 }
 
@@ -111,7 +118,9 @@ fn is_cut_short<R: Threads + Wait + Sync>(
 ) -> Result<bool, Fail> {
     let disk = MemoryDisk::new(alloc, &[])?;
     let ran = run_on(rt, alloc, &["live"], &HELD, &[call], disk, &OpenGate)?;
-    Ok(ran.status == 5 && whole.starts_with(ran.sink.bytes()))
+    let short = ran.status == 5 && whole.starts_with(ran.sink.bytes());
+    drop(ran);
+    Ok(short)
 }
 
 #[test]

@@ -337,9 +337,19 @@ fn run_sessions<R: Abort + Threads + Wait + Sync>(
 ) -> Result<Ran, Fail> {
     let holds = [hold(1, 10), hold(10, 19), hold(19, 28)];
     let gate = HoldGate::new(alloc, &holds)?;
-    let ran = run(rt, alloc, &LIVE, &SESSIONS, store, &gate)?;
-    assert!(rt; gate.saw_all() && !gate.gave_up());
-    Ok(ran)
+    let ran = run(rt, alloc, &LIVE, &SESSIONS, store, &gate);
+    let held = gate.saw_all() && !gate.gave_up();
+    drop(gate);
+    assert!(rt; held);
+    ran
+}
+
+/// Asks what a run left, and compares.
+fn is_told<R: Threads + Wait + Sync>(rt: &R, alloc: Global, ran: &Ran) -> Result<bool, Fail> {
+    let asked = run(rt, alloc, &ASK, &[], ran.disk.bytes(), &OpenGate)?;
+    let good = belong(ran, &asked);
+    drop(asked);
+    Ok(good)
 }
 
 /// Runs the sessions, asks what they leave, and compares.
@@ -349,19 +359,32 @@ fn expect_legal<R: Abort + Threads + Wait + Sync>(
     store: &[u8],
 ) -> Result<(), Fail> {
     let ran = run_sessions(rt, alloc, store)?;
-    let asked = run(rt, alloc, &ASK, &[], ran.disk.bytes(), &OpenGate)?;
-    assert!(rt; belong(&ran, &asked));
+    let told = is_told(rt, alloc, &ran);
+    drop(ran);
+    let good = told?;
+    assert!(rt; good);
     Ok(())
 }
 
 /// How often the sessions are run.
 const TIMES: u32 = 200;
 
+/// Runs the sessions many times over a store that has the bundle.
+fn expect_all<R: Abort + Threads + Wait + Sync>(
+    rt: &R,
+    alloc: Global,
+    store: &[u8],
+) -> Result<(), Fail> {
+    for _ in 0..TIMES {
+        expect_legal(rt, alloc, store)?;
+    }
+    Ok(())
+}
+
 #[test]
 fn sessions_edit_and_undo_one_bundle_at_once(rt: HostRuntime) -> Result<(), Fail> {
     let store = run(&rt, rt.alloc(), &LIVE, &[CONFIG, BUNDLE], &[], &OpenGate)?;
-    for _ in 0..TIMES {
-        expect_legal(&rt, rt.alloc(), store.disk.bytes())?;
-    }
-    Ok(())
+    let compared = expect_all(&rt, rt.alloc(), store.disk.bytes());
+    drop(store);
+    compared
 }

@@ -36,8 +36,23 @@ const fn piece(place: u32) -> LineMoment {
     }
 }
 
-/// Runs the script by so many workers, behind a gate that holds each of the two bundles until the other is looked at: the
-/// output is the one wanted, and the gate sees all its moments, but gives up or not.
+/// Whether the script has the output that is wanted by so many workers behind a gate, which sees all its moments.
+fn is_held<R: Threads + Wait + Sync>(
+    rt: &R,
+    alloc: Global,
+    workers: &str,
+    gate: &HoldGate,
+) -> Result<bool, Fail> {
+    let disk = MemoryDisk::new(alloc, &[])?;
+    let words = ["live", "--workers", workers];
+    let ran = run_on(rt, alloc, &words, &TWO, &[], disk, gate)?;
+    let good = ran.gave(0, &TWO_OUTPUT);
+    drop(ran);
+    Ok(good && gate.saw_all())
+}
+
+/// Runs the script by so many workers, behind a gate that holds each of the two bundles until the other is looked at, and
+/// that gives up or not.
 fn expect_held<R: Abort + Threads + Wait + Sync>(
     rt: &R,
     alloc: Global,
@@ -55,10 +70,11 @@ fn expect_held<R: Abort + Threads + Wait + Sync>(
         },
     ];
     let gate = HoldGate::new(alloc, &holds)?;
-    let disk = MemoryDisk::new(alloc, &[])?;
-    let words = ["live", "--workers", workers];
-    let ran = run_on(rt, alloc, &words, &TWO, &[], disk, &gate)?;
-    assert!(rt; ran.gave(0, &TWO_OUTPUT) && gate.saw_all() && gate.gave_up() == gives_up);
+    let held = is_held(rt, alloc, workers, &gate);
+    let gave_up = gate.gave_up();
+    drop(gate);
+    let good = held? && gave_up == gives_up;
+    assert!(rt; good);
     Ok(())
 }
 
@@ -116,13 +132,35 @@ fn rows(output: &[u8]) -> usize {
     }
 }
 
+/// Runs the many bundles by so many workers, and compares with what one worker wrote.
+fn expect_same<R: Abort + Threads + Wait + Sync>(
+    rt: &R,
+    alloc: Global,
+    workers: &str,
+    one: &[u8],
+) -> Result<(), Fail> {
+    let more = run_many(rt, alloc, workers)?;
+    let same = more.status == 0 && more.sink.bytes() == one;
+    drop(more);
+    assert!(rt; same, "{workers} workers");
+    Ok(())
+}
+
+/// Compares what one worker wrote, and then runs the many bundles by three and by eight.
+fn expect_many<R: Abort + Threads + Wait + Sync>(
+    rt: &R,
+    alloc: Global,
+    one: &Ran,
+) -> Result<(), Fail> {
+    assert_eq!(rt; (one.status, rows(one.sink.bytes())), (0, MANY_ROWS));
+    expect_same(rt, alloc, "3", one.sink.bytes())?;
+    expect_same(rt, alloc, "8", one.sink.bytes())
+}
+
 #[test]
 fn one_three_and_eight_workers_find_the_same_rows(rt: HostRuntime) -> Result<(), Fail> {
     let one = run_many(&rt, rt.alloc(), "1")?;
-    assert_eq!(rt; (one.status, rows(one.sink.bytes())), (0, MANY_ROWS));
-    for workers in ["3", "8"] {
-        let more = run_many(&rt, rt.alloc(), workers)?;
-        assert!(rt; more.status == 0 && more.sink.bytes() == one.sink.bytes());
-    }
-    Ok(())
+    let compared = expect_many(&rt, rt.alloc(), &one);
+    drop(one);
+    compared
 }
