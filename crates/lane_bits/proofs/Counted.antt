@@ -1,9 +1,10 @@
 -- How many bits are set, word by word and in all.
-use Rattle.std.proofs.Common.{◌≡◌, ◌≢◌, ◌+◌, ◌*◌, ◌/◌, ◌%◌, ◌^◌, ◌<◌, ◌≤◌, ℕ, suc, Bool, true, false, cond, List, [], ◌∷◌, ◌++◌, length, map, take, drop, get_or, nat_eq, count_by, Fits, w64, drop-cons, false-eqb, refl, ap, sym, ◌∙◌, arith}
+use Rattle.std.proofs.Common.{◌≡◌, ◌≢◌, ◌+◌, ◌*◌, ◌/◌, ◌%◌, ◌^◌, ◌<◌, ◌≤◌, ℕ, suc, Bool, true, false, cond, List, [], ◌∷◌, ◌++◌, length, map, take, drop, get_or, replicate, nat_eq, count_by, Fits, w64, drop-cons, false-eqb, refl, ap, sym, ◌∙◌, arith}
 use Rattle.std.proofs.Math.Nat.{pow-le-pow_right}
 use Rattle.std.proofs.Math.Seq.{take-add}
 use Rattle.std.proofs.lemmas.Bool.{eqb-true}
 use Rattle.std.proofs.lemmas.List.{take-append-drop, length-take, length-drop, get_or-take, get_or-drop, map-id}
+use Rattle.std.proofs.lemmas.List.Folds.{sum_by-replicate}
 use Rattle.std.proofs.lemmas.List.FromFn.{length-map-range_with_len}
 use Rattle.std.proofs.lemmas.Nat.{ones-le}
 use Rattle.std.proofs.lemmas.List.Sums.{count_by-le-length, sum_by-append}
@@ -28,8 +29,11 @@ ones_split n words = ap ones (sym (take-append-drop n words)) ∙ ones_cat (take
 pub ones_more : (n k : ℕ) (words : List ℕ) → ones (take (n + k) words) ≡ ones (take n words) + ones (take k (drop n words))
 ones_more n k words = ap ones (take-add n k words) ∙ ones_cat (take n words) (take k (drop n words))
 
-counted_cat : (xs ys : List Bool) → count_by (λ b. b) (xs ++ ys) ≡ count_by (λ b. b) xs + count_by (λ b. b) ys
+pub counted_cat : (xs ys : List Bool) → count_by (λ b. b) (xs ++ ys) ≡ count_by (λ b. b) xs + count_by (λ b. b) ys
 counted_cat = sum_by-append (λ b. cond b 1 0)
+
+pub counted_none : (n : ℕ) → count_by (λ b. b) (replicate n false) ≡ 0
+counted_none n = sum_by-replicate (λ b. cond b 1 0) n false ∙ (omega arith)
 
 bit_from_test : (n : ℕ) (b : Bool) → n < 2 → nat_eq n 1 ≡ b → n ≡ cond b 1 0
 bit_from_test n true small is = eqb-true n 1 is

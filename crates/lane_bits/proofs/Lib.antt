@@ -5,3 +5,4 @@ mod Masks
 mod Next
 mod Places
 mod Rows
+mod Spans

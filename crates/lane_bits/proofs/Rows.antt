@@ -63,7 +63,7 @@ zeros_held m bits enough clear = record {
   each = λ i. bit_of_zero (replicate m 0) i (get_or-zeros m (i / 64)) ∙ sym (clear i);
 }
 
-clear_replicate : (n i : ℕ) → get_or (replicate n false) i false ≡ false
+pub clear_replicate : (n i : ℕ) → get_or (replicate n false) i false ≡ false
 clear_replicate n i = elim (cases_lt i n) [
   | inl within ↦ get_or-replicate n i false false within
   | inr past ↦ get_or_past (replicate n false) i false (omega (arith, length-replicate n false))

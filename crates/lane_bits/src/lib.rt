@@ -7,6 +7,8 @@ mod joins;
 mod lanes;
 mod row;
 mod shortage;
+mod span;
 
 pub use row::{BitRow, and_into, eq_lanes, meet, or_into, range_lanes};
 pub use shortage::Memory;
+pub use span::SpanRow;
