@@ -35,10 +35,10 @@ const KEPT_LABELS: usize = 4_194_304;
 ///
 /// It always keeps for each attribute of each level the column of the numbers of its items' labels, where
 /// the number of a label is its place in the list, and for each SEGMENT and EVENT level the columns of its
-/// items' first and last samples. Of a bundle of at most 512 links it also keeps, for each two levels between
-/// which a link leads, which items of the upper one link to which items of the lower one; of any it keeps for each
-/// item the places of the items that it links to; and of at most 64 labels it keeps keys, by which a short label
-/// is found without a look at the labels.
+/// items' first and last samples. For each two levels between which a link leads it also keeps which items of the
+/// upper one link to which items of the lower one, unless the items of the two are linked so far apart that this
+/// would take too much room; it keeps for each item the places of the items that it links to; and of at most 64
+/// labels it keeps keys, by which a short label is found without a look at the labels.
 #[derive(Drop)]
 pub struct Indexed {
     bundle: Bundle,
@@ -266,7 +266,8 @@ impl Indexed {
     }
 
     /// The rows of dominance between two levels where the bundle keeps them, that is where no level lies between
-    /// the two and a link leads from the upper one to the lower one; none in a bundle of over 512 links.
+    /// the two and a link leads from the upper one to the lower one; none where items of the two are linked so far
+    /// apart that the rows would take too much room.
     pub fn kept_closure(&self, config: &Config, upper: usize, lower: usize) -> Option<&Closure>
         requires fits { FitsConfig config.now self.now.bundle }
         requires upper { upper < length self.now.bundle.levels }

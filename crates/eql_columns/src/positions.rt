@@ -15,11 +15,11 @@ use db_config::Config;
 use emu_names::Memory;
 use eql_syntax::{Compare, Place};
 use hier_closure::Closure;
-use lane_bits::{BitRow, and_into, or_into};
+use lane_bits::{BitRow, SpanRow, and_into};
 use std::alloc::Global;
 
 /// The row without its first and its last bit. The only refusal is want of memory.
-fn inner_bits(alloc: Global, row: &BitRow, first: usize, last: usize) -> Result<BitRow, Memory>
+fn inner_bits(alloc: Global, row: &SpanRow, first: usize, last: usize) -> Result<SpanRow, Memory>
     requires first { first < length row.now }
     requires last { last < length row.now }
     ensures { IfOk result (λ inner. inner ≡ slice_set (slice_set row.now first false) last false) }
@@ -28,13 +28,13 @@ fn inner_bits(alloc: Global, row: &BitRow, first: usize, last: usize) -> Result<
         Ok(inner) => inner,
         Err(_) => return Err(Memory),
     };
-    inner.set(first, false);
-    inner.set(last, false);
+    inner.clear(first);
+    inner.clear(last);
     Ok(inner)
 }
 
 /// Sets the bit of the first item with a bit of the row.
-fn add_first(placed: &mut BitRow, row: &BitRow)
+fn add_first(placed: &mut BitRow, row: &SpanRow)
     requires { length placed.old ≡ length row.now }
     ensures { AddsPlaced Place.Start row.now placed.old placed.new }
 {
@@ -45,7 +45,7 @@ fn add_first(placed: &mut BitRow, row: &BitRow)
 }
 
 /// Sets the bit of the last item with a bit of the row.
-fn add_last(placed: &mut BitRow, row: &BitRow)
+fn add_last(placed: &mut BitRow, row: &SpanRow)
     requires { length placed.old ≡ length row.now }
     ensures { AddsPlaced Place.End row.now placed.old placed.new }
 {
@@ -57,7 +57,7 @@ fn add_last(placed: &mut BitRow, row: &BitRow)
 
 /// Sets the bits of the items with a bit of the row that are neither the first nor the last one. The only
 /// refusal is want of memory.
-fn add_inner(alloc: Global, placed: &mut BitRow, row: &BitRow) -> Result<(), Memory>
+fn add_inner(alloc: Global, placed: &mut BitRow, row: &SpanRow) -> Result<(), Memory>
     requires { length placed.old ≡ length row.now }
     ensures { OnOk result (AddsPlaced Place.Medial row.now placed.old placed.new) }
 {
@@ -68,13 +68,13 @@ fn add_inner(alloc: Global, placed: &mut BitRow, row: &BitRow) -> Result<(), Mem
         return Ok(());
     };
     let inner = inner_bits(alloc, row, first, last)?;
-    or_into(placed, &inner);
+    inner.join_into(placed);
     Ok(())
 }
 
 /// Sets the bits of the items that stand at a place among those with a bit of the row. Only the end that is
 /// asked for is looked for. The only refusal is want of memory.
-fn add_placed(alloc: Global, placed: &mut BitRow, row: &BitRow, place: Place) -> Result<(), Memory>
+fn add_placed(alloc: Global, placed: &mut BitRow, row: &SpanRow, place: Place) -> Result<(), Memory>
     requires { length placed.old ≡ length row.now }
     ensures { OnOk result (AddsPlaced place row.now placed.old placed.new) }
 {
@@ -114,7 +114,7 @@ fn bits_below(alloc: Global, rows: &Closure, count: usize, width: usize) -> Resu
 {
     let mut any = none_set(alloc, width)?;
     for upper in 0..count {
-        or_into(&mut any, rows.row(upper));
+        rows.row(upper).join_into(&mut any);
     }
     Ok(any)
 }

@@ -16,7 +16,7 @@ use emu_names::{Memory, Series};
 use eql_columns::none_set;
 use eql_tuples::{Tuple, Tuples};
 use hier_closure::Closure;
-use lane_bits::{BitRow, and_into, meet, or_into};
+use lane_bits::{BitRow, and_into};
 use std::alloc::Global;
 
 /// What a part of a query finds.
@@ -143,7 +143,7 @@ fn set_above(rows: &Closure, lefts: &BitRow, rights: &BitRow, made: &mut BitRow)
     let mut from = 0;
     while let Some(at) = lefts.next(from) {
         from = at + 1;
-        let bit = meet(rows.row(at), rights);
+        let bit = rows.row(at).meets(rights);
         made.set(at, bit);
     }
 }
@@ -160,7 +160,7 @@ fn add_below(rows: &Closure, lefts: &BitRow, rights: &BitRow, made: &mut BitRow)
     let mut from = 0;
     while let Some(at) = rights.next(from) {
         from = at + 1;
-        or_into(made, rows.row(at));
+        rows.row(at).join_into(made);
     }
     and_into(made, lefts);
 }

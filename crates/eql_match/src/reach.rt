@@ -5,10 +5,10 @@ ghost use Rattle.eql_match.specs.Inner.Reach.{Reaches, Widens};
 
 use eql_tuples::Tuple;
 use hier_closure::Closure;
-use lane_bits::BitRow;
+use lane_bits::SpanRow;
 
 /// The places from `reach.0` to before `reach.1`, and those from the first bit of a row to its last.
-fn widened(reach: (usize, usize), row: &BitRow) -> (usize, usize)
+fn widened(reach: (usize, usize), row: &SpanRow) -> (usize, usize)
     ensures { Widens row.now reach result }
 {
     let _len = row.len();

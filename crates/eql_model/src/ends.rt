@@ -6,7 +6,7 @@ ghost use Rattle.eql_model.specs.Inner.Joins.{is_under};
 
 use eql_tuples::Tuple;
 use hier_closure::Closure;
-use lane_bits::BitRow;
+use lane_bits::SpanRow;
 
 /// The lesser of two first places and the greater of two last ones, of which either pair may be missing.
 fn round_both(one: Option<(usize, usize)>, other: Option<(usize, usize)>) -> Option<(usize, usize)>
@@ -22,7 +22,7 @@ fn round_both(one: Option<(usize, usize)>, other: Option<(usize, usize)>) -> Opt
 }
 
 /// The places of the first and the last bit of a row.
-fn row_ends(row: &BitRow) -> Option<(usize, usize)>
+fn row_ends(row: &SpanRow) -> Option<(usize, usize)>
     ensures { AreEnds (λ k. get_or row.now k false) result }
 {
     match row.first() {

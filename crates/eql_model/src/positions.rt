@@ -11,12 +11,12 @@ use crate::flags::Flags;
 use emu_names::{Memory, Series};
 use eql_syntax::{Compare, Place};
 use hier_closure::Closure;
-use lane_bits::BitRow;
+use lane_bits::SpanRow;
 use level_items::Item;
 use std::alloc::Global;
 
 /// Whether the item at a position is the first of those with a bit.
-fn is_first(row: &BitRow, lowers: &[Item], at: usize) -> bool
+fn is_first(row: &SpanRow, lowers: &[Item], at: usize) -> bool
     requires wide { length row.now ≡ length lowers.now }
     requires at { at < length lowers.now }
     ensures { result ≡ is_first (items_where_true row.now (ids_of lowers.now))
@@ -29,7 +29,7 @@ fn is_first(row: &BitRow, lowers: &[Item], at: usize) -> bool
 }
 
 /// Whether the item at a position is the last of those with a bit.
-fn is_last(row: &BitRow, lowers: &[Item], at: usize) -> bool
+fn is_last(row: &SpanRow, lowers: &[Item], at: usize) -> bool
     requires wide { length row.now ≡ length lowers.now }
     requires at { at < length lowers.now }
     ensures { result ≡ is_last (items_where_true row.now (ids_of lowers.now))
@@ -42,7 +42,7 @@ fn is_last(row: &BitRow, lowers: &[Item], at: usize) -> bool
 }
 
 /// Whether the item at a position stands at a place among those with a bit.
-fn stands(row: &BitRow, lowers: &[Item], place: Place, at: usize) -> bool
+fn stands(row: &SpanRow, lowers: &[Item], place: Place, at: usize) -> bool
     requires wide { length row.now ≡ length lowers.now }
     requires at { at < length lowers.now }
     ensures { result ≡ stands place (items_where_true row.now (ids_of lowers.now))
@@ -56,7 +56,7 @@ fn stands(row: &BitRow, lowers: &[Item], place: Place, at: usize) -> bool
 }
 
 /// The bit of a row.
-fn has_bit(row: &BitRow, at: usize) -> bool
+fn has_bit(row: &SpanRow, at: usize) -> bool
     requires { at < length row.now }
     ensures { result ≡ flag_at at row.now }
 {
@@ -65,7 +65,7 @@ fn has_bit(row: &BitRow, at: usize) -> bool
 
 /// Whether a row has the bit of the item at a position, and the item stands at a place among those with
 /// a bit.
-fn row_stands(row: &BitRow, lowers: &[Item], place: Place, at: usize) -> bool
+fn row_stands(row: &SpanRow, lowers: &[Item], place: Place, at: usize) -> bool
     requires wide { length row.now ≡ length lowers.now }
     requires at { at < length lowers.now }
     ensures { result ≡ row_stands (ids_of lowers.now) place at row.now }
@@ -159,7 +159,7 @@ fn compares(compare: Compare, count: usize, number: usize) -> bool
 }
 
 /// Whether the number of a row's bits compares so with a number.
-pub fn row_counts(row: &BitRow, compare: Compare, number: u32) -> bool
+pub fn row_counts(row: &SpanRow, compare: Compare, number: u32) -> bool
     ensures { result ≡ row_counts compare number row.now }
 {
     compares(compare, row.count(), number as usize)

@@ -15,7 +15,7 @@ use crate::stands::{LevelStands, Stand};
 use bundle_state::Bundle;
 use db_config::Config;
 use emu_names::{Memory, PlainData, Series};
-use lane_bits::BitRow;
+use lane_bits::{BitRow, SpanRow};
 use std::alloc::Global;
 
 /// The row of the items at some places and of those that they dominate, where it is asked for; else a row of its
@@ -28,7 +28,7 @@ fn row_where(
     table: &[Closure],
     stands: &[Stand],
     is_asked: bool,
-) -> Result<BitRow, Memory>
+) -> Result<SpanRow, Memory>
     requires under { IsUnder config.now bundle.now }
     requires lower { lower < length bundle.now.levels }
     requires ready { All (IsReady bundle.now lower table.now) stands.now }

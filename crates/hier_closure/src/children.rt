@@ -1,5 +1,5 @@
 //! The row of one item, which joins those of the items that it links to.
-ghost use Rattle.std.specs.Prelude.{◌≡◌, ◌<◌, ◌||◌, [], All, get_or, length, map, slice_get, IfOk, Some};
+ghost use Rattle.std.specs.Prelude.{◌≡◌, ◌<◌, ◌||◌, [], All, get_or, length, map, slice_get, IfOk, OnOk, Some};
 ghost use Rattle.std.specs.List.{list_any};
 ghost use Rattle.std.specs.Simd.Lanes.{zip2};
 ghost use Rattle.bundle_state.specs.Bundle.{place_of};
@@ -13,11 +13,11 @@ use crate::stands::Stand;
 use bundle_state::Bundle;
 use db_config::Config;
 use emu_names::{ItemId, Memory};
-use lane_bits::{BitRow, or_into};
+use lane_bits::SpanRow;
 use std::alloc::Global;
 
 /// The row that is kept of the item at a position of a level.
-fn kept_row(table: &[Closure], level: usize, position: usize) -> &BitRow
+fn kept_row(table: &[Closure], level: usize, position: usize) -> &SpanRow
     requires { position < length (get_or table.now level []) }
     ensures { slice_get (get_or table.now level []) position ≡ Some result.now }
 {
@@ -56,31 +56,39 @@ pub(crate) fn place_from(
     }
 }
 
-/// Sets the bits of a row that stand for the item at a place and for those that it dominates.
+/// Sets the bits of a row that stand for the item at a place and for those that it dominates. The only refusal is
+/// want of memory.
 fn add_stand(
-    row: &mut BitRow,
+    alloc: Global,
+    row: &mut SpanRow,
     config: &Config,
     bundle: &Bundle,
     lower: usize,
     table: &[Closure],
     stand: Stand,
-)
+) -> Result<(), Memory>
     requires under { IsUnder config.now bundle.now }
     requires lower { lower < length bundle.now.levels }
     requires wide { length row.old ≡ length (ids_at bundle.now.levels lower) }
     requires ready { IsReady bundle.now lower table.now stand }
-    ensures { row.new ≡ zip2 (λ a b. a || b) row.old (map
-        (λ b. is_or_dominates bundle.now.links b (stand_id bundle.now stand)) (ids_at bundle.now.levels lower)) }
+    ensures { OnOk result (row.new ≡ zip2 (λ a b. a || b) row.old (map
+        (λ b. is_or_dominates bundle.now.links b (stand_id bundle.now stand)) (ids_at bundle.now.levels lower))) }
 {
     let level = stand.level as usize;
     let position = stand.position as usize;
     if level == lower {
-        row.set(position, true);
-        return;
+        return match row.set(alloc, position) {
+            Ok(()) => Ok(()),
+            Err(_) => Err(Memory),
+        };
     }
     if config.is_above(level, lower) {
-        or_into(row, kept_row(table, level, position));
+        return match row.join(alloc, kept_row(table, level, position)) {
+            Ok(()) => Ok(()),
+            Err(_) => Err(Memory),
+        };
     }
+    Ok(())
 }
 
 /// The row of the items at some places and of those that they dominate. The only refusal is want of memory.
@@ -91,19 +99,19 @@ pub(crate) fn joined_row(
     lower: usize,
     table: &[Closure],
     stands: &[Stand],
-) -> Result<BitRow, Memory>
+) -> Result<SpanRow, Memory>
     requires under { IsUnder config.now bundle.now }
     requires lower { lower < length bundle.now.levels }
     requires ready { All (IsReady bundle.now lower table.now) stands.now }
     ensures { IfOk result (λ row. row ≡ map (λ b. list_any (is_or_dominates bundle.now.links b)
         (map (stand_id bundle.now) stands.now)) (ids_at bundle.now.levels lower)) }
 {
-    let mut row = match BitRow::new(alloc, bundle.level(lower).len()) {
+    let mut row = match SpanRow::new(alloc, bundle.level(lower).len()) {
         Ok(row) => row,
         Err(_) => return Err(Memory),
     };
     for at in 0..stands.len() {
-        add_stand(&mut row, config, bundle, lower, table, stands[at]);
+        add_stand(alloc, &mut row, config, bundle, lower, table, stands[at])?;
     }
     Ok(row)
 }

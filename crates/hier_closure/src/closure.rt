@@ -16,7 +16,7 @@ use crate::stands::{LevelStands, stands_in};
 use bundle_state::Bundle;
 use db_config::Config;
 use emu_names::{Memory, PlainData, Shared};
-use lane_bits::BitRow;
+use lane_bits::{BitRow, SpanRow};
 use std::alloc::Global;
 use std::marker::Model;
 
@@ -193,7 +193,7 @@ impl Closure {
     }
 
     /// The row of an item of the upper level, by its position.
-    pub fn row(&self, position: usize) -> &BitRow
+    pub fn row(&self, position: usize) -> &SpanRow
         requires { position < length self.now }
         ensures { slice_get self.now position ≡ Some result.now }
     {

@@ -7,7 +7,7 @@ ghost use Rattle.hier_closure.specs.Inner.Held.{rows_in};
 use crate::levels::Rows;
 use bundle_state::Bundle;
 use emu_names::{Memory, PlainData, Shared};
-use lane_bits::BitRow;
+use lane_bits::SpanRow;
 use std::alloc::Global;
 
 /// The rows of the items of a level.
@@ -16,7 +16,7 @@ pub(crate) enum Held {
     /// A row for each item.
     Each(Shared<Rows>),
     /// How many items there are, and the row that each of them has.
-    Alike(usize, BitRow),
+    Alike(usize, SpanRow),
 }
 
 impl Held {
@@ -36,14 +36,14 @@ impl Held {
         let _items = bundle.item_count();
         let width = bundle.level(lower).len();
         let count = bundle.level(upper).len();
-        match BitRow::new(alloc, width) {
+        match SpanRow::new(alloc, width) {
             Ok(row) => Ok(Held::Alike(count, row)),
             Err(_) => Err(Memory),
         }
     }
 
     /// The row of an item, by its position.
-    pub(crate) fn row(&self, position: usize) -> &BitRow
+    pub(crate) fn row(&self, position: usize) -> &SpanRow
         requires { position < length (rows_in self.now) }
         ensures { slice_get (rows_in self.now) position ≡ Some result.now }
     {

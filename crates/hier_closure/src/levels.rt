@@ -13,11 +13,11 @@ use crate::stands::LevelStands;
 use bundle_state::Bundle;
 use db_config::Config;
 use emu_names::{Memory, PlainData, Series};
-use lane_bits::BitRow;
+use lane_bits::SpanRow;
 use std::alloc::Global;
 
 /// One row for each item of a level.
-pub(crate) type Rows = Series<BitRow>;
+pub(crate) type Rows = Series<SpanRow>;
 
 /// The rows of a level. The only refusal is want of memory.
 fn level_rows(

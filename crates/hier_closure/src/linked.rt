@@ -1,5 +1,5 @@
-//! The rows of links between two levels, as a bundle with few links keeps them: between levels of which
-//! one is right above the other they are its rows of dominance.
+//! The rows of links between two levels, as a bundle keeps them where they take little room: between levels of
+//! which one is right above the other they are its rows of dominance.
 ghost use Rattle.std.specs.Prelude.{◌≡◌, ◌≢◌, ◌<◌, ◌+◌, true, false, [], take, replicate, length, get_or, slice_get, slice_set, IfOk, IfNone, IfSome, IsSome, OnOk, Some};
 ghost use Rattle.bundle_state.specs.Bundle.{BundleParts, level_of_id};
 ghost use Rattle.bundle_state.specs.Linked.{IsBetween};
@@ -12,12 +12,26 @@ use crate::closure::Closure;
 use crate::levels::Rows;
 use bundle_state::Bundle;
 use emu_names::{ItemId, Memory, PlainData, Series};
-use lane_bits::BitRow;
+use lane_bits::SpanRow;
 use link_graph::Link;
 use std::alloc::Global;
 
-/// The most links of a bundle whose rows are kept.
-const KEPT_LINKS: usize = 512;
+/// How many places the rows of two levels may hold for each link of the bundle.
+const PLACES_PER_LINK: usize = 256;
+
+/// How many places the rows of two levels may hold beside these.
+const PLACES_BESIDE: usize = 4_096;
+
+/// What a link hands on to the next one.
+#[derive(Clone, Copy)]
+struct Pass {
+    /// At which position of the upper level an item is looked for first.
+    upper: usize,
+    /// At which position of the lower level an item is looked for first.
+    lower: usize,
+    /// How many places the rows hold so far.
+    places: usize,
+}
 
 /// Two levels of a bundle, and for each item of the upper one, in order, which items of the lower one it
 /// links to.
@@ -43,17 +57,17 @@ impl PlainData for LinkedLevels {
 }
 
 /// A row of which no bit is set. The only refusal is want of memory.
-pub(crate) fn unset_row(alloc: Global, width: usize) -> Result<BitRow, Memory>
+pub(crate) fn unset_row(alloc: Global, width: usize) -> Result<SpanRow, Memory>
     ensures { IfOk result (λ row. row ≡ replicate width false) }
 {
-    match BitRow::new(alloc, width) {
+    match SpanRow::new(alloc, width) {
         Ok(row) => Ok(row),
         Err(_) => Err(Memory),
     }
 }
 
 /// Rows of which no bit is set. The only refusal is want of memory.
-fn unset_rows(alloc: Global, count: usize, width: usize) -> Result<Vec<BitRow>, Memory>
+fn unset_rows(alloc: Global, count: usize, width: usize) -> Result<Vec<SpanRow>, Memory>
     ensures { IfOk result (λ rows. rows.items ≡ replicate count (replicate width false)) }
 {
     let mut rows = Vec::with_capacity(alloc, count)?;
@@ -63,13 +77,27 @@ fn unset_rows(alloc: Global, count: usize, width: usize) -> Result<Vec<BitRow>, 
     Ok(rows)
 }
 
-/// Sets a bit of one of some rows.
-fn set_bit(rows: &mut [BitRow], row: usize, at: usize)
+/// Sets a bit of a row, and answers how many places more it holds then. The only refusal is want of memory.
+fn set_in(alloc: Global, row: &mut SpanRow, at: usize) -> Result<usize, Memory>
+    requires { at < length row.old }
+    ensures { OnOk result (row.new ≡ slice_set row.old at true) }
+{
+    let held = row.room();
+    match row.set(alloc, at) {
+        Ok(()) => Ok(row.room().saturating_sub(held)),
+        Err(_) => Err(Memory),
+    }
+}
+
+/// Sets a bit of one of some rows, and answers how many places more the row holds then. The only refusal is want of
+/// memory.
+fn set_bit(alloc: Global, rows: &mut [SpanRow], row: usize, at: usize) -> Result<usize, Memory>
     requires row { row < length rows.old }
     requires at { at < length (get_or rows.old row []) }
-    ensures { rows.new ≡ slice_set rows.old row (slice_set (get_or rows.old row []) at true) }
+    ensures { OnOk result
+        (rows.new ≡ slice_set rows.old row (slice_set (get_or rows.old row []) at true)) }
 {
-    rows[row].set(at, true);
+    set_in(alloc, &mut rows[row], at)
 }
 
 /// The position of an item of the bundle, where it is one of this level. It is looked for at a position of
@@ -98,56 +126,80 @@ fn may_lead(bundle: &Bundle, upper: usize, lower: usize, link: &Link) -> bool
     }
 }
 
-/// Sets the bit of the link at a place of the bundle's list, if it leads from the one level to the other. Its
-/// items are looked for at two positions first; answers at which ones those of the next link are.
+/// Sets the bit of the link at a place of the bundle's list, if it leads from the one level to the other. The only
+/// refusal is want of memory.
 fn add_link(
-    rows: &mut [BitRow],
+    alloc: Global,
+    rows: &mut [SpanRow],
     bundle: &Bundle,
     upper: usize,
     lower: usize,
-    near: (usize, usize),
+    pass: Pass,
     place: usize,
-) -> (usize, usize)
+) -> Result<Pass, Memory>
     requires rules { KeepsBundleRules bundle.now }
     requires place { place < length bundle.now.links }
     requires made { rows.old ≡ linked_of bundle.now upper lower (take place bundle.now.links) }
-    ensures { rows.new ≡ linked_of bundle.now upper lower (take (place + 1) bundle.now.links) }
+    ensures { OnOk result
+        (rows.new ≡ linked_of bundle.now upper lower (take (place + 1) bundle.now.links)) }
 {
     let link = bundle.links().get(place);
     if !may_lead(bundle, upper, lower, link) {
-        return near;
+        return Ok(pass);
     }
-    match position_on(bundle, upper, near.0, link.from) {
-        None => near,
-        Some(row) => match position_on(bundle, lower, near.1, link.to) {
-            None => near,
+    match position_on(bundle, upper, pass.upper, link.from) {
+        None => Ok(pass),
+        Some(row) => match position_on(bundle, lower, pass.lower, link.to) {
+            None => Ok(pass),
             Some(at) => {
-                set_bit(rows, row, at);
-                (row, at.saturating_add(1))
+                let more = set_bit(alloc, rows, row, at)?;
+                Ok(Pass {
+                    upper: row,
+                    lower: at.saturating_add(1),
+                    places: pass.places.saturating_add(more),
+                })
             }
         },
     }
 }
 
-/// The rows of links between two levels. The only refusal is want of memory.
-fn rows_of(alloc: Global, bundle: &Bundle, upper: usize, lower: usize) -> Result<Rows, Memory>
+/// The rows of links between two levels; none where they would take too much room, since they have links to items
+/// far apart. The only refusal is want of memory.
+fn rows_of(
+    alloc: Global,
+    bundle: &Bundle,
+    upper: usize,
+    lower: usize,
+) -> Result<Option<Rows>, Memory>
     requires rules { KeepsBundleRules bundle.now }
     requires upper { upper < length bundle.now.levels }
     requires lower { lower < length bundle.now.levels }
-    ensures { IfOk result (λ rows. rows ≡ linked_of bundle.now upper lower bundle.now.links) }
+    ensures { IfOk result (λ found. IfSome found
+        (λ rows. rows ≡ linked_of bundle.now upper lower bundle.now.links)) }
 {
     let count = bundle.level(upper).len();
     let width = bundle.level(lower).len();
+    let links = bundle.links().len();
+    let most = links
+        .saturating_mul(PLACES_PER_LINK)
+        .saturating_add(PLACES_BESIDE);
     let mut rows = unset_rows(alloc, count, width)?;
-    let mut near = (0, 0);
-    for place in 0..bundle.links().len() {
-        near = add_link(&mut rows, bundle, upper, lower, near, place);
+    let mut pass = Pass {
+        upper: 0,
+        lower: 0,
+        places: 0,
+    };
+    for place in 0..links {
+        pass = add_link(alloc, &mut rows, bundle, upper, lower, pass, place)?;
+        if pass.places > most {
+            return Ok(None);
+        }
     }
-    Ok(Series::from_vec(rows))
+    Ok(Some(Series::from_vec(rows)))
 }
 
-/// Puts the rows of links between two levels last, unless rows of the two are there or there is no such
-/// level. The only refusal is want of memory.
+/// Puts the rows of links between two levels last, unless rows of the two are there, they would take too much room,
+/// or there is no such level. The only refusal is want of memory.
 fn put_levels(
     alloc: Global,
     bundle: &Bundle,
@@ -164,7 +216,9 @@ fn put_levels(
     if rows_at(all.as_slice(), upper, lower).is_some() {
         return Ok(());
     }
-    let rows = rows_of(alloc, bundle, upper, lower)?;
+    let Some(rows) = rows_of(alloc, bundle, upper, lower)? else {
+        return Ok(());
+    };
     let closure = Closure::of(alloc, rows)?;
     all.push(LinkedLevels {
         upper,
@@ -173,36 +227,44 @@ fn put_levels(
     })
 }
 
-/// Puts the rows of links between the levels of a link's definition last, unless they are there. The only refusal is
-/// want of memory.
+/// Puts the rows of links between the levels of a link's definition last, unless the number of the definition is
+/// among those that were tried. The only refusal is want of memory.
 fn put_levels_of(
     alloc: Global,
     bundle: &Bundle,
     all: &mut Series<LinkedLevels>,
+    tried: &mut Series<u32>,
     link: &Link,
 ) -> Result<(), Memory>
     requires { AreLinkedIn bundle.now all.old }
     ensures { OnOk result (AreLinkedIn bundle.now all.new) }
 {
+    if tried.as_slice().contains(&link.definition) {
+        return Ok(());
+    }
+    tried.push(link.definition)?;
     match bundle.definition(link.definition) {
         Some(def) => put_levels(alloc, bundle, all, def.upper as usize, def.lower as usize),
         None => Ok(()),
     }
 }
 
-/// The rows of links of a bundle, for each two levels between which a link leads; none where there are over
-/// 512 links. The only refusal is want of memory.
+/// The rows of links of a bundle, for each two levels between which a link leads; none of two whose items are linked
+/// so far apart that their rows would take too much room. The only refusal is want of memory.
 pub fn linked_levels(alloc: Global, bundle: &Bundle) -> Result<Series<LinkedLevels>, Memory>
     ensures { IfOk result (λ all. AreLinkedIn bundle.now all) }
 {
     let _items = bundle.item_count();
     let mut all = Series::new(alloc);
-    let count = bundle.links().len();
-    if count > KEPT_LINKS {
-        return Ok(all);
-    }
-    for place in 0..count {
-        put_levels_of(alloc, bundle, &mut all, bundle.links().get(place))?;
+    let mut tried = Series::new(alloc);
+    for place in 0..bundle.links().len() {
+        put_levels_of(
+            alloc,
+            bundle,
+            &mut all,
+            &mut tried,
+            bundle.links().get(place),
+        )?;
     }
     Ok(all)
 }

@@ -7,7 +7,7 @@ ghost use Rattle.requery.specs.Inner.Ways.{AreKinStretches, AreWidened, AreWiden
 use emu_names::Memory;
 use eql_tuples::Tuple;
 use hier_closure::Closure;
-use lane_bits::BitRow;
+use lane_bits::SpanRow;
 use std::alloc::Global;
 
 /// A stretch without a mark.
@@ -35,7 +35,7 @@ pub(crate) fn union(one: Option<Tuple>, other: Option<Tuple>) -> Option<Tuple>
 }
 
 /// The stretch from the first bit of a row to its last.
-fn row_stretch(row: &BitRow) -> Option<Tuple>
+fn row_stretch(row: &SpanRow) -> Option<Tuple>
     requires { length row.now ≤ BUNDLE_ITEMS }
     ensures { result ≡ row_stretch row.now }
 {
@@ -49,7 +49,7 @@ fn row_stretch(row: &BitRow) -> Option<Tuple>
 }
 
 /// Widens by a position the stretch of each item whose bit is set in a row.
-fn widen_by(stretches: &mut [Option<Tuple>], row: &BitRow, at: u32)
+fn widen_by(stretches: &mut [Option<Tuple>], row: &SpanRow, at: u32)
     requires { length row.now ≡ length stretches.old }
     ensures { AreWidened row.now at stretches.old stretches.new }
 {

@@ -23,5 +23,5 @@ inner_bits-requires-clause-last c =
 
 pub returns : goal.returns
 returns c =
-    adds_medial c.args.row.now c.args.placed.now c.or_into.new.into c.in_ok-inner.inner c.in-Some.first c.in-Some-last.last c.requires
-    c.in-Some.ensures c.in-Some-last.ensures c.in_ok-inner.ensures c.or_into.ensures
+    adds_medial c.args.row.now c.args.placed.now c.join_into.new.into c.in_ok-inner.inner c.in-Some.first c.in-Some-last.last c.requires
+    c.in-Some.ensures c.in-Some-last.ensures c.in_ok-inner.ensures c.join_into.ensures

@@ -18,10 +18,10 @@ loop-at-preserved c =
     let here = next.within in
     record {
       within = omega arith;
-      made = below_step c.args.rows.now c.args.rights.now c.row.result.now c.args.made.now c.loop-at.made c.or_into.new.into
+      made = below_step c.args.rows.now c.args.rights.now c.row.result.now c.args.made.now c.loop-at.made c.join_into.new.into
           (length c.args.lefts.now) c.loop-at.from c.in-Some.at next c.row.ensures
           (row_long c.args.rows.now c.in-Some.at c.row.result.now (length c.args.lefts.now) c.requires.wide c.row.ensures)
-          c.loop-at.invariant.made c.or_into.ensures;
+          c.loop-at.invariant.made c.join_into.ensures;
     }
 
 pub overflow_add-from : goal.overflow_add-from
@@ -45,8 +45,8 @@ loop-at-smaller c =
     let order = next.order in
     omega arith
 
-pub or_into-requires : goal.or_into-requires
-or_into-requires c =
+pub join_into-requires : goal.join_into-requires
+join_into-requires c =
     ap length c.loop-at.invariant.made
     ∙ made_long c.args.rows.now c.args.rights.now c.args.made.now c.loop-at.from (length c.args.lefts.now)
     ∙ sym (row_long c.args.rows.now c.in-Some.at c.row.result.now (length c.args.lefts.now) c.requires.wide c.row.ensures)

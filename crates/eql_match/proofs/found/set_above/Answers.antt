@@ -12,8 +12,8 @@ loop-at-init c = record {
       c.args.made.now c.requires.unset;
 }
 
-pub meet-bit-requires : goal.meet-bit-requires
-meet-bit-requires c = row_long c.args.rows.now c.in-Some.at c.row.result.now (length c.args.rights.now) c.requires.wide c.row.ensures
+pub meets-bit-requires : goal.meets-bit-requires
+meets-bit-requires c = row_long c.args.rows.now c.in-Some.at c.row.result.now (length c.args.rights.now) c.requires.wide c.row.ensures
 
 pub loop-at-preserved : goal.loop-at-preserved
 loop-at-preserved c =
@@ -23,9 +23,9 @@ loop-at-preserved c =
     record {
       within = omega arith;
       asked = asked_more (λ k. flag_at k c.args.lefts.now && is_above_some c.args.rows.now c.args.rights.now k) (length c.args.lefts.now)
-          c.loop-at.from c.in-Some.at c.loop-at.made c.set.new.self c.meet-bit.result c.loop-at.invariant.asked next.order here
+          c.loop-at.from c.in-Some.at c.loop-at.made c.set.new.self c.meets-bit.result c.loop-at.invariant.asked next.order here
           (λ i low high. and_clear (flag_at i c.args.lefts.now) (is_above_some c.args.rows.now c.args.rights.now i) (next.clear i low high))
-          (c.meet-bit.ensures ∙ meets_some c.args.rows.now c.row.result.now c.args.rights.now c.in-Some.at c.row.ensures long
+          (c.meets-bit.ensures ∙ meets_some c.args.rows.now c.row.result.now c.args.rights.now c.in-Some.at c.row.ensures long
           ∙ ap (λ b. b && is_above_some c.args.rows.now c.args.rights.now c.in-Some.at) (sym next.set))
           c.set.ensures;
     }

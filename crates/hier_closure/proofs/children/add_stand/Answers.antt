@@ -19,13 +19,13 @@ set-requires c =
     let wide : length c.args.row.now ≡ length (ids_at c.args.bundle.now.levels c.args.lower) = c.requires.wide in
     omega arith
 
-pub returns-then-level-lower : goal.returns-then-level-lower
-returns-then-level-lower c =
+pub returns-in-Ok : goal.returns-in-Ok
+returns-in-Ok c =
     let bundle = c.args.bundle.now in
     let at = standing bundle c.args.stand _ c.requires.under.rules c.requires.ready.there in
     let self : is_above bundle.definitions c.args.lower c.args.lower ≡ false =
     ap (λ defs. is_above defs c.args.lower c.args.lower) c.requires.under.fits.definitions ∙ not_above_self c.args.config.now c.args.lower c.requires.under.valid in
-    c.set.ensures ∙ child_here bundle c.args.lower c.args.stand.position (stand_id bundle c.args.stand) c.args.row.now c.requires.under.rules self
+    c.in-Ok.ensures ∙ child_here bundle c.args.lower c.args.stand.position (stand_id bundle c.args.stand) c.args.row.now c.requires.under.rules self
     (at.level ∙ ap (λ n. Some n) c.if-level-lower.true)
     (ap (λ n. slice_get (ids_at bundle.levels n) c.args.stand.position) (sym c.if-level-lower.true) ∙ at.at)
     c.requires.wide
@@ -54,8 +54,8 @@ kept_row-requires c =
     let same : length (get_or c.args.table.now c.args.stand.level []) ≡ length (closure_of bundle c.args.lower c.args.stand.level) = ap length made in
     omega arith
 
-pub or_into-requires : goal.or_into-requires
-or_into-requires c =
+pub join-requires : goal.join-requires
+join-requires c =
     let bundle = c.args.bundle.now in
     let at = standing bundle c.args.stand _ c.requires.under.rules c.requires.ready.there in
     let above : is_above bundle.definitions c.args.stand.level c.args.lower ≡ true =
@@ -65,8 +65,8 @@ or_into-requires c =
     (stand_id bundle c.args.stand).0 c.kept_row.result.now (ap (λ rows. slice_get rows c.args.stand.position) (sym made) ∙ c.kept_row.ensures) at.at in
     c.requires.wide ∙ sym (ap length row ∙ length-map (ids_at bundle.levels c.args.lower) (dominates bundle.links (stand_id bundle c.args.stand).0))
 
-pub returns-then-is_above : goal.returns-then-is_above
-returns-then-is_above c =
+pub returns-in-Ok-join : goal.returns-in-Ok-join
+returns-in-Ok-join c =
     let bundle = c.args.bundle.now in
     let at = standing bundle c.args.stand _ c.requires.under.rules c.requires.ready.there in
     let above : is_above bundle.definitions c.args.stand.level c.args.lower ≡ true =
@@ -74,12 +74,12 @@ returns-then-is_above c =
     let made : get_or c.args.table.now c.args.stand.level [] ≡ closure_of bundle c.args.lower c.args.stand.level = c.requires.ready.made c.args.stand.level at.level above in
     let row = kept_row bundle.links (ids_at bundle.levels c.args.lower) (ids_at bundle.levels c.args.stand.level) c.args.stand.position
     (stand_id bundle c.args.stand).0 c.kept_row.result.now (ap (λ rows. slice_get rows c.args.stand.position) (sym made) ∙ c.kept_row.ensures) at.at in
-    c.or_into.ensures
+    c.in-Ok-join.ensures
     ∙ ap (either c.args.row.now)
     (row ∙ child_above bundle c.args.stand.level c.args.lower (stand_id bundle c.args.stand) c.requires.under.rules at.level c.if-level-lower.false)
 
-pub returns-else-is_above : goal.returns-else-is_above
-returns-else-is_above c =
+pub returns : goal.returns
+returns c =
     let bundle = c.args.bundle.now in
     let at = standing bundle c.args.stand _ c.requires.under.rules c.requires.ready.there in
     let aside : is_above bundle.definitions c.args.stand.level c.args.lower ≡ false =

@@ -26,7 +26,7 @@ add_stand-requires-clause-ready c =
 pub loop-at-preserved : goal.loop-at-preserved
 loop-at-preserved c =
     place_more c.args.bundle.now c.args.lower c.loop-at.at c.args.stands.now _ c.loop-at.row c.add_stand.new.row
-    c.loop-at-test.true c.loop-at.invariant c.add_stand.ensures
+    c.loop-at-test.true c.loop-at.invariant c.in_ok-add_stand.ensures
 
 pub returns : goal.returns
 returns c =

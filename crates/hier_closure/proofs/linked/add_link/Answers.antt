@@ -41,9 +41,9 @@ set_bit-requires-clause-at c =
     bit_within c.args.bundle.now c.args.upper c.args.lower c.args.place c.in-Some.row c.in-Some-position_on.at c.get-link.result.now.from.0
     c.get-link.result.now.to.0 c.args.rows.now c.requires.made c.in-Some.ensures.there c.in-Some-position_on.ensures.there
 
-pub returns-in-Some-position_on : goal.returns-in-Some-position_on
-returns-in-Some-position_on c =
-    c.set_bit.ensures
+pub returns-in_ok-more-in-Some-position_on : goal.returns-in_ok-more-in-Some-position_on
+returns-in_ok-more-in-Some-position_on c =
+    c.in_ok-more-in-Some-position_on.ensures
     ∙ ap (with_bit c.in-Some.row c.in-Some-position_on.at) c.requires.made
     ∙ pass_one c.args.bundle.now c.args.upper c.args.lower c.args.place c.in-Some.row c.in-Some-position_on.at c.get-link.result.now c.requires.rules
     (at_place c.args.bundle.now.links c.links.result.now c.args.place c.get-link.result.now c.links.ensures c.get-link.ensures)
