@@ -19,8 +19,11 @@ import shutil
 import subprocess
 import sys
 
-# methods that std's types have too, which are in no cycle
-OF_STD = {"as_ref", "as_slice", "copy", "find", "first", "get", "insert", "is_empty", "last", "len", "new", "push", "remove"}
+# methods that several types have, which are in no cycle
+OF_STD = {
+    "as_ref", "as_slice", "clear", "copy", "count", "find", "first", "get", "insert", "is_empty", "last", "len", "new", "next", "push", "remove",
+    "set",
+}
 
 HOLE = """use Rattle.{crate}.proofs.{path}.Statement.{{statement}}
 

@@ -26,15 +26,26 @@ QUERIES = {
 }
 
 
+DEEP_LEVELS = ("Utterance", "Word", "Syllable", "Phonetic")
+DEEP_QUERIES = {
+    "dominance": "[Word == w ^ Phonetic == a]",
+    "dominance upwards": "[Phonetic == a ^ Word == w]",
+    "dominance from the top": "[Utterance == u ^ Phonetic == a]",
+    "position": "[Phonetic == a & Start(Word, Phonetic) == 1]",
+    "number": "[Num(Word, Phonetic) == 6]",
+    "times": "[Word == w]",
+}
+
+
 def level(name, kind):
     """A level with one attribute, which has its name."""
     return {"name": name, "type": kind, "attributeDefinitions": [{"name": name, "type": "STRING"}]}
 
 
-def configuration():
-    """Words over segments."""
-    links = [{"type": "ONE_TO_MANY", "superlevelName": "Word", "sublevelName": "Phonetic"}]
-    levels = [level("Word", "ITEM"), level("Phonetic", "SEGMENT")]
+def configuration(names=("Word", "Phonetic")):
+    """ITEM levels, each over the next one, and segments last."""
+    links = [{"type": "ONE_TO_MANY", "superlevelName": upper, "sublevelName": lower} for upper, lower in zip(names, names[1:])]
+    levels = [level(name, "ITEM") for name in names[:-1]] + [level(names[-1], "SEGMENT")]
     return {"do": "config", "config": {"name": "work", "levelDefinitions": levels, "linkDefinitions": links}}
 
 
@@ -53,6 +64,26 @@ def bundle(number, segments, links=None, words=None):
     levels = [{"name": "Word", "type": "ITEM", "items": upper}, {"name": "Phonetic", "type": "SEGMENT", "items": lower}]
     annot = {"name": f"b{number}", "annotates": "", "sampleRate": 16000, "levels": levels, "links": joined}
     return {"s": 1, "do": "add_bundle", "session": "work", "bundle": f"b{number:05}", "annot": annot}
+
+
+def deep_bundle(number, segments):
+    """A bundle of one utterance, whose words have three syllables and whose syllables have two segments."""
+    lower = [item(at + 1, "Phonetic", "aeiou"[at % 5], sampleStart=100 * at, sampleDur=99) for at in range(segments)]
+    syllables = [item(100_001 + at, "Syllable", "SW"[at % 2]) for at in range(segments // 2)]
+    words = [item(200_001 + at, "Word", "wwx"[at % 3]) for at in range(segments // 6)]
+    joined = [{"fromID": 300_001, "toID": it["id"]} for it in words]
+    joined += [{"fromID": 200_001 + at // 3, "toID": it["id"]} for at, it in enumerate(syllables)]
+    joined += [{"fromID": 100_001 + at // 2, "toID": it["id"]} for at, it in enumerate(lower)]
+    items = ([item(300_001, "Utterance", "u")], words, syllables, lower)
+    kinds = ("ITEM", "ITEM", "ITEM", "SEGMENT")
+    levels = [{"name": name, "type": kind, "items": its} for name, kind, its in zip(DEEP_LEVELS, kinds, items)]
+    annot = {"name": f"b{number}", "annotates": "", "sampleRate": 16000, "levels": levels, "links": joined}
+    return {"s": 1, "do": "add_bundle", "session": "work", "bundle": f"b{number:05}", "annot": annot}
+
+
+def deep_bundles(count, segments):
+    """Their configuration, and bundles under it."""
+    return [configuration(DEEP_LEVELS), *(deep_bundle(number, segments) for number in range(count))]
 
 
 def bundles(count, segments, **more):
@@ -88,7 +119,8 @@ class Meter:
         """What the lines of each case take beside what stands before them, by name."""
         scripts = {}
         for name, (before, lines) in cases.items():
-            texts = [json.dumps(it) for it in [configuration(), *before]]
+            first = [] if before and before[0]["do"] == "config" else [configuration()]
+            texts = [json.dumps(it) for it in [*first, *before]]
             more = [json.dumps(it) for it in lines]
             scripts[name] = ["\n".join(it + [""]).encode() for it in (texts, texts + more)]
         least = {}
@@ -113,11 +145,18 @@ def main(words):
     for name, eql in QUERIES.items():
         asked = queries(eql, 50)
         meter.ratio(f"{name}: 80 bundles to 40", (bundles(80, 24), asked), (bundles(40, 24), asked))
-        for few in (240, 1_200):  # 512 links lie between
+        for few in (240, 480, 1_200):
             meter.ratio(f"{name}: {2 * few} segments a bundle to {few}", (bundles(4, 2 * few), asked), (bundles(4, few), asked))
-        meter.ratio(f"{name}: 240 links a bundle to 120", (bundles(20, 240), asked), (bundles(20, 240, links=120), asked))
+        for count, links in ((20, 120), (4, 480)):
+            more, fewer = (bundles(count, 2 * links), asked), (bundles(count, 2 * links, links=links), asked)
+            meter.ratio(f"{name}: {2 * links} links a bundle to {links}", more, fewer)
         fewer, more = ((bundles(20, 280, links=links), asked) for links in (120, 140))
         meter.ratio(f"{name}: 140 links a bundle to 120", more, fewer)
+    for name, eql in DEEP_QUERIES.items():
+        asked = queries(eql, 20)
+        for few in (240, 480, 1_920):
+            case, other = (deep_bundles(2, 2 * few), asked), (deep_bundles(2, few), asked)
+            meter.ratio(f"{name}, with levels between: {2 * few} segments a bundle to {few}", case, other)
     meter.ratio("loading: 400 bundles to 200", ([], bundles(400, 24)), ([], bundles(200, 24)))
     meter.ratio("loading: 960 segments a bundle to 480", ([], bundles(8, 960)), ([], bundles(8, 480)))
     finish = [{"s": 1, "do": "finish"}] * 2000
