@@ -8,6 +8,4 @@ mod made;
 #[cfg(test)]
 mod results;
 #[cfg(test)]
-mod spans;
-#[cfg(test)]
 mod wide;
