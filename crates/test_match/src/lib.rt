@@ -8,4 +8,6 @@ mod made;
 #[cfg(test)]
 mod results;
 #[cfg(test)]
+mod spans;
+#[cfg(test)]
 mod wide;
